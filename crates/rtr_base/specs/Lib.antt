@@ -1,0 +1,6 @@
+pub mod Actions
+pub mod Addresses
+pub mod Bytes
+pub mod Serial
+pub mod States
+pub mod Timings

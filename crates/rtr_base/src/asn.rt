@@ -1,0 +1,31 @@
+//! Autonomous system numbers.
+
+ghost use Rattle.std.specs.Prelude.{◌≡◌, ◌<◌, ◌^◌, ℕ};
+
+use std::marker::Model;
+
+/// The number of an autonomous system.
+#[derive(Clone, Copy, Debug, PartialEq, Eq, PartialOrd, Ord, Hash)]
+pub struct Asn(u32);
+
+impl Model for Asn {
+    ghost Value = { ℕ };
+
+    ghost view = { λ a. a.0 };
+
+    ghost inverse = { λ n. record { 0 = n } };
+}
+
+impl Asn {
+    pub const fn from_u32(value: u32) -> Self
+        ensures { result ≡ value }
+    {
+        Asn(value)
+    }
+
+    pub const fn into_u32(self) -> u32
+        ensures { result ≡ self }
+    {
+        self.0
+    }
+}

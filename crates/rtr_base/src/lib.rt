@@ -1,0 +1,7 @@
+//! Plain values of the RPKI to Router protocol: numbers, prefixes, serial numbers.
+#![tactic(auto)]
+
+pub mod asn;
+pub mod laws;
+pub mod payload;
+pub mod state;

@@ -1,0 +1,40 @@
+-- What a payload unit means (RFC 8210 sections 5.6, 5.7 and 5.10; ASPA as the crate has it).
+use Rattle.std.specs.Prelude.{◌≡◌, ℕ, ◌%◌, ◌-◌, ◌^◌, ◌<◌, ◌≤◌, List, length, ◌==◌, if◌then◌else◌}
+use Rattle.std.specs.List.{AllByRecursion}
+use Rattle.rtr_base.specs.declared.payload.Action.{Action}
+use Rattle.rtr_base.specs.Addresses.{Family, width}
+
+-- a route origin (family, address, prefix length, max length, ASN), a router key (identifier, ASN, key info), an ASPA (customer, providers)
+pub data Payload : Type 0 where
+  origin : Family → ℕ → ℕ → ℕ → ℕ → Payload
+  key : List ℕ → ℕ → List ℕ → Payload
+  aspa : ℕ → List ℕ → Payload
+
+-- what a unit means
+pub record Meaning : Type 0 where
+  pub version : ℕ
+  pub action : Action
+  pub payload : Payload
+
+-- host bits are clear, and the lengths are in order
+pub record IsOrigin (f : Family) (a l x n : ℕ) : Type 0 where
+  pub len : l ≤ x
+  pub max_len : x ≤ width f
+  pub address : a < 2 ^ width f
+  pub host_bits : a % 2 ^ (width f - l) ≡ 0
+  pub asn : n < 2 ^ 32
+
+pub record IsKey (i : List ℕ) (n : ℕ) (k : List ℕ) : Type 0 where
+  pub identifier : length i ≡ 20
+  pub asn : n < 2 ^ 32
+  pub info : length k ≤ 4294967263
+
+pub record IsAspa (c : ℕ) (ps : List ℕ) : Type 0 where
+  pub customer : c < 2 ^ 32
+  pub count : length ps ≤ 16380
+  pub providers : AllByRecursion (λ p. p < 2 ^ 32) ps
+
+abbrev pub IsPayload : Payload → Type 0
+IsPayload (origin f a l x n) = IsOrigin f a l x n
+IsPayload (key i n k) = IsKey i n k
+IsPayload (aspa c ps) = IsAspa c ps

@@ -1,0 +1,103 @@
+-- Why a list of bytes begins with no unit: the first step that holds (the crate's own order).
+use Rattle.std.specs.Prelude.{codes, ◌≡◌, ℕ, ◌%◌, Bool, not, ◌&&◌, ◌||◌, List, ◌++◌, length, take, drop, slice_index, Option, Some, None, nat_lt, nat_le, ◌==◌, if◌then◌else◌}
+use Rattle.rtr_units.specs.Header.{version_field, type_field, length_field}
+use Rattle.rtr_units.specs.End.{EndMeaning, End}
+use Rattle.rtr_units.specs.Report.{report}
+use Rattle.rtr_units.specs.Causes.{Refusal, short, unit_type, unit_version, too_long, unit_length, empty_providers, refused}
+use Rattle.rtr_payload.specs.Payloads.{Meaning}
+use Rattle.rtr_payload.specs.Units.{IsUnit, Shape}
+
+-- which rule on the lengths of a prefix is broken
+pub data PrefixFault : Type 0 where
+  len_overflow : PrefixFault
+  max_overflow : PrefixFault
+  max_underflow : PrefixFault
+
+abbrev pub is_known : ℕ → Bool
+is_known t = (t == 4) || (t == 6) || (t == 7) || (t == 9) || (t == 11)
+
+-- the length field n suits the type t and the version v
+abbrev pub suits : ℕ → ℕ → ℕ → Bool
+suits t v n = if t == 4 then n == 20 else if t == 6 then n == 32 else if t == 7 then (if v == 0 then n == 12 else n == 24) else if t == 9 then nat_le 32 n else nat_le 12 n && (n % 4 == 0)
+
+-- the rule of an address of w bits that lengths l and x break
+unfoldable pub broken_rule : ℕ → ℕ → ℕ → Option PrefixFault
+broken_rule w l x = if nat_lt w l then Some len_overflow else if nat_lt w x then Some max_overflow else if nat_lt x l then Some max_underflow else None
+
+-- steps 2 to 6, by the version v, the type t, byte 2 and the length field n
+unfoldable pub header_fault : ℕ → ℕ → ℕ → ℕ → Option Refusal
+header_fault v t g n =
+    if not (is_known t) then Some (unit_type t)
+    else if (t == 7) && nat_lt 2 v then Some (unit_version v)
+    else if ((t == 9) || (t == 11)) && nat_lt 65535 n then Some too_long
+    else if not (suits t v n) then Some unit_length
+    else if (t == 11) && ((n == 12) && (g % 2 == 1)) then Some empty_providers
+    else None
+
+-- the text of a report
+abbrev pub text_of : PrefixFault → List ℕ
+text_of len_overflow = codes "prefix length too large"
+text_of max_overflow = codes "max-length too large"
+text_of max_underflow = codes "max-length smaller than prefix length"
+
+-- the report on a unit u, with error code 0
+abbrev pub refusal_report : List ℕ → PrefixFault → List ℕ
+refusal_report u f = report (slice_index u 0) 0 u (text_of f)
+
+-- the unit at the front of r, by its length field
+abbrev pub first_unit : List ℕ → List ℕ
+first_unit r = take (length_field r) r
+
+abbrev pub refuse : List ℕ → Option PrefixFault → Option Refusal
+refuse u None = None
+refuse u (Some f) = Some (refused (refusal_report u f))
+
+-- step 8, for a unit u of type t
+abbrev pub lengths_fault : ℕ → List ℕ → Option Refusal
+lengths_fault t u = if t == 4 then refuse u (broken_rule 32 (slice_index u 9) (slice_index u 10)) else if t == 6 then refuse u (broken_rule 128 (slice_index u 9) (slice_index u 10)) else None
+
+abbrev pub first_of : Option Refusal → Option Refusal → Option Refusal
+first_of None later = later
+first_of (Some f) later = Some f
+
+-- steps 1 to 7: the first that holds, or none where a unit of some shape or an end of data begins
+abbrev pub frame_fault : List ℕ → Option Refusal
+frame_fault r = if nat_lt (length r) 8 then Some short
+    else first_of (header_fault (slice_index r 0) (slice_index r 1) (slice_index r 2) (length_field r)) (if nat_lt (length r) (length_field r) then Some short else None)
+
+-- steps 1 to 8
+abbrev pub first_fault : List ℕ → Option Refusal
+first_fault r = first_of (frame_fault r) (lengths_fault (slice_index r 1) (first_unit r))
+
+-- the bytes that are taken
+abbrev pub taken : Refusal → List ℕ → List ℕ
+taken short r = r
+taken (unit_type t) r = take 8 r
+taken (unit_version v) r = take 8 r
+taken too_long r = take 8 r
+taken unit_length r = take 8 r
+taken empty_providers r = take 8 r
+taken (refused f) r = first_unit r
+
+-- a front of r has the shape of a unit
+pub record BeginsShape (r : List ℕ) : Type 0 where
+  pub bytes : List ℕ
+  pub rest : List ℕ
+  pub unit : Shape bytes
+  pub parts : r ≡ bytes ++ rest
+
+-- a front of r is a unit
+pub record BeginsUnit (r : List ℕ) : Type 0 where
+  pub bytes : List ℕ
+  pub means : Meaning
+  pub rest : List ℕ
+  pub unit : IsUnit bytes means
+  pub parts : r ≡ bytes ++ rest
+
+-- a front of r is an end of data
+pub record BeginsEnd (r : List ℕ) : Type 0 where
+  pub bytes : List ℕ
+  pub means : EndMeaning
+  pub rest : List ℕ
+  pub end : End bytes means
+  pub parts : r ≡ bytes ++ rest

@@ -1,0 +1,36 @@
+-- The end of data (RFC 6810 section 5.8, RFC 8210 section 5.8; version 2, which is the crate's own, is laid out as version 1).
+use Rattle.std.specs.Prelude.{◌≡◌, ℕ, ◌^◌, ◌<◌, ◌⊎◌, List, ◌∷◌, ◌++◌, Option, Some, None}
+use Rattle.rtr_base.specs.declared.payload.Timing.{Timing}
+use Rattle.rtr_base.specs.Bytes.{be}
+use Rattle.rtr_units.specs.Header.{header}
+use Rattle.rtr_units.specs.FixedUnits.{serial_list}
+
+-- what an end of data means: in version 0 without timings
+pub record EndMeaning : Type 0 where
+  pub version : ℕ
+  pub session : ℕ
+  pub serial : ℕ
+  pub timing : Option Timing
+
+-- its list of bytes
+abbrev pub timed_list : ℕ → ℕ → ℕ → Option Timing → List ℕ
+timed_list v s q None = serial_list v 7 s q
+timed_list v s q (Some t) = header v 7 s 24 ++ (be q 4 ++ be t.refresh 4 ++ be t.retry 4 ++ be t.expire 4)
+
+abbrev pub end_list : EndMeaning → List ℕ
+end_list e = timed_list e.version e.session e.serial e.timing
+
+-- version 0 has no timings, versions 1 and 2 have three
+abbrev pub HasTimingOf : ℕ → Option Timing → Type 0
+HasTimingOf v None = v ≡ 0
+HasTimingOf v (Some t) = ((v ≡ 1) ⊎ (v ≡ 2)) × (t.refresh < 2 ^ 32) × (t.retry < 2 ^ 32) × (t.expire < 2 ^ 32)
+
+pub record IsEndMeaning (e : EndMeaning) : Type 0 where
+  pub session : e.session < 2 ^ 16
+  pub serial : e.serial < 2 ^ 32
+  pub timing : HasTimingOf e.version e.timing
+
+-- the bytes are an end of data with this meaning
+pub record End (b : List ℕ) (e : EndMeaning) : Type 0 where
+  pub fits : IsEndMeaning e
+  pub bytes : b ≡ end_list e

@@ -1,0 +1,42 @@
+//! Why a call on units failed.
+
+use crate::error::Error;
+use std::io;
+
+/// Why a call on units failed.
+#[derive(Debug, Drop, thiserror::Error)]
+pub enum Fault {
+    /// The reader gave an error.
+    #[error("read failed")]
+    Reader(io::Error),
+    /// The writer gave an error, or took nothing of bytes that were there.
+    #[error("write failed")]
+    Writer(io::Error),
+    /// The input ended inside a unit, or before one.
+    #[error("unexpected end of input")]
+    Short,
+    /// A unit of this type is not allowed here.
+    #[error("unit type {0} is not allowed here")]
+    UnitType(u8),
+    /// The length field does not suit the type of the unit.
+    #[error("invalid unit length")]
+    UnitLength,
+    /// The length field is over 65535.
+    #[error("unit is longer than 65535 bytes")]
+    TooLong,
+    /// An ASPA unit that announces has no providers.
+    #[error("ASPA unit has no providers")]
+    EmptyProviders,
+    /// A unit of this protocol version is not allowed here.
+    #[error("version {0} is not supported here")]
+    UnitVersion(u8),
+    /// The lengths of a prefix break their rule, of which the report tells.
+    #[error("prefix fields are not allowed")]
+    Refused(Error),
+    /// As many units as were allowed were read.
+    #[error("too many units")]
+    TooMany,
+    /// A growth was refused.
+    #[error("out of memory")]
+    Memory,
+}
