@@ -1,5 +1,12 @@
 -- Addresses and prefixes of addresses (RFC 8210 sections 5.6 and 5.7).
-use Rattle.std.specs.Prelude.{ℕ, ◌-◌, ◌%◌, ◌^◌, Option}
+use Rattle.std.specs.Prelude.{◌≡◌, ℕ, ◌-◌, ◌%◌, ◌^◌, ◌<◌, ◌≤◌, Option, unwrap_or, Bool, true, false, refl}
+use Rattle.std.specs.declared.cmp.Ordering.{Ordering}
+use Rattle.std.specs.declared.cmp.Ordering.TheVariants.{Less, Equal, Greater}
+use Rattle.std.specs.declared.net.ip_addr.IpAddr.{IpAddr}
+use Rattle.std.specs.declared.net.ip_addr.IpAddr.TheVariants.{V4, V6}
+use Rattle.std.specs.Net.Addr.{ipv4_octets, ipv6_octets, ipv4_bits, ipv6_bits}
+use Rattle.std.specs.Ordering.{nat_cmp, ordering_then}
+use Rattle.rtr_base.specs.Bytes.{be}
 
 -- a family of addresses
 pub data Family : Type 0 where
@@ -21,7 +28,62 @@ pub record PrefixParts : Type 0 where
   pub address : ℕ
   pub len : ℕ
 
+-- no more bits count than an address has, and all others are zero
+pub record IsPrefix (p : PrefixParts) : Type 0 where
+  pub len : p.len ≤ width p.family
+  pub address : p.address < 2 ^ width p.family
+  pub host_bits : p.address % 2 ^ (width p.family - p.len) ≡ 0
+
 -- a prefix, and the longest prefix length that is meant with it, where one was given
 pub record MaxLenParts : Type 0 where
   pub prefix : PrefixParts
   pub max_len : Option ℕ
+
+-- the longest prefix length that is meant: where none was given, the prefix length itself
+abbrev pub resolved_len : MaxLenParts → ℕ
+resolved_len p = unwrap_or p.max_len p.prefix.len
+
+-- the lengths are in order
+pub record IsMaxLenPrefix (p : MaxLenParts) : Type 0 where
+  pub prefix : IsPrefix p.prefix
+  pub lower : p.prefix.len ≤ resolved_len p
+  pub upper : resolved_len p ≤ width p.prefix.family
+
+-- ---- addresses of std
+
+-- the address as a number
+abbrev pub ip_number : IpAddr → ℕ
+ip_number (V4 a) = ipv4_bits a
+ip_number (V6 a) = ipv6_bits a
+
+-- the address is that of the prefix
+abbrev pub IsAddressOf : PrefixParts → IpAddr → Type 0
+IsAddressOf p (V4 a) = (p.family ≡ v4) × (ipv4_octets a ≡ be p.address 4)
+IsAddressOf p (V6 a) = (p.family ≡ v6) × (ipv6_octets a ≡ be p.address 16)
+
+-- ---- order
+
+-- IPv4 comes before IPv6
+abbrev pub family_cmp : Family → Family → Ordering
+family_cmp v4 v4 = Equal
+family_cmp v4 v6 = Less
+family_cmp v6 v4 = Greater
+family_cmp v6 v6 = Equal
+
+-- by family, then by the address as a number, then by the length
+abbrev pub prefix_cmp : PrefixParts → PrefixParts → Ordering
+prefix_cmp p q = ordering_then (family_cmp p.family q.family) (ordering_then (nat_cmp p.address q.address) (nat_cmp p.len q.len))
+
+-- ---- the family as a bit
+
+abbrev pub family_of : Bool → Family
+family_of true = v4
+family_of false = v6
+
+abbrev pub v4_test : Family → Bool
+v4_test v4 = true
+v4_test v6 = false
+
+pub v4_test_again : (b : Bool) → v4_test (family_of b) ≡ b
+v4_test_again true = refl
+v4_test_again false = refl

@@ -1,7 +1,9 @@
 //! Plain values of the RPKI to Router protocol: numbers, prefixes, serial numbers.
 #![tactic(auto)]
 
+pub mod addr;
 pub mod asn;
+pub mod keys;
 pub mod laws;
 pub mod payload;
 pub mod state;

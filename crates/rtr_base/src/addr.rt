@@ -1,0 +1,297 @@
+//! Prefixes of IP addresses.
+
+ghost use Rattle.std.specs.Prelude.{◌≡◌, ◌≤◌, ◌<◌, ◌↔◌, Option, IfOk, IfErr, IsErrOf, IsOk, IfSome, IsSomeAnd, refl};
+ghost use Rattle.std.specs.Cmp.{partial_equiv_from_equiv, eq_by_cmp_equiv, partial_order_from_agreeing_total};
+ghost use Rattle.std.specs.Ordering.{eq_by_cmp, as_partial_cmp};
+ghost use Rattle.std.specs.Net.Addr.{ipv4_bits, ipv6_bits};
+ghost use Rattle.rtr_base.specs.Addresses.{v4, v6, width, cleared, v4_test, IsPrefix, IsMaxLenPrefix, IsAddressOf, ip_number, resolved_len, prefix_cmp};
+ghost use Rattle.rtr_base.specs.PrefixOrder.{prefix_total};
+
+use std::cmp::Ordering;
+use std::marker::Model;
+use std::net::{IpAddr, Ipv4Addr, Ipv6Addr};
+
+/// A prefix of IP addresses. Its host bits are zero.
+#[derive(Clone, Copy, Debug, Hash)]
+pub struct Prefix {
+    is_v4: bool,
+    bits: u128,
+    len: u8,
+}
+
+impl Model for Prefix {
+    ghost use Rattle.std.specs.Prelude.{Bool};
+    ghost use Rattle.std.proofs.Common.{ap};
+    ghost use Rattle.rtr_base.specs.Addresses.{PrefixParts, family_of, v4_test, v4_test_again, IsPrefix};
+
+    ghost Value = { PrefixParts };
+
+    ghost view = { λ a. record { family = family_of a.is_v4; address = a.bits; len = a.len } };
+
+    ghost invariant = { λ a. IsPrefix (record { family = family_of a.is_v4; address = a.bits; len = a.len }) };
+
+    ghost inverse = { λ p. record { is_v4 = v4_test p.family; bits = p.address; len = p.len } };
+
+    ghost inverse_ok = { λ a h. ap (λ (b : Bool). record a { is_v4 = b }) (v4_test_again a.is_v4) };
+}
+
+/// Why a prefix can't be made.
+#[derive(Clone, Copy, Debug, PartialEq, Eq)]
+pub enum PrefixError {
+    /// The length is over 32 for IPv4 or over 128 for IPv6.
+    LenOverflow,
+    /// The address has a bit set after the first `len` bits.
+    NonZeroHost,
+}
+
+impl Prefix {
+    /// The IPv4 prefix of this address and length.
+    pub fn new_v4(addr: Ipv4Addr, len: u8) -> Result<Self, PrefixError>
+        ensures ok { IfOk result (λ p. p ≡ record { family = v4; address = ipv4_bits addr; len = len }) }
+        ensures valid { IfOk result IsPrefix }
+        ensures len_overflow { IsErrOf result PrefixError.LenOverflow ↔ (32 < len) }
+        ensures non_zero_host { IsErrOf result PrefixError.NonZeroHost ↔
+            ((len ≤ 32) × ¬ (cleared 32 len (ipv4_bits addr) ≡ ipv4_bits addr)) }
+    {
+        let prefix = Prefix::new_v4_relaxed(addr, len)?;
+        if prefix.bits != addr.to_bits() as u128 {
+            return Err(PrefixError::NonZeroHost);
+        }
+        Ok(prefix)
+    }
+
+    /// The IPv4 prefix of this length that has the address. Host bits are cleared.
+    pub fn new_v4_relaxed(addr: Ipv4Addr, len: u8) -> Result<Self, PrefixError>
+        ensures ok { IfOk result (λ p. p ≡ record { family = v4; address = cleared 32 len (ipv4_bits addr); len = len }) }
+        ensures valid { IfOk result IsPrefix }
+        ensures exact { IsOk result ↔ (len ≤ 32) }
+        ensures err { IfErr result (λ e. e ≡ PrefixError.LenOverflow) }
+    {
+        if len > 32 {
+            return Err(PrefixError::LenOverflow);
+        }
+        let bits = cleared_v4(addr.to_bits(), len);
+        Ok(Prefix {
+            is_v4: true,
+            bits: bits as u128,
+            len,
+        })
+    }
+
+    /// The IPv6 prefix of this address and length.
+    pub fn new_v6(addr: Ipv6Addr, len: u8) -> Result<Self, PrefixError>
+        ensures ok { IfOk result (λ p. p ≡ record { family = v6; address = ipv6_bits addr; len = len }) }
+        ensures valid { IfOk result IsPrefix }
+        ensures len_overflow { IsErrOf result PrefixError.LenOverflow ↔ (128 < len) }
+        ensures non_zero_host { IsErrOf result PrefixError.NonZeroHost ↔
+            ((len ≤ 128) × ¬ (cleared 128 len (ipv6_bits addr) ≡ ipv6_bits addr)) }
+    {
+        let prefix = Prefix::new_v6_relaxed(addr, len)?;
+        if prefix.bits != addr.to_bits() {
+            return Err(PrefixError::NonZeroHost);
+        }
+        Ok(prefix)
+    }
+
+    /// The IPv6 prefix of this length that has the address. Host bits are cleared.
+    pub fn new_v6_relaxed(addr: Ipv6Addr, len: u8) -> Result<Self, PrefixError>
+        ensures ok { IfOk result (λ p. p ≡ record { family = v6; address = cleared 128 len (ipv6_bits addr); len = len }) }
+        ensures valid { IfOk result IsPrefix }
+        ensures exact { IsOk result ↔ (len ≤ 128) }
+        ensures err { IfErr result (λ e. e ≡ PrefixError.LenOverflow) }
+    {
+        if len > 128 {
+            return Err(PrefixError::LenOverflow);
+        }
+        Ok(Prefix {
+            is_v4: false,
+            bits: cleared_v6(addr.to_bits(), len),
+            len,
+        })
+    }
+
+    /// Whether this is a prefix of IPv4 addresses.
+    pub fn is_v4(self) -> bool
+        ensures family { result ≡ v4_test self.family }
+        ensures valid { IsPrefix self }
+    {
+        self.is_v4
+    }
+
+    /// The address, whose host bits are zero.
+    pub fn addr(self) -> IpAddr
+        ensures octets { IsAddressOf self result }
+        ensures number { ip_number result ≡ self.address }
+        ensures valid { IsPrefix self }
+    {
+        if self.is_v4 {
+            IpAddr::V4(Ipv4Addr::from_bits(self.bits as u32))
+        } else {
+            IpAddr::V6(Ipv6Addr::from_bits(self.bits))
+        }
+    }
+
+    /// How many bits of the address count.
+    pub fn len(self) -> u8
+        ensures len { result ≡ self.len }
+        ensures valid { IsPrefix self }
+    {
+        self.len
+    }
+}
+
+impl PartialEq for Prefix {
+    ghost eq = { eq_by_cmp prefix_cmp };
+
+    ghost laws = { partial_equiv_from_equiv (eq_by_cmp_equiv prefix_total) };
+
+    fn eq(&self, other: &Prefix) -> bool {
+        self.cmp(other).is_eq()
+    }
+}
+
+impl Eq for Prefix {
+    ghost laws = { eq_by_cmp_equiv prefix_total };
+}
+
+impl PartialOrd for Prefix {
+    ghost partial_cmp = { as_partial_cmp prefix_cmp };
+
+    ghost laws = { partial_order_from_agreeing_total prefix_cmp prefix_total (λ _ _. refl) (λ _ _. refl) };
+
+    fn partial_cmp(&self, other: &Prefix) -> Option<Ordering> {
+        Some(self.cmp(other))
+    }
+}
+
+/// IPv4 comes before IPv6, then the address decides as a number, then the length.
+impl Ord for Prefix {
+    ghost cmp = { prefix_cmp };
+
+    ghost total = { prefix_total };
+
+    ghost matches_partial_cmp = { λ _ _. refl };
+
+    ghost matches_eq = { λ _ _. refl };
+
+    fn cmp(&self, other: &Prefix) -> Ordering {
+        other
+            .is_v4
+            .cmp(&self.is_v4)
+            .then(self.bits.cmp(&other.bits))
+            .then(self.len.cmp(&other.len))
+    }
+}
+
+/// A prefix of IP addresses, and the longest prefix length that is meant with it, where one was given.
+#[derive(Clone, Copy, Debug)]
+pub struct MaxLenPrefix {
+    prefix: Prefix,
+    max_len: Option<u8>,
+}
+
+impl Model for MaxLenPrefix {
+    ghost use Rattle.rtr_base.specs.Addresses.{MaxLenParts, IsMaxLenPrefix};
+
+    ghost Value = { MaxLenParts };
+
+    ghost view = { λ a. record { prefix = a.prefix; max_len = a.max_len } };
+
+    ghost invariant = { λ a. IsMaxLenPrefix (record { prefix = a.prefix; max_len = a.max_len }) };
+
+    ghost inverse = { λ p. record { prefix = p.prefix; max_len = p.max_len } };
+}
+
+/// Why a max length doesn't go with a prefix.
+#[derive(Clone, Copy, Debug, PartialEq, Eq)]
+pub enum MaxLenError {
+    /// The max length is over 32 for IPv4 or over 128 for IPv6.
+    Overflow,
+    /// The max length is less than the prefix length.
+    Underflow,
+}
+
+impl MaxLenPrefix {
+    /// The prefix with this max length.
+    pub fn new(prefix: Prefix, max_len: Option<u8>) -> Result<Self, MaxLenError>
+        ensures ok { IfOk result (λ p. p ≡ record { prefix = prefix; max_len = max_len }) }
+        ensures valid { IfOk result IsMaxLenPrefix }
+        ensures exact { IsOk result ↔ IfSome max_len (λ x. (prefix.len ≤ x) × (x ≤ width prefix.family)) }
+        ensures overflow { IsErrOf result MaxLenError.Overflow ↔ IsSomeAnd max_len (λ x. width prefix.family < x) }
+        ensures underflow { IsErrOf result MaxLenError.Underflow ↔ IsSomeAnd max_len (λ x. x < prefix.len) }
+    {
+        if let Some(max_len) = max_len {
+            let width = if prefix.is_v4() { 32 } else { 128 };
+            if max_len > width {
+                return Err(MaxLenError::Overflow);
+            }
+            if max_len < prefix.len() {
+                return Err(MaxLenError::Underflow);
+            }
+        }
+        Ok(MaxLenPrefix { prefix, max_len })
+    }
+
+    /// The prefix.
+    pub fn prefix(self) -> Prefix
+        ensures prefix { result ≡ self.prefix }
+        ensures valid { IsMaxLenPrefix self }
+    {
+        self.prefix
+    }
+
+    /// The address of the prefix.
+    pub fn addr(self) -> IpAddr
+        ensures octets { IsAddressOf self.prefix result }
+        ensures number { ip_number result ≡ self.prefix.address }
+        ensures valid { IsMaxLenPrefix self }
+    {
+        self.prefix.addr()
+    }
+
+    /// The length of the prefix.
+    pub fn prefix_len(self) -> u8
+        ensures len { result ≡ self.prefix.len }
+        ensures valid { IsMaxLenPrefix self }
+    {
+        self.prefix.len()
+    }
+
+    /// The max length, where one was given.
+    pub fn max_len(self) -> Option<u8>
+        ensures max_len { result ≡ self.max_len }
+        ensures valid { IsMaxLenPrefix self }
+    {
+        self.max_len
+    }
+
+    /// The longest prefix length that is meant: the max length, and where none was given the prefix length.
+    pub fn resolved_max_len(self) -> u8
+        ensures max_len { result ≡ resolved_len self }
+        ensures valid { IsMaxLenPrefix self }
+    {
+        self.max_len.unwrap_or(self.prefix.len())
+    }
+}
+
+fn cleared_v4(bits: u32, len: u8) -> u32
+    requires { len ≤ 32 }
+    ensures { result ≡ cleared 32 len bits }
+{
+    if len == 0 {
+        0
+    } else {
+        bits - bits % (1 << (32 - len))
+    }
+}
+
+fn cleared_v6(bits: u128, len: u8) -> u128
+    requires { len ≤ 128 }
+    ensures { result ≡ cleared 128 len bits }
+{
+    if len == 0 {
+        0
+    } else {
+        bits - bits % (1 << (128 - len))
+    }
+}

@@ -1,0 +1,33 @@
+//! Identifiers of keys.
+
+ghost use Rattle.std.specs.Prelude.{◌≡◌, List, ℕ, length};
+
+use std::marker::Model;
+
+/// The identifier of a router's key: the 20 bytes of its subject key identifier (RFC 8210 section 5.10).
+#[derive(Clone, Copy, Debug, PartialEq, Eq, PartialOrd, Ord, Hash)]
+pub struct KeyIdentifier([u8; 20]);
+
+impl Model for KeyIdentifier {
+    ghost Value = { List ℕ };
+
+    ghost view = { λ a. a.0 };
+
+    ghost inverse = { λ bytes. record { 0 = bytes } };
+}
+
+impl From<[u8; 20]> for KeyIdentifier {
+    ghost from_gives = { λ bytes key. key ≡ bytes };
+
+    fn from(bytes: [u8; 20]) -> Self {
+        KeyIdentifier(bytes)
+    }
+}
+
+impl From<KeyIdentifier> for [u8; 20] {
+    ghost from_gives = { λ key bytes. (bytes ≡ key) × (length bytes ≡ 20) };
+
+    fn from(key: KeyIdentifier) -> Self {
+        key.0
+    }
+}
