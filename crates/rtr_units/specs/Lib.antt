@@ -3,5 +3,8 @@ pub mod End
 pub mod FixedUnits
 pub mod Header
 pub mod Lending
+pub mod LendingError
+pub mod LendingUnits
 pub mod Report
 pub mod Stream
+pub mod Views
