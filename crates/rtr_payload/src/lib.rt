@@ -11,6 +11,15 @@ ghost use Rattle.rtr_payload.specs.Payloads.{Payload, IsPayload, Meaning};
 ghost use Rattle.rtr_base.specs.Actions.{act};
 ghost use Rattle.rtr_payload.specs.Units.{Fields, Fit, IsUnit, unit_list, form, form_of, meaning, written, stripped};
 
+mod key_info;
+mod providers;
+
+/// The variable units and what they hold.
+pub mod pdu {
+    pub use crate::key_info::{KeyInfoError, KeyInfoVecError, RouterKeyInfo};
+    pub use crate::providers::{ProviderAsns, ProviderAsnsError, ProviderIter, ProviderIterError};
+}
+
 /// With one version and one pair of flags, payloads have one form exactly where they are equal.
 pub fn payload_forms()
     ensures exact { (v f : ℕ) (p q : Payload) → IsPayload p → IsPayload q → (form v f p ≡ form v f q) ↔ (p ≡ q) }

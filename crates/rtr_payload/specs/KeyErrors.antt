@@ -1,0 +1,8 @@
+-- Why key info could not be made.
+use Rattle.rtr_payload.specs.declared.key_info.KeyInfoVecError.{KeyInfoVecError}
+use Rattle.rtr_payload.specs.declared.key_info.KeyInfoVecError.TheVariants.{Size, Memory}
+
+-- there were too many bytes
+abbrev pub IsSize : KeyInfoVecError → Type 0
+IsSize (Size e) = Unit {0}
+IsSize Memory = ⊥

@@ -1,0 +1,24 @@
+-- The providers of an ASPA (the crate's own).
+use Rattle.std.specs.Prelude.{◌≡◌, ℕ, ◌^◌, ◌<◌, ◌≤◌, List, length, Option}
+use Rattle.std.specs.Iterator.{Yields}
+use Rattle.std.specs.List.{AllByRecursion}
+use Rattle.rtr_base.specs.Bytes.{words}
+use Rattle.rtr_payload.specs.Places.{words_of}
+use Rattle.rtr_payload.specs.declared.providers.ProviderIterError.{ProviderIterError}
+use Rattle.rtr_payload.specs.declared.providers.ProviderIterError.TheVariants.{Count, Memory}
+
+-- as many numbers as an ASPA may name, each of four bytes
+pub record AreProviders (ps : List ℕ) : Type 0 where
+  pub count : length ps ≤ 16380
+  pub each : AllByRecursion (λ p. p < 2 ^ 32) ps
+
+-- bytes are those of providers, four to each
+pub record AreProviderBytes (bytes : List ℕ) : Type 0 where
+  pub providers : AreProviders (words_of bytes)
+  pub again : words (words_of bytes) ≡ bytes
+
+-- Why no providers were made of the items of an iterator in the state s: one more came than an ASPA may name, or memory
+-- was wanted.
+abbrev pub StopsTaking : {S : Type 0} → (S → Option ℕ → S → Type 0) → S → ProviderIterError → Type 0
+StopsTaking {S} steps s (Count e) = (xs : List ℕ) × (t : S) × Yields steps s xs t × (length xs ≡ 16381)
+StopsTaking {S} steps s Memory = (xs : List ℕ) × (t : S) × Yields steps s xs t × (length xs ≤ 16380)
