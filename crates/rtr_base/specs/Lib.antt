@@ -1,7 +1,10 @@
 pub mod Actions
 pub mod Addresses
 pub mod Bytes
+pub mod Numerals
 pub mod PrefixOrder
 pub mod Serial
+pub mod Serials
 pub mod States
+pub mod Texts
 pub mod Timings

@@ -8,6 +8,8 @@ ghost use Rattle.rtr_base.specs.Addresses.{v4, v6, width, cleared, v4_test, IsPr
 ghost use Rattle.rtr_base.specs.PrefixOrder.{prefix_total};
 
 use std::cmp::Ordering;
+use std::error::Error;
+use std::fmt;
 use std::marker::Model;
 use std::net::{IpAddr, Ipv4Addr, Ipv6Addr};
 
@@ -43,6 +45,22 @@ pub enum PrefixError {
     /// The address has a bit set after the first `len` bits.
     NonZeroHost,
 }
+
+impl fmt::Display for PrefixError {
+    ghost use Rattle.std.specs.Prelude.{Some};
+    ghost use Rattle.rtr_base.specs.Texts.{prefix_error_text};
+
+    ghost output = { λ e. Some (prefix_error_text e) };
+
+    fn fmt<W: fmt::Write>(&self, f: &mut fmt::Formatter<W>) -> fmt::Result {
+        f.write_str(match self {
+            PrefixError::LenOverflow => "prefix length too large",
+            PrefixError::NonZeroHost => "non-zero host portion",
+        })
+    }
+}
+
+impl Error for PrefixError {}
 
 impl Prefix {
     /// The IPv4 prefix of this address and length.
@@ -210,6 +228,22 @@ pub enum MaxLenError {
     /// The max length is less than the prefix length.
     Underflow,
 }
+
+impl fmt::Display for MaxLenError {
+    ghost use Rattle.std.specs.Prelude.{Some};
+    ghost use Rattle.rtr_base.specs.Texts.{max_len_error_text};
+
+    ghost output = { λ e. Some (max_len_error_text e) };
+
+    fn fmt<W: fmt::Write>(&self, f: &mut fmt::Formatter<W>) -> fmt::Result {
+        f.write_str(match self {
+            MaxLenError::Overflow => "max-length too large",
+            MaxLenError::Underflow => "max-length smaller than prefix length",
+        })
+    }
+}
+
+impl Error for MaxLenError {}
 
 impl MaxLenPrefix {
     /// The prefix with this max length.

@@ -17,15 +17,26 @@ impl Model for Asn {
 }
 
 impl Asn {
+    /// The system of this number.
     pub const fn from_u32(value: u32) -> Self
         ensures { result ≡ value }
     {
         Asn(value)
     }
 
+    /// The number of the system.
     pub const fn into_u32(self) -> u32
-        ensures { result ≡ self }
+        ensures number { result ≡ self }
+        ensures range { self < 2 ^ 32 }
     {
         self.0
+    }
+}
+
+impl From<u32> for Asn {
+    ghost from_gives = { λ value asn. asn ≡ value };
+
+    fn from(value: u32) -> Self {
+        Asn(value)
     }
 }

@@ -6,4 +6,5 @@ pub mod asn;
 pub mod keys;
 pub mod laws;
 pub mod payload;
+pub mod pdu;
 pub mod state;
