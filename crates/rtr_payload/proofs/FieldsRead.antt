@@ -1,24 +1,44 @@
--- The fields read off a list at their places
-use Rattle.std.proofs.Common.{◌≡◌, ℕ, ◌^◌, ◌<◌, List, [], ◌∷◌, ◌++◌, take, drop, refl, sym, ap, ◌∙◌, append_assoc}
+-- The fields that are read off a list of bytes, and the units that lists of bytes are.
+use Rattle.std.proofs.Common.{◌≡◌, ◌≢◌, ℕ, ◌+◌, ◌-◌, ◌*◌, ◌%◌, ◌^◌, ◌<◌, ◌≤◌, List, [], ◌∷◌, ◌++◌, length, take, drop, get_or, refl, sym, ap, ◌∙◌, append_assoc, append-nil, arith, eqb, inl, inr}
 use Rattle.std.specs.List.{AllByRecursion}
-use Rattle.std.proofs.lemmas.List.{take_at, drop_at, drop-drop}
-use Rattle.rtr_base.specs.Bytes.{be, value, words}
-use Rattle.rtr_base.proofs.Numbers.{value-be}
-use Rattle.rtr_base.specs.Addresses.{v4, v6}
-use Rattle.rtr_payload.specs.Places.{words_of, fields_like}
-use Rattle.rtr_payload.specs.Units.{Fields, prefix, router_key, providers, unit_list, Fit}
+use Rattle.std.proofs.lemmas.Bool.{cases_lt, cond_both, eqb-true}
+use Rattle.std.proofs.lemmas.List.{take_at, drop_at, drop-drop, length-append, length-drop, length-take-le}
+use Rattle.rtr_base.specs.declared.payload.Action.TheVariants.{Announce, Withdraw}
+use Rattle.rtr_base.specs.Actions.{act}
+use Rattle.rtr_base.specs.Bytes.{be, value, words, IsBytes}
+use Rattle.rtr_base.proofs.Numbers.{value-be, be-value, value_below, IsBytes-drop}
+use Rattle.rtr_base.proofs.Cuts.{cut_byte, cut_bytes, cut_number, cut_end, number_fits}
+use Rattle.rtr_base.specs.Addresses.{Family, v4, v6, width}
+use Rattle.rtr_units.specs.FixedUnits.{prefix_type, prefix_size, address_bytes, prefix_list}
+use Rattle.rtr_units.specs.Header.{version_field, type_field, session_field, length_field, header}
+use Rattle.rtr_units.proofs.Headers.{header_read, header_cells, session_fits}
+use Rattle.rtr_payload.specs.Places.{words_of, prefix_fields, key_fields, aspa_fields, fields_like}
+use Rattle.rtr_payload.specs.Units.{Fields, prefix, router_key, providers, unit_list, Fit, HasFields, HasProviders}
+
+-- ---- the fields of a unit's list are those of the unit
 
 pub words_of-words : (ps : List ℕ) → AllByRecursion (λ p. p < 2 ^ 32) ps → words_of (words ps) ≡ ps
 words_of-words [] h = refl
 words_of-words (p ∷ ps) h = let a = value-be p 4 h.0 in let b = words_of-words ps h.1 in λ i. a i ∷ b i
 
+-- an address in its bytes
+address_below : (f : Family) (a : ℕ) → a < 2 ^ width f → a < 256 ^ address_bytes f
+address_below v4 a h = h
+address_below v6 a h = h
+
+-- the address and the ASN stand at their places
+prefix_places : (f : Family) (v s g l x z a n : ℕ) → let b = prefix_list f v s g l x z a n in
+    (take (address_bytes f) (drop 12 b) ≡ be a (address_bytes f)) × (take 4 (drop (12 + address_bytes f) b) ≡ be n 4)
+prefix_places v4 v s g l x z a n = (refl, refl)
+prefix_places v6 v s g l x z a n = (refl, refl)
+
 pub fields_read : (u : Fields) → Fit u → fields_like u (unit_list u) ≡ u
-fields_read (prefix v4 v s g l x z a n) h =
-    let es = value-be s 2 h.0 in let ea = value-be a 4 h.1 in let en = value-be n 4 h.2 in
-    λ i. prefix v4 v (es i) g l x z (ea i) (en i)
-fields_read (prefix v6 v s g l x z a n) h =
-    let es = value-be s 2 h.0 in let ea = value-be a 16 h.1 in let en = value-be n 4 h.2 in
-    λ i. prefix v6 v (es i) g l x z (ea i) (en i)
+fields_read (prefix f v s g l x z a n) h =
+    let p = prefix_places f v s g l x z a n in
+    let es = value-be s 2 h.0 in
+    let ea = ap value p.0 ∙ value-be a (address_bytes f) (address_below f a h.1) in
+    let en = ap value p.1 ∙ value-be n 4 h.2 in
+    λ i. prefix f v (es i) g l x z (ea i) (en i)
 fields_read (router_key v g z i n k) h =
     let e : i ++ be n 4 ++ k ≡ i ++ (be n 4 ++ k) = append_assoc i (be n 4) k in
     let d28 : drop 20 (i ++ be n 4 ++ k) ≡ be n 4 ++ k = ap (drop 20) e ∙ drop_at i (be n 4 ++ k) 20 h.0 in
@@ -29,6 +49,79 @@ fields_read (router_key v g z i n k) h =
 fields_read (providers v g z c ps) h =
     let ec = value-be c 4 h.0 in let ep = words_of-words ps h.1 in
     λ i. providers v g z (ec i) (ep i)
+
+-- ---- bytes whose type and length field say so are a unit with the fields that are read off them
+
+address_number : (f : Family) (a : ℕ) → a < 256 ^ address_bytes f → a < 2 ^ width f
+address_number v4 a h = h
+address_number v6 a h = h
+
+size_is : (f : Family) → prefix_size f ≡ 12 + address_bytes f + 4
+size_is v4 = refl
+size_is v6 = refl
+
+pub prefix_has : (f : Family) (b : List ℕ) → IsBytes b → length b ≡ prefix_size f → type_field b ≡ prefix_type f → length_field b ≡ prefix_size f → HasFields b (prefix_fields f b)
+prefix_has f b h l t e =
+    let size = size_is f in
+    let k = address_bytes f in
+    let after = cut_byte b _ 8 (omega arith) (cut_byte b _ 9 (omega arith) (cut_byte b _ 10 (omega arith) (cut_byte b _ 11 (omega arith)
+    (cut_number b _ 12 k h (omega arith) (cut_number b [] (12 + k) 4 h (omega arith) (cut_end b (12 + k + 4) (l ∙ size))))))) in
+    record {
+      fits = (session_fits b h (omega arith), address_number f _ (number_fits b 12 k h (omega arith)), number_fits b (12 + k) 4 h (omega arith));
+      limits = tt;
+      bytes = header_read b _ h (omega arith) after ∙ (λ i. header (version_field b) (t i) (session_field b) (e i) ++ (get_or b 8 0 ∷ get_or b 9 0 ∷ get_or b 10 0 ∷ get_or b 11 0 ∷ be (value (take k (drop 12 b))) k ++ be (value (take 4 (drop (12 + k) b))) 4));
+    }
+
+pub key_has : (b : List ℕ) → IsBytes b → 32 ≤ length b → length b ≤ 65535 → type_field b ≡ 9 → length_field b ≡ length b → HasFields b (key_fields b)
+key_has b h low high t e =
+    let i = take 20 (drop 8 b) in
+    let n = value (take 4 (drop 28 b)) in
+    let k = drop 32 b in
+    let len : length k ≡ length b - 32 = length-drop 32 b in
+    let size : length_field b ≡ 32 + length k = omega (arith, len) in
+    let after : drop 8 b ≡ i ++ (be n 4 ++ k) = cut_bytes b _ 8 20 (cut_number b k 28 4 h (omega arith) refl) in
+    record {
+      fits = (length-take-le 20 (drop 8 b) (omega (arith, length-drop 8 b)), number_fits b 28 4 h (omega arith), omega arith);
+      limits = omega arith;
+      bytes = header_cells b _ h (omega arith) (after ∙ sym (append_assoc i (be n 4) k)) ∙ (λ j. version_field b ∷ t j ∷ get_or b 2 0 ∷ get_or b 3 0 ∷ be (size j) 4 ++ (i ++ be n 4 ++ k));
+    }
+
+-- what numbers of four bytes are read off bytes
+record IsWords (b : List ℕ) : Type 0 where
+  count : 4 * length (words_of b) ≡ length b
+  each : AllByRecursion (λ p. p < 2 ^ 32) (words_of b)
+  bytes : b ≡ words (words_of b)
+
+is_words : (b : List ℕ) → IsBytes b → length b % 4 ≡ 0 → IsWords b
+is_words [] h l = record { count = refl; each = tt; bytes = refl }
+is_words (a ∷ b ∷ c ∷ d ∷ bs) h l =
+    let t = is_words bs (IsBytes-drop 4 (a ∷ b ∷ c ∷ d ∷ bs) h) (omega arith) in
+    record {
+      count = omega (arith, t.count);
+      each = (number_fits (a ∷ b ∷ c ∷ d ∷ bs) 0 4 h (omega arith), t.each);
+      bytes = cut_number (a ∷ b ∷ c ∷ d ∷ bs) bs 0 4 h (omega arith) refl ∙ ap (λ (x : List ℕ). be (value (a ∷ b ∷ c ∷ d ∷ [])) 4 ++ x) t.bytes;
+    }
+is_words b h l = absurd (omega arith)
+
+providers_there : (g : ℕ) (ps : List ℕ) → (length ps ≡ 0 → g % 2 ≢ 1) → HasProviders (act g) ps
+providers_there g ps h = cond_both (eqb (g % 2) 1) Announce Withdraw (λ a. HasProviders a ps) (λ e. some_there (eqb-true _ _ e)) (λ e. tt)
+  where
+    some_there : g % 2 ≡ 1 → 1 ≤ length ps
+    some_there e = elim (cases_lt 0 (length ps)) [ inl some ↦ some | inr none ↦ absurd (h (omega arith) e) ]
+
+pub aspa_has : (b : List ℕ) → IsBytes b → 12 ≤ length b → length b ≤ 65535 → length b % 4 ≡ 0 → (length b ≡ 12 → get_or b 2 0 % 2 ≢ 1) → type_field b ≡ 11 → length_field b ≡ length b → HasFields b (aspa_fields b)
+aspa_has b h low high by_four named t e =
+    let c = value (take 4 (drop 8 b)) in
+    let w = is_words (drop 12 b) (IsBytes-drop 12 b h) (omega (arith, length-drop 12 b)) in
+    let ps = words_of (drop 12 b) in
+    let len : length (drop 12 b) ≡ length b - 12 = length-drop 12 b in
+    let size : length_field b ≡ 12 + 4 * length ps = omega (arith, w.count) in
+    let after : drop 8 b ≡ be c 4 ++ words ps = cut_number b (words ps) 8 4 h (omega arith) w.bytes in
+    record {
+      fits = (number_fits b 8 4 h (omega arith), w.each, omega (arith, w.count));
+      limits = providers_there (get_or b 2 0) ps (λ none. named (omega (arith, w.count, none)));
+      bytes = header_cells b _ h (omega arith) after ∙ (λ j. version_field b ∷ t j ∷ get_or b 2 0 ∷ get_or b 3 0 ∷ be (size j) 4 ++ (be c 4 ++ words ps));
+    }
 
 pub below_push : (ps : List ℕ) (p : ℕ) → AllByRecursion (λ q. q < 2 ^ 32) ps → p < 2 ^ 32 → AllByRecursion (λ q. q < 2 ^ 32) (ps ++ p ∷ [])
 below_push [] p h l = (l, tt)

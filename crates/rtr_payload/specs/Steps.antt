@@ -1,11 +1,12 @@
 -- Why a list of bytes begins with no unit: the first step that holds (the crate's own order).
 use Rattle.std.specs.Prelude.{codes, ◌≡◌, ℕ, ◌%◌, Bool, not, ◌&&◌, ◌||◌, List, ◌++◌, length, take, drop, slice_index, Option, Some, None, nat_lt, nat_le, ◌==◌, if◌then◌else◌}
+use Rattle.rtr_base.specs.Addresses.{width}
 use Rattle.rtr_units.specs.Header.{version_field, type_field, length_field}
 use Rattle.rtr_units.specs.End.{EndMeaning, End}
 use Rattle.rtr_units.specs.Report.{report}
 use Rattle.rtr_units.specs.Causes.{Refusal, short, unit_type, unit_version, too_long, unit_length, empty_providers, refused}
 use Rattle.rtr_payload.specs.Payloads.{Meaning}
-use Rattle.rtr_payload.specs.Units.{IsUnit, Shape}
+use Rattle.rtr_payload.specs.Units.{Fields, prefix, router_key, providers, IsUnit, Shape}
 
 -- which rule on the lengths of a prefix is broken
 pub data PrefixFault : Type 0 where
@@ -42,7 +43,7 @@ text_of max_underflow = codes "max-length smaller than prefix length"
 
 -- the report on a unit u, with error code 0
 abbrev pub refusal_report : List ℕ → PrefixFault → List ℕ
-refusal_report u f = report (slice_index u 0) 0 u (text_of f)
+refusal_report u f = report (version_field u) 0 u (text_of f)
 
 -- the unit at the front of r, by its length field
 abbrev pub first_unit : List ℕ → List ℕ
@@ -56,18 +57,31 @@ refuse u (Some f) = Some (refused (refusal_report u f))
 abbrev pub lengths_fault : ℕ → List ℕ → Option Refusal
 lengths_fault t u = if t == 4 then refuse u (broken_rule 32 (slice_index u 9) (slice_index u 10)) else if t == 6 then refuse u (broken_rule 128 (slice_index u 9) (slice_index u 10)) else None
 
+-- the rule that the fields of a unit break
+abbrev pub rule_of : Fields → Option PrefixFault
+rule_of (prefix f v s g l x z a n) = broken_rule (width f) l x
+rule_of (router_key v g z i n k) = None
+rule_of (providers v g z c ps) = None
+
 abbrev pub first_of : Option Refusal → Option Refusal → Option Refusal
 first_of None later = later
 first_of (Some f) later = Some f
 
+-- steps 2 to 6, by the header at the front of r
+abbrev pub header_step : List ℕ → Option Refusal
+header_step r = header_fault (version_field r) (type_field r) (slice_index r 2) (length_field r)
+
+-- step 7
+abbrev pub length_step : List ℕ → Option Refusal
+length_step r = if nat_lt (length r) (length_field r) then Some short else None
+
 -- steps 1 to 7: the first that holds, or none where a unit of some shape or an end of data begins
 abbrev pub frame_fault : List ℕ → Option Refusal
-frame_fault r = if nat_lt (length r) 8 then Some short
-    else first_of (header_fault (slice_index r 0) (slice_index r 1) (slice_index r 2) (length_field r)) (if nat_lt (length r) (length_field r) then Some short else None)
+frame_fault r = if nat_lt (length r) 8 then Some short else first_of (header_step r) (length_step r)
 
 -- steps 1 to 8
 abbrev pub first_fault : List ℕ → Option Refusal
-first_fault r = first_of (frame_fault r) (lengths_fault (slice_index r 1) (first_unit r))
+first_fault r = first_of (frame_fault r) (lengths_fault (type_field r) (first_unit r))
 
 -- the bytes that are taken
 abbrev pub taken : Refusal → List ℕ → List ℕ

@@ -4,11 +4,10 @@ use Rattle.std.specs.List.{AllByRecursion}
 use Rattle.rtr_base.specs.declared.payload.Action.{Action}
 use Rattle.rtr_base.specs.declared.payload.Action.TheVariants.{Announce, Withdraw}
 use Rattle.rtr_base.specs.Bytes.{be, words}
-use Rattle.rtr_base.specs.Addresses.{cleared}
-use Rattle.rtr_base.specs.Addresses.{Family, v4, v6, width}
+use Rattle.rtr_base.specs.Addresses.{Family, width, cleared}
 use Rattle.rtr_units.specs.FixedUnits.{prefix_list}
 use Rattle.rtr_payload.specs.Payloads.{Payload, origin, key, aspa, Meaning}
-use Rattle.rtr_base.specs.Actions.{act}
+use Rattle.rtr_base.specs.Actions.{act, flags_of}
 
 -- The fields of a unit as they stand in it: version v, session s, flags g, prefix length l, max length x,
 -- free byte z, address a, ASN n; identifier i, key info k; customer c, providers ps

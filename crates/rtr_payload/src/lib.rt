@@ -1,17 +1,8 @@
 //! Payload units and their meanings.
 #![tactic(auto)]
 
-ghost use Rattle.std.specs.Prelude.{◌≡◌, ◌++◌, ◌↔◌, ◌%◌, ◌⊎◌, ℕ, List, None, IsSome};
-ghost use Rattle.rtr_base.specs.Bytes.{IsBytes};
-ghost use Rattle.rtr_payload.specs.Steps.{BeginsShape, BeginsUnit, BeginsEnd, frame_fault, first_fault};
-ghost use Rattle.std.specs.Cmp.{IsTotalOrder};
-ghost use Rattle.std.specs.declared.cmp.Ordering.TheVariants.{Equal};
-ghost use Rattle.rtr_payload.specs.Orders.{payload_cmp};
-ghost use Rattle.rtr_payload.specs.Payloads.{Payload, IsPayload, Meaning};
-ghost use Rattle.rtr_base.specs.Actions.{act};
-ghost use Rattle.rtr_payload.specs.Units.{Fields, Fit, IsUnit, unit_list, form, form_of, meaning, written, stripped};
-
 mod key_info;
+pub mod laws;
 mod providers;
 
 /// The variable units and what they hold.
@@ -19,32 +10,3 @@ pub mod pdu {
     pub use crate::key_info::{KeyInfoError, KeyInfoVecError, RouterKeyInfo};
     pub use crate::providers::{ProviderAsns, ProviderAsnsError, ProviderIter, ProviderIterError};
 }
-
-/// With one version and one pair of flags, payloads have one form exactly where they are equal.
-pub fn payload_forms()
-    ensures exact { (v f : ℕ) (p q : Payload) → IsPayload p → IsPayload q → (form v f p ≡ form v f q) ↔ (p ≡ q) }
-    ensures fields { (v f : ℕ) (p : Payload) → IsPayload p →
-        meaning (written v f p) ≡ record { version = v; action = act f; payload = stripped (act f) p } }
-{}
-
-/// No unit begins another, and one list has one meaning.
-pub fn unit_self_delimiting()
-    ensures units { (a b r s : List ℕ) (m n : Meaning) → IsUnit a m → IsUnit b n → a ++ r ≡ b ++ s → (a ≡ b) × (m ≡ n) × (r ≡ s) }
-    ensures forms { (m n : Meaning) (r s : List ℕ) → IsPayload m.payload → IsPayload n.payload → form_of m ++ r ≡ form_of n ++ s → (m ≡ n) × (r ≡ s) }
-{}
-
-/// For each list of bytes exactly one holds: a front of it is a unit, a front of it is an end of data, or a step
-/// names a fault.
-pub fn exactly_one()
-    ensures one { (r : List ℕ) → IsBytes r → BeginsUnit r ⊎ (BeginsEnd r ⊎ IsSome (first_fault r)) }
-    ensures frame { (r : List ℕ) → IsBytes r → frame_fault r ≡ None → BeginsShape r ⊎ BeginsEnd r }
-    ensures unit { (r : List ℕ) → BeginsUnit r → first_fault r ≡ None }
-    ensures end { (r : List ℕ) → BeginsEnd r → first_fault r ≡ None }
-    ensures apart { (r : List ℕ) → BeginsUnit r → BeginsEnd r → ⊥ }
-{}
-
-/// The order of payloads is total, and payloads that compare as equal are one.
-pub fn payload_order()
-    ensures total { IsTotalOrder payload_cmp }
-    ensures exact { (p q : Payload) → (payload_cmp p q ≡ Equal) ↔ (p ≡ q) }
-{}

@@ -1,8 +1,8 @@
 -- The end of data (RFC 6810 section 5.8, RFC 8210 section 5.8; version 2, which is the crate's own, is laid out as version 1).
-use Rattle.std.specs.Prelude.{◌≡◌, ℕ, ◌^◌, ◌<◌, ◌⊎◌, List, ◌∷◌, ◌++◌, Option, Some, None}
+use Rattle.std.specs.Prelude.{◌≡◌, ℕ, ◌^◌, ◌<◌, ◌⊎◌, List, ◌∷◌, ◌++◌, take, drop, Option, Some, None, ◌==◌, if◌then◌else◌}
 use Rattle.rtr_base.specs.declared.payload.Timing.{Timing}
-use Rattle.rtr_base.specs.Bytes.{be}
-use Rattle.rtr_units.specs.Header.{header}
+use Rattle.rtr_base.specs.Bytes.{be, value}
+use Rattle.rtr_units.specs.Header.{header, version_field, session_field}
 use Rattle.rtr_units.specs.FixedUnits.{serial_list}
 
 -- what an end of data means: in version 0 without timings
@@ -34,3 +34,16 @@ pub record IsEndMeaning (e : EndMeaning) : Type 0 where
 pub record End (b : List ℕ) (e : EndMeaning) : Type 0 where
   pub fits : IsEndMeaning e
   pub bytes : b ≡ end_list e
+
+-- ---- the fields of an end of data, read off its bytes
+
+abbrev pub timing_fields : List ℕ → Timing
+timing_fields b = record { refresh = value (take 4 (drop 12 b)); retry = value (take 4 (drop 16 b)); expire = value (take 4 (drop 20 b)) }
+
+abbrev pub end_fields : List ℕ → EndMeaning
+end_fields b = record {
+  version = version_field b;
+  session = session_field b;
+  serial = value (take 4 (drop 8 b));
+  timing = if version_field b == 0 then None else Some (timing_fields b);
+}

@@ -97,24 +97,24 @@ row_4 : form_of (meaning (prefix v6 1 0 1 23 26 0 0x20010db800000002000a0000dead
 row_4 = refl
 
 -- ---- row 5, row 6
-row_5 : first_fault (u5_bytes ++ e1_bytes) ≡ Some (refused len_overflow)
+row_5 : first_fault (u5_bytes ++ e1_bytes) ≡ Some (refused (refusal_report u5_bytes len_overflow))
 unfolding header_fault broken_rule
 row_5 = refl
 
-row_5_taken : taken (refused len_overflow) (u5_bytes ++ e1_bytes) ≡ u5_bytes
+row_5_taken : taken (refused (refusal_report u5_bytes len_overflow)) (u5_bytes ++ e1_bytes) ≡ u5_bytes
 row_5_taken = refl
 
 row_5_report : refusal_report u5_bytes len_overflow ≡ 0x01 ∷ 0x0a ∷ 0 ∷ 0 ∷ 0 ∷ 0 ∷ 0 ∷ 0x3b ∷ 0 ∷ 0 ∷ 0 ∷ 0x14 ∷ u5_bytes ++ (0 ∷ 0 ∷ 0 ∷ 0x17 ∷ codes "prefix length too large")
 row_5_report = refl
 
-row_6 : first_fault u6_bytes ≡ Some (refused max_underflow)
+row_6 : first_fault u6_bytes ≡ Some (refused (refusal_report u6_bytes max_underflow))
 unfolding header_fault broken_rule
 row_6 = refl
 
 row_6_report : refusal_report u6_bytes max_underflow ≡ 0x01 ∷ 0x0a ∷ 0 ∷ 0 ∷ 0 ∷ 0 ∷ 0 ∷ 0x49 ∷ 0 ∷ 0 ∷ 0 ∷ 0x14 ∷ u6_bytes ++ (0 ∷ 0 ∷ 0 ∷ 0x25 ∷ codes "max-length smaller than prefix length")
 row_6_report = refl
 
-row_6_other : first_fault u6b_bytes ≡ Some (refused max_overflow)
+row_6_other : first_fault u6b_bytes ≡ Some (refused (refusal_report u6b_bytes max_overflow))
 unfolding header_fault broken_rule
 row_6_other = refl
 

@@ -1,7 +1,7 @@
 -- Sequences of payload units and an end of data (RFC 8210 section 8.1 and 8.2, after the cache response).
 use Rattle.std.specs.Prelude.{◌≡◌, ℕ, ◌≤◌, ◌⊎◌, List, [], ◌∷◌, ◌++◌, length, map, filter, Some, None, unwrap_or, ◌==◌, nat_le, if◌then◌else◌}
 use Rattle.std.specs.List.{flat_map}
-use Rattle.rtr_base.specs.declared.payload.Timing.{Timing}
+use Rattle.rtr_base.specs.Timings.{default_timing}
 use Rattle.rtr_units.specs.End.{EndMeaning, End, end_list}
 use Rattle.rtr_payload.specs.Payloads.{Payload, origin, key, aspa, Meaning}
 use Rattle.rtr_payload.specs.Units.{IsUnit, form_of}

@@ -1,0 +1,199 @@
+-- The steps of a list of bytes by its front: what a header, a unit and an end of data say whatever follows them.
+use Rattle.std.proofs.Common.{◌≡◌, ◌≢◌, ℕ, ◌+◌, ◌*◌, ◌%◌, ◌^◌, ◌<◌, ◌≤◌, ◌⊎◌, Bool, true, false, cond, ltb, eqb, List, [], ◌++◌, length, take, Option, Some, None, refl, sym, ap, subst, ◌∙◌, arith, get_or, inl, inr}
+use Rattle.std.proofs.lemmas.Bool.{le-ltb, lt-ltb, ltb-false, eq-eqb, cond-true}
+use Rattle.std.proofs.lemmas.Bool.Decides.{nat_tests}
+use Rattle.std.proofs.lemmas.List.{length-append, take_at}
+use Rattle.rtr_base.specs.declared.payload.Action.{Action}
+use Rattle.rtr_base.specs.declared.payload.Action.TheVariants.{Announce, Withdraw}
+use Rattle.rtr_base.specs.declared.payload.Timing.{Timing}
+use Rattle.rtr_base.specs.Actions.{act}
+use Rattle.rtr_base.specs.Addresses.{Family, v4, v6, width}
+use Rattle.rtr_base.specs.Bytes.{be, value, words}
+use Rattle.rtr_base.proofs.Numbers.{length-words, value-be}
+use Rattle.rtr_units.specs.Causes.{Refusal, short, unit_type, unit_version, too_long, unit_length, empty_providers, refused}
+use Rattle.rtr_units.specs.End.{EndMeaning, End, HasTimingOf, timed_list, end_list}
+use Rattle.rtr_units.specs.FixedUnits.{prefix_type, prefix_size}
+use Rattle.rtr_units.specs.Header.{version_field, type_field, length_field}
+use Rattle.rtr_units.proofs.Headers.{same_header}
+use Rattle.rtr_payload.specs.Reads.{IsPartial, IsRefused}
+use Rattle.rtr_payload.specs.Steps.{PrefixFault, header_fault, header_step, length_step, lengths_fault, frame_fault, first_of, first_fault, first_unit, taken, broken_rule, rule_of, refuse, refusal_report}
+use Rattle.rtr_payload.specs.Units.{Fields, prefix, router_key, providers, unit_list, HasProviders, Fit, WithinLimits, LengthsAgree, HasFields}
+
+-- ---- the first of two steps
+
+guard_none : {A : Type 0} (b : Bool) (f : A) (o : Option A) → cond b (Some f) o ≡ None → (b ≡ false) × (o ≡ None)
+guard_none true f o e = absurd cc
+guard_none false f o e = (refl, e)
+
+pub first_none : (a b : Option Refusal) → first_of a b ≡ None → (a ≡ None) × (b ≡ None)
+first_none None b e = (refl, e)
+first_none (Some f) b e = absurd cc
+
+-- ---- steps 1 to 7
+
+-- a whole header is there, it is in order, and so much follows as it says
+pub record InFrame (r : List ℕ) : Type 0 where
+  pub whole_header : 8 ≤ length r
+  pub in_order : header_step r ≡ None
+  pub whole : length_field r ≤ length r
+
+pub none_in_frame : (r : List ℕ) → frame_fault r ≡ None → InFrame r
+none_in_frame r e =
+    let a = guard_none (ltb (length r) 8) short (first_of (header_step r) (length_step r)) e in
+    let b = first_none (header_step r) (length_step r) a.1 in
+    let c = guard_none (ltb (length r) (length_field r)) short None b.1 in
+    record { whole_header = ltb-false (length r) 8 a.0; in_order = b.0; whole = ltb-false (length r) (length_field r) c.0 }
+
+-- behind eight bytes the steps go on with the header
+behind_header : (r : List ℕ) → 8 ≤ length r → frame_fault r ≡ first_of (header_step r) (length_step r)
+behind_header r l = ap (λ b. cond b (Some short) (first_of (header_step r) (length_step r))) (le-ltb (length r) 8 l)
+
+pub in_frame_none : (r : List ℕ) → InFrame r → frame_fault r ≡ None
+in_frame_none r h =
+    behind_header r h.whole_header ∙ ap (λ o. first_of o (length_step r)) h.in_order ∙ ap (λ (b : Bool). cond b (Some short) None) (le-ltb (length r) (length_field r) h.whole)
+
+-- what follows a header does not change what is wrong with it
+pub same_step : (h r : List ℕ) → 8 ≤ length h → header_step (h ++ r) ≡ header_step h
+same_step h r l =
+    let s = same_header h r l in
+    λ i. header_fault (s.version i) (s.kind i) (s.flags i) (s.size i)
+
+pub in_frame_front : (u r : List ℕ) → 8 ≤ length u → header_step u ≡ None → length_field u ≡ length u → InFrame (u ++ r)
+in_frame_front u r l e n =
+    let len = length-append u r in
+    let s = same_header u r l in
+    record { whole_header = omega arith; in_order = same_step u r l ∙ e; whole = omega (arith, s.size) }
+
+-- ---- a list that ends too early
+
+pub header_short : (h : List ℕ) → length h < 8 → IsPartial h
+header_short h l = grind (arith, nat_tests)
+
+pub unit_short : (h : List ℕ) → 8 ≤ length h → header_step h ≡ None → length h < length_field h → IsPartial h
+unit_short h l e less =
+    let tail = first_unit h in
+    let frame : frame_fault h ≡ Some short = behind_header h l ∙ ap (λ o. first_of o (length_step h)) e ∙ ap (λ (b : Bool). cond b (Some short) None) (lt-ltb (length h) (length_field h) less) in
+    ap (λ o. first_of o (lengths_fault (type_field h) tail)) frame
+
+-- ---- a header that is refused
+
+header_takes : (v t g n : ℕ) (f : Refusal) (r : List ℕ) → header_fault v t g n ≡ Some f → taken f r ≡ take 8 r
+unfolding header_fault
+header_takes v t g n short r e = absurd (grind (arith, nat_tests))
+header_takes v t g n (unit_type x) r e = refl
+header_takes v t g n (unit_version x) r e = refl
+header_takes v t g n too_long r e = refl
+header_takes v t g n unit_length r e = refl
+header_takes v t g n empty_providers r e = refl
+header_takes v t g n (refused x) r e = absurd (grind (arith, nat_tests))
+
+pub header_refused : (h : List ℕ) (f : Refusal) → length h ≡ 8 → header_step h ≡ Some f → IsRefused h f
+header_refused h f l e = λ r.
+    let all = h ++ r in
+    let long : 8 ≤ length all = omega (arith, length-append h r) in
+    let step : header_step all ≡ Some f = same_step h r (omega arith) ∙ e in
+    let frame : frame_fault all ≡ Some f = behind_header all long ∙ ap (λ o. first_of o (length_step all)) step in (
+      ap (λ o. first_of o (lengths_fault (type_field all) (first_unit all))) frame,
+      header_takes (version_field all) (type_field all) (get_or all 2 0) (length_field all) f all step ∙ take_at h r 8 l,
+    )
+
+-- ---- a list with the shape of a unit
+
+nine_in_order : (v g n : ℕ) → 32 ≤ n → n ≤ 65535 → header_fault v 9 g n ≡ None
+unfolding header_fault
+nine_in_order v g n h k = grind (arith, nat_tests)
+
+eleven_in_order : (v g n : ℕ) → 12 ≤ n → n ≤ 65535 → n % 4 ≡ 0 → (n ≡ 12 → g % 2 ≢ 1) → header_fault v 11 g n ≡ None
+unfolding header_fault
+eleven_in_order v g n h k d e = grind (arith, nat_tests)
+
+prefix_in_order : (f : Family) (v g : ℕ) → header_fault v (prefix_type f) g (prefix_size f) ≡ None
+unfolding header_fault
+prefix_in_order v4 v g = refl
+prefix_in_order v6 v g = refl
+
+providers_named : (g : ℕ) (ps : List ℕ) → HasProviders (act g) ps → 12 + 4 * length ps ≡ 12 → g % 2 ≢ 1
+providers_named g ps h e odd = absurd (omega (arith, one_named))
+  where
+    one_named : 1 ≤ length ps
+    one_named = let acts : act g ≡ Announce = cond-true (eqb (g % 2) 1) Announce Withdraw (eq-eqb (g % 2) 1 odd) in let P : Action → Type 0 = λ a. HasProviders a ps in subst P acts h
+
+-- a list whose header is in order and says its length
+pub record Whole (b : List ℕ) : Type 0 where
+  pub long : 8 ≤ length b
+  pub in_order : header_step b ≡ None
+  pub size : length_field b ≡ length b
+
+prefix_length : (f : Family) (v s g l x z a n : ℕ) → length (unit_list (prefix f v s g l x z a n)) ≡ prefix_size f
+prefix_length v4 v s g l x z a n = refl
+prefix_length v6 v s g l x z a n = refl
+
+prefix_size_said : (f : Family) → (8 ≤ prefix_size f) × (value (be (prefix_size f) 4) ≡ prefix_size f)
+prefix_size_said v4 = (omega arith, refl)
+prefix_size_said v6 = (omega arith, refl)
+
+unit_whole : (u : Fields) → Fit u → WithinLimits u → Whole (unit_list u)
+unit_whole (prefix f v s g l x z a n) h w =
+    let n8 = prefix_length f v s g l x z a n in
+    let p = prefix_size_said f in
+    record { long = omega arith; in_order = ap (header_fault v (prefix_type f) _) p.1 ∙ prefix_in_order f v _; size = p.1 ∙ sym n8 }
+unit_whole (router_key v g z i n k) h w =
+    let len : value (be (32 + length k) 4) ≡ 32 + length k = value-be (32 + length k) 4 (omega arith) in
+    let size : length (unit_list (router_key v g z i n k)) ≡ 32 + length k = omega (arith, length-append (i ++ be n 4) k, length-append i (be n 4)) in
+    record { long = omega arith; in_order = ap (header_fault v 9 g) len ∙ nine_in_order v g (32 + length k) (omega arith) (omega arith); size = len ∙ sym size }
+unit_whole (providers v g z c ps) h w =
+    let len : value (be (12 + 4 * length ps) 4) ≡ 12 + 4 * length ps = value-be (12 + 4 * length ps) 4 (omega arith) in
+    let size : length (unit_list (providers v g z c ps)) ≡ 12 + 4 * length ps = omega (arith, length-words ps) in
+    record { long = omega arith; in_order = ap (header_fault v 11 g) len ∙ eleven_in_order v g (12 + 4 * length ps) (omega arith) (omega arith) (omega arith) (providers_named g ps w); size = len ∙ sym size }
+
+shape_whole : (b : List ℕ) (u : Fields) → HasFields b u → Whole b
+shape_whole b u h = subst Whole (sym h.bytes) (unit_whole u h.fits h.limits)
+
+end_whole : (v s q : ℕ) (t : Option Timing) → HasTimingOf v t → Whole (timed_list v s q t)
+unfolding header_fault
+end_whole v s q None h = record { long = omega arith; in_order = rw h refl; size = refl }
+end_whole v s q (Some t) h = record { long = omega arith; in_order = elim h.0 [ inl e ↦ rw e refl | inr e ↦ rw e refl ]; size = refl }
+
+-- the unit is what its length field cuts off
+whole_front : (b r : List ℕ) → Whole b → (frame_fault (b ++ r) ≡ None) × (first_unit (b ++ r) ≡ b)
+whole_front b r h =
+    let n : length_field (b ++ r) ≡ length b = (same_header b r h.long).size ∙ h.size in
+    (in_frame_none (b ++ r) (in_frame_front b r h.long h.in_order h.size), rw n (take_at b r (length b) refl))
+
+-- and only step 8 is left
+step_eight : (b r : List ℕ) → Whole b → first_fault (b ++ r) ≡ lengths_fault (type_field b) b
+step_eight b r w =
+    let f = whole_front b r w in
+    let same : type_field (b ++ r) ≡ type_field b = (same_header b r w.long).kind in
+    ap (λ o. first_of o (lengths_fault (type_field (b ++ r)) (first_unit (b ++ r)))) f.0 ∙ (λ i. lengths_fault (same i) (f.1 i))
+
+-- which is the rule on the fields
+lengths_are : (u : Fields) → lengths_fault (type_field (unit_list u)) (unit_list u) ≡ refuse (unit_list u) (rule_of u)
+lengths_are (prefix v4 v s g l x z a n) = refl
+lengths_are (prefix v6 v s g l x z a n) = refl
+lengths_are (router_key v g z i n k) = refl
+lengths_are (providers v g z c ps) = refl
+
+-- behind a list with the shape of a unit the one fault is that of its prefix lengths
+pub shape_fault : (b r : List ℕ) (u : Fields) → HasFields b u → first_fault (b ++ r) ≡ refuse b (rule_of u)
+shape_fault b r u h =
+    step_eight b r (shape_whole b u h) ∙ ap (λ c. lengths_fault (type_field c) c) h.bytes ∙ lengths_are u ∙ ap (λ c. refuse c (rule_of u)) (sym h.bytes)
+
+pub prefix_refused : (b : List ℕ) (u : Fields) (f : PrefixFault) → HasFields b u → rule_of u ≡ Some f → IsRefused b (refused (refusal_report b f))
+prefix_refused b u f h e = λ r. (shape_fault b r u h ∙ ap (refuse b) e, (whole_front b r (shape_whole b u h)).1)
+
+-- a list with the shape of a unit, or an end of data, is framed and cut off by its length field
+pub shape_cut : (b r : List ℕ) (u : Fields) → HasFields b u → (frame_fault (b ++ r) ≡ None) × (first_unit (b ++ r) ≡ b)
+shape_cut b r u h = whole_front b r (shape_whole b u h)
+
+pub end_cut : (b r : List ℕ) (e : EndMeaning) → End b e → (frame_fault (b ++ r) ≡ None) × (first_unit (b ++ r) ≡ b)
+end_cut b r e h = whole_front b r (subst Whole (sym h.bytes) (end_whole e.version e.session e.serial e.timing h.fits.timing))
+
+end_lengths : (v s q : ℕ) (t : Option Timing) → lengths_fault (type_field (timed_list v s q t)) (timed_list v s q t) ≡ None
+end_lengths v s q None = refl
+end_lengths v s q (Some t) = refl
+
+pub end_fault : (b r : List ℕ) (e : EndMeaning) → End b e → first_fault (b ++ r) ≡ None
+end_fault b r e h =
+    let w : Whole b = subst Whole (sym h.bytes) (end_whole e.version e.session e.serial e.timing h.fits.timing) in
+    step_eight b r w ∙ ap (λ c. lengths_fault (type_field c) c) h.bytes ∙ end_lengths e.version e.session e.serial e.timing
