@@ -7,7 +7,7 @@ use Rattle.rtr_payload.proofs.providers.ProviderAsns.try_from_iter.Goals as goal
 pub items-preserved : goal.items-preserved
 items-preserved g c =
     let asns = words_of c.items.bytes.items in
-    let written = c.in-Ok.ensures.ok ∙ ap (λ (n : ℕ). c.items.bytes.items ++ be n 4) c.into_u32.ensures in
+    let written = c.in-Ok.ensures.ok ∙ ap (λ (n : ℕ). c.items.bytes.items ++ be n 4) c.into_u32.ensures.number in
     let below : c.in-Some.asn < 2 ^ 32 = omega (arith, c.into_u32.ensures) in
     let room : length asns < 16380 = omega arith in
     let pushed = provider_push c.items.bytes.items c.put_u32.new.self.items c.in-Some.asn c.items.invariant.fit below room written in
