@@ -3,6 +3,7 @@
 
 mod key_info;
 pub mod laws;
+pub mod payload;
 mod providers;
 
 /// The variable units and what they hold.
