@@ -79,6 +79,7 @@ impl Prefix {
     }
 
     /// The IPv4 prefix of this length that has the address. Host bits are cleared.
+    #[inline(always)]
     pub fn new_v4_relaxed(addr: Ipv4Addr, len: u8) -> Result<Self, PrefixError>
         ensures ok { IfOk result (λ p. p ≡ record { family = v4; address = cleared 32 len (ipv4_bits addr); len = len }) }
         ensures valid { IfOk result IsPrefix }
@@ -112,6 +113,7 @@ impl Prefix {
     }
 
     /// The IPv6 prefix of this length that has the address. Host bits are cleared.
+    #[inline(always)]
     pub fn new_v6_relaxed(addr: Ipv6Addr, len: u8) -> Result<Self, PrefixError>
         ensures ok { IfOk result (λ p. p ≡ record { family = v6; address = cleared 128 len (ipv6_bits addr); len = len }) }
         ensures valid { IfOk result IsPrefix }
@@ -129,6 +131,7 @@ impl Prefix {
     }
 
     /// Whether this is a prefix of IPv4 addresses.
+    #[inline(always)]
     pub fn is_v4(self) -> bool
         ensures family { result ≡ v4_test self.family }
         ensures valid { IsPrefix self }
@@ -137,6 +140,7 @@ impl Prefix {
     }
 
     /// The address, whose host bits are zero.
+    #[inline(always)]
     pub fn addr(self) -> IpAddr
         ensures octets { IsAddressOf self result }
         ensures number { ip_number result ≡ self.address }
@@ -150,6 +154,7 @@ impl Prefix {
     }
 
     /// How many bits of the address count.
+    #[inline(always)]
     pub fn len(self) -> u8
         ensures len { result ≡ self.len }
         ensures valid { IsPrefix self }
@@ -247,6 +252,7 @@ impl Error for MaxLenError {}
 
 impl MaxLenPrefix {
     /// The prefix with this max length.
+    #[inline(always)]
     pub fn new(prefix: Prefix, max_len: Option<u8>) -> Result<Self, MaxLenError>
         ensures ok { IfOk result (λ p. p ≡ record { prefix = prefix; max_len = max_len }) }
         ensures valid { IfOk result IsMaxLenPrefix }
@@ -267,6 +273,7 @@ impl MaxLenPrefix {
     }
 
     /// The prefix.
+    #[inline(always)]
     pub fn prefix(self) -> Prefix
         ensures prefix { result ≡ self.prefix }
         ensures valid { IsMaxLenPrefix self }
@@ -275,6 +282,7 @@ impl MaxLenPrefix {
     }
 
     /// The address of the prefix.
+    #[inline(always)]
     pub fn addr(self) -> IpAddr
         ensures octets { IsAddressOf self.prefix result }
         ensures number { ip_number result ≡ self.prefix.address }
@@ -284,6 +292,7 @@ impl MaxLenPrefix {
     }
 
     /// The length of the prefix.
+    #[inline(always)]
     pub fn prefix_len(self) -> u8
         ensures len { result ≡ self.prefix.len }
         ensures valid { IsMaxLenPrefix self }
@@ -292,6 +301,7 @@ impl MaxLenPrefix {
     }
 
     /// The max length, where one was given.
+    #[inline(always)]
     pub fn max_len(self) -> Option<u8>
         ensures max_len { result ≡ self.max_len }
         ensures valid { IsMaxLenPrefix self }
@@ -300,6 +310,7 @@ impl MaxLenPrefix {
     }
 
     /// The longest prefix length that is meant: the max length, and where none was given the prefix length.
+    #[inline(always)]
     pub fn resolved_max_len(self) -> u8
         ensures max_len { result ≡ resolved_len self }
         ensures valid { IsMaxLenPrefix self }
@@ -308,6 +319,7 @@ impl MaxLenPrefix {
     }
 }
 
+#[inline(always)]
 fn cleared_v4(bits: u32, len: u8) -> u32
     requires { len ≤ 32 }
     ensures { result ≡ cleared 32 len bits }
@@ -319,6 +331,7 @@ fn cleared_v4(bits: u32, len: u8) -> u32
     }
 }
 
+#[inline(always)]
 fn cleared_v6(bits: u128, len: u8) -> u128
     requires { len ≤ 128 }
     ensures { result ≡ cleared 128 len bits }

@@ -18,6 +18,7 @@ impl Model for Asn {
 
 impl Asn {
     /// The system of this number.
+    #[inline(always)]
     pub const fn from_u32(value: u32) -> Self
         ensures { result ≡ value }
     {
@@ -25,6 +26,7 @@ impl Asn {
     }
 
     /// The number of the system.
+    #[inline(always)]
     pub const fn into_u32(self) -> u32
         ensures number { result ≡ self }
         ensures range { self < 2 ^ 32 }
@@ -36,6 +38,7 @@ impl Asn {
 impl From<u32> for Asn {
     ghost from_gives = { λ value asn. asn ≡ value };
 
+    #[inline(always)]
     fn from(value: u32) -> Self {
         Asn(value)
     }

@@ -19,6 +19,7 @@ impl Model for KeyIdentifier {
 impl From<[u8; 20]> for KeyIdentifier {
     ghost from_gives = { λ bytes key. key ≡ bytes };
 
+    #[inline(always)]
     fn from(bytes: [u8; 20]) -> Self {
         KeyIdentifier(bytes)
     }
@@ -27,6 +28,7 @@ impl From<[u8; 20]> for KeyIdentifier {
 impl From<KeyIdentifier> for [u8; 20] {
     ghost from_gives = { λ key bytes. (bytes ≡ key) × (length bytes ≡ 20) };
 
+    #[inline(always)]
     fn from(key: KeyIdentifier) -> Self {
         key.0
     }

@@ -19,6 +19,7 @@ impl Action {
     ghost use Rattle.rtr_base.specs.Actions.{act, flags_of};
 
     /// Whether this is `Announce`.
+    #[inline(always)]
     pub fn is_announce(self) -> bool
         ensures { IsTrue result ↔ (self ≡ Action.Announce) }
     {
@@ -26,6 +27,7 @@ impl Action {
     }
 
     /// Whether this is `Withdraw`.
+    #[inline(always)]
     pub fn is_withdraw(self) -> bool
         ensures { IsTrue result ↔ (self ≡ Action.Withdraw) }
     {
@@ -33,6 +35,7 @@ impl Action {
     }
 
     /// The action that the flags of a unit say: only their lowest bit counts.
+    #[inline(always)]
     pub fn from_flags(flags: u8) -> Self
         ensures { result ≡ act flags }
     {
@@ -44,6 +47,7 @@ impl Action {
     }
 
     /// The flags that say the action: 1 or 0.
+    #[inline(always)]
     pub fn into_flags(self) -> u8
         ensures flags { result ≡ flags_of self }
         ensures read_back { act result ≡ self }

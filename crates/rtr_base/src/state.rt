@@ -18,6 +18,7 @@ pub struct Serial(pub u32);
 
 impl Serial {
     /// The number of four bytes in network order.
+    #[inline(always)]
     pub fn from_be_bytes(bytes: [u8; 4]) -> Self
         ensures number { result.0 ≡ value bytes }
         ensures bytes { be result.0 4 ≡ bytes }
@@ -26,6 +27,7 @@ impl Serial {
     }
 
     /// The number as four bytes in network order.
+    #[inline(always)]
     pub fn to_be_bytes(self) -> [u8; 4]
         ensures { result ≡ be self.0 4 }
     {
@@ -56,6 +58,7 @@ impl Serial {
 impl From<u32> for Serial {
     ghost from_gives = { λ value serial. serial.0 ≡ value };
 
+    #[inline(always)]
     fn from(value: u32) -> Self {
         Serial(value)
     }
@@ -64,6 +67,7 @@ impl From<u32> for Serial {
 impl From<Serial> for u32 {
     ghost from_gives = { λ serial value. value ≡ serial.0 };
 
+    #[inline(always)]
     fn from(serial: Serial) -> Self {
         serial.0
     }
@@ -113,6 +117,7 @@ impl Model for State {
 
 impl State {
     /// The state of this session at this serial number.
+    #[inline(always)]
     pub const fn from_parts(session: u16, serial: Serial) -> Self
         ensures { result ≡ record { session = session; serial = serial.0 } }
     {
@@ -127,6 +132,7 @@ impl State {
     }
 
     /// The session.
+    #[inline(always)]
     pub fn session(self) -> u16
         ensures session { result ≡ self.session }
         ensures range { self.session < 2 ^ 16 }
@@ -135,6 +141,7 @@ impl State {
     }
 
     /// The serial number.
+    #[inline(always)]
     pub fn serial(self) -> Serial
         ensures serial { result.0 ≡ self.serial }
         ensures range { self.serial < 2 ^ 32 }
