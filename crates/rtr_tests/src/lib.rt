@@ -1,0 +1,5 @@
+//! Tests of the crates below, one file for each layer.
+#![tactic(auto)]
+
+#[cfg(test)]
+mod base;
