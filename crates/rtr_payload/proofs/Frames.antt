@@ -45,7 +45,7 @@ none_in_frame r e =
     record { whole_header = ltb-false (length r) 8 a.0; in_order = b.0; whole = ltb-false (length r) (length_field r) c.0 }
 
 -- behind eight bytes the steps go on with the header
-behind_header : (r : List ℕ) → 8 ≤ length r → frame_fault r ≡ first_of (header_step r) (length_step r)
+pub behind_header : (r : List ℕ) → 8 ≤ length r → frame_fault r ≡ first_of (header_step r) (length_step r)
 behind_header r l = ap (λ b. cond b (Some short) (first_of (header_step r) (length_step r))) (le-ltb (length r) 8 l)
 
 pub in_frame_none : (r : List ℕ) → InFrame r → frame_fault r ≡ None
@@ -63,39 +63,6 @@ in_frame_front u r l e n =
     let len = length-append u r in
     let s = same_header u r l in
     record { whole_header = omega arith; in_order = same_step u r l ∙ e; whole = omega (arith, s.size) }
-
--- ---- a list that ends too early
-
-pub header_short : (h : List ℕ) → length h < 8 → IsPartial h
-header_short h l = grind (arith, nat_tests)
-
-pub unit_short : (h : List ℕ) → 8 ≤ length h → header_step h ≡ None → length h < length_field h → IsPartial h
-unit_short h l e less =
-    let tail = first_unit h in
-    let frame : frame_fault h ≡ Some short = behind_header h l ∙ ap (λ o. first_of o (length_step h)) e ∙ ap (λ (b : Bool). cond b (Some short) None) (lt-ltb (length h) (length_field h) less) in
-    ap (λ o. first_of o (lengths_fault (type_field h) tail)) frame
-
--- ---- a header that is refused
-
-header_takes : (v t g n : ℕ) (f : Refusal) (r : List ℕ) → header_fault v t g n ≡ Some f → taken f r ≡ take 8 r
-unfolding header_fault
-header_takes v t g n short r e = absurd (grind (arith, nat_tests))
-header_takes v t g n (unit_type x) r e = refl
-header_takes v t g n (unit_version x) r e = refl
-header_takes v t g n too_long r e = refl
-header_takes v t g n unit_length r e = refl
-header_takes v t g n empty_providers r e = refl
-header_takes v t g n (refused x) r e = absurd (grind (arith, nat_tests))
-
-pub header_refused : (h : List ℕ) (f : Refusal) → length h ≡ 8 → header_step h ≡ Some f → IsRefused h f
-header_refused h f l e = λ r.
-    let all = h ++ r in
-    let long : 8 ≤ length all = omega (arith, length-append h r) in
-    let step : header_step all ≡ Some f = same_step h r (omega arith) ∙ e in
-    let frame : frame_fault all ≡ Some f = behind_header all long ∙ ap (λ o. first_of o (length_step all)) step in (
-      ap (λ o. first_of o (lengths_fault (type_field all) (first_unit all))) frame,
-      header_takes (version_field all) (type_field all) (get_or all 2 0) (length_field all) f all step ∙ take_at h r 8 l,
-    )
 
 -- ---- a list with the shape of a unit
 
@@ -178,9 +145,6 @@ lengths_are (providers v g z c ps) = refl
 pub shape_fault : (b r : List ℕ) (u : Fields) → HasFields b u → first_fault (b ++ r) ≡ refuse b (rule_of u)
 shape_fault b r u h =
     step_eight b r (shape_whole b u h) ∙ ap (λ c. lengths_fault (type_field c) c) h.bytes ∙ lengths_are u ∙ ap (λ c. refuse c (rule_of u)) (sym h.bytes)
-
-pub prefix_refused : (b : List ℕ) (u : Fields) (f : PrefixFault) → HasFields b u → rule_of u ≡ Some f → IsRefused b (refused (refusal_report b f))
-prefix_refused b u f h e = λ r. (shape_fault b r u h ∙ ap (refuse b) e, (whole_front b r (shape_whole b u h)).1)
 
 -- a list with the shape of a unit, or an end of data, is framed and cut off by its length field
 pub shape_cut : (b r : List ℕ) (u : Fields) → HasFields b u → (frame_fault (b ++ r) ≡ None) × (first_unit (b ++ r) ≡ b)

@@ -16,67 +16,8 @@ use Rattle.rtr_payload.specs.Payloads.{Meaning}
 use Rattle.rtr_payload.specs.Places.{prefix_fields, key_fields, aspa_fields}
 use Rattle.rtr_payload.specs.Steps.{header_fault, header_step, lengths_fault, frame_fault, first_fault, first_unit, BeginsShape, BeginsUnit, BeginsEnd, broken_rule, rule_of, refuse}
 use Rattle.rtr_payload.specs.Units.{Fields, prefix, router_key, providers, LengthsAgree, HasFields, IsUnit, meaning}
-use Rattle.rtr_payload.proofs.FieldsRead.{prefix_has, key_has, aspa_has}
+use Rattle.rtr_payload.proofs.Wholes.{whole_is}
 use Rattle.rtr_payload.proofs.Frames.{Whole, InFrame, none_in_frame, first_none, same_step, shape_fault, end_fault}
-
--- ---- a whole list whose header is in order, by its type
-
-kinds : (v t g n : ℕ) → header_fault v t g n ≡ None → ((f : Family) × (t ≡ prefix_type f)) ⊎ ((t ≡ 7) ⊎ ((t ≡ 9) ⊎ (t ≡ 11)))
-unfolding header_fault
-kinds v t g n h = elim by_type [ inl x ↦ inl (v4, x) | inr (inl x) ↦ inl (v6, x) | inr (inr x) ↦ inr x ]
-  where
-    by_type : (t ≡ 4) ⊎ ((t ≡ 6) ⊎ ((t ≡ 7) ⊎ ((t ≡ 9) ⊎ (t ≡ 11))))
-    by_type = grind (arith, nat_tests)
-
-prefix_said : (f : Family) (v g n : ℕ) → header_fault v (prefix_type f) g n ≡ None → n ≡ prefix_size f
-unfolding header_fault
-prefix_said v4 v g n h = grind (arith, nat_tests)
-prefix_said v6 v g n h = grind (arith, nat_tests)
-
-end_said : (v g n : ℕ) → header_fault v 7 g n ≡ None → ((v ≡ 0) × (n ≡ 12)) ⊎ (((v ≡ 1) ⊎ (v ≡ 2)) × (n ≡ 24))
-unfolding header_fault
-end_said v g n h = grind (arith, nat_tests)
-
-key_said : (v g n : ℕ) → header_fault v 9 g n ≡ None → (32 ≤ n) × (n ≤ 65535)
-unfolding header_fault
-key_said v g n h = grind (arith, nat_tests)
-
-aspa_said : (v g n : ℕ) → header_fault v 11 g n ≡ None → (12 ≤ n) × (n ≤ 65535) × (n % 4 ≡ 0) × (n ≡ 12 → g % 2 ≢ 1)
-unfolding header_fault
-aspa_said v g n h = grind (arith, nat_tests)
-
--- the header's step, where the type is known
-step_of : (b : List ℕ) (t : ℕ) → Whole b → type_field b ≡ t → header_fault (version_field b) t (get_or b 2 0) (length_field b) ≡ None
-step_of b t w e = rw e at w.in_order
-
-pub prefix_whole : (f : Family) (b : List ℕ) → IsBytes b → Whole b → type_field b ≡ prefix_type f → HasFields b (prefix_fields f b)
-prefix_whole f b h w t =
-    let n = prefix_said f (version_field b) (get_or b 2 0) (length_field b) (step_of b (prefix_type f) w t) in
-    prefix_has f b h (sym w.size ∙ n) t n
-
-pub key_whole : (b : List ℕ) → IsBytes b → Whole b → type_field b ≡ 9 → HasFields b (key_fields b)
-key_whole b h w t =
-    let n = key_said (version_field b) (get_or b 2 0) (length_field b) (step_of b 9 w t) in
-    key_has b h (omega (arith, w.size)) (omega (arith, w.size)) t w.size
-
-pub aspa_whole : (b : List ℕ) → IsBytes b → Whole b → type_field b ≡ 11 → HasFields b (aspa_fields b)
-aspa_whole b h w t =
-    let n = aspa_said (version_field b) (get_or b 2 0) (length_field b) (step_of b 11 w t) in
-    aspa_has b h (omega (arith, w.size)) (omega (arith, w.size)) (rw (← w.size) n.2) (λ e. n.3 (w.size ∙ e)) t w.size
-
-pub ends_whole : (b : List ℕ) → IsBytes b → Whole b → type_field b ≡ 7 → End b (end_fields b)
-ends_whole b h w t = elim (end_said (version_field b) (get_or b 2 0) (length_field b) (step_of b 7 w t)) [
-  | inl x ↦ untimed_has b h x.0 t (sym w.size ∙ x.1) x.1
-  | inr x ↦ timed_has b h x.0 t (sym w.size ∙ x.1) x.1
-]
-
-pub whole_is : (b : List ℕ) → IsBytes b → Whole b → ((u : Fields) × HasFields b u) ⊎ ((e : EndMeaning) × End b e)
-whole_is b h w = elim (kinds (version_field b) (type_field b) (get_or b 2 0) (length_field b) w.in_order) [
-  | inl x ↦ inl (prefix_fields x.0 b, prefix_whole x.0 b h w x.1)
-  | inr (inl t) ↦ inr (end_fields b, ends_whole b h w t)
-  | inr (inr (inl t)) ↦ inl (key_fields b, key_whole b h w t)
-  | inr (inr (inr t)) ↦ inl (aspa_fields b, aspa_whole b h w t)
-]
 
 -- ---- a rest that meets none of the steps 1 to 7
 
