@@ -1,12 +1,14 @@
 -- The fields of a unit can be read off its list.
-use Rattle.std.proofs.Common.{◌≡◌, ℕ, ◌+◌, ◌-◌, ◌*◌, ◌/◌, ◌%◌, ◌^◌, ◌<◌, List, [], ◌∷◌, ◌++◌, length, take, drop, refl, sym, ap, ◌∙◌, append_assoc, arith, get_or}
+use Rattle.std.proofs.Common.{◌≡◌, ℕ, ◌+◌, ◌-◌, ◌*◌, ◌/◌, ◌%◌, ◌^◌, ◌<◌, List, [], ◌∷◌, ◌++◌, length, take, drop, subst, refl, sym, ap, ◌∙◌, append_assoc, arith, get_or}
 use Rattle.std.specs.List.{AllByRecursion}
 use Rattle.rtr_base.specs.declared.payload.Action.{Action}
 use Rattle.rtr_base.specs.declared.payload.Action.TheVariants.{Announce, Withdraw}
 use Rattle.std.proofs.lemmas.Nat.{mod-mul-add, div-add-mod', pow_pos}
-use Rattle.rtr_base.specs.Bytes.{be, words}
-use Rattle.rtr_base.specs.Addresses.{cleared}
-use Rattle.rtr_base.proofs.Numbers.{be-injective}
+use Rattle.rtr_base.specs.Bytes.{be, words, IsBytes}
+use Rattle.rtr_base.specs.Addresses.{Family, cleared}
+use Rattle.rtr_base.proofs.Numbers.{be-injective, length-be, IsBytes-cons, IsBytes-append, IsBytes-be, IsBytes-words, IsBytes-drop}
+use Rattle.rtr_units.specs.FixedUnits.{prefix_type, prefix_size, address_bytes}
+use Rattle.rtr_units.proofs.Headers.{header_bytes}
 use Rattle.rtr_base.specs.Addresses.{v4, v6, width}
 use Rattle.rtr_payload.specs.Payloads.{Payload, origin, key, aspa, Meaning, IsPayload, IsAspa}
 use Rattle.rtr_base.specs.Actions.{act}
@@ -39,17 +41,25 @@ Same u w r s = (u ≡ w) × (r ≡ s)
 byte : {b c : List ℕ} (i : ℕ) → b ≡ c → get_or b i 0 ≡ get_or c i 0
 byte i e = ap (λ l. get_or l i 0) e
 
+-- an address fits in its bytes
+pub address_below : (f : Family) (a : ℕ) → a < 2 ^ width f → a < 256 ^ address_bytes f
+address_below v4 a h = h
+address_below v6 a h = h
+
+prefix_same : (f : Family) (v s g l x z a n v' s' g' l' x' z' a' n' : ℕ) (r t : List ℕ) → let u = prefix f v s g l x z a n in let w = prefix f v' s' g' l' x' z' a' n' in
+    Fit u → Fit w → unit_list u ++ r ≡ unit_list w ++ t → Same u w r t
+prefix_same f v s g l x z a n v' s' g' l' x' z' a' n' r t h j e =
+    let k = address_bytes f in
+    let es : s ≡ s' = be-injective s s' 2 h.0 j.0 (ap (λ b. take 2 (drop 2 b)) e) in
+    let e12 : be a k ++ (be n 4 ++ r) ≡ be a' k ++ (be n' 4 ++ t) = sym (append_assoc (be a k) (be n 4) r) ∙ ap (drop 12) e ∙ append_assoc (be a' k) (be n' 4) t in
+    let p = append_same (be a k) (be a' k) (be n 4 ++ r) (be n' 4 ++ t) (length-be a k ∙ sym (length-be a' k)) e12 in
+    let ea : a ≡ a' = be-injective a a' k (address_below f a h.1) (address_below f a' j.1) p.0 in
+    let en : n ≡ n' = be-injective n n' 4 h.2 j.2 (ap (take 4) p.1) in
+    (λ i. prefix f (byte 0 e i) (es i) (byte 8 e i) (byte 9 e i) (byte 10 e i) (byte 11 e i) (ea i) (en i), ap (drop 4) p.1)
+
 pub fields_same : (u w : Fields) (r s : List ℕ) → Fit u → Fit w → unit_list u ++ r ≡ unit_list w ++ s → Same u w r s
-fields_same (prefix v4 v s g l x z a n) (prefix v4 v' s' g' l' x' z' a' n') r t h k e =
-    let es : s ≡ s' = be-injective s s' 2 h.0 k.0 (ap (λ l. take 2 (drop 2 l)) e) in
-    let ea : a ≡ a' = be-injective a a' 4 h.1 k.1 (ap (λ l. take 4 (drop 12 l)) e) in
-    let en : n ≡ n' = be-injective n n' 4 h.2 k.2 (ap (λ l. take 4 (drop 16 l)) e) in
-    (λ i. prefix v4 (byte 0 e i) (es i) (byte 8 e i) (byte 9 e i) (byte 10 e i) (byte 11 e i) (ea i) (en i), ap (drop 20) e)
-fields_same (prefix v6 v s g l x z a n) (prefix v6 v' s' g' l' x' z' a' n') r t h k e =
-    let es : s ≡ s' = be-injective s s' 2 h.0 k.0 (ap (λ l. take 2 (drop 2 l)) e) in
-    let ea : a ≡ a' = be-injective a a' 16 h.1 k.1 (ap (λ l. take 16 (drop 12 l)) e) in
-    let en : n ≡ n' = be-injective n n' 4 h.2 k.2 (ap (λ l. take 4 (drop 28 l)) e) in
-    (λ i. prefix v6 (byte 0 e i) (es i) (byte 8 e i) (byte 9 e i) (byte 10 e i) (byte 11 e i) (ea i) (en i), ap (drop 32) e)
+fields_same (prefix v4 v s g l x z a n) (prefix v4 v' s' g' l' x' z' a' n') r t h k e = prefix_same v4 v s g l x z a n v' s' g' l' x' z' a' n' r t h k e
+fields_same (prefix v6 v s g l x z a n) (prefix v6 v' s' g' l' x' z' a' n') r t h k e = prefix_same v6 v s g l x z a n v' s' g' l' x' z' a' n' r t h k e
 fields_same (router_key v g z i n k) (router_key v' g' z' i' n' k') r t h j e =
     let el : 32 + length k ≡ 32 + length k' = be-injective (32 + length k) (32 + length k') 4 (omega arith) (omega arith) (ap (λ l. take 4 (drop 4 l)) e) in
     let e8 : i ++ be n 4 ++ k ++ r ≡ i' ++ be n' 4 ++ k' ++ t = ap (drop 8) e in
@@ -172,10 +182,36 @@ form_means m h e =
     ∙ (λ i. record { version = m.version; action = a i; payload = stripped (a i) m.payload })
     ∙ (λ i. record { version = m.version; action = m.action; payload = e i })
 
+-- ---- and its bytes are bytes
+
+flags_byte : (a : Action) → flags_of a < 256
+flags_byte Announce = omega arith
+flags_byte Withdraw = omega arith
+
+-- four bytes in front of others
+cells_bytes : (a b c d : ℕ) (r : List ℕ) → a < 256 → b < 256 → c < 256 → d < 256 → IsBytes r → IsBytes (a ∷ b ∷ c ∷ d ∷ r)
+cells_bytes a b c d r ha hb hc hd h = IsBytes-cons a (b ∷ c ∷ d ∷ r) ha (IsBytes-cons b (c ∷ d ∷ r) hb (IsBytes-cons c (d ∷ r) hc (IsBytes-cons d r hd h)))
+
+form_bytes : (u : Fields) → IsBytes (unit_list u) → IsBytes (form_of (meaning u))
+form_bytes (prefix f v s g l x z a n) h =
+    let address = be (cleared (width f) l a) (address_bytes f) in
+    let tail = IsBytes-append address (be n 4) (IsBytes-be (cleared (width f) l a) (address_bytes f)) (IsBytes-be n 4) in
+    header_bytes v (prefix_type f) 0 (prefix_size f) (flags_of (act g) ∷ l ∷ x ∷ 0 ∷ address ++ be n 4) (h 0) (h 1)
+        (cells_bytes (flags_of (act g)) l x 0 (address ++ be n 4) (flags_byte (act g)) (h 9) (h 10) (omega arith) tail)
+form_bytes (router_key v g z i n k) h =
+    cells_bytes v 9 (flags_of (act g)) 0 (be (32 + length k) 4 ++ i ++ be n 4 ++ k) (h 0) (omega arith) (flags_byte (act g)) (omega arith)
+        (IsBytes-drop 4 (unit_list (router_key v g z i n k)) h)
+form_bytes (providers v g z c ps) h =
+    let qs = named (act g) ps in
+    let size = be (12 + 4 * length qs) 4 in
+    let tail = IsBytes-append (be c 4) (words qs) (IsBytes-be c 4) (IsBytes-words qs) in
+    cells_bytes v 11 (flags_of (act g)) 0 (size ++ be c 4 ++ words qs) (h 0) (omega arith) (flags_byte (act g)) (omega arith)
+        (IsBytes-append size (be c 4 ++ words qs) (IsBytes-be (12 + 4 * length qs) 4) tail)
+
 pub form_is_unit : (b : List ℕ) (m : Meaning) → IsUnit b m → IsUnit (form_of m) m
 form_is_unit b m h = rw h.means (record {
   fields = written (meaning h.fields).version (flags_of (meaning h.fields).action) (meaning h.fields).payload;
-  shape = record { fits = Fit-written _ _ _ (meaning_fits h.fields h.fits h.lengths); limits = limits_again h.fields h.limits; bytes = refl };
+  shape = record { fits = Fit-written _ _ _ (meaning_fits h.fields h.fits h.lengths); limits = limits_again h.fields h.limits; bytes = refl; are_bytes = form_bytes h.fields (subst IsBytes h.bytes h.are_bytes) };
   lengths = lengths_again h.fields h.lengths;
   means = sym (form_means (meaning h.fields) (meaning_fits h.fields h.fits h.lengths) (stripped_again h.fields));
 })

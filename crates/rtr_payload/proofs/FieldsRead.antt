@@ -12,6 +12,7 @@ use Rattle.rtr_base.specs.Addresses.{Family, v4, v6, width}
 use Rattle.rtr_units.specs.FixedUnits.{prefix_type, prefix_size, address_bytes, prefix_list}
 use Rattle.rtr_units.specs.Header.{version_field, type_field, session_field, length_field, header}
 use Rattle.rtr_units.proofs.Headers.{header_read, header_cells, session_fits}
+use Rattle.rtr_payload.proofs.Fields.{address_below}
 use Rattle.rtr_payload.specs.Places.{words_of, prefix_fields, key_fields, aspa_fields, fields_like}
 use Rattle.rtr_payload.specs.Units.{Fields, prefix, router_key, providers, unit_list, Fit, HasFields, HasProviders}
 
@@ -20,11 +21,6 @@ use Rattle.rtr_payload.specs.Units.{Fields, prefix, router_key, providers, unit_
 pub words_of-words : (ps : List ℕ) → AllByRecursion (λ p. p < 2 ^ 32) ps → words_of (words ps) ≡ ps
 words_of-words [] h = refl
 words_of-words (p ∷ ps) h = let a = value-be p 4 h.0 in let b = words_of-words ps h.1 in λ i. a i ∷ b i
-
--- an address in its bytes
-address_below : (f : Family) (a : ℕ) → a < 2 ^ width f → a < 256 ^ address_bytes f
-address_below v4 a h = h
-address_below v6 a h = h
 
 -- the address and the ASN stand at their places
 prefix_places : (f : Family) (v s g l x z a n : ℕ) → let b = prefix_list f v s g l x z a n in
@@ -70,6 +66,7 @@ prefix_has f b h l t e =
       fits = (session_fits b h (omega arith), address_number f _ (number_fits b 12 k h (omega arith)), number_fits b (12 + k) 4 h (omega arith));
       limits = tt;
       bytes = header_read b _ h (omega arith) after ∙ (λ i. header (version_field b) (t i) (session_field b) (e i) ++ (get_or b 8 0 ∷ get_or b 9 0 ∷ get_or b 10 0 ∷ get_or b 11 0 ∷ be (value (take k (drop 12 b))) k ++ be (value (take 4 (drop (12 + k) b))) 4));
+      are_bytes = h;
     }
 
 pub key_has : (b : List ℕ) → IsBytes b → 32 ≤ length b → length b ≤ 65535 → type_field b ≡ 9 → length_field b ≡ length b → HasFields b (key_fields b)
@@ -84,6 +81,7 @@ key_has b h low high t e =
       fits = (length-take-le 20 (drop 8 b) (omega (arith, length-drop 8 b)), number_fits b 28 4 h (omega arith), omega arith);
       limits = omega arith;
       bytes = header_cells b _ h (omega arith) (after ∙ sym (append_assoc i (be n 4) k)) ∙ (λ j. version_field b ∷ t j ∷ get_or b 2 0 ∷ get_or b 3 0 ∷ be (size j) 4 ++ (i ++ be n 4 ++ k));
+      are_bytes = h;
     }
 
 -- what numbers of four bytes are read off bytes
@@ -121,6 +119,7 @@ aspa_has b h low high by_four named t e =
       fits = (number_fits b 8 4 h (omega arith), w.each, omega (arith, w.count));
       limits = providers_there (get_or b 2 0) ps (λ none. named (omega (arith, w.count, none)));
       bytes = header_cells b _ h (omega arith) after ∙ (λ j. version_field b ∷ t j ∷ get_or b 2 0 ∷ get_or b 3 0 ∷ be (size j) 4 ++ (be c 4 ++ words ps));
+      are_bytes = h;
     }
 
 pub below_push : (ps : List ℕ) (p : ℕ) → AllByRecursion (λ q. q < 2 ^ 32) ps → p < 2 ^ 32 → AllByRecursion (λ q. q < 2 ^ 32) (ps ++ p ∷ [])

@@ -4,18 +4,12 @@ use Rattle.std.specs.declared.cmp.Ordering.{Ordering}
 use Rattle.std.specs.declared.cmp.Ordering.TheVariants.{Less, Equal, Greater}
 use Rattle.std.specs.Ordering.{nat_cmp, ordering_then}
 use Rattle.std.specs.Cmp.Lexicographic.{slice_cmp}
-use Rattle.rtr_base.specs.Addresses.{Family, v4, v6}
+use Rattle.rtr_base.specs.Addresses.{family_cmp}
 use Rattle.rtr_payload.specs.Payloads.{Payload, origin, key, aspa}
 
 -- the first differing member decides; a proper prefix is less
 abbrev pub list_cmp : List ℕ → List ℕ → Ordering
 list_cmp xs ys = slice_cmp nat_cmp xs ys
-
-abbrev pub family_cmp : Family → Family → Ordering
-family_cmp v4 v4 = Equal
-family_cmp v4 v6 = Less
-family_cmp v6 v4 = Greater
-family_cmp v6 v6 = Equal
 
 -- origins, then keys, then ASPA; the first difference decides
 abbrev pub payload_cmp : Payload → Payload → Ordering

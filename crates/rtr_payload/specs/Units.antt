@@ -3,7 +3,7 @@ use Rattle.std.specs.Prelude.{◌≡◌, ℕ, ◌+◌, ◌*◌, ◌^◌, ◌<◌
 use Rattle.std.specs.List.{AllByRecursion}
 use Rattle.rtr_base.specs.declared.payload.Action.{Action}
 use Rattle.rtr_base.specs.declared.payload.Action.TheVariants.{Announce, Withdraw}
-use Rattle.rtr_base.specs.Bytes.{be, words}
+use Rattle.rtr_base.specs.Bytes.{be, words, IsBytes}
 use Rattle.rtr_base.specs.Addresses.{Family, width, cleared}
 use Rattle.rtr_units.specs.FixedUnits.{prefix_list}
 use Rattle.rtr_payload.specs.Payloads.{Payload, origin, key, aspa, Meaning}
@@ -66,6 +66,7 @@ pub record HasFields (b : List ℕ) (u : Fields) : Type 0 where
   pub fits : Fit u
   pub limits : WithinLimits u
   pub bytes : b ≡ unit_list u
+  pub are_bytes : IsBytes b
 
 -- the bytes are those of a unit, whatever its prefix lengths say
 pub record Shape (b : List ℕ) : Type 0 where

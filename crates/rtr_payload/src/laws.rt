@@ -1,11 +1,13 @@
 //! Laws of payload units.
 
-ghost use Rattle.std.specs.Prelude.{◌≡◌, ◌++◌, ◌↔◌, ◌%◌, ◌⊎◌, ℕ, List, None, IsSome};
-ghost use Rattle.rtr_base.specs.Bytes.{IsBytes};
+ghost use Rattle.std.specs.Prelude.{◌≡◌, ◌++◌, ◌↔◌, ◌%◌, ◌<◌, ◌^◌, ◌⊎◌, ℕ, List, None, IsSome};
+ghost use Rattle.rtr_base.specs.Bytes.{IsBytes, words};
 ghost use Rattle.rtr_payload.specs.Steps.{BeginsShape, BeginsUnit, BeginsEnd, frame_fault, first_fault};
 ghost use Rattle.std.specs.Cmp.{IsTotalOrder};
+ghost use Rattle.std.specs.List.{AllByRecursion};
 ghost use Rattle.std.specs.declared.cmp.Ordering.TheVariants.{Equal};
-ghost use Rattle.rtr_payload.specs.Orders.{payload_cmp};
+ghost use Rattle.rtr_payload.specs.Orders.{list_cmp, payload_cmp};
+ghost use Rattle.rtr_payload.specs.Places.{fields_like};
 ghost use Rattle.rtr_payload.specs.Payloads.{Payload, IsPayload, Meaning};
 ghost use Rattle.rtr_base.specs.Actions.{act};
 ghost use Rattle.rtr_payload.specs.Units.{Fields, Fit, IsUnit, unit_list, form, form_of, meaning, written, stripped};
@@ -13,6 +15,7 @@ ghost use Rattle.rtr_payload.specs.Units.{Fields, Fit, IsUnit, unit_list, form, 
 /// With one version and one pair of flags, payloads have one form exactly where they are equal.
 pub fn payload_forms()
     ensures exact { (v f : ℕ) (p q : Payload) → IsPayload p → IsPayload q → (form v f p ≡ form v f q) ↔ (p ≡ q) }
+    ensures places { (v f : ℕ) (p : Payload) → IsPayload p → fields_like (written v f p) (form v f p) ≡ written v f p }
     ensures fields { (v f : ℕ) (p : Payload) → IsPayload p →
         meaning (written v f p) ≡ record { version = v; action = act f; payload = stripped (act f) p } }
 {}
@@ -37,4 +40,11 @@ pub fn exactly_one()
 pub fn payload_order()
     ensures total { IsTotalOrder payload_cmp }
     ensures exact { (p q : Payload) → (payload_cmp p q ≡ Equal) ↔ (p ≡ q) }
+{}
+
+/// Providers in their bytes, compared byte by byte, stand as the lists of their numbers do: the first differing number
+/// decides, and a proper prefix is less.
+pub fn provider_order()
+    ensures { (ps qs : List ℕ) → AllByRecursion (λ p. p < 2 ^ 32) ps → AllByRecursion (λ q. q < 2 ^ 32) qs →
+        list_cmp (words ps) (words qs) ≡ list_cmp ps qs }
 {}

@@ -1,6 +1,7 @@
 -- A list of bytes as a header and what follows.
 use Rattle.std.proofs.Common.{◌≡◌, ℕ, suc, ◌+◌, ◌^◌, ◌<◌, ◌≤◌, List, [], ◌∷◌, ◌++◌, length, take, drop, get_or, refl, sym, ap, ◌∙◌, arith}
 use Rattle.rtr_base.specs.Bytes.{be, value, IsBytes}
+use Rattle.rtr_base.proofs.Numbers.{IsBytes-cons, IsBytes-append, IsBytes-be}
 use Rattle.rtr_base.proofs.Cuts.{cut_byte, cut_number, number_fits}
 use Rattle.rtr_units.specs.Header.{header, version_field, type_field, session_field, length_field}
 
@@ -27,3 +28,9 @@ pub record SameHeader (h r : List ℕ) : Type 0 where
 pub same_header : (h r : List ℕ) → 8 ≤ length h → SameHeader h r
 same_header (a ∷ b ∷ c ∷ d ∷ e ∷ f ∷ g ∷ i ∷ h) r l = record { version = refl; kind = refl; flags = refl; size = refl }
 same_header h r l = absurd (omega arith)
+
+pub header_bytes : (v t s n : ℕ) (rest : List ℕ) → v < 256 → t < 256 → IsBytes rest → IsBytes (header v t s n ++ rest)
+header_bytes v t s n rest hv ht h =
+    let tail = be s 2 ++ be n 4 ++ rest in
+    let tail_bytes = IsBytes-append (be s 2) (be n 4 ++ rest) (IsBytes-be s 2) (IsBytes-append (be n 4) rest (IsBytes-be n 4) h) in
+    IsBytes-cons v (t ∷ tail) hv (IsBytes-cons t tail ht tail_bytes)

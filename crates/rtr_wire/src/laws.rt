@@ -8,6 +8,9 @@ ghost use Rattle.rtr_payload.specs.Units.{IsUnit, form_of};
 ghost use Rattle.rtr_payload.specs.Steps.{BeginsEnd};
 ghost use Rattle.rtr_wire.specs.Sequences.{Accepts, IsSequence, sequence_form, AreUnits, IsKept, units_for, end_for};
 
+pub use rtr_base::laws::{serial_half_circle, serial_reversed};
+pub use rtr_payload::laws::{exactly_one, payload_forms, provider_order};
+
 /// No written unit and no written end of data begins another, nor do the lists that are read.
 pub fn self_delimiting()
     ensures forms { (m n : Meaning) (r s : List ℕ) → IsPayload m.payload → IsPayload n.payload →
@@ -16,6 +19,7 @@ pub fn self_delimiting()
     ensures units { (a b r s : List ℕ) (m n : Meaning) → IsUnit a m → IsUnit b n →
         a ++ r ≡ b ++ s → (a ≡ b) × (m ≡ n) × (r ≡ s) }
     ensures unit_or_end { (a b r s : List ℕ) (m : Meaning) (e : EndMeaning) → IsUnit a m → End b e → a ++ r ≡ b ++ s → ⊥ }
+    ensures end_forms { (d e : EndMeaning) (r s : List ℕ) → IsEndMeaning d → IsEndMeaning e → end_list d ++ r ≡ end_list e ++ s → (d ≡ e) × (r ≡ s) }
     ensures ends { (a b r s : List ℕ) (d e : EndMeaning) → End a d → End b e → a ++ r ≡ b ++ s → (a ≡ b) × (d ≡ e) × (r ≡ s) }
 {}
 
