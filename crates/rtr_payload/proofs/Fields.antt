@@ -197,16 +197,16 @@ form_bytes (prefix f v s g l x z a n) h =
     let address = be (cleared (width f) l a) (address_bytes f) in
     let tail = IsBytes-append address (be n 4) (IsBytes-be (cleared (width f) l a) (address_bytes f)) (IsBytes-be n 4) in
     header_bytes v (prefix_type f) 0 (prefix_size f) (flags_of (act g) ∷ l ∷ x ∷ 0 ∷ address ++ be n 4) (h 0) (h 1)
-        (cells_bytes (flags_of (act g)) l x 0 (address ++ be n 4) (flags_byte (act g)) (h 9) (h 10) (omega arith) tail)
+    (cells_bytes (flags_of (act g)) l x 0 (address ++ be n 4) (flags_byte (act g)) (h 9) (h 10) (omega arith) tail)
 form_bytes (router_key v g z i n k) h =
     cells_bytes v 9 (flags_of (act g)) 0 (be (32 + length k) 4 ++ i ++ be n 4 ++ k) (h 0) (omega arith) (flags_byte (act g)) (omega arith)
-        (IsBytes-drop 4 (unit_list (router_key v g z i n k)) h)
+    (IsBytes-drop 4 (unit_list (router_key v g z i n k)) h)
 form_bytes (providers v g z c ps) h =
     let qs = named (act g) ps in
     let size = be (12 + 4 * length qs) 4 in
     let tail = IsBytes-append (be c 4) (words qs) (IsBytes-be c 4) (IsBytes-words qs) in
     cells_bytes v 11 (flags_of (act g)) 0 (size ++ be c 4 ++ words qs) (h 0) (omega arith) (flags_byte (act g)) (omega arith)
-        (IsBytes-append size (be c 4 ++ words qs) (IsBytes-be (12 + 4 * length qs) 4) tail)
+    (IsBytes-append size (be c 4 ++ words qs) (IsBytes-be (12 + 4 * length qs) 4) tail)
 
 pub form_is_unit : (b : List ℕ) (m : Meaning) → IsUnit b m → IsUnit (form_of m) m
 form_is_unit b m h = rw h.means (record {
