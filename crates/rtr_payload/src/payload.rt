@@ -7,6 +7,8 @@ ghost use Rattle.rtr_payload.specs.Values.{aspa_in, kind_of, key_in, origin_in, 
 ghost use Rattle.rtr_payload.specs.declared.payload.Payload.TheVariants as payloads;
 ghost use Rattle.rtr_payload.specs.declared.payload.PayloadRef.TheVariants as lent;
 
+mod compare;
+
 use crate::key_info::RouterKeyInfo;
 use crate::providers::ProviderAsns;
 use rtr_base::addr::MaxLenPrefix;

@@ -2,8 +2,9 @@
 use Rattle.std.proofs.Common.{◌≡◌, ℕ, List, [], ◌∷◌, refl, sym, ap, ◌∙◌, ◌↔◌}
 use Rattle.std.specs.declared.cmp.Ordering.{Ordering}
 use Rattle.std.specs.declared.cmp.Ordering.TheVariants.{Less, Equal, Greater}
-use Rattle.std.specs.Ordering.{ordering_then, ordering_reverse}
-use Rattle.std.specs.Cmp.{IsTotalOrder}
+use Rattle.std.specs.Bool.{Decides}
+use Rattle.std.specs.Ordering.{eq_by_cmp, ordering_then, ordering_reverse}
+use Rattle.std.specs.Cmp.{IsTotalOrder, Equal-is}
 use Rattle.std.specs.Cmp.Lexicographic.{slice_cmp}
 use Rattle.std.proofs.lemmas.Cmp.{nat_list_cmp_total, lists_total}
 use Rattle.std.proofs.lemmas.Map.Lookups.{exact_bytes}
@@ -92,3 +93,7 @@ refl_equal p = reflexive (payload_cmp p p) (payload_total.antisymm p p)
 
 pub payload_same : (p q : Payload) → (payload_cmp p q ≡ Equal) ↔ (p ≡ q)
 payload_same p q = (payload_exact p q, λ e. ap (payload_cmp p) (sym e) ∙ refl_equal p)
+
+-- the test by the order finds out whether payloads are one
+pub payload_decides : (p q : Payload) → Decides (eq_by_cmp payload_cmp p q) (p ≡ q)
+payload_decides p q = (λ h. payload_exact p q ((Equal-is (payload_cmp p q)).0 h), λ e. (Equal-is (payload_cmp p q)).1 ((payload_same p q).1 e))

@@ -1,0 +1,30 @@
+use Rattle.std.proofs.Common.{◌≡◌, ℕ, refl}
+use Rattle.std.specs.declared.cmp.Ordering.{Ordering}
+use Rattle.std.specs.declared.cmp.Ordering.TheVariants.{Less, Equal, Greater}
+use Rattle.std.specs.Ordering.{nat_cmp, ordering_then}
+use Rattle.rtr_base.specs.Addresses.{MaxLenParts, family_cmp, prefix_cmp, resolved_len}
+use Rattle.rtr_payload.specs.Orders.{payload_cmp}
+use Rattle.rtr_payload.specs.Values.{origin_of}
+use Rattle.rtr_payload.proofs.payload.compare.RouteOriginOrd.cmp.Goals as goal
+
+-- five orders that decide in turn
+regrouped : (f a l x n : Ordering) → ordering_then (ordering_then (ordering_then f (ordering_then a l)) x) n ≡ ordering_then f (ordering_then a (ordering_then l (ordering_then x n)))
+regrouped Less a l x n = refl
+regrouped Equal Less l x n = refl
+regrouped Equal Equal Less x n = refl
+regrouped Equal Equal Equal x n = refl
+regrouped Equal Equal Greater x n = refl
+regrouped Equal Greater l x n = refl
+regrouped Greater a l x n = refl
+
+by_prefix : (p q : MaxLenParts) (m n : ℕ) → ordering_then (ordering_then (prefix_cmp p.prefix q.prefix) (nat_cmp (resolved_len p) (resolved_len q))) (nat_cmp m n)
+    ≡ payload_cmp (origin_of (record { prefix = p; asn = m })) (origin_of (record { prefix = q; asn = n }))
+by_prefix p q m n =
+    regrouped (family_cmp p.prefix.family q.prefix.family) (nat_cmp p.prefix.address q.prefix.address) (nat_cmp p.prefix.len q.prefix.len) (nat_cmp (resolved_len p) (resolved_len q)) (nat_cmp m n)
+
+pub returns : goal.returns
+returns c =
+    let l = c.args.self.now in
+    let r = c.args.other.now in
+    rw (c.then-2.ensures, c.then.ensures, c.cmp.ensures, c.cmp-2.ensures, c.cmp-3.ensures, c.prefix.ensures.prefix, c.prefix-2.ensures.prefix, c.resolved_max_len.ensures.max_len, c.resolved_max_len-2.ensures.max_len)
+    (by_prefix l.prefix r.prefix l.asn r.asn)
