@@ -69,3 +69,14 @@ pub fn u32_at(bytes: &[u8], place: usize) -> u32
         bytes[place + 3],
     ])
 }
+
+/// The number of sixteen bytes from a place on.
+#[inline(always)]
+pub fn u128_at(bytes: &[u8], place: usize) -> u128
+    requires { place + 16 ≤ length bytes.now }
+    ensures { result ≡ value (take 16 (drop place bytes.now)) }
+{
+    let mut number = [0; 16];
+    number.copy_from_slice(&bytes[place..place + 16]);
+    u128::from_be_bytes(number)
+}

@@ -2,9 +2,12 @@
 #![tactic(auto)]
 
 mod cells;
+pub mod end;
 pub mod error;
 pub mod fault;
+pub mod fixed;
 pub mod header;
 pub mod laws;
 pub mod piece;
 pub mod source;
+pub mod unit;

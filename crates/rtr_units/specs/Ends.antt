@@ -1,0 +1,48 @@
+-- An end of data of any version: its bytes, its meaning, and what reading it leaves.
+use Rattle.std.specs.Prelude.{◌≡◌, ℕ, ◌+◌, ◌<◌, ◌≤◌, List, [], ◌++◌, length, Option, Some, None, ◌==◌, if◌then◌else◌}
+use Rattle.std.specs.Io.KnownBytes.{IsAtEnd}
+use Rattle.rtr_units.specs.Causes.{short, unit_version, unit_length, Cause, by_reader, wrong}
+use Rattle.rtr_units.specs.End.{EndMeaning, End, timing_fields}
+use Rattle.rtr_units.specs.Header.{version_field, type_field, session_field, length_field}
+use Rattle.rtr_units.specs.Reads.{Takes}
+use Rattle.rtr_units.specs.Units.{end_v0_bytes, end_v1_bytes, serial_field}
+use Rattle.rtr_units.specs.declared.end.EndOfData.{EndOfData}
+use Rattle.rtr_units.specs.declared.end.EndOfData.TheVariants.{V0, V1}
+
+abbrev pub end_bytes : EndOfData → List ℕ
+end_bytes (V0 u) = end_v0_bytes u
+end_bytes (V1 u) = end_v1_bytes u
+
+-- what bytes mean as an end of data of version 0, whatever their version field says
+abbrev pub untimed_meaning : List ℕ → EndMeaning
+untimed_meaning u = record { version = 0; session = session_field u; serial = serial_field u; timing = None }
+
+-- what bytes mean as an end of data of a later version
+abbrev pub timed_meaning : List ℕ → EndMeaning
+timed_meaning u = record { version = version_field u; session = session_field u; serial = serial_field u; timing = Some (timing_fields u) }
+
+abbrev pub end_meaning : EndOfData → EndMeaning
+end_meaning (V0 u) = untimed_meaning (end_v0_bytes u)
+end_meaning (V1 u) = timed_meaning (end_v1_bytes u)
+
+-- how many bytes there are in a version
+abbrev pub end_length : ℕ → ℕ
+end_length v = if v == 0 then 12 else 24
+
+-- the header of an end of data, whatever its type
+abbrev pub HasEndHeader : List ℕ → Type 0
+HasEndHeader h = (version_field h ≤ 2) × (length_field h ≡ end_length (version_field h))
+
+-- The rest of the end of data e was read behind its header h, which is kept. With type 7 its bytes have its meaning.
+abbrev pub ReadsEnd : List ℕ → EndOfData → Option (List ℕ) → Option (List ℕ) → Type 0
+ReadsEnd h e old left =
+    HasEndHeader h × Takes old left (λ t. end_bytes e ≡ h ++ t) × ((end_meaning e).version ≡ version_field h) × (type_field h ≡ 7 → End (end_bytes e) (end_meaning e))
+
+-- Why reading the rest of an end of data stopped where it had taken t of it: at the version of the header h or its
+-- length field, of which nothing was taken, or inside the unit.
+abbrev pub StopsEnd : List ℕ → Cause → List ℕ → Option (List ℕ) → Type 0
+StopsEnd h (wrong (unit_version v)) t left = (v ≡ version_field h) × (2 < v) × (t ≡ [])
+StopsEnd h (wrong unit_length) t left = (version_field h ≤ 2) × ¬ (length_field h ≡ end_length (version_field h)) × (t ≡ [])
+StopsEnd h (wrong short) t left = HasEndHeader h × (8 + length t < length_field h) × IsAtEnd left
+StopsEnd h by_reader t left = HasEndHeader h × (8 + length t < length_field h)
+StopsEnd h cause t left = ⊥

@@ -1,0 +1,39 @@
+-- What reading a unit leaves, told by the bytes that it took. The order of the refusals is the crate's own.
+use Rattle.std.specs.Prelude.{◌≡◌, ℕ, ◌+◌, ◌<◌, ◌≤◌, List, [], ◌++◌, length, Option, ⊤}
+use Rattle.std.specs.Io.KnownBytes.{Consumes, IsAtEnd}
+use Rattle.rtr_units.specs.Causes.{short, unit_type, unit_version, unit_length, Cause, by_reader, wrong}
+use Rattle.rtr_units.specs.Header.{version_field, type_field, length_field}
+use Rattle.rtr_units.specs.Views.{AreBytes}
+
+-- Some bytes t were taken, of which `Told` says more; `left` is what the reader then has.
+abbrev pub Takes : Option (List ℕ) → Option (List ℕ) → (List ℕ → Type 0) → Type 0
+Takes old left Told = (t : List ℕ) × Consumes old left t × Told t
+
+-- The rest of the unit u of n bytes was read behind its header h, which is kept.
+abbrev pub ReadsRest : ℕ → List ℕ → List ℕ → Option (List ℕ) → Option (List ℕ) → Type 0
+ReadsRest n h u old left = (length_field h ≡ n) × AreBytes 8 h × AreBytes n u × Takes old left (λ t. u ≡ h ++ t)
+
+-- Why reading the rest of a unit of n bytes stopped where it had taken t of it: at the length field of the header h,
+-- of which nothing was taken, or inside the unit.
+abbrev pub StopsRest : ℕ → List ℕ → Cause → List ℕ → Option (List ℕ) → Type 0
+StopsRest n h (wrong unit_length) t left = ¬ (length_field h ≡ n) × (t ≡ [])
+StopsRest n h (wrong short) t left = (length_field h ≡ n) × (8 + length t < n) × IsAtEnd left
+StopsRest n h by_reader t left = (length_field h ≡ n) × (8 + length t < n)
+StopsRest n h cause t left = ⊥
+
+-- The unit u of type p and n bytes was read.
+abbrev pub ReadsUnit : (p n : ℕ) → List ℕ → Option (List ℕ) → Option (List ℕ) → Type 0
+ReadsUnit p n u old left = Consumes old left u × AreBytes n u × (type_field u ≡ p) × (length_field u ≡ n)
+
+-- t is less than a unit of type p and n bytes, and nothing is wrong but that
+abbrev pub IsPartOfUnit : (p n : ℕ) → List ℕ → Type 0
+IsPartOfUnit p n t = (length t < n) × (8 ≤ length t → (type_field t ≡ p) × (length_field t ≡ n))
+
+-- Why reading a unit of type p and n bytes stopped where it had taken t: at the header's type, at its length field, or
+-- inside the unit.
+abbrev pub StopsUnit : (p n : ℕ) → Cause → List ℕ → Option (List ℕ) → Type 0
+StopsUnit p n (wrong (unit_type k)) t left = (length t ≡ 8) × (type_field t ≡ k) × ¬ (k ≡ p)
+StopsUnit p n (wrong unit_length) t left = (length t ≡ 8) × (type_field t ≡ p) × ¬ (length_field t ≡ n)
+StopsUnit p n (wrong short) t left = IsPartOfUnit p n t × IsAtEnd left
+StopsUnit p n by_reader t left = IsPartOfUnit p n t
+StopsUnit p n cause t left = ⊥

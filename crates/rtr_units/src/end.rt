@@ -1,0 +1,167 @@
+//! The end of data (RFC 6810 and RFC 8210 section 5.8).
+
+ghost use Rattle.std.specs.Prelude.{◌≡◌, ℕ, List, length, MatchResult, MatchOption, Some, None, not, IfSome};
+ghost use Rattle.std.specs.Borrow.{sem};
+ghost use Rattle.rtr_base.specs.Bytes.{IsBytes};
+ghost use Rattle.rtr_units.specs.Causes.{cause_of};
+ghost use Rattle.rtr_units.specs.End.{timed_list};
+ghost use Rattle.rtr_units.specs.Ends.{end_bytes, end_meaning, ReadsEnd, StopsEnd};
+ghost use Rattle.rtr_units.specs.FixedUnits.{serial_list};
+ghost use Rattle.rtr_units.specs.Reads.{Takes};
+ghost use Rattle.rtr_units.specs.Stream.{PutsForm, count_after, is_reader_fault, is_writer_fault};
+ghost use Rattle.rtr_units.specs.Views.{header_bytes};
+
+use crate::fault::Fault;
+use crate::fixed::{EndOfDataV0, EndOfDataV1};
+use crate::header::Header;
+use crate::source::{Sink, Source};
+use crate::unit::Unit;
+use rtr_base::payload::Timing;
+use rtr_base::state::{Serial, State};
+
+/// An end of data of any version.
+#[derive(Clone, Copy, Debug, PartialEq, Eq, Hash)]
+pub enum EndOfData {
+    /// That of version 0, without timing parameters. It counts as version 0 whatever its version field says.
+    V0(EndOfDataV0),
+    /// That of a later version.
+    V1(EndOfDataV1),
+}
+
+impl EndOfData {
+    ghost use Rattle.rtr_units.specs.LendingEnd.{LendsEnd};
+
+    /// The type of an end of data.
+    pub const PDU: u8 = 7;
+
+    /// The end of data in this state. Version 0 has no place for the timing parameters.
+    #[inline(always)]
+    pub fn new(version: u8, state: State, timing: Timing) -> Self
+        ensures zero { version ≡ 0 → end_bytes result ≡ serial_list 0 7 state.session state.serial }
+        ensures later { ¬ (version ≡ 0) → end_bytes result ≡ timed_list version state.session state.serial (Some timing) }
+        ensures version { (end_meaning result).version ≡ version }
+    {
+        if version == 0 {
+            EndOfData::V0(EndOfDataV0::new(state))
+        } else {
+            EndOfData::V1(EndOfDataV1::new(version, state, timing))
+        }
+    }
+
+    /// Reads what follows the header, which is kept as it is. Its type is not judged.
+    ///
+    /// `UnitVersion` is answered above version 2, and then `UnitLength` unless the length field is 12 in version 0 and
+    /// 24 in versions 1 and 2. Nothing was read then.
+    #[inline(always)]
+    pub fn read_payload<R: Source>(header: Header, reader: &mut R) -> Result<Self, Fault>
+        ensures bytes { MatchResult result
+            (λ e. ReadsEnd (header_bytes header) e (R.remaining reader.old) (R.remaining reader.new))
+            (λ e. Takes (R.remaining reader.old) (R.remaining reader.new) (λ t. StopsEnd (header_bytes header) (cause_of e) t (R.remaining reader.new))) }
+        ensures count { R.failures reader.new ≡ count_after (R.failures reader.old) (not (is_reader_fault result)) }
+    {
+        let version = header.version();
+        if version > 2 {
+            return Err(Fault::UnitVersion(version));
+        }
+        if version == 0 {
+            match EndOfDataV0::read_payload(header, reader) {
+                Ok(unit) => Ok(EndOfData::V0(unit)),
+                Err(e) => Err(e),
+            }
+        } else {
+            match EndOfDataV1::read_payload(header, reader) {
+                Ok(unit) => Ok(EndOfData::V1(unit)),
+                Err(e) => Err(e),
+            }
+        }
+    }
+
+    /// The version of the protocol: 0 where there are no timing parameters.
+    #[inline(always)]
+    pub fn version(&self) -> u8
+        ensures { result ≡ (end_meaning self.now).version }
+    {
+        match self {
+            EndOfData::V0(_) => 0,
+            EndOfData::V1(unit) => unit.version(),
+        }
+    }
+
+    /// The session.
+    #[inline(always)]
+    pub fn session(&self) -> u16
+        ensures { result ≡ (end_meaning self.now).session }
+    {
+        match self {
+            EndOfData::V0(unit) => unit.session(),
+            EndOfData::V1(unit) => unit.session(),
+        }
+    }
+
+    /// The serial number.
+    #[inline(always)]
+    pub fn serial(&self) -> Serial
+        ensures { result.0 ≡ (end_meaning self.now).serial }
+    {
+        match self {
+            EndOfData::V0(unit) => unit.serial(),
+            EndOfData::V1(unit) => unit.serial(),
+        }
+    }
+
+    /// The session and the serial number.
+    #[inline(always)]
+    pub fn state(&self) -> State
+        ensures session { result.session ≡ (end_meaning self.now).session }
+        ensures serial { result.serial ≡ (end_meaning self.now).serial }
+    {
+        State::from_parts(self.session(), self.serial())
+    }
+
+    /// The timing parameters, in seconds.
+    #[inline(always)]
+    pub fn timing(&self) -> Option<Timing>
+        ensures { result ≡ (end_meaning self.now).timing }
+    {
+        match self {
+            EndOfData::V0(_) => None,
+            EndOfData::V1(unit) => Some(unit.timing()),
+        }
+    }
+
+    /// Writes all bytes.
+    #[inline(always)]
+    pub fn write<W: Sink>(&self, writer: &mut W) -> Result<(), Fault>
+        ensures bytes { PutsForm result (W.contents writer.old) (W.contents writer.new) (end_bytes self.now) }
+        ensures count { W.failures writer.new ≡ count_after (W.failures writer.old) (not (is_writer_fault result)) }
+    {
+        match self {
+            EndOfData::V0(unit) => unit.write(writer),
+            EndOfData::V1(unit) => unit.write(writer),
+        }
+    }
+
+    /// All bytes of the unit.
+    #[inline(always)]
+    pub fn as_ref(&self) -> &[u8]
+        ensures bytes { result.now ≡ end_bytes self.now }
+        ensures range { IsBytes result.now }
+    {
+        match self {
+            EndOfData::V0(unit) => unit.as_ref(),
+            EndOfData::V1(unit) => unit.as_ref(),
+        }
+    }
+
+    /// All bytes of the unit, to be changed in place. It stays of its kind.
+    #[inline(always)]
+    pub fn as_mut(&mut self) -> &mut [u8]
+        ensures* writes_back { sem 𝓛 (LendsEnd self.entry result) }
+        ensures bytes { result.now ≡ end_bytes self.old }
+    {
+        match self {
+            EndOfData::V0(unit) => unit.as_mut(),
+            EndOfData::V1(unit) => unit.as_mut(),
+        }
+    }
+}

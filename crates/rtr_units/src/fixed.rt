@@ -1,0 +1,425 @@
+//! Units of a fixed size (RFC 6810 and RFC 8210 sections 5.2 to 5.9).
+
+ghost use Rattle.std.specs.Prelude.{◌≡◌, ℕ, List, length, replicate, Some, refl};
+ghost use Rattle.std.proofs.Common.{rules};
+ghost use Rattle.std.specs.Net.Addr.{ipv4_bits, ipv6_bits};
+ghost use Rattle.rtr_base.specs.Addresses.{v4, v6};
+ghost use Rattle.rtr_units.specs.End.{timed_list, timing_fields};
+ghost use Rattle.rtr_units.specs.FixedUnits.{serial_list, prefix_list};
+ghost use Rattle.rtr_units.specs.Units.{ipv4_bytes, ipv6_bytes, end_v0_bytes, end_v1_bytes};
+ghost use Rattle.rtr_units.specs.Units.{serial_field, flags_field, prefix_len_field, max_len_field};
+ghost use Rattle.rtr_units.specs.Units.{ipv4_field, ipv4_asn_field, ipv6_field, ipv6_asn_field};
+
+use crate::cells;
+use crate::cells::Cells;
+use crate::unit::Unit;
+use rtr_base::asn::Asn;
+use rtr_base::payload::Timing;
+use rtr_base::state::{Serial, State};
+use std::net::{Ipv4Addr, Ipv6Addr};
+
+/// An IPv4 prefix (sections 5.6): 20 bytes.
+#[derive(Clone, Copy, Debug, PartialEq, Eq, Hash)]
+pub struct Ipv4Prefix {
+    cells: Cells<20>,
+}
+
+impl Unit for Ipv4Prefix {
+    ghost bytes = { ipv4_bytes };
+
+    ghost with_bytes = { λ u l. record { cells = record { bytes = l } } };
+
+    ghost PDU = { 4 };
+
+    ghost LENGTH = { 20 };
+
+    const PDU: u8 = 4;
+
+    const LENGTH: usize = 20;
+
+    #[inline(always)]
+    fn zero() -> Self {
+        Ipv4Prefix {
+            cells: Cells::new([0; 20]),
+        }
+    }
+
+    #[inline(always)]
+    fn as_ref(&self) -> &[u8] {
+        self.cells.as_ref()
+    }
+
+    #[inline(always)]
+    fn as_mut(&mut self) -> &mut [u8] {
+        self.cells.as_mut()
+    }
+
+    ghost sized = { Prim.search rules };
+
+    ghost kept = { λ u l. refl };
+}
+
+impl Default for Ipv4Prefix {
+    ghost is_default = { λ u. ipv4_bytes u ≡ replicate 20 0 };
+
+    fn default() -> Self {
+        Ipv4Prefix::zero()
+    }
+}
+
+impl Ipv4Prefix {
+    /// The unit with these fields. The lengths are not judged.
+    #[inline(always)]
+    pub fn new(
+        version: u8,
+        flags: u8,
+        prefix_len: u8,
+        max_len: u8,
+        prefix: Ipv4Addr,
+        asn: Asn,
+    ) -> Self
+        ensures { ipv4_bytes result ≡ prefix_list v4 version 0 flags prefix_len max_len 0 (ipv4_bits prefix) asn }
+    {
+        let [p0, p1, p2, p3] = prefix.to_bits().to_be_bytes();
+        let [n0, n1, n2, n3] = asn.into_u32().to_be_bytes();
+        Ipv4Prefix {
+            cells: Cells::new([
+                version, 4, 0, 0, 0, 0, 0, 20, flags, prefix_len, max_len, 0, p0, p1, p2, p3, n0,
+                n1, n2, n3,
+            ]),
+        }
+    }
+
+    /// The flags, of which the lowest bit announces.
+    #[inline(always)]
+    pub fn flags(&self) -> u8
+        ensures { result ≡ flags_field (ipv4_bytes self.now) }
+    {
+        self.as_ref()[8]
+    }
+
+    /// The length of the prefix.
+    #[inline(always)]
+    pub fn prefix_len(&self) -> u8
+        ensures { result ≡ prefix_len_field (ipv4_bytes self.now) }
+    {
+        self.as_ref()[9]
+    }
+
+    /// The greatest length of a prefix that is meant.
+    #[inline(always)]
+    pub fn max_len(&self) -> u8
+        ensures { result ≡ max_len_field (ipv4_bytes self.now) }
+    {
+        self.as_ref()[10]
+    }
+
+    /// The address, host bits included.
+    #[inline(always)]
+    #[tactic(auto, using(crate::proofs::Addresses::ipv4_of_bits))]
+    pub fn prefix(&self) -> Ipv4Addr
+        ensures { ipv4_bits result ≡ ipv4_field (ipv4_bytes self.now) }
+    {
+        Ipv4Addr::from_bits(cells::u32_at(self.as_ref(), 12))
+    }
+
+    /// The autonomous system.
+    #[inline(always)]
+    pub fn asn(&self) -> Asn
+        ensures { result ≡ ipv4_asn_field (ipv4_bytes self.now) }
+    {
+        Asn::from_u32(cells::u32_at(self.as_ref(), 16))
+    }
+}
+
+/// An IPv6 prefix (sections 5.7): 32 bytes.
+#[derive(Clone, Copy, Debug, PartialEq, Eq, Hash)]
+pub struct Ipv6Prefix {
+    cells: Cells<32>,
+}
+
+impl Unit for Ipv6Prefix {
+    ghost bytes = { ipv6_bytes };
+
+    ghost with_bytes = { λ u l. record { cells = record { bytes = l } } };
+
+    ghost PDU = { 6 };
+
+    ghost LENGTH = { 32 };
+
+    const PDU: u8 = 6;
+
+    const LENGTH: usize = 32;
+
+    #[inline(always)]
+    fn zero() -> Self {
+        Ipv6Prefix {
+            cells: Cells::new([0; 32]),
+        }
+    }
+
+    #[inline(always)]
+    fn as_ref(&self) -> &[u8] {
+        self.cells.as_ref()
+    }
+
+    #[inline(always)]
+    fn as_mut(&mut self) -> &mut [u8] {
+        self.cells.as_mut()
+    }
+
+    ghost sized = { Prim.search rules };
+
+    ghost kept = { λ u l. refl };
+}
+
+impl Default for Ipv6Prefix {
+    ghost is_default = { λ u. ipv6_bytes u ≡ replicate 32 0 };
+
+    fn default() -> Self {
+        Ipv6Prefix::zero()
+    }
+}
+
+impl Ipv6Prefix {
+    /// The unit with these fields. The lengths are not judged.
+    #[inline(always)]
+    pub fn new(
+        version: u8,
+        flags: u8,
+        prefix_len: u8,
+        max_len: u8,
+        prefix: Ipv6Addr,
+        asn: Asn,
+    ) -> Self
+        ensures { ipv6_bytes result ≡ prefix_list v6 version 0 flags prefix_len max_len 0 (ipv6_bits prefix) asn }
+    {
+        let [
+            p0,
+            p1,
+            p2,
+            p3,
+            p4,
+            p5,
+            p6,
+            p7,
+            p8,
+            p9,
+            p10,
+            p11,
+            p12,
+            p13,
+            p14,
+            p15,
+        ] = prefix.to_bits().to_be_bytes();
+        let [n0, n1, n2, n3] = asn.into_u32().to_be_bytes();
+        Ipv6Prefix {
+            cells: Cells::new([
+                version, 6, 0, 0, 0, 0, 0, 32, flags, prefix_len, max_len, 0, p0, p1, p2, p3, p4,
+                p5, p6, p7, p8, p9, p10, p11, p12, p13, p14, p15, n0, n1, n2, n3,
+            ]),
+        }
+    }
+
+    /// The flags, of which the lowest bit announces.
+    #[inline(always)]
+    pub fn flags(&self) -> u8
+        ensures { result ≡ flags_field (ipv6_bytes self.now) }
+    {
+        self.as_ref()[8]
+    }
+
+    /// The length of the prefix.
+    #[inline(always)]
+    pub fn prefix_len(&self) -> u8
+        ensures { result ≡ prefix_len_field (ipv6_bytes self.now) }
+    {
+        self.as_ref()[9]
+    }
+
+    /// The greatest length of a prefix that is meant.
+    #[inline(always)]
+    pub fn max_len(&self) -> u8
+        ensures { result ≡ max_len_field (ipv6_bytes self.now) }
+    {
+        self.as_ref()[10]
+    }
+
+    /// The address, host bits included.
+    #[inline(always)]
+    #[tactic(auto, using(crate::proofs::Addresses::ipv6_of_bits))]
+    pub fn prefix(&self) -> Ipv6Addr
+        ensures { ipv6_bits result ≡ ipv6_field (ipv6_bytes self.now) }
+    {
+        Ipv6Addr::from_bits(cells::u128_at(self.as_ref(), 12))
+    }
+
+    /// The autonomous system.
+    #[inline(always)]
+    pub fn asn(&self) -> Asn
+        ensures { result ≡ ipv6_asn_field (ipv6_bytes self.now) }
+    {
+        Asn::from_u32(cells::u32_at(self.as_ref(), 28))
+    }
+}
+
+/// An end of data in version 0 (RFC 6810 section 5.8): 12 bytes.
+#[derive(Clone, Copy, Debug, PartialEq, Eq, Hash)]
+pub struct EndOfDataV0 {
+    cells: Cells<12>,
+}
+
+impl Unit for EndOfDataV0 {
+    ghost bytes = { end_v0_bytes };
+
+    ghost with_bytes = { λ u l. record { cells = record { bytes = l } } };
+
+    ghost PDU = { 7 };
+
+    ghost LENGTH = { 12 };
+
+    const PDU: u8 = 7;
+
+    const LENGTH: usize = 12;
+
+    #[inline(always)]
+    fn zero() -> Self {
+        EndOfDataV0 {
+            cells: Cells::new([0; 12]),
+        }
+    }
+
+    #[inline(always)]
+    fn as_ref(&self) -> &[u8] {
+        self.cells.as_ref()
+    }
+
+    #[inline(always)]
+    fn as_mut(&mut self) -> &mut [u8] {
+        self.cells.as_mut()
+    }
+
+    ghost sized = { Prim.search rules };
+
+    ghost kept = { λ u l. refl };
+}
+
+impl Default for EndOfDataV0 {
+    ghost is_default = { λ u. end_v0_bytes u ≡ replicate 12 0 };
+
+    fn default() -> Self {
+        EndOfDataV0::zero()
+    }
+}
+
+impl EndOfDataV0 {
+    /// The end of data in this state, with version 0.
+    #[inline(always)]
+    pub fn new(state: State) -> Self
+        ensures { end_v0_bytes result ≡ serial_list 0 7 state.session state.serial }
+    {
+        let [s0, s1] = state.session().to_be_bytes();
+        let [q0, q1, q2, q3] = state.serial().0.to_be_bytes();
+        EndOfDataV0 {
+            cells: Cells::new([0, 7, s0, s1, 0, 0, 0, 12, q0, q1, q2, q3]),
+        }
+    }
+
+    /// The serial number.
+    #[inline(always)]
+    pub fn serial(&self) -> Serial
+        ensures { result.0 ≡ serial_field (end_v0_bytes self.now) }
+    {
+        Serial(cells::u32_at(self.as_ref(), 8))
+    }
+}
+
+/// An end of data since version 1 (RFC 8210 section 5.8): 24 bytes.
+#[derive(Clone, Copy, Debug, PartialEq, Eq, Hash)]
+pub struct EndOfDataV1 {
+    cells: Cells<24>,
+}
+
+impl Unit for EndOfDataV1 {
+    ghost bytes = { end_v1_bytes };
+
+    ghost with_bytes = { λ u l. record { cells = record { bytes = l } } };
+
+    ghost PDU = { 7 };
+
+    ghost LENGTH = { 24 };
+
+    const PDU: u8 = 7;
+
+    const LENGTH: usize = 24;
+
+    #[inline(always)]
+    fn zero() -> Self {
+        EndOfDataV1 {
+            cells: Cells::new([0; 24]),
+        }
+    }
+
+    #[inline(always)]
+    fn as_ref(&self) -> &[u8] {
+        self.cells.as_ref()
+    }
+
+    #[inline(always)]
+    fn as_mut(&mut self) -> &mut [u8] {
+        self.cells.as_mut()
+    }
+
+    ghost sized = { Prim.search rules };
+
+    ghost kept = { λ u l. refl };
+}
+
+impl Default for EndOfDataV1 {
+    ghost is_default = { λ u. end_v1_bytes u ≡ replicate 24 0 };
+
+    fn default() -> Self {
+        EndOfDataV1::zero()
+    }
+}
+
+impl EndOfDataV1 {
+    /// The end of data in this state, with these timings. The version is not judged.
+    #[inline(always)]
+    pub fn new(version: u8, state: State, timing: Timing) -> Self
+        ensures { end_v1_bytes result ≡ timed_list version state.session state.serial (Some timing) }
+    {
+        let [s0, s1] = state.session().to_be_bytes();
+        let [q0, q1, q2, q3] = state.serial().0.to_be_bytes();
+        let [r0, r1, r2, r3] = timing.refresh.to_be_bytes();
+        let [y0, y1, y2, y3] = timing.retry.to_be_bytes();
+        let [e0, e1, e2, e3] = timing.expire.to_be_bytes();
+        EndOfDataV1 {
+            cells: Cells::new([
+                version, 7, s0, s1, 0, 0, 0, 24, q0, q1, q2, q3, r0, r1, r2, r3, y0, y1, y2, y3,
+                e0, e1, e2, e3,
+            ]),
+        }
+    }
+
+    /// The serial number.
+    #[inline(always)]
+    pub fn serial(&self) -> Serial
+        ensures { result.0 ≡ serial_field (end_v1_bytes self.now) }
+    {
+        Serial(cells::u32_at(self.as_ref(), 8))
+    }
+
+    /// The timing parameters, in seconds.
+    #[inline(always)]
+    pub fn timing(&self) -> Timing
+        ensures { result ≡ timing_fields (end_v1_bytes self.now) }
+    {
+        let bytes = self.as_ref();
+        Timing {
+            refresh: cells::u32_at(bytes, 12),
+            retry: cells::u32_at(bytes, 16),
+            expire: cells::u32_at(bytes, 20),
+        }
+    }
+}

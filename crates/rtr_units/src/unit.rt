@@ -1,0 +1,154 @@
+//! The trait of units of a fixed size.
+
+ghost use Rattle.std.specs.Prelude.{◌≡◌, ℕ, ◌^◌, ◌<◌, ◌≤◌, List, length, replicate, MatchResult, not};
+ghost use Rattle.std.specs.Borrow.{sem, Lends, Array, u8};
+ghost use Rattle.std.specs.Io.KnownBytes.{Consumes};
+ghost use Rattle.rtr_base.specs.Bytes.{IsBytes};
+ghost use Rattle.rtr_units.specs.Causes.{cause_of};
+ghost use Rattle.rtr_units.specs.Header.{version_field, type_field, session_field};
+ghost use Rattle.rtr_units.specs.Reads.{Takes, ReadsRest, StopsRest, ReadsUnit, StopsUnit};
+ghost use Rattle.rtr_units.specs.Stream.{PutsForm, count_after, is_reader_fault, is_writer_fault};
+ghost use Rattle.rtr_units.specs.Views.{header_bytes, AreBytes};
+
+use crate::cells;
+use crate::error::Error;
+use crate::fault::Fault;
+use crate::header::Header;
+use crate::piece::{fill, put};
+use crate::source::{Sink, Source};
+
+/// A unit of a fixed size, seen as the list of its bytes.
+pub trait Unit: Drop + Copy {
+    /// The bytes of a unit.
+    ghost bytes: { Self → List ℕ };
+
+    /// The unit with other bytes.
+    ghost with_bytes: { Self → List ℕ → Self };
+
+    ghost PDU: { ℕ };
+
+    ghost LENGTH: { ℕ };
+
+    /// The type of the unit.
+    const PDU: u8;
+
+    /// The size of the whole unit in bytes, header included.
+    const LENGTH: usize;
+
+    /// The unit whose bytes are all zero.
+    fn zero() -> Self
+        ensures { bytes result ≡ replicate LENGTH 0 };
+
+    /// All bytes of the unit.
+    fn as_ref(&self) -> &[u8]
+        ensures bytes { result.now ≡ bytes self.now }
+        ensures size { length result.now ≡ LENGTH }
+        ensures range { IsBytes result.now };
+
+    /// All bytes of the unit, to be changed in place.
+    fn as_mut(&mut self) -> &mut [u8]
+        ensures* writes_back { sem 𝓛 (Lends Self.row (Array u8 0) self.entry result (with_bytes self.old)) }
+        ensures bytes { result.now ≡ bytes self.old }
+        ensures size { length result.now ≡ LENGTH };
+
+    /// The size holds a header, and fits a length field.
+    ghost sized: { (8 ≤ LENGTH) × (LENGTH < 2 ^ 32) };
+
+    /// The unit with other bytes has these.
+    ghost kept: { (unit : Self) (l : List ℕ) → bytes (with_bytes unit l) ≡ l };
+
+    /// The version of the protocol.
+    #[inline(always)]
+    final fn version(&self) -> u8
+        ensures { result ≡ version_field (bytes self.now) }
+    {
+        self.as_ref()[0]
+    }
+
+    /// The session field.
+    #[inline(always)]
+    final fn session(&self) -> u16
+        ensures { result ≡ session_field (bytes self.now) }
+    {
+        cells::u16_at(self.as_ref(), 2)
+    }
+
+    /// The size of the whole unit in bytes.
+    #[inline(always)]
+    final fn size(&self) -> u32
+        ensures { result ≡ LENGTH }
+    {
+        Self::LENGTH as u32
+    }
+
+    /// Reads a unit. `UnitType` and `UnitLength` are answered behind the header.
+    #[inline(always)]
+    final fn read<R: Source>(reader: &mut R) -> Result<Self, Fault>
+        ensures bytes { MatchResult result
+            (λ u. ReadsUnit PDU LENGTH (bytes u) (R.remaining reader.old) (R.remaining reader.new))
+            (λ e. Takes (R.remaining reader.old) (R.remaining reader.new) (λ t. StopsUnit PDU LENGTH (cause_of e) t (R.remaining reader.new))) }
+        ensures count { R.failures reader.new ≡ count_after (R.failures reader.old) (not (is_reader_fault result)) }
+    {
+        let header = Header::read(reader)?;
+        if header.pdu() != Self::PDU {
+            return Err(Fault::UnitType(header.pdu()));
+        }
+        match Self::read_payload(header, reader) {
+            Ok(unit) => Ok(unit),
+            Err(e) => Err(e),
+        }
+    }
+
+    /// Reads a unit as `read` does. An error report in its place gives back its header, and is not read further.
+    #[inline(always)]
+    final fn try_read<R: Source>(reader: &mut R) -> Result<Result<Self, Header>, Fault>
+        ensures bytes { MatchResult result
+            (λ answer. MatchResult answer
+            (λ u. ReadsUnit PDU LENGTH (bytes u) (R.remaining reader.old) (R.remaining reader.new) × ¬ (PDU ≡ 10))
+            (λ h. Consumes (R.remaining reader.old) (R.remaining reader.new) (header_bytes h) × AreBytes 8 (header_bytes h) × (type_field (header_bytes h) ≡ 10)))
+            (λ e. Takes (R.remaining reader.old) (R.remaining reader.new) (λ t. StopsUnit PDU LENGTH (cause_of e) t (R.remaining reader.new) × (8 ≤ length t → ¬ (type_field t ≡ 10)))) }
+        ensures count { R.failures reader.new ≡ count_after (R.failures reader.old) (not (is_reader_fault result)) }
+    {
+        let header = Header::read(reader)?;
+        if header.pdu() == Error::PDU {
+            return Ok(Err(header));
+        }
+        if header.pdu() != Self::PDU {
+            return Err(Fault::UnitType(header.pdu()));
+        }
+        match Self::read_payload(header, reader) {
+            Ok(unit) => Ok(Ok(unit)),
+            Err(e) => Err(e),
+        }
+    }
+
+    /// Reads what follows the header, which is kept as it is. Its type is not judged.
+    #[inline(always)]
+    final fn read_payload<R: Source>(header: Header, reader: &mut R) -> Result<Self, Fault>
+        ensures bytes { MatchResult result
+            (λ u. ReadsRest LENGTH (header_bytes header) (bytes u) (R.remaining reader.old) (R.remaining reader.new))
+            (λ e. Takes (R.remaining reader.old) (R.remaining reader.new) (λ t. StopsRest LENGTH (header_bytes header) (cause_of e) t (R.remaining reader.new))) }
+        ensures count { R.failures reader.new ≡ count_after (R.failures reader.old) (not (is_reader_fault result)) }
+    {
+        if header.length() != Self::LENGTH as u32 {
+            return Err(Fault::UnitLength);
+        }
+        let mut unit = Self::zero();
+        let whole = unit.as_mut();
+        let (front, rest) = whole.split_at_mut(8);
+        front.copy_from_slice(header.as_ref());
+        match fill(reader, rest) {
+            Ok(()) => Ok(unit),
+            Err(e) => Err(e),
+        }
+    }
+
+    /// Writes all bytes of the unit.
+    #[inline(always)]
+    final fn write<W: Sink>(&self, writer: &mut W) -> Result<(), Fault>
+        ensures bytes { PutsForm result (W.contents writer.old) (W.contents writer.new) (bytes self.now) }
+        ensures count { W.failures writer.new ≡ count_after (W.failures writer.old) (not (is_writer_fault result)) }
+    {
+        put(writer, self.as_ref())
+    }
+}
