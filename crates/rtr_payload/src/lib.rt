@@ -1,13 +1,18 @@
 //! Payload units and their meanings.
 #![tactic(auto)]
 
+mod aspa;
+mod frame;
 mod key_info;
 pub mod laws;
 pub mod payload;
 mod providers;
+mod router_key;
 
 /// The variable units and what they hold.
 pub mod pdu {
+    pub use crate::aspa::Aspa;
     pub use crate::key_info::{KeyInfoError, KeyInfoVecError, RouterKeyInfo};
     pub use crate::providers::{ProviderAsns, ProviderAsnsError, ProviderIter, ProviderIterError};
+    pub use crate::router_key::RouterKey;
 }

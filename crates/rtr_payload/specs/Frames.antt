@@ -1,0 +1,55 @@
+-- What reading a router key or an ASPA unit leaves, told by the bytes that were taken (the order of refusals is the
+-- crate's own).
+use Rattle.std.specs.Prelude.{◌≡◌, ℕ, ◌<◌, ◌≤◌, List, ◌++◌, length, slice_index, Option, Some, None, Result, Ok, Err, ◌==◌, if◌then◌else◌}
+use Rattle.std.specs.Io.KnownBytes.{Consumes, IsAtEnd}
+use Rattle.rtr_units.specs.declared.fault.Fault.{Fault}
+use Rattle.rtr_units.specs.Header.{version_field, type_field, length_field}
+use Rattle.rtr_units.specs.Causes.{Refusal, short, unit_type, Cause, by_reader, by_writer, too_many, no_memory, wrong, cause_of}
+use Rattle.rtr_payload.specs.Steps.{header_fault}
+
+-- what is wrong with the header that u begins with, taken for one of type k whatever type it names
+abbrev pub fault_as : ℕ → List ℕ → Option Refusal
+fault_as k u = header_fault (version_field u) k (slice_index u 2) (length_field u)
+
+-- what is wrong with the header that u begins with, where its type has to be k
+abbrev pub fault_of : ℕ → List ℕ → Option Refusal
+fault_of k u = if type_field u == k then fault_as k u else Some (unit_type (type_field u))
+
+-- nothing is wrong with the header of u, which is as long as it says
+abbrev pub IsWhole : (List ℕ → Option Refusal) → List ℕ → Type 0
+IsWhole fault u = (fault u ≡ None) × (length u ≡ length_field u)
+
+-- h is less than a whole unit, and nothing is wrong but that
+abbrev pub IsPart : (List ℕ → Option Refusal) → List ℕ → Type 0
+IsPart fault h = 8 ≤ length h → (fault h ≡ None) × (length h < length_field h)
+
+-- why reading a unit stopped where the bytes h of it were there; `left` is what the reader then has
+abbrev pub StopsInUnit : (List ℕ → Option Refusal) → Cause → List ℕ → Option (List ℕ) → Type 0
+StopsInUnit fault by_reader h left = IsPart fault h
+StopsInUnit fault by_writer h left = ⊥
+StopsInUnit fault too_many h left = ⊥
+StopsInUnit fault no_memory h left = (8 ≤ length h) × (fault h ≡ None) × (length h ≤ length_field h)
+StopsInUnit fault (wrong short) h left = IsPart fault h × IsAtEnd left
+StopsInUnit fault (wrong f) h left = (length h ≡ 8) × (fault h ≡ Some f)
+
+-- a unit was read, or reading stopped
+abbrev pub ReadsUnit : (List ℕ → Option Refusal) → Result (List ℕ) Fault → Option (List ℕ) → Option (List ℕ) → Type 0
+ReadsUnit fault (Ok u) old new = Consumes old new u × IsWhole fault u
+ReadsUnit fault (Err e) old new = (t : List ℕ) × Consumes old new t × StopsInUnit fault (cause_of e) t new
+
+-- a unit with the header h was read from behind its header on, or reading stopped
+abbrev pub ReadsBehind : List ℕ → (List ℕ → Option Refusal) → Result (List ℕ) Fault → Option (List ℕ) → Option (List ℕ) → Type 0
+ReadsBehind h fault (Ok u) old new = (t : List ℕ) × Consumes old new t × (u ≡ h ++ t) × IsWhole fault u
+ReadsBehind h fault (Err e) old new = (t : List ℕ) × Consumes old new t × StopsInUnit fault (cause_of e) (h ++ t) new
+
+-- why fewer than n bytes were read, of which t came, or why they could not be kept
+abbrev pub StopsInFrame : Cause → ℕ → List ℕ → Option (List ℕ) → Type 0
+StopsInFrame by_reader n t left = length t < n
+StopsInFrame no_memory n t left = length t ≤ n
+StopsInFrame (wrong short) n t left = (length t < n) × IsAtEnd left
+StopsInFrame c n t left = ⊥
+
+-- the next n bytes came, or they did not
+abbrev pub ReadsFrame : ℕ → Result (List ℕ) Fault → Option (List ℕ) → Option (List ℕ) → Type 0
+ReadsFrame n (Ok t) old new = Consumes old new t × (length t ≡ n)
+ReadsFrame n (Err e) old new = (t : List ℕ) × Consumes old new t × StopsInFrame (cause_of e) n t new

@@ -1,0 +1,157 @@
+//! The ASPA unit (the crate's own format).
+
+ghost use Rattle.std.specs.Prelude.{◌≡◌, ◌+◌, ◌++◌, length, take, drop, slice_index, nat_eq, IfOk, not};
+ghost use Rattle.std.specs.Cmp.{partial_equiv_from_equiv};
+ghost use Rattle.std.specs.Cmp.Lexicographic.{bytes_decides, nat_list_eq_equiv, pointwise};
+ghost use Rattle.std.specs.Hash as fed;
+ghost use Rattle.rtr_base.specs.Bytes.{value};
+ghost use Rattle.rtr_units.specs.Header.{version_field, type_field};
+ghost use Rattle.rtr_units.specs.Stream.{PutsForm, count_after, is_reader_fault, is_writer_fault};
+ghost use Rattle.rtr_units.specs.Views.{header_bytes};
+ghost use Rattle.rtr_payload.specs.Frames.{fault_as, fault_of, ReadsUnit, ReadsBehind};
+ghost use Rattle.rtr_payload.specs.Payloads.{aspa};
+ghost use Rattle.rtr_payload.specs.Places.{aspa_fields, words_of};
+ghost use Rattle.rtr_payload.specs.Units.{form, HasFields};
+
+use crate::frame::asn_at;
+use crate::providers::ProviderAsns;
+use rtr_base::asn::Asn;
+use rtr_units::fault::Fault;
+use rtr_units::piece::put;
+use rtr_units::source::Sink;
+use std::alloc::{AllocError, Global};
+use std::hash::{Hash, Hasher};
+use std::marker::Model;
+
+/// The bytes of an ASPA unit before its providers.
+const FIXED: u32 = 12;
+
+/// An ASPA unit: twelve bytes and its providers, four bytes each.
+#[derive(Debug, Drop)]
+pub struct Aspa {
+    fixed: [u8; 12],
+    providers: ProviderAsns,
+}
+
+impl Model for Aspa {
+    ghost use Rattle.std.specs.Prelude.{◌≡◌, ◌++◌, ℕ, List, length};
+    ghost use Rattle.rtr_base.specs.Bytes.{words};
+    ghost use Rattle.rtr_payload.specs.Providers.{AreProviders};
+
+    ghost Value = { List ℕ };
+
+    ghost view = { λ a. a.fixed ++ words a.providers };
+
+    ghost invariant = { λ a. (length a.fixed ≡ 12) × AreProviders a.providers };
+}
+
+impl Aspa {
+    /// The type of an ASPA unit.
+    pub const PDU: u8 = 11;
+
+    /// The unit with these fields.
+    pub fn new(version: u8, flags: u8, customer: Asn, providers: ProviderAsns) -> Self
+        ensures { result ≡ form version flags (aspa customer providers) }
+    {
+        let size = FIXED + providers.len() as u32;
+        let mut fixed = [0; 12];
+        fixed[..4].copy_from_slice(&[version, Aspa::PDU, flags, 0]);
+        fixed[4..8].copy_from_slice(&size.to_be_bytes());
+        fixed[8..].copy_from_slice(&customer.into_u32().to_be_bytes());
+        Aspa { fixed, providers }
+    }
+
+    /// The version of the protocol.
+    #[inline(always)]
+    pub fn version(&self) -> u8
+        ensures { result ≡ version_field self.now }
+    {
+        self.fixed[0]
+    }
+
+    /// The number of bytes of the unit.
+    #[inline(always)]
+    pub fn size(&self) -> u32
+        ensures { result ≡ length self.now }
+    {
+        FIXED + self.providers.len() as u32
+    }
+
+    /// The flags, of which the lowest bit says whether the ASPA is announced.
+    #[inline(always)]
+    pub fn flags(&self) -> u8
+        ensures { result ≡ slice_index self.now 2 }
+    {
+        self.fixed[2]
+    }
+
+    /// The customer: the autonomous system whose providers these are.
+    pub fn customer(&self) -> Asn
+        ensures { result ≡ value (take 4 (drop 8 self.now)) }
+    {
+        asn_at(&self.fixed, 8)
+    }
+
+    /// The providers.
+    #[inline(always)]
+    pub fn providers(&self) -> &ProviderAsns
+        ensures { result.now ≡ words_of (drop 12 self.now) }
+    {
+        &self.providers
+    }
+
+    /// The providers, given away.
+    pub fn into_providers(self) -> ProviderAsns
+        ensures { result ≡ words_of (drop 12 self) }
+    {
+        self.providers
+    }
+
+    /// The same unit once more.
+    pub fn clone(&self) -> Result<Self, AllocError>
+        ensures { IfOk result (λ u. u ≡ self.now) }
+    {
+        let providers = self.providers.clone()?;
+        Ok(Aspa {
+            fixed: self.fixed,
+            providers,
+        })
+    }
+
+    /// Writes the unit.
+    #[inline(always)]
+    pub fn write<W: Sink>(&self, writer: &mut W) -> Result<(), Fault>
+        ensures bytes { PutsForm result (W.contents writer.old) (W.contents writer.new) self.now }
+        ensures count { W.failures writer.new ≡ count_after (W.failures writer.old) (not (is_writer_fault result)) }
+    {
+        match put(writer, &self.fixed) {
+            Ok(()) => put(writer, self.providers.as_slice()),
+            Err(e) => Err(e),
+        }
+    }
+}
+
+impl PartialEq for Aspa {
+    ghost eq = { pointwise nat_eq };
+
+    ghost laws = { partial_equiv_from_equiv nat_list_eq_equiv };
+
+    fn eq(&self, other: &Self) -> bool {
+        self.fixed == other.fixed && self.providers.as_slice() == other.providers.as_slice()
+    }
+}
+
+impl Eq for Aspa {
+    ghost laws = { nat_list_eq_equiv };
+}
+
+impl Hash for Aspa {
+    ghost hash_input = { λ u. fed.slice fed.u8 (take 12 u) ++ fed.slice fed.u8 (drop 12 u) };
+
+    ghost respects_eq = { (fed.same_Alike _ bytes_decides).fed };
+
+    fn hash<H: Hasher>(&self, state: &mut H) {
+        self.fixed.as_slice().hash(state);
+        self.providers.as_slice().hash(state);
+    }
+}

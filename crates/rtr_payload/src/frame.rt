@@ -1,0 +1,47 @@
+//! Frames: what follows the header of a variable unit, in one piece.
+
+ghost use Rattle.std.specs.Prelude.{◌≡◌, ◌+◌, ◌≤◌, length, take, drop, IfOk, not};
+ghost use Rattle.rtr_base.specs.Bytes.{IsBytes, value};
+ghost use Rattle.rtr_units.specs.Stream.{count_after, is_reader_fault};
+ghost use Rattle.rtr_payload.specs.Frames.{ReadsFrame};
+
+use bytes::{Bytes, BytesMut};
+use rtr_base::asn::Asn;
+use rtr_units::fault::Fault;
+use rtr_units::piece::fill;
+use rtr_units::source::Source;
+use std::alloc::Global;
+
+/// Reads the next `size` bytes. The frame is asked for before any of them is read.
+pub fn read_frame<R: Source>(alloc: Global, size: usize, reader: &mut R) -> Result<Bytes, Fault>
+    ensures bytes { ReadsFrame size result (R.remaining reader.old) (R.remaining reader.new) }
+    ensures range { IfOk result IsBytes }
+    ensures count { R.failures reader.new ≡ count_after (R.failures reader.old) (not (is_reader_fault result)) }
+{
+    let mut frame = match BytesMut::zeroed(alloc, size) {
+        Ok(frame) => frame,
+        Err(_) => return Err(Fault::Memory),
+    };
+    match fill(reader, frame.as_mut_slice()) {
+        Ok(()) => {}
+        Err(e) => return Err(e),
+    }
+    match frame.freeze() {
+        Ok(frame) => Ok(frame),
+        Err(_) => Err(Fault::Memory),
+    }
+}
+
+/// The autonomous system whose number stands at a place.
+#[inline(always)]
+pub fn asn_at(bytes: &[u8], place: usize) -> Asn
+    requires { place + 4 ≤ length bytes.now }
+    ensures { result ≡ value (take 4 (drop place bytes.now)) }
+{
+    Asn::from_u32(u32::from_be_bytes([
+        bytes[place],
+        bytes[place + 1],
+        bytes[place + 2],
+        bytes[place + 3],
+    ]))
+}

@@ -1,0 +1,181 @@
+//! The router key (RFC 8210 section 5.10).
+
+ghost use Rattle.std.specs.Prelude.{◌≡◌, ◌+◌, ◌++◌, length, take, drop, slice_index, nat_eq, IfOk, not};
+ghost use Rattle.std.proofs.Common.{rules};
+ghost use Rattle.std.specs.Cmp.{partial_equiv_from_equiv};
+ghost use Rattle.std.specs.Cmp.Lexicographic.{bytes_decides, nat_list_eq_equiv, pointwise};
+ghost use Rattle.std.specs.Cmp.Rules.{hashing};
+ghost use Rattle.std.specs.Hash as fed;
+ghost use Rattle.rtr_base.specs.Bytes.{value};
+ghost use Rattle.rtr_units.specs.Header.{version_field, type_field};
+ghost use Rattle.rtr_units.specs.Stream.{PutsForm, count_after, is_reader_fault, is_writer_fault};
+ghost use Rattle.rtr_units.specs.Views.{header_bytes};
+ghost use Rattle.rtr_payload.specs.Frames.{fault_as, fault_of, ReadsUnit, ReadsBehind};
+ghost use Rattle.rtr_payload.specs.Payloads.{key};
+ghost use Rattle.rtr_payload.specs.Places.{key_fields};
+ghost use Rattle.rtr_payload.specs.Units.{form, HasFields};
+
+use crate::frame::asn_at;
+use crate::key_info::RouterKeyInfo;
+use rtr_base::asn::Asn;
+use rtr_units::fault::Fault;
+use rtr_units::piece::put;
+use rtr_units::source::Sink;
+use std::alloc::{AllocError, Global};
+use std::hash::{Hash, Hasher};
+use std::marker::Model;
+
+/// The bytes of a router key before its key info.
+const FIXED: u32 = 32;
+
+/// A router key unit: 32 bytes and its key info.
+#[derive(Debug, Drop)]
+pub struct RouterKey {
+    fixed: [u8; 32],
+    key_info: RouterKeyInfo,
+}
+
+impl Model for RouterKey {
+    ghost use Rattle.std.specs.Prelude.{◌≡◌, ◌++◌, ℕ, List, length};
+
+    ghost Value = { List ℕ };
+
+    ghost view = { λ a. a.fixed ++ a.key_info };
+
+    ghost invariant = { λ a. length a.fixed ≡ 32 };
+}
+
+impl RouterKey {
+    /// The type of a router key.
+    pub const PDU: u8 = 9;
+
+    /// The most bytes of key info that a router key holds. One that is read has at most 65503.
+    pub const fn max_key_info_size() -> usize
+        ensures { result ≡ 4294967263 }
+    {
+        4294967263
+    }
+
+    /// The unit with these fields.
+    pub fn new(
+        version: u8,
+        flags: u8,
+        key_identifier: [u8; 20],
+        asn: Asn,
+        key_info: RouterKeyInfo,
+    ) -> Self
+        ensures { result ≡ form version flags (key key_identifier asn key_info) }
+    {
+        let size = FIXED + key_info.len() as u32;
+        let mut fixed = [0; 32];
+        fixed[..4].copy_from_slice(&[version, RouterKey::PDU, flags, 0]);
+        fixed[4..8].copy_from_slice(&size.to_be_bytes());
+        fixed[28..].copy_from_slice(&asn.into_u32().to_be_bytes());
+        fixed[8..28].copy_from_slice(&key_identifier);
+        RouterKey { fixed, key_info }
+    }
+
+    /// The version of the protocol.
+    #[inline(always)]
+    pub fn version(&self) -> u8
+        ensures { result ≡ version_field self.now }
+    {
+        self.fixed[0]
+    }
+
+    /// The number of bytes of the unit.
+    #[inline(always)]
+    pub fn size(&self) -> u32
+        ensures { result ≡ length self.now }
+    {
+        FIXED + self.key_info.len() as u32
+    }
+
+    /// The flags, of which the lowest bit says whether the key is announced.
+    #[inline(always)]
+    pub fn flags(&self) -> u8
+        ensures { result ≡ slice_index self.now 2 }
+    {
+        self.fixed[2]
+    }
+
+    /// The subject key identifier.
+    pub fn key_identifier(&self) -> [u8; 20]
+        ensures value { result ≡ take 20 (drop 8 self.now) }
+        ensures size { length result ≡ 20 }
+    {
+        let mut identifier = [0; 20];
+        identifier.copy_from_slice(&self.fixed[8..28]);
+        identifier
+    }
+
+    /// The autonomous system that the key belongs to.
+    pub fn asn(&self) -> Asn
+        ensures { result ≡ value (take 4 (drop 28 self.now)) }
+    {
+        asn_at(&self.fixed, 28)
+    }
+
+    /// The key info.
+    #[inline(always)]
+    pub fn key_info(&self) -> &RouterKeyInfo
+        ensures { result.now ≡ drop 32 self.now }
+    {
+        &self.key_info
+    }
+
+    /// The key info, given away.
+    pub fn into_key_info(self) -> RouterKeyInfo
+        ensures { result ≡ drop 32 self }
+    {
+        self.key_info
+    }
+
+    /// The same unit once more.
+    pub fn clone(&self) -> Result<Self, AllocError>
+        ensures { IfOk result (λ u. u ≡ self.now) }
+    {
+        let key_info = self.key_info.clone()?;
+        Ok(RouterKey {
+            fixed: self.fixed,
+            key_info,
+        })
+    }
+
+    /// Writes the unit.
+    #[inline(always)]
+    pub fn write<W: Sink>(&self, writer: &mut W) -> Result<(), Fault>
+        ensures bytes { PutsForm result (W.contents writer.old) (W.contents writer.new) self.now }
+        ensures count { W.failures writer.new ≡ count_after (W.failures writer.old) (not (is_writer_fault result)) }
+    {
+        match put(writer, &self.fixed) {
+            Ok(()) => put(writer, self.key_info.as_slice()),
+            Err(e) => Err(e),
+        }
+    }
+}
+
+impl PartialEq for RouterKey {
+    ghost eq = { pointwise nat_eq };
+
+    ghost laws = { partial_equiv_from_equiv nat_list_eq_equiv };
+
+    fn eq(&self, other: &Self) -> bool {
+        self.fixed == other.fixed && self.key_info == other.key_info
+    }
+}
+
+impl Eq for RouterKey {
+    ghost laws = { nat_list_eq_equiv };
+}
+
+impl Hash for RouterKey {
+    ghost hash_input = { λ u. fed.slice fed.u8 (take 32 u) ++ fed.slice fed.u8 (drop 32 u) };
+
+    ghost respects_eq = { (fed.same_Alike _ bytes_decides).fed };
+
+    fn hash<H: Hasher>(&self, state: &mut H) {
+        self.fixed.as_slice().hash(state);
+        self.key_info.hash(state);
+    }
+}
