@@ -4,7 +4,6 @@ pub mod Bytes
 pub mod Numerals
 pub mod PrefixOrder
 pub mod Serial
-pub mod Serials
 pub mod States
 pub mod Texts
 pub mod Timings

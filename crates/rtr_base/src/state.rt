@@ -77,9 +77,11 @@ impl From<Serial> for u32 {
 impl FromStr for Serial {
     type Err = ParseIntError;
 
-    ghost use Rattle.rtr_base.specs.Serials.{ReadsSerial};
+    ghost use Rattle.std.specs.Prelude.{ℕ, MatchResult};
+    ghost use Rattle.rtr_base.specs.Numerals.{IsSerialText};
 
-    ghost from_str_gives = { ReadsSerial };
+    ghost from_str_gives = { λ text read. MatchResult read (λ serial. IsSerialText text serial.0)
+        (λ _. (n : ℕ) → ¬ (IsSerialText text n)) };
 
     fn from_str(s: &str) -> Result<Self, ParseIntError> {
         Ok(Serial(s.parse()?))
