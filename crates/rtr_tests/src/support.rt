@@ -1,0 +1,293 @@
+//! Bytes written as hex, and readers and writers that give and take them in pieces and fail.
+
+use std::alloc::Global;
+use std::io;
+use std::io::{Error, ErrorKind, Read, Write};
+use std::test::Fail;
+
+/// An IPv4 prefix unit with a session, upper flag bits, a free byte and host bits.
+pub const IPV4_STRAY: &str = "01 04 00 07 00 00 00 14 03 17 1a 09 c0 00 02 0a 00 01 00 0f";
+
+/// The form of `IPV4_STRAY`: 192.0.2.0/23 up to 26 of ASN 65551.
+pub const IPV4: &str = "01 04 00 00 00 00 00 14 01 17 1a 00 c0 00 02 00 00 01 00 0f";
+
+/// An IPv6 prefix unit with host bits.
+pub const IPV6_STRAY: &str =
+    "01 06 00 00 00 00 00 20 01 17 1a 00 20 01 0d b8 00 00 00 02 00 0a 00 00 de ad be ef 00 01 00 0f";
+
+/// The form of `IPV6_STRAY`: 2001:c00::/23 up to 26 of ASN 65551.
+pub const IPV6: &str =
+    "01 06 00 00 00 00 00 20 01 17 1a 00 20 01 0c 00 00 00 00 00 00 00 00 00 00 00 00 00 00 01 00 0f";
+
+/// A router key unit that announces.
+pub const KEY: &str =
+    "01 09 01 00 00 00 00 24 01 02 03 04 05 06 07 08 09 0a 0b 0c 0d 0e 0f 10 11 12 13 14 00 01 00 0f 15 16 17 18";
+
+/// What follows the header of `KEY`.
+pub const KEY_REST: &str =
+    "01 02 03 04 05 06 07 08 09 0a 0b 0c 0d 0e 0f 10 11 12 13 14 00 01 00 0f 15 16 17 18";
+
+/// An ASPA unit that withdraws and names two providers.
+pub const ASPA_NAMED: &str = "02 0b 00 00 00 00 00 14 00 01 00 0f 00 01 00 0d 00 01 00 0e";
+
+/// What follows the header of `ASPA_NAMED`.
+pub const ASPA_REST: &str = "00 01 00 0f 00 01 00 0d 00 01 00 0e";
+
+/// The form of `ASPA_NAMED`.
+pub const ASPA_BARE: &str = "02 0b 00 00 00 00 00 0c 00 01 00 0f";
+
+/// An end of data of version 0.
+pub const END_0: &str = "00 07 12 34 00 00 00 0c de ad be ef";
+
+/// An end of data of version 1.
+pub const END_1: &str = "01 07 12 34 00 00 00 18 de ad be ef 00 00 0e 10 00 00 02 58 00 00 1c 20";
+
+/// What follows the version in `END_1`.
+pub const END_REST: &str = "07 12 34 00 00 00 18 de ad be ef 00 00 0e 10 00 00 02 58 00 00 1c 20";
+
+/// The bytes that the texts stand for, one text after the other: pairs of hex digits between spaces.
+pub fn bytes(alloc: Global, texts: &[&str]) -> Result<Vec<u8>, Fail> {
+    let mut all = Vec::new(alloc);
+    for text in texts {
+        add(alloc, &mut all, text)?;
+    }
+    Ok(all)
+}
+
+/// Appends the bytes that the text stands for.
+fn add(alloc: Global, all: &mut Vec<u8>, text: &str) -> Result<(), Fail> {
+    for word in text.split_ascii_whitespace() {
+        let piece = hex::decode(alloc, word)?;
+        all.extend_from_slice(&piece)?;
+    }
+    Ok(())
+}
+
+/// So many bytes that differ from their neighbours.
+pub fn filler(alloc: Global, count: usize) -> Result<Vec<u8>, Fail> {
+    let mut all = Vec::with_capacity(alloc, count)?;
+    for i in 0..count {
+        all.push((i % 251) as u8)?;
+    }
+    Ok(all)
+}
+
+/// The first bytes, at most so many.
+pub fn front(bytes: &[u8], count: usize) -> &[u8] {
+    let (front, _) = bytes.split_at(count.min(bytes.len()));
+    front
+}
+
+/// The sizes of a reader of one byte at a time.
+pub const ONES: &[usize] = &[1];
+
+/// The sizes of a reader of one, two and three bytes in turn.
+pub const STEPS: &[usize] = &[1, 2, 3];
+
+/// The sizes of a reader that gives all that is asked for.
+pub const WHOLE: &[usize] = &[usize::MAX];
+
+/// A call that doesn't come.
+pub const NEVER: usize = 0;
+
+/// A reader over bytes in memory, that gives at most the sizes of a pattern in turn. Its errors are interruptions,
+/// which nobody is to retry.
+#[derive(Drop)]
+pub struct Pieces<'a> {
+    rest: &'a [u8],
+    again: &'a [u8],
+    sizes: &'a [usize],
+    fails_at: usize,
+    calls: usize,
+    ends: usize,
+    taken: usize,
+}
+
+impl<'a> Pieces<'a> {
+    /// A reader of these bytes, whose calls give at most these sizes in turn.
+    pub fn new(bytes: &'a [u8], sizes: &'a [usize]) -> Pieces<'a> {
+        Pieces::failing(bytes, sizes, NEVER)
+    }
+
+    /// The same, with an error at this call, counted from 1.
+    pub fn failing(bytes: &'a [u8], sizes: &'a [usize], fails_at: usize) -> Pieces<'a> {
+        Pieces {
+            rest: bytes,
+            again: &[],
+            sizes,
+            fails_at,
+            calls: 0,
+            ends: 0,
+            taken: 0,
+        }
+    }
+
+    /// A reader that gives these bytes over and over.
+    pub fn endless(bytes: &'a [u8]) -> Pieces<'a> {
+        Pieces {
+            rest: bytes,
+            again: bytes,
+            sizes: WHOLE,
+            fails_at: NEVER,
+            calls: 0,
+            ends: 0,
+            taken: 0,
+        }
+    }
+
+    /// How many calls there were.
+    pub fn calls(&self) -> usize {
+        self.calls
+    }
+
+    /// How many calls gave nothing where something was asked for.
+    pub fn ends(&self) -> usize {
+        self.ends
+    }
+
+    /// How many bytes were given.
+    pub fn taken(&self) -> usize {
+        self.taken
+    }
+
+    /// How many bytes this call gives at most.
+    fn size(&self) -> usize {
+        let sizes = self.sizes;
+        if sizes.is_empty() {
+            return usize::MAX;
+        }
+        sizes[self.calls % sizes.len()]
+    }
+}
+
+impl<'a> Read for Pieces<'a> {
+    fn read(&mut self, piece: &mut [u8]) -> io::Result<usize> {
+        let size = self.size();
+        self.calls = self.calls.saturating_add(1);
+        if self.calls == self.fails_at {
+            return Err(Error::from(ErrorKind::Interrupted));
+        }
+        if self.rest.is_empty() {
+            self.rest = self.again;
+        }
+        let count = size.min(piece.len()).min(self.rest.len());
+        if count == 0 && !piece.is_empty() {
+            self.ends = self.ends.saturating_add(1);
+        }
+        let (front, back) = self.rest.split_at(count);
+        piece[..count].copy_from_slice(front);
+        self.rest = back;
+        self.taken = self.taken.saturating_add(count);
+        Ok(count)
+    }
+}
+
+/// A writer that keeps what it takes, at most so many bytes a call. Its errors are interruptions too.
+#[derive(Drop)]
+pub struct Recorder {
+    held: Vec<u8>,
+    size: usize,
+    fails_at: usize,
+    stops_at: usize,
+    calls: usize,
+    flushes: usize,
+}
+
+impl Recorder {
+    /// A writer that takes at most this many bytes a call.
+    pub fn new(alloc: Global, size: usize) -> Recorder {
+        Recorder {
+            held: Vec::new(alloc),
+            size,
+            fails_at: NEVER,
+            stops_at: NEVER,
+            calls: 0,
+            flushes: 0,
+        }
+    }
+
+    /// The same, with an error at this call, counted from 1.
+    pub fn failing(alloc: Global, size: usize, fails_at: usize) -> Recorder {
+        let mut writer = Recorder::new(alloc, size);
+        writer.fails_at = fails_at;
+        writer
+    }
+
+    /// The same, but this call takes nothing and gives no error.
+    pub fn stopping(alloc: Global, size: usize, stops_at: usize) -> Recorder {
+        let mut writer = Recorder::new(alloc, size);
+        writer.stops_at = stops_at;
+        writer
+    }
+
+    /// The bytes that were taken, by value.
+    pub fn into_held(self) -> Vec<u8> {
+        self.held
+    }
+
+    /// The bytes that were taken.
+    pub fn held(&self) -> &[u8] {
+        self.held.as_slice()
+    }
+
+    /// How many calls of `write` there were.
+    pub fn calls(&self) -> usize {
+        self.calls
+    }
+
+    /// How many calls of `flush` there were.
+    pub fn flushes(&self) -> usize {
+        self.flushes
+    }
+}
+
+impl Write for Recorder {
+    fn write(&mut self, piece: &[u8]) -> io::Result<usize> {
+        self.calls = self.calls.saturating_add(1);
+        if self.calls == self.fails_at {
+            return Err(Error::from(ErrorKind::Interrupted));
+        }
+        if self.calls == self.stops_at {
+            return Ok(0);
+        }
+        let count = self.size.min(piece.len());
+        self.held.extend_from_slice(&piece[..count])?;
+        Ok(count)
+    }
+
+    fn flush(&mut self) -> io::Result<()> {
+        self.flushes = self.flushes.saturating_add(1);
+        Ok(())
+    }
+}
+
+#[test]
+fn pieces_and_recorder(rt: HostRuntime) -> Result<(), Fail> {
+    let alloc = rt.alloc();
+    let input = bytes(alloc, &["01 02", "", "03 04 05 06 07"])?;
+    let mut reader = Pieces::failing(&input, STEPS, 5);
+    let mut writer = Recorder::failing(alloc, 2, 3);
+    let mut buffer = [0; 4];
+    for count in [1, 2, 3, 1] {
+        assert_eq!(rt; reader.read(&mut buffer)?, count);
+    }
+    assert!(rt; reader.read(&mut buffer).is_err());
+    assert_eq!(rt; reader.read(&mut buffer)?, 0);
+    assert_eq!(rt; (reader.calls(), reader.ends(), reader.taken()), (6, 1, 7));
+    for count in [2, 2] {
+        assert_eq!(rt; writer.write(&input)?, count);
+    }
+    assert!(rt; writer.write(&input).is_err());
+    writer.flush()?;
+    assert_eq!(rt; writer.held(), [1, 2, 1, 2].as_slice());
+    assert_eq!(rt; (writer.calls(), writer.flushes()), (3, 1));
+    let mut endless = Pieces::endless(&input);
+    let mut stopping = Recorder::stopping(alloc, 1, 1);
+    for _ in 0..8 {
+        assert_eq!(rt; endless.read(&mut buffer[..1])?, 1);
+    }
+    assert_eq!(rt; stopping.write(&input)?, 0);
+    assert_eq!(rt; buffer[0], 1);
+    assert_eq!(rt; filler(alloc, 252)?.as_slice().last(), Some(&0));
+    Ok(())
+}
