@@ -1,15 +1,15 @@
 -- Where reading a unit stops: lists that end too early, headers and prefix lengths that are refused.
-use Rattle.std.proofs.Common.{◌≡◌, ℕ, ◌+◌, ◌<◌, ◌≤◌, Bool, true, cond, ltb, List, ◌++◌, length, take, Option, Some, None, refl, sym, ap, ◌∙◌, arith, get_or}
-use Rattle.std.proofs.lemmas.Bool.{lt-ltb}
+use Rattle.std.proofs.Common.{◌≡◌, ℕ, ◌+◌, ◌<◌, ◌≤◌, Bool, true, cond, ltb, List, ◌++◌, length, take, drop, inl, inr, Option, Some, None, refl, sym, ap, ◌∙◌, arith, get_or}
+use Rattle.std.proofs.lemmas.Bool.{cases_lt, lt-ltb}
 use Rattle.std.proofs.lemmas.Bool.Decides.{nat_tests}
-use Rattle.std.proofs.lemmas.List.{length-append, take_at}
+use Rattle.std.proofs.lemmas.List.{length-append, length-take-le, take-append-drop, take_at}
 use Rattle.rtr_units.specs.Causes.{Refusal, short, unit_type, unit_version, too_long, unit_length, empty_providers, refused}
 use Rattle.rtr_units.specs.Header.{version_field, type_field, length_field}
 use Rattle.rtr_units.proofs.Headers.{same_header}
 use Rattle.rtr_payload.specs.Reads.{IsPartial, IsRefused}
 use Rattle.rtr_payload.specs.Steps.{PrefixFault, header_fault, header_step, length_step, lengths_fault, frame_fault, first_of, first_fault, first_unit, taken, rule_of, refuse, refusal_report}
 use Rattle.rtr_payload.specs.Units.{Fields, HasFields}
-use Rattle.rtr_payload.proofs.Frames.{behind_header, same_step, shape_fault, shape_cut}
+use Rattle.rtr_payload.proofs.Frames.{Whole, behind_header, same_step, shape_fault, shape_cut}
 
 -- ---- a list that ends too early
 
@@ -28,6 +28,20 @@ body_short h t l e less =
     let s = same_header h t (omega arith) in
     let len = length-append h t in
     unit_short (h ++ t) (omega arith) (same_step h t (omega arith) ∙ e) (omega (arith, s.size))
+
+-- a whole unit or end of data, cut anywhere
+pub cut_short : (b : List ℕ) (n : ℕ) → Whole b → n < length b → IsPartial (take n b)
+cut_short b n w less =
+    let front = take n b in
+    let len : length front ≡ n = length-take-le n b (omega arith) in
+    elim (cases_lt n 8) [
+      | inl lt ↦ header_short front (omega arith)
+      | inr le ↦
+          let all : front ++ drop n b ≡ b = take-append-drop n b in
+          let s = same_header front (drop n b) (omega arith) in
+          let same : length_field b ≡ length_field front = ap length_field (sym all) ∙ s.size in
+          unit_short front (omega arith) (sym (same_step front (drop n b) (omega arith)) ∙ ap header_step all ∙ w.in_order) (omega (arith, w.size))
+    ]
 
 -- ---- a header that is refused
 

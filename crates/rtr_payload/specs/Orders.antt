@@ -1,4 +1,4 @@
--- The order of payloads (the crate's own).
+-- The order of payloads (the Rust crate's own).
 use Rattle.std.specs.Prelude.{ℕ, List}
 use Rattle.std.specs.declared.cmp.Ordering.{Ordering}
 use Rattle.std.specs.declared.cmp.Ordering.TheVariants.{Less, Equal, Greater}

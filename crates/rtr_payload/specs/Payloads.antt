@@ -1,22 +1,22 @@
--- What a payload unit means (RFC 8210 sections 5.6, 5.7 and 5.10; ASPA as the crate has it).
+-- What a payload unit means: route origins (RFC 8210 sections 5.6 and 5.7), router keys (RFC 8210 section 5.10) and ASPA (the Rust crate's own).
 use Rattle.std.specs.Prelude.{◌≡◌, ℕ, ◌%◌, ◌-◌, ◌^◌, ◌<◌, ◌≤◌, List, length, ◌==◌, if◌then◌else◌}
 use Rattle.std.specs.List.{AllByRecursion}
 use Rattle.rtr_base.specs.declared.payload.Action.{Action}
 use Rattle.rtr_base.specs.Addresses.{Family, width}
 
--- a route origin (family, address, prefix length, max length, ASN), a router key (identifier, ASN, key info), an ASPA (customer, providers)
+-- a route origin: family, address, prefix length, max length and ASN; a router key: identifier, ASN and key info; an ASPA: customer and providers
 pub data Payload : Type 0 where
   origin : Family → ℕ → ℕ → ℕ → ℕ → Payload
   key : List ℕ → ℕ → List ℕ → Payload
   aspa : ℕ → List ℕ → Payload
 
--- what a unit means
+-- what a unit means: its free bytes, the session of its header and all flag bits but the lowest mean nothing
 pub record Meaning : Type 0 where
   pub version : ℕ
   pub action : Action
   pub payload : Payload
 
--- host bits are clear, and the lengths are in order
+-- The lengths are in order, and the bits of the address behind the prefix length are clear. An address of 32 or 128 bits.
 pub record IsOrigin (f : Family) (a l x n : ℕ) : Type 0 where
   pub len : l ≤ x
   pub max_len : x ≤ width f
@@ -24,11 +24,13 @@ pub record IsOrigin (f : Family) (a l x n : ℕ) : Type 0 where
   pub host_bits : a % 2 ^ (width f - l) ≡ 0
   pub asn : n < 2 ^ 32
 
+-- an identifier of 20 bytes, and key info of which, with the 32 bytes before it, a length field of four bytes can tell
 pub record IsKey (i : List ℕ) (n : ℕ) (k : List ℕ) : Type 0 where
   pub identifier : length i ≡ 20
   pub asn : n < 2 ^ 32
   pub info : length k ≤ 4294967263
 
+-- as many providers as the Rust crate allows: with them the unit has 65532 bytes
 pub record IsAspa (c : ℕ) (ps : List ℕ) : Type 0 where
   pub customer : c < 2 ^ 32
   pub count : length ps ≤ 16380

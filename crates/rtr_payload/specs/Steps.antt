@@ -1,4 +1,13 @@
--- Why a list of bytes begins with no unit: the first step that holds (the crate's own order).
+-- Why a list of bytes begins with neither a unit nor an end of data (the Rust crate's own order). The first of these steps
+-- that holds names the fault:
+--   1  there are fewer than the 8 bytes of a header
+--   2  the type is none of those read here
+--   3  an end of data has a version above 2
+--   4  the length field of a router key or an ASPA is above 65535
+--   5  the length field does not suit the type, or the version of an end of data
+--   6  an ASPA is announced and its length leaves no room for a provider
+--   7  there are fewer bytes than the length field says
+--   8  the lengths of a prefix break their rule
 use Rattle.std.specs.Prelude.{codes, ◌≡◌, ℕ, ◌%◌, Bool, not, ◌&&◌, ◌||◌, List, ◌++◌, length, take, drop, slice_index, Option, Some, None, nat_lt, nat_le, ◌==◌, if◌then◌else◌}
 use Rattle.rtr_base.specs.Addresses.{width}
 use Rattle.rtr_units.specs.Header.{version_field, type_field, length_field}
@@ -8,20 +17,22 @@ use Rattle.rtr_units.specs.Causes.{Refusal, short, unit_type, unit_version, too_
 use Rattle.rtr_payload.specs.Payloads.{Meaning}
 use Rattle.rtr_payload.specs.Units.{Fields, prefix, router_key, providers, IsUnit, Shape}
 
--- which rule on the lengths of a prefix is broken
+-- how the lengths of a prefix break their rule: the prefix length is above that of an address, or the max length is, or it is below the
+-- prefix length
 pub data PrefixFault : Type 0 where
   len_overflow : PrefixFault
   max_overflow : PrefixFault
   max_underflow : PrefixFault
 
+-- prefixes, ends of data, router keys (RFC 8210 sections 5.6 to 5.8 and 5.10) and ASPA units
 abbrev pub is_known : ℕ → Bool
 is_known t = (t == 4) || (t == 6) || (t == 7) || (t == 9) || (t == 11)
 
--- the length field n suits the type t and the version v
+-- the length field n suits the type t and the version v: the sizes of RFC 8210 sections 5.6 to 5.8 and 5.10, and four bytes for each provider
 abbrev pub suits : ℕ → ℕ → ℕ → Bool
 suits t v n = if t == 4 then n == 20 else if t == 6 then n == 32 else if t == 7 then (if v == 0 then n == 12 else n == 24) else if t == 9 then nat_le 32 n else nat_le 12 n && (n % 4 == 0)
 
--- the rule of an address of w bits that lengths l and x break
+-- how lengths l and x break the rule, for an address of w bits
 unfoldable pub broken_rule : ℕ → ℕ → ℕ → Option PrefixFault
 broken_rule w l x = if nat_lt w l then Some len_overflow else if nat_lt w x then Some max_overflow else if nat_lt x l then Some max_underflow else None
 
@@ -35,13 +46,13 @@ header_fault v t g n =
     else if (t == 11) && ((n == 12) && (g % 2 == 1)) then Some empty_providers
     else None
 
--- the text of a report
+-- the text of the report
 abbrev pub text_of : PrefixFault → List ℕ
 text_of len_overflow = codes "prefix length too large"
 text_of max_overflow = codes "max-length too large"
 text_of max_underflow = codes "max-length smaller than prefix length"
 
--- the report on a unit u, with error code 0
+-- the report on the unit u, in its version and with error code 0, corrupt data (RFC 8210 section 12)
 abbrev pub refusal_report : List ℕ → PrefixFault → List ℕ
 refusal_report u f = report (version_field u) 0 u (text_of f)
 
@@ -57,12 +68,13 @@ refuse u (Some f) = Some (refused (refusal_report u f))
 abbrev pub lengths_fault : ℕ → List ℕ → Option Refusal
 lengths_fault t u = if t == 4 then refuse u (broken_rule 32 (slice_index u 9) (slice_index u 10)) else if t == 6 then refuse u (broken_rule 128 (slice_index u 9) (slice_index u 10)) else None
 
--- the rule that the fields of a unit break
+-- how the fields of a unit break the rule
 abbrev pub rule_of : Fields → Option PrefixFault
 rule_of (prefix f v s g l x z a n) = broken_rule (width f) l x
 rule_of (router_key v g z i n k) = None
 rule_of (providers v g z c ps) = None
 
+-- the earlier of two steps
 abbrev pub first_of : Option Refusal → Option Refusal → Option Refusal
 first_of None later = later
 first_of (Some f) later = Some f
@@ -83,7 +95,7 @@ frame_fault r = if nat_lt (length r) 8 then Some short else first_of (header_ste
 abbrev pub first_fault : List ℕ → Option Refusal
 first_fault r = first_of (frame_fault r) (lengths_fault (type_field r) (first_unit r))
 
--- the bytes that are taken
+-- the bytes that are taken: all, where they end too early; the header, where it is refused; the unit, where its prefix lengths are
 abbrev pub taken : Refusal → List ℕ → List ℕ
 taken short r = r
 taken (unit_type t) r = take 8 r
