@@ -10,5 +10,6 @@ pub mod LendingUnits
 pub mod Reads
 pub mod Report
 pub mod Stream
+pub mod Tallies
 pub mod Units
 pub mod Views

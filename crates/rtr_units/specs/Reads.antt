@@ -1,8 +1,8 @@
 -- What reading a unit leaves, told by the bytes that it took. The order of the refusals is the crate's own.
 use Rattle.std.specs.Prelude.{◌≡◌, ℕ, ◌+◌, ◌<◌, ◌≤◌, List, [], ◌++◌, length, Option, ⊤}
 use Rattle.std.specs.Io.KnownBytes.{Consumes, IsAtEnd}
-use Rattle.rtr_units.specs.Causes.{short, unit_type, unit_version, unit_length, Cause, by_reader, wrong}
-use Rattle.rtr_units.specs.Header.{version_field, type_field, length_field}
+use Rattle.rtr_units.specs.Causes.{short, unit_type, too_long, unit_length, Cause, by_reader, wrong}
+use Rattle.rtr_units.specs.Header.{type_field, length_field}
 use Rattle.rtr_units.specs.Views.{AreBytes}
 
 -- Some bytes t were taken, of which `Told` says more; `left` is what the reader then has.
@@ -37,3 +37,22 @@ StopsUnit p n (wrong unit_length) t left = (length t ≡ 8) × (type_field t ≡
 StopsUnit p n (wrong short) t left = IsPartOfUnit p n t × IsAtEnd left
 StopsUnit p n by_reader t left = IsPartOfUnit p n t
 StopsUnit p n cause t left = ⊥
+
+-- ---- reading past a unit
+
+-- a length field that is read past: a header's at least, and at most 65535
+abbrev pub IsSkipped : ℕ → Type 0
+IsSkipped n = (8 ≤ n) × (n ≤ 65535)
+
+-- What follows the header h was read past.
+abbrev pub SkipsRest : List ℕ → Option (List ℕ) → Option (List ℕ) → Type 0
+SkipsRest h old left = IsSkipped (length_field h) × Takes old left (λ t. 8 + length t ≡ length_field h)
+
+-- Why reading past what follows the header h stopped where it had taken t of it: at the length field, of which nothing
+-- was taken, or inside the unit.
+abbrev pub StopsSkip : List ℕ → Cause → List ℕ → Option (List ℕ) → Type 0
+StopsSkip h (wrong too_long) t left = (65535 < length_field h) × (t ≡ [])
+StopsSkip h (wrong unit_length) t left = (length_field h < 8) × (t ≡ [])
+StopsSkip h (wrong short) t left = IsSkipped (length_field h) × (8 + length t < length_field h) × IsAtEnd left
+StopsSkip h by_reader t left = IsSkipped (length_field h) × (8 + length t < length_field h)
+StopsSkip h cause t left = ⊥

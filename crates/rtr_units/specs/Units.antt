@@ -1,10 +1,34 @@
 -- Units of a fixed size as the lists of their bytes, and their fields, read off these.
 use Rattle.std.specs.Prelude.{ℕ, List, take, drop, slice_index}
 use Rattle.rtr_base.specs.Bytes.{value}
+use Rattle.rtr_units.specs.declared.session.SerialNotify.{SerialNotify}
+use Rattle.rtr_units.specs.declared.session.SerialQuery.{SerialQuery}
+use Rattle.rtr_units.specs.declared.session.SerialQueryPayload.{SerialQueryPayload}
+use Rattle.rtr_units.specs.declared.session.ResetQuery.{ResetQuery}
+use Rattle.rtr_units.specs.declared.session.CacheResponse.{CacheResponse}
+use Rattle.rtr_units.specs.declared.session.CacheReset.{CacheReset}
 use Rattle.rtr_units.specs.declared.fixed.Ipv4Prefix.{Ipv4Prefix}
 use Rattle.rtr_units.specs.declared.fixed.Ipv6Prefix.{Ipv6Prefix}
 use Rattle.rtr_units.specs.declared.fixed.EndOfDataV0.{EndOfDataV0}
 use Rattle.rtr_units.specs.declared.fixed.EndOfDataV1.{EndOfDataV1}
+
+abbrev pub notify_bytes : SerialNotify → List ℕ
+notify_bytes u = u.cells.bytes
+
+abbrev pub query_bytes : SerialQuery → List ℕ
+query_bytes u = u.cells.bytes
+
+abbrev pub query_payload_bytes : SerialQueryPayload → List ℕ
+query_payload_bytes u = u.cells.bytes
+
+abbrev pub reset_query_bytes : ResetQuery → List ℕ
+reset_query_bytes u = u.cells.bytes
+
+abbrev pub response_bytes : CacheResponse → List ℕ
+response_bytes u = u.cells.bytes
+
+abbrev pub cache_reset_bytes : CacheReset → List ℕ
+cache_reset_bytes u = u.cells.bytes
 
 abbrev pub ipv4_bytes : Ipv4Prefix → List ℕ
 ipv4_bytes u = u.cells.bytes

@@ -1,17 +1,24 @@
 //! The error report (RFC 6810 section 5.10, RFC 8210 section 5.11).
 
-ghost use Rattle.std.specs.Prelude.{◌≡◌, ◌+◌, ◌≤◌, ℕ, List, [], length, IfOk, not};
+ghost use Rattle.std.specs.Prelude.{◌≡◌, ◌+◌, ◌≤◌, ℕ, List, [], length, nat_eq, IfOk, MatchResult, not};
+ghost use Rattle.std.proofs.Common.{rules};
 ghost use Rattle.std.specs.Borrow.{sem};
-ghost use Rattle.rtr_base.specs.Bytes.{IsBytes};
-ghost use Rattle.rtr_units.specs.Header.{header};
+ghost use Rattle.std.specs.Cmp.{partial_equiv_from_equiv};
+ghost use Rattle.std.specs.Cmp.Lexicographic.{nat_list_eq_equiv, pointwise};
+ghost use Rattle.std.specs.Cmp.Rules.{hashing};
+ghost use Rattle.std.specs.Hash as fed;
+ghost use Rattle.rtr_units.specs.Causes.{cause_of};
+ghost use Rattle.rtr_units.specs.Reads.{Takes, SkipsRest, StopsSkip};
 ghost use Rattle.rtr_units.specs.Report.{report};
-ghost use Rattle.rtr_units.specs.Stream.{PutsForm, count_after, is_writer_fault};
+ghost use Rattle.rtr_units.specs.Stream.{FallsShort, PutsForm, count_after, is_reader_fault, is_writer_fault};
+ghost use Rattle.rtr_units.specs.Views.{header_bytes};
 
 use crate::fault::Fault;
 use crate::header::Header;
-use crate::piece::put;
-use crate::source::Sink;
+use crate::piece::{fill, put};
+use crate::source::{Sink, Source};
 use std::alloc::{AllocError, Global};
+use std::hash::{Hash, Hasher};
 use std::marker::Model;
 
 /// An error report, seen as the list of its bytes.
@@ -65,6 +72,28 @@ impl Error {
         }
     }
 
+    /// Reads past what follows the header, whatever its type. No byte behind the unit is asked for.
+    ///
+    /// `TooLong` is answered for a length field over 65535, and then `UnitLength` for one under 8. Nothing was read then.
+    pub fn skip_payload<R: Source>(header: Header, reader: &mut R) -> Result<(), Fault>
+        ensures bytes { MatchResult result
+            (λ _. SkipsRest (header_bytes header) (R.remaining reader.old) (R.remaining reader.new))
+            (λ e. Takes (R.remaining reader.old) (R.remaining reader.new) (λ t. StopsSkip (header_bytes header) (cause_of e) t (R.remaining reader.new))) }
+        ensures count { R.failures reader.new ≡ count_after (R.failures reader.old) (not (is_reader_fault result)) }
+    {
+        let length = header.length();
+        if length > 65535 {
+            return Err(Fault::TooLong);
+        }
+        if length < 8 {
+            return Err(Fault::UnitLength);
+        }
+        match skip(reader, (length - 8) as usize) {
+            Ok(()) => Ok(()),
+            Err(e) => Err(e),
+        }
+    }
+
     /// Writes the bytes.
     pub fn write<W: Sink>(&self, writer: &mut W) -> Result<(), Fault>
         ensures bytes { PutsForm result (W.contents writer.old) (W.contents writer.new) self.now }
@@ -94,5 +123,48 @@ impl Error {
     {
         let bytes = self.bytes.clone()?;
         Ok(Error { bytes })
+    }
+}
+
+/// Reads past this many bytes.
+fn skip<R: Source>(reader: &mut R, size: usize) -> Result<(), Fault>
+    ensures bytes { MatchResult result
+        (λ _. Takes (R.remaining reader.old) (R.remaining reader.new) (λ t. length t ≡ size))
+        (λ e. FallsShort e (R.remaining reader.old) (R.remaining reader.new) size) }
+    ensures count { R.failures reader.new ≡ count_after (R.failures reader.old) (not (is_reader_fault result)) }
+{
+    let mut buffer = [0; 1024];
+    let mut left = size;
+    while left > 0 {
+        let step = left.min(buffer.len());
+        match fill(reader, &mut buffer[..step]) {
+            Ok(()) => left -= step,
+            Err(e) => return Err(e),
+        }
+    }
+    Ok(())
+}
+
+impl PartialEq for Error {
+    ghost eq = { pointwise nat_eq };
+
+    ghost laws = { partial_equiv_from_equiv nat_list_eq_equiv };
+
+    fn eq(&self, other: &Self) -> bool {
+        self.bytes == other.bytes
+    }
+}
+
+impl Eq for Error {
+    ghost laws = { nat_list_eq_equiv };
+}
+
+impl Hash for Error {
+    ghost hash_input = { fed.slice fed.u8 };
+
+    ghost respects_eq = { Prim.search (hashing, rules) };
+
+    fn hash<H: Hasher>(&self, state: &mut H) {
+        self.as_ref().hash(state);
     }
 }

@@ -9,5 +9,6 @@ pub mod fixed;
 pub mod header;
 pub mod laws;
 pub mod piece;
+pub mod session;
 pub mod source;
 pub mod unit;

@@ -1,0 +1,412 @@
+//! Units by which a router and a cache speak of their states (RFC 6810 and RFC 8210 sections 5.2 to 5.5 and 5.9).
+
+ghost use Rattle.std.specs.Prelude.{◌≡◌, ℕ, List, length, replicate, MatchResult, not, refl};
+ghost use Rattle.std.proofs.Common.{rules};
+ghost use Rattle.std.specs.Borrow.{sem};
+ghost use Rattle.std.specs.Io.KnownBytes.{Consumes};
+ghost use Rattle.rtr_base.specs.Bytes.{be, value, IsBytes};
+ghost use Rattle.rtr_units.specs.FixedUnits.{bare_list, serial_list};
+ghost use Rattle.rtr_units.specs.Stream.{FallsShort, PutsForm, count_after, is_reader_fault, is_writer_fault};
+ghost use Rattle.rtr_units.specs.Units.{notify_bytes, query_bytes, reset_query_bytes, response_bytes, cache_reset_bytes, query_payload_bytes};
+ghost use Rattle.rtr_units.specs.Views.{AreBytes};
+
+use crate::cells;
+use crate::cells::Cells;
+use crate::fault::Fault;
+use crate::piece::{fill, put};
+use crate::source::{Sink, Source};
+use crate::unit::Unit;
+use rtr_base::state::{Serial, State};
+
+/// The cache tells that it has new data (section 5.2): 12 bytes.
+#[derive(Clone, Copy, Debug, PartialEq, Eq, Hash)]
+pub struct SerialNotify {
+    cells: Cells<12>,
+}
+
+impl Unit for SerialNotify {
+    ghost bytes = { notify_bytes };
+
+    ghost with_bytes = { λ u l. record { cells = record { bytes = l } } };
+
+    ghost PDU = { 0 };
+
+    ghost LENGTH = { 12 };
+
+    const PDU: u8 = 0;
+
+    const LENGTH: usize = 12;
+
+    #[inline(always)]
+    fn zero() -> Self {
+        SerialNotify {
+            cells: Cells::new([0; 12]),
+        }
+    }
+
+    #[inline(always)]
+    fn as_ref(&self) -> &[u8] {
+        self.cells.as_ref()
+    }
+
+    #[inline(always)]
+    fn as_mut(&mut self) -> &mut [u8] {
+        self.cells.as_mut()
+    }
+
+    ghost sized = { Prim.search rules };
+
+    ghost kept = { λ u l. refl };
+}
+
+impl Default for SerialNotify {
+    ghost is_default = { λ u. notify_bytes u ≡ replicate 12 0 };
+
+    fn default() -> Self {
+        SerialNotify::zero()
+    }
+}
+
+impl SerialNotify {
+    /// The serial notify with this version and state.
+    #[inline(always)]
+    pub fn new(version: u8, state: State) -> Self
+        ensures { notify_bytes result ≡ serial_list version 0 state.session state.serial }
+    {
+        let [s0, s1] = state.session().to_be_bytes();
+        let [q0, q1, q2, q3] = state.serial().0.to_be_bytes();
+        SerialNotify {
+            cells: Cells::new([version, 0, s0, s1, 0, 0, 0, 12, q0, q1, q2, q3]),
+        }
+    }
+}
+
+/// A router asks for what is new since a state (section 5.3): 12 bytes.
+#[derive(Clone, Copy, Debug, PartialEq, Eq, Hash)]
+pub struct SerialQuery {
+    cells: Cells<12>,
+}
+
+impl Unit for SerialQuery {
+    ghost bytes = { query_bytes };
+
+    ghost with_bytes = { λ u l. record { cells = record { bytes = l } } };
+
+    ghost PDU = { 1 };
+
+    ghost LENGTH = { 12 };
+
+    const PDU: u8 = 1;
+
+    const LENGTH: usize = 12;
+
+    #[inline(always)]
+    fn zero() -> Self {
+        SerialQuery {
+            cells: Cells::new([0; 12]),
+        }
+    }
+
+    #[inline(always)]
+    fn as_ref(&self) -> &[u8] {
+        self.cells.as_ref()
+    }
+
+    #[inline(always)]
+    fn as_mut(&mut self) -> &mut [u8] {
+        self.cells.as_mut()
+    }
+
+    ghost sized = { Prim.search rules };
+
+    ghost kept = { λ u l. refl };
+}
+
+impl Default for SerialQuery {
+    ghost is_default = { λ u. query_bytes u ≡ replicate 12 0 };
+
+    fn default() -> Self {
+        SerialQuery::zero()
+    }
+}
+
+impl SerialQuery {
+    /// The serial query with this version and state.
+    #[inline(always)]
+    pub fn new(version: u8, state: State) -> Self
+        ensures { query_bytes result ≡ serial_list version 1 state.session state.serial }
+    {
+        let [s0, s1] = state.session().to_be_bytes();
+        let [q0, q1, q2, q3] = state.serial().0.to_be_bytes();
+        SerialQuery {
+            cells: Cells::new([version, 1, s0, s1, 0, 0, 0, 12, q0, q1, q2, q3]),
+        }
+    }
+}
+
+/// What follows the header of a serial query: 4 bytes.
+#[derive(Clone, Copy, Debug, PartialEq, Eq, Hash)]
+pub struct SerialQueryPayload {
+    cells: Cells<4>,
+}
+
+impl Default for SerialQueryPayload {
+    ghost is_default = { λ p. query_payload_bytes p ≡ replicate 4 0 };
+
+    /// Four zero bytes.
+    fn default() -> Self {
+        SerialQueryPayload {
+            cells: Cells::new([0; 4]),
+        }
+    }
+}
+
+impl SerialQueryPayload {
+    ghost use Rattle.rtr_units.specs.LendingUnits.{LendsQueryPayload};
+
+    /// The serial number as it stands behind the header.
+    #[inline(always)]
+    pub fn new(serial: Serial) -> Self
+        ensures { query_payload_bytes result ≡ be serial.0 4 }
+    {
+        SerialQueryPayload {
+            cells: Cells::new(serial.0.to_be_bytes()),
+        }
+    }
+
+    /// Reads four bytes.
+    #[inline(always)]
+    pub fn read<R: Source>(reader: &mut R) -> Result<Self, Fault>
+        ensures bytes { MatchResult result
+            (λ p. Consumes (R.remaining reader.old) (R.remaining reader.new) (query_payload_bytes p) × AreBytes 4 (query_payload_bytes p))
+            (λ e. FallsShort e (R.remaining reader.old) (R.remaining reader.new) 4) }
+        ensures count { R.failures reader.new ≡ count_after (R.failures reader.old) (not (is_reader_fault result)) }
+    {
+        let mut payload = SerialQueryPayload::default();
+        match fill(reader, payload.as_mut()) {
+            Ok(()) => Ok(payload),
+            Err(e) => Err(e),
+        }
+    }
+
+    /// The serial number.
+    #[inline(always)]
+    pub fn serial(&self) -> Serial
+        ensures { result.0 ≡ value (query_payload_bytes self.now) }
+    {
+        Serial(cells::u32_at(self.as_ref(), 0))
+    }
+
+    /// Writes the four bytes.
+    #[inline(always)]
+    pub fn write<W: Sink>(&self, writer: &mut W) -> Result<(), Fault>
+        ensures bytes { PutsForm result (W.contents writer.old) (W.contents writer.new) (query_payload_bytes self.now) }
+        ensures count { W.failures writer.new ≡ count_after (W.failures writer.old) (not (is_writer_fault result)) }
+    {
+        put(writer, self.as_ref())
+    }
+
+    /// The four bytes.
+    #[inline(always)]
+    pub fn as_ref(&self) -> &[u8]
+        ensures bytes { result.now ≡ query_payload_bytes self.now }
+        ensures size { length result.now ≡ 4 }
+        ensures range { IsBytes result.now }
+    {
+        self.cells.as_ref()
+    }
+
+    /// The four bytes, to be changed in place.
+    #[inline(always)]
+    pub fn as_mut(&mut self) -> &mut [u8]
+        ensures* writes_back { sem 𝓛 (LendsQueryPayload self.entry result) }
+        ensures bytes { result.now ≡ query_payload_bytes self.old }
+        ensures size { length result.now ≡ 4 }
+    {
+        self.cells.as_mut()
+    }
+}
+
+/// A router asks for all data (section 5.4): 8 bytes.
+#[derive(Clone, Copy, Debug, PartialEq, Eq, Hash)]
+pub struct ResetQuery {
+    cells: Cells<8>,
+}
+
+impl Unit for ResetQuery {
+    ghost bytes = { reset_query_bytes };
+
+    ghost with_bytes = { λ u l. record { cells = record { bytes = l } } };
+
+    ghost PDU = { 2 };
+
+    ghost LENGTH = { 8 };
+
+    const PDU: u8 = 2;
+
+    const LENGTH: usize = 8;
+
+    #[inline(always)]
+    fn zero() -> Self {
+        ResetQuery {
+            cells: Cells::new([0; 8]),
+        }
+    }
+
+    #[inline(always)]
+    fn as_ref(&self) -> &[u8] {
+        self.cells.as_ref()
+    }
+
+    #[inline(always)]
+    fn as_mut(&mut self) -> &mut [u8] {
+        self.cells.as_mut()
+    }
+
+    ghost sized = { Prim.search rules };
+
+    ghost kept = { λ u l. refl };
+}
+
+impl Default for ResetQuery {
+    ghost is_default = { λ u. reset_query_bytes u ≡ replicate 8 0 };
+
+    fn default() -> Self {
+        ResetQuery::zero()
+    }
+}
+
+impl ResetQuery {
+    /// The reset query with this version. Its session field, which says nothing, is zero.
+    #[inline(always)]
+    pub fn new(version: u8) -> Self
+        ensures { reset_query_bytes result ≡ bare_list version 2 0 }
+    {
+        ResetQuery {
+            cells: Cells::new([version, 2, 0, 0, 0, 0, 0, 8]),
+        }
+    }
+}
+
+/// The cache begins its answer (section 5.5): 8 bytes.
+#[derive(Clone, Copy, Debug, PartialEq, Eq, Hash)]
+pub struct CacheResponse {
+    cells: Cells<8>,
+}
+
+impl Unit for CacheResponse {
+    ghost bytes = { response_bytes };
+
+    ghost with_bytes = { λ u l. record { cells = record { bytes = l } } };
+
+    ghost PDU = { 3 };
+
+    ghost LENGTH = { 8 };
+
+    const PDU: u8 = 3;
+
+    const LENGTH: usize = 8;
+
+    #[inline(always)]
+    fn zero() -> Self {
+        CacheResponse {
+            cells: Cells::new([0; 8]),
+        }
+    }
+
+    #[inline(always)]
+    fn as_ref(&self) -> &[u8] {
+        self.cells.as_ref()
+    }
+
+    #[inline(always)]
+    fn as_mut(&mut self) -> &mut [u8] {
+        self.cells.as_mut()
+    }
+
+    ghost sized = { Prim.search rules };
+
+    ghost kept = { λ u l. refl };
+}
+
+impl Default for CacheResponse {
+    ghost is_default = { λ u. response_bytes u ≡ replicate 8 0 };
+
+    fn default() -> Self {
+        CacheResponse::zero()
+    }
+}
+
+impl CacheResponse {
+    /// The cache response with this version and the session of this state.
+    #[inline(always)]
+    pub fn new(version: u8, state: State) -> Self
+        ensures { response_bytes result ≡ bare_list version 3 state.session }
+    {
+        let [s0, s1] = state.session().to_be_bytes();
+        CacheResponse {
+            cells: Cells::new([version, 3, s0, s1, 0, 0, 0, 8]),
+        }
+    }
+}
+
+/// The cache can't tell what is new since the state asked for (section 5.9): 8 bytes.
+#[derive(Clone, Copy, Debug, PartialEq, Eq, Hash)]
+pub struct CacheReset {
+    cells: Cells<8>,
+}
+
+impl Unit for CacheReset {
+    ghost bytes = { cache_reset_bytes };
+
+    ghost with_bytes = { λ u l. record { cells = record { bytes = l } } };
+
+    ghost PDU = { 8 };
+
+    ghost LENGTH = { 8 };
+
+    const PDU: u8 = 8;
+
+    const LENGTH: usize = 8;
+
+    #[inline(always)]
+    fn zero() -> Self {
+        CacheReset {
+            cells: Cells::new([0; 8]),
+        }
+    }
+
+    #[inline(always)]
+    fn as_ref(&self) -> &[u8] {
+        self.cells.as_ref()
+    }
+
+    #[inline(always)]
+    fn as_mut(&mut self) -> &mut [u8] {
+        self.cells.as_mut()
+    }
+
+    ghost sized = { Prim.search rules };
+
+    ghost kept = { λ u l. refl };
+}
+
+impl Default for CacheReset {
+    ghost is_default = { λ u. cache_reset_bytes u ≡ replicate 8 0 };
+
+    fn default() -> Self {
+        CacheReset::zero()
+    }
+}
+
+impl CacheReset {
+    /// The cache reset with this version. Its session field, which says nothing, is zero.
+    #[inline(always)]
+    pub fn new(version: u8) -> Self
+        ensures { cache_reset_bytes result ≡ bare_list version 8 0 }
+    {
+        CacheReset {
+            cells: Cells::new([version, 8, 0, 0, 0, 0, 0, 8]),
+        }
+    }
+}
