@@ -85,12 +85,12 @@ key_has b h low high t e =
     }
 
 -- what numbers of four bytes are read off bytes
-record IsWords (b : List ℕ) : Type 0 where
-  count : 4 * length (words_of b) ≡ length b
-  each : AllByRecursion (λ p. p < 2 ^ 32) (words_of b)
-  bytes : b ≡ words (words_of b)
+pub record IsWords (b : List ℕ) : Type 0 where
+  pub count : 4 * length (words_of b) ≡ length b
+  pub each : AllByRecursion (λ p. p < 2 ^ 32) (words_of b)
+  pub bytes : b ≡ words (words_of b)
 
-is_words : (b : List ℕ) → IsBytes b → length b % 4 ≡ 0 → IsWords b
+pub is_words : (b : List ℕ) → IsBytes b → length b % 4 ≡ 0 → IsWords b
 is_words [] h l = record { count = refl; each = tt; bytes = refl }
 is_words (a ∷ b ∷ c ∷ d ∷ bs) h l =
     let t = is_words bs (IsBytes-drop 4 (a ∷ b ∷ c ∷ d ∷ bs) h) (omega arith) in

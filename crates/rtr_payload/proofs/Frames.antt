@@ -66,11 +66,11 @@ in_frame_front u r l e n =
 
 -- ---- a list with the shape of a unit
 
-nine_in_order : (v g n : ℕ) → 32 ≤ n → n ≤ 65535 → header_fault v 9 g n ≡ None
+pub nine_in_order : (v g n : ℕ) → 32 ≤ n → n ≤ 65535 → header_fault v 9 g n ≡ None
 unfolding header_fault
 nine_in_order v g n h k = grind (arith, nat_tests)
 
-eleven_in_order : (v g n : ℕ) → 12 ≤ n → n ≤ 65535 → n % 4 ≡ 0 → (n ≡ 12 → g % 2 ≢ 1) → header_fault v 11 g n ≡ None
+pub eleven_in_order : (v g n : ℕ) → 12 ≤ n → n ≤ 65535 → n % 4 ≡ 0 → (n ≡ 12 → g % 2 ≢ 1) → header_fault v 11 g n ≡ None
 unfolding header_fault
 eleven_in_order v g n h k d e = grind (arith, nat_tests)
 

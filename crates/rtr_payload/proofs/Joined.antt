@@ -1,10 +1,10 @@
 -- Lists that are made of a fixed part and a body.
-use Rattle.std.proofs.Common.{◌≡◌, ℕ, ◌+◌, ◌≤◌, Bool, true, false, ◌&&◌, Option, List, [], ◌∷◌, ◌++◌, length, take, drop, refl, ap, sym, ◌∙◌, append_assoc, arith}
+use Rattle.std.proofs.Common.{◌≡◌, ℕ, ◌+◌, ◌≤◌, Bool, true, false, ◌&&◌, Option, List, [], ◌∷◌, ◌++◌, length, take, drop, refl, ap, sym, ◌∙◌, append_assoc, append-nil, arith}
 use Rattle.std.specs.Prelude.{nat_eq, Result, Ok, Err}
 use Rattle.std.specs.Cmp.Lexicographic.{pointwise}
 use Rattle.std.specs.Io.KnownBytes.{Appends}
 use Rattle.std.proofs.KnownBytes.{Appends-trans}
-use Rattle.std.proofs.lemmas.List.{drop-append-le, take-append-le, length-drop}
+use Rattle.std.proofs.lemmas.List.{drop-append-le, take-append-le, take-append-drop, length-drop}
 use Rattle.rtr_units.specs.declared.fault.Fault.{Fault}
 use Rattle.rtr_units.specs.Stream.{PutsForm}
 
@@ -28,3 +28,7 @@ pointwise-append (x ∷ a) (y ∷ c) b d h = ap (λ (t : Bool). nat_eq x y && t)
     assoc : (p q r : Bool) → (p && (q && r)) ≡ (p && q && r)
     assoc true q r = refl
     assoc false q r = refl
+
+-- a fixed part of a header and a front, and then the rest
+pub rejoined : (a b k h f : List ℕ) (n : ℕ) → a ≡ h → b ≡ take n f → k ≡ drop n f → a ++ (b ++ []) ++ k ≡ h ++ f
+rejoined a b k h f n ea eb ek = rw (append-nil, ea, eb, ek) (append_assoc h (take n f) (drop n f) ∙ ap (λ (l : List ℕ). h ++ l) (take-append-drop n f))

@@ -1,14 +1,14 @@
 -- The bytes of providers.
-use Rattle.std.proofs.Common.{◌≡◌, ℕ, ◌+◌, ◌*◌, ◌^◌, ◌<◌, ◌≤◌, List, [], ◌∷◌, ◌++◌, length, take, drop, Option, Some, refl, sym, ap, ◌∙◌, subst, arith, length-append}
+use Rattle.std.proofs.Common.{◌≡◌, ℕ, ◌+◌, ◌*◌, ◌%◌, ◌^◌, ◌<◌, ◌≤◌, List, [], ◌∷◌, ◌++◌, length, take, drop, Option, Some, refl, sym, ap, ◌∙◌, subst, arith, length-append}
 use Rattle.std.specs.Prelude.{nat_eq}
 use Rattle.std.specs.Ordering.{nat_cmp, is_eq}
 use Rattle.std.specs.Cmp.Lexicographic.{pointwise, slice_cmp, texts_ties}
 use Rattle.std.specs.Iterator.{Yields}
-use Rattle.rtr_base.specs.Bytes.{be, value, words}
+use Rattle.rtr_base.specs.Bytes.{be, value, words, IsBytes}
 use Rattle.rtr_base.proofs.Numbers.{length-words, slice_cmp-words}
 use Rattle.rtr_payload.specs.Places.{words_of}
 use Rattle.rtr_payload.specs.Providers.{AreProviders, AreProviderBytes}
-use Rattle.rtr_payload.proofs.FieldsRead.{words_of-words, below_push}
+use Rattle.rtr_payload.proofs.FieldsRead.{words_of-words, below_push, is_words}
 
 pub words-push : (ps : List ℕ) (p : ℕ) → words (ps ++ p ∷ []) ≡ words ps ++ be p 4
 words-push [] p = refl
@@ -62,3 +62,9 @@ words_of-split bs h = absurd (omega arith)
 
 pub words_of-shorter : (b rest : List ℕ) → 4 ≤ length b → rest ≡ drop 4 b → length (words_of rest) < length (words_of b)
 words_of-shorter b rest h e = let l = ap length (words_of-split b h) in rw e (omega arith)
+
+-- bytes that are four to each number, and not too many, are those of providers
+pub provider_bytes_of : (b : List ℕ) → IsBytes b → length b % 4 ≡ 0 → length b ≤ 65520 → AreProviderBytes b
+provider_bytes_of b h even small =
+    let w = is_words b h even in
+    record { providers = record { count = omega (arith, w.count); each = w.each }; again = sym w.bytes }

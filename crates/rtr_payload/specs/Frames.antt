@@ -5,6 +5,7 @@ use Rattle.std.specs.Io.KnownBytes.{Consumes, IsAtEnd}
 use Rattle.rtr_units.specs.declared.fault.Fault.{Fault}
 use Rattle.rtr_units.specs.Header.{version_field, type_field, length_field}
 use Rattle.rtr_units.specs.Causes.{Refusal, short, unit_type, Cause, by_reader, by_writer, too_many, no_memory, wrong, cause_of}
+use Rattle.rtr_units.specs.Reads.{Takes}
 use Rattle.rtr_payload.specs.Steps.{header_fault}
 
 -- what is wrong with the header that u begins with, taken for one of type k whatever type it names
@@ -23,7 +24,8 @@ IsWhole fault u = (fault u ≡ None) × (length u ≡ length_field u)
 abbrev pub IsPart : (List ℕ → Option Refusal) → List ℕ → Type 0
 IsPart fault h = 8 ≤ length h → (fault h ≡ None) × (length h < length_field h)
 
--- why reading a unit stopped where the bytes h of it were there; `left` is what the reader then has
+-- Why reading a unit stopped where the bytes h of it were there; `left` is what the reader then has. What is wrong with
+-- its header stops it behind that.
 abbrev pub StopsInUnit : (List ℕ → Option Refusal) → Cause → List ℕ → Option (List ℕ) → Type 0
 StopsInUnit fault by_reader h left = IsPart fault h
 StopsInUnit fault by_writer h left = ⊥
@@ -33,23 +35,23 @@ StopsInUnit fault (wrong short) h left = IsPart fault h × IsAtEnd left
 StopsInUnit fault (wrong f) h left = (length h ≡ 8) × (fault h ≡ Some f)
 
 -- a unit was read, or reading stopped
-abbrev pub ReadsUnit : (List ℕ → Option Refusal) → Result (List ℕ) Fault → Option (List ℕ) → Option (List ℕ) → Type 0
-ReadsUnit fault (Ok u) old new = Consumes old new u × IsWhole fault u
-ReadsUnit fault (Err e) old new = (t : List ℕ) × Consumes old new t × StopsInUnit fault (cause_of e) t new
+abbrev pub ReadsVariable : (List ℕ → Option Refusal) → Result (List ℕ) Fault → Option (List ℕ) → Option (List ℕ) → Type 0
+ReadsVariable fault (Ok u) old left = Consumes old left u × IsWhole fault u
+ReadsVariable fault (Err e) old left = Takes old left (λ t. StopsInUnit fault (cause_of e) t left)
 
--- a unit with the header h was read from behind its header on, or reading stopped
-abbrev pub ReadsBehind : List ℕ → (List ℕ → Option Refusal) → Result (List ℕ) Fault → Option (List ℕ) → Option (List ℕ) → Type 0
-ReadsBehind h fault (Ok u) old new = (t : List ℕ) × Consumes old new t × (u ≡ h ++ t) × IsWhole fault u
-ReadsBehind h fault (Err e) old new = (t : List ℕ) × Consumes old new t × StopsInUnit fault (cause_of e) (h ++ t) new
+-- what follows the header h was read, and the unit made of both, or reading stopped
+abbrev pub ReadsBehind : (List ℕ → Option Refusal) → List ℕ → Result (List ℕ) Fault → Option (List ℕ) → Option (List ℕ) → Type 0
+ReadsBehind fault h (Ok u) old left = Takes old left (λ t. u ≡ h ++ t) × IsWhole fault u
+ReadsBehind fault h (Err e) old left = Takes old left (λ t. StopsInUnit fault (cause_of e) (h ++ t) left)
 
--- why fewer than n bytes were read, of which t came, or why they could not be kept
-abbrev pub StopsInFrame : Cause → ℕ → List ℕ → Option (List ℕ) → Type 0
-StopsInFrame by_reader n t left = length t < n
-StopsInFrame no_memory n t left = length t ≤ n
-StopsInFrame (wrong short) n t left = (length t < n) × IsAtEnd left
-StopsInFrame c n t left = ⊥
+-- why reading a frame of n bytes stopped where t of them had come
+abbrev pub StopsInFrame : ℕ → Cause → List ℕ → Option (List ℕ) → Type 0
+StopsInFrame n by_reader t left = length t < n
+StopsInFrame n no_memory t left = length t ≤ n
+StopsInFrame n (wrong short) t left = (length t < n) × IsAtEnd left
+StopsInFrame n cause t left = ⊥
 
--- the next n bytes came, or they did not
+-- a frame of n bytes was read, or reading stopped
 abbrev pub ReadsFrame : ℕ → Result (List ℕ) Fault → Option (List ℕ) → Option (List ℕ) → Type 0
-ReadsFrame n (Ok t) old new = Consumes old new t × (length t ≡ n)
-ReadsFrame n (Err e) old new = (t : List ℕ) × Consumes old new t × StopsInFrame (cause_of e) n t new
+ReadsFrame n (Ok t) old left = Consumes old left t × (length t ≡ n)
+ReadsFrame n (Err e) old left = Takes old left (λ t. StopsInFrame n (cause_of e) t left)

@@ -1,24 +1,26 @@
 //! The ASPA unit (the crate's own format).
 
-ghost use Rattle.std.specs.Prelude.{◌≡◌, ◌+◌, ◌++◌, length, take, drop, slice_index, nat_eq, IfOk, not};
+ghost use Rattle.std.specs.Prelude.{◌≡◌, ◌≤◌, ◌+◌, ◌%◌, ◌++◌, length, take, drop, slice_index, nat_eq, IfOk, not};
 ghost use Rattle.std.specs.Cmp.{partial_equiv_from_equiv};
 ghost use Rattle.std.specs.Cmp.Lexicographic.{bytes_decides, nat_list_eq_equiv, pointwise};
 ghost use Rattle.std.specs.Hash as fed;
-ghost use Rattle.rtr_base.specs.Bytes.{value};
+ghost use Rattle.rtr_base.specs.Bytes.{IsBytes, value};
 ghost use Rattle.rtr_units.specs.Header.{version_field, type_field};
 ghost use Rattle.rtr_units.specs.Stream.{PutsForm, count_after, is_reader_fault, is_writer_fault};
 ghost use Rattle.rtr_units.specs.Views.{header_bytes};
-ghost use Rattle.rtr_payload.specs.Frames.{fault_as, fault_of, ReadsUnit, ReadsBehind};
+ghost use Rattle.rtr_payload.specs.Frames.{fault_as, fault_of, ReadsVariable, ReadsBehind};
 ghost use Rattle.rtr_payload.specs.Payloads.{aspa};
 ghost use Rattle.rtr_payload.specs.Places.{aspa_fields, words_of};
 ghost use Rattle.rtr_payload.specs.Units.{form, HasFields};
 
-use crate::frame::asn_at;
+use crate::frame::{MAX_SIZE, asn_at, read_frame};
 use crate::providers::ProviderAsns;
+use bytes::Bytes;
 use rtr_base::asn::Asn;
 use rtr_units::fault::Fault;
+use rtr_units::header::Header;
 use rtr_units::piece::put;
-use rtr_units::source::Sink;
+use rtr_units::source::{Sink, Source};
 use std::alloc::{AllocError, Global};
 use std::hash::{Hash, Hasher};
 use std::marker::Model;
@@ -59,6 +61,76 @@ impl Aspa {
         fixed[4..8].copy_from_slice(&size.to_be_bytes());
         fixed[8..].copy_from_slice(&customer.into_u32().to_be_bytes());
         Aspa { fixed, providers }
+    }
+
+    /// Reads an ASPA unit.
+    ///
+    /// Behind the header, `UnitType` is answered unless its type is 11, and then it goes on as `read_payload`.
+    pub fn read<R: Source>(alloc: Global, reader: &mut R) -> Result<Self, Fault>
+        ensures bytes { ReadsVariable (fault_of 11) result (R.remaining reader.old) (R.remaining reader.new) }
+        ensures fields { IfOk result (λ u. HasFields u (aspa_fields u)) }
+        ensures count { R.failures reader.new ≡ count_after (R.failures reader.old) (not (is_reader_fault result)) }
+    {
+        let header = match Header::read(reader) {
+            Ok(header) => header,
+            Err(e) => return Err(e),
+        };
+        let pdu = header.pdu();
+        if pdu != Aspa::PDU {
+            return Err(Fault::UnitType(pdu));
+        }
+        Aspa::read_payload(alloc, header, reader)
+    }
+
+    /// Reads what follows the header, which is kept as it is. Its type is not judged.
+    ///
+    /// `TooLong` is answered above length 65535, then `UnitLength` below 12 and for what is not a multiple of 4, and
+    /// then `EmptyProviders` where an announcement has length 12. Nothing was read then, and no memory asked for. The
+    /// rest is read into one frame, from which the providers are cut; where the frame can't be had, `Memory` is
+    /// answered, and nothing was read.
+    pub fn read_payload<R: Source>(
+        alloc: Global,
+        header: Header,
+        reader: &mut R,
+    ) -> Result<Self, Fault>
+        ensures bytes { ReadsBehind (fault_as 11) (header_bytes header) result (R.remaining reader.old) (R.remaining reader.new) }
+        ensures fields { IfOk result (λ u. type_field (header_bytes header) ≡ 11 → HasFields u (aspa_fields u)) }
+        ensures count { R.failures reader.new ≡ count_after (R.failures reader.old) (not (is_reader_fault result)) }
+    {
+        let head = header.as_ref();
+        let size = header.length();
+        if size > MAX_SIZE {
+            return Err(Fault::TooLong);
+        }
+        if size < FIXED || size % 4 != 0 {
+            return Err(Fault::UnitLength);
+        }
+        if size == FIXED && head[2] % 2 == 1 {
+            return Err(Fault::EmptyProviders);
+        }
+        match read_frame(alloc, size as usize - 8, reader) {
+            Ok(frame) => Ok(Aspa::from_frame(head, frame)),
+            Err(e) => Err(e),
+        }
+    }
+
+    /// The unit of a header and the frame behind it.
+    fn from_frame(head: &[u8], mut frame: Bytes) -> Self
+        requires head { length head.now ≡ 8 }
+        requires range { IsBytes frame }
+        requires size { 4 ≤ length frame }
+        requires even { length frame % 4 ≡ 0 }
+        requires fits { length frame ≤ 65524 }
+        ensures { result ≡ head.now ++ frame }
+    {
+        let mut fixed = [0; 12];
+        fixed[8..].copy_from_slice(&frame.as_slice()[..4]);
+        fixed[..8].copy_from_slice(head);
+        frame.advance(4);
+        Aspa {
+            fixed,
+            providers: ProviderAsns::from_bytes(frame),
+        }
     }
 
     /// The version of the protocol.

@@ -12,6 +12,9 @@ use rtr_units::piece::fill;
 use rtr_units::source::Source;
 use std::alloc::Global;
 
+/// The most bytes that a variable unit that is read has, header included.
+pub const MAX_SIZE: u32 = 65535;
+
 /// Reads the next `size` bytes. The frame is asked for before any of them is read.
 pub fn read_frame<R: Source>(alloc: Global, size: usize, reader: &mut R) -> Result<Bytes, Fault>
     ensures bytes { ReadsFrame size result (R.remaining reader.old) (R.remaining reader.new) }

@@ -66,7 +66,16 @@ impl RouterKeyInfo {
         if bytes.len() > MAX_LEN {
             return Err(KeyInfoError);
         }
-        Ok(RouterKeyInfo(bytes))
+        Ok(RouterKeyInfo::within_limit(bytes))
+    }
+
+    /// The key info that these bytes are, which are not too many.
+    #[inline(always)]
+    pub(crate) fn within_limit(bytes: Bytes) -> Self
+        requires { length bytes ≤ 4294967263 }
+        ensures { result ≡ bytes }
+    {
+        RouterKeyInfo(bytes)
     }
 
     /// The key info that the bytes of the vector are. No byte is copied. Too many are refused; else memory alone can

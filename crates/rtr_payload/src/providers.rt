@@ -102,6 +102,17 @@ impl ProviderAsns {
         }
     }
 
+    /// The providers that these bytes are, four to each.
+    #[inline(always)]
+    pub(crate) fn from_bytes(bytes: Bytes) -> Self
+        requires { AreProviderBytes bytes }
+        ensures value { result ≡ words_of bytes }
+        ensures again { words result ≡ bytes }
+        ensures fits { AreProviders result }
+    {
+        ProviderAsns(bytes)
+    }
+
     /// The number of providers.
     pub fn asn_count(&self) -> u16
         ensures value { result ≡ length self.now }

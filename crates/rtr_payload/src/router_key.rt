@@ -1,6 +1,6 @@
 //! The router key (RFC 8210 section 5.10).
 
-ghost use Rattle.std.specs.Prelude.{◌≡◌, ◌+◌, ◌++◌, length, take, drop, slice_index, nat_eq, IfOk, not};
+ghost use Rattle.std.specs.Prelude.{◌≡◌, ◌≤◌, ◌+◌, ◌++◌, length, take, drop, slice_index, nat_eq, IfOk, not};
 ghost use Rattle.std.proofs.Common.{rules};
 ghost use Rattle.std.specs.Cmp.{partial_equiv_from_equiv};
 ghost use Rattle.std.specs.Cmp.Lexicographic.{bytes_decides, nat_list_eq_equiv, pointwise};
@@ -10,17 +10,19 @@ ghost use Rattle.rtr_base.specs.Bytes.{value};
 ghost use Rattle.rtr_units.specs.Header.{version_field, type_field};
 ghost use Rattle.rtr_units.specs.Stream.{PutsForm, count_after, is_reader_fault, is_writer_fault};
 ghost use Rattle.rtr_units.specs.Views.{header_bytes};
-ghost use Rattle.rtr_payload.specs.Frames.{fault_as, fault_of, ReadsUnit, ReadsBehind};
+ghost use Rattle.rtr_payload.specs.Frames.{fault_as, fault_of, ReadsVariable, ReadsBehind};
 ghost use Rattle.rtr_payload.specs.Payloads.{key};
 ghost use Rattle.rtr_payload.specs.Places.{key_fields};
 ghost use Rattle.rtr_payload.specs.Units.{form, HasFields};
 
-use crate::frame::asn_at;
+use crate::frame::{MAX_SIZE, asn_at, read_frame};
 use crate::key_info::RouterKeyInfo;
+use bytes::Bytes;
 use rtr_base::asn::Asn;
 use rtr_units::fault::Fault;
+use rtr_units::header::Header;
 use rtr_units::piece::put;
-use rtr_units::source::Sink;
+use rtr_units::source::{Sink, Source};
 use std::alloc::{AllocError, Global};
 use std::hash::{Hash, Hasher};
 use std::marker::Model;
@@ -73,6 +75,70 @@ impl RouterKey {
         fixed[28..].copy_from_slice(&asn.into_u32().to_be_bytes());
         fixed[8..28].copy_from_slice(&key_identifier);
         RouterKey { fixed, key_info }
+    }
+
+    /// Reads a router key.
+    ///
+    /// Behind the header, `UnitType` is answered unless its type is 9, and then it goes on as `read_payload`.
+    pub fn read<R: Source>(alloc: Global, reader: &mut R) -> Result<Self, Fault>
+        ensures bytes { ReadsVariable (fault_of 9) result (R.remaining reader.old) (R.remaining reader.new) }
+        ensures fields { IfOk result (λ u. HasFields u (key_fields u)) }
+        ensures count { R.failures reader.new ≡ count_after (R.failures reader.old) (not (is_reader_fault result)) }
+    {
+        let header = match Header::read(reader) {
+            Ok(header) => header,
+            Err(e) => return Err(e),
+        };
+        let pdu = header.pdu();
+        if pdu != RouterKey::PDU {
+            return Err(Fault::UnitType(pdu));
+        }
+        RouterKey::read_payload(alloc, header, reader)
+    }
+
+    /// Reads what follows the header, which is kept as it is. Its type is not judged.
+    ///
+    /// `TooLong` is answered above length 65535, and then `UnitLength` below 32. Nothing was read then, and no memory
+    /// asked for. The rest is read into one frame, from which the key info is cut; where the frame can't be had,
+    /// `Memory` is answered, and nothing was read.
+    pub fn read_payload<R: Source>(
+        alloc: Global,
+        header: Header,
+        reader: &mut R,
+    ) -> Result<Self, Fault>
+        ensures bytes { ReadsBehind (fault_as 9) (header_bytes header) result (R.remaining reader.old) (R.remaining reader.new) }
+        ensures fields { IfOk result (λ u. type_field (header_bytes header) ≡ 9 → HasFields u (key_fields u)) }
+        ensures count { R.failures reader.new ≡ count_after (R.failures reader.old) (not (is_reader_fault result)) }
+    {
+        let head = header.as_ref();
+        let size = header.length();
+        if size > MAX_SIZE {
+            return Err(Fault::TooLong);
+        }
+        if size < FIXED {
+            return Err(Fault::UnitLength);
+        }
+        match read_frame(alloc, size as usize - 8, reader) {
+            Ok(frame) => Ok(RouterKey::from_frame(head, frame)),
+            Err(e) => Err(e),
+        }
+    }
+
+    /// The unit of a header and the frame behind it.
+    fn from_frame(head: &[u8], mut frame: Bytes) -> Self
+        requires head { length head.now ≡ 8 }
+        requires size { 24 ≤ length frame }
+        requires fits { length frame ≤ 65535 }
+        ensures { result ≡ head.now ++ frame }
+    {
+        let mut fixed = [0; 32];
+        fixed[8..].copy_from_slice(&frame.as_slice()[..24]);
+        fixed[..8].copy_from_slice(head);
+        frame.advance(24);
+        RouterKey {
+            fixed,
+            key_info: RouterKeyInfo::within_limit(frame),
+        }
     }
 
     /// The version of the protocol.

@@ -1,0 +1,42 @@
+use Rattle.std.proofs.Common.{◌≡◌, ◌≤◌, ◌+◌, ◌-◌, ◌++◌, [], List, length, sym, ap, ◌∙◌, arith, rules, ℕ, Option, None}
+use Rattle.std.proofs.KnownBytes.{Consumes-nil}
+use Rattle.rtr_units.specs.Causes.{too_long, unit_length, cause_of}
+use Rattle.rtr_units.specs.Header.{length_field, type_field}
+use Rattle.rtr_units.specs.Views.{AreBytes, header_bytes}
+use Rattle.rtr_payload.specs.Frames.{fault_as, IsWhole}
+use Rattle.rtr_payload.specs.Places.{key_fields}
+use Rattle.rtr_payload.specs.Units.{HasFields}
+use Rattle.rtr_payload.proofs.Frames.{nine_in_order}
+use Rattle.rtr_payload.proofs.Variable.{key_too_long, key_length, header_stops, frame_stops, key_read}
+use Rattle.rtr_payload.proofs.router_key.RouterKey.read_payload.Goals as goal
+
+pub returns-then-size-gt-MAX_SIZE-clause-bytes : goal.returns-then-size-gt-MAX_SIZE-clause-bytes
+returns-then-size-gt-MAX_SIZE-clause-bytes g c =
+    let h = header_bytes c.args.header in
+    let l : length h ≡ 8 = ap length (sym c.as_ref-head.ensures.bytes) ∙ c.as_ref-head.ensures.size in
+    ([], Consumes-nil _, header_stops (fault_as 9) too_long h l (key_too_long _ _ _ (omega (arith, c.length-size.ensures))))
+
+pub returns-then-size-lt-FIXED-clause-bytes : goal.returns-then-size-lt-FIXED-clause-bytes
+returns-then-size-lt-FIXED-clause-bytes g c =
+    let h = header_bytes c.args.header in
+    let l : length h ≡ 8 = ap length (sym c.as_ref-head.ensures.bytes) ∙ c.as_ref-head.ensures.size in
+    ([], Consumes-nil _, header_stops (fault_as 9) unit_length h l (key_length _ _ _ (omega (arith, c.length-size.ensures))))
+
+pub returns-in-Ok : goal.returns-in-Ok
+returns-in-Ok g c =
+    let h = header_bytes c.args.header in
+    let t = c.in-Ok.frame in
+    let lent : AreBytes 8 c.as_ref-head.result.now = (c.as_ref-head.ensures.size, c.as_ref-head.ensures.range) in
+    let bytes : AreBytes 8 h = rw c.as_ref-head.ensures.bytes at lent in
+    let size : length_field h ≡ 8 + length t = omega (arith, c.length-size.ensures, c.in-Ok.ensures.bytes.1) in
+    let is : c.from_frame.result ≡ h ++ t = c.from_frame.ensures ∙ ap (λ (l : List ℕ). l ++ t) c.as_ref-head.ensures.bytes in
+    let read = key_read h t bytes c.in-Ok.ensures.range (omega (arith, c.length-size.ensures)) (omega (arith, c.length-size.ensures)) size in
+    record { bytes = ((t, c.in-Ok.ensures.bytes.0, is), rw is read.0); fields = rw is read.1; count = search rules }
+
+pub returns-in-Err-clause-bytes : goal.returns-in-Err-clause-bytes
+returns-in-Err-clause-bytes g c =
+    let h = header_bytes c.args.header in
+    let l : length h ≡ 8 = ap length (sym c.as_ref-head.ensures.bytes) ∙ c.as_ref-head.ensures.size in
+    let (t, taken, stops) = c.in-Err.ensures.bytes in
+    let order : fault_as 9 h ≡ None = nine_in_order _ _ _ (omega (arith, c.length-size.ensures)) (omega (arith, c.length-size.ensures)) in
+    (t, taken, frame_stops 9 (c.length-size.result - 8) (cause_of c.in-Err.e) h t _ l order (omega (arith, c.length-size.ensures)) stops)
