@@ -40,3 +40,9 @@ abbrev pub IsPayload : Payload → Type 0
 IsPayload (origin f a l x n) = IsOrigin f a l x n
 IsPayload (key i n k) = IsKey i n k
 IsPayload (aspa c ps) = IsAspa c ps
+
+-- the smallest protocol version that has the payload (origins RFC 6810, router keys RFC 8210; ASPA is the Rust crate's own)
+abbrev pub smallest_version : Payload → ℕ
+smallest_version (origin f a l x n) = 0
+smallest_version (key i n k) = 1
+smallest_version (aspa c ps) = 2

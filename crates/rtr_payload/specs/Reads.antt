@@ -30,3 +30,9 @@ StopsReadingUnit no_memory h left = IsVariable h
 StopsReadingUnit (wrong short) h left = IsPartial h × IsAtEnd left
 StopsReadingUnit (wrong (refused report)) h left = ⊥
 StopsReadingUnit (wrong f) h left = IsRefused h f
+
+-- a report, or no memory for it
+abbrev pub IsReport : Cause → List ℕ → Type 0
+IsReport (wrong (refused r)) report = r ≡ report
+IsReport no_memory report = Unit {0}
+IsReport c report = ⊥

@@ -190,6 +190,13 @@ impl Aspa {
         })
     }
 
+    /// The bytes before the providers.
+    pub(crate) fn as_partial_slice(&self) -> &[u8]
+        ensures { result.now ≡ take 12 self.now }
+    {
+        &self.fixed
+    }
+
     /// Writes the unit.
     #[inline(always)]
     pub fn write<W: Sink>(&self, writer: &mut W) -> Result<(), Fault>

@@ -6,6 +6,8 @@ mod frame;
 mod key_info;
 pub mod laws;
 pub mod payload;
+mod pdu_payload;
+mod prefix_rule;
 mod providers;
 mod router_key;
 
@@ -13,6 +15,7 @@ mod router_key;
 pub mod pdu {
     pub use crate::aspa::Aspa;
     pub use crate::key_info::{KeyInfoError, KeyInfoVecError, RouterKeyInfo};
+    pub use crate::pdu_payload::Payload;
     pub use crate::providers::{ProviderAsns, ProviderAsnsError, ProviderIter, ProviderIterError};
     pub use crate::router_key::RouterKey;
 }

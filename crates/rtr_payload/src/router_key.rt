@@ -208,6 +208,13 @@ impl RouterKey {
         })
     }
 
+    /// The bytes before the key info.
+    pub(crate) fn as_partial_slice(&self) -> &[u8]
+        ensures { result.now ≡ take 32 self.now }
+    {
+        &self.fixed
+    }
+
     /// Writes the unit.
     #[inline(always)]
     pub fn write<W: Sink>(&self, writer: &mut W) -> Result<(), Fault>

@@ -3,7 +3,7 @@ use Rattle.std.specs.Prelude.{◌≡◌, ℕ, ◌≤◌, ◌⊎◌, List, [], �
 use Rattle.std.specs.List.{flat_map}
 use Rattle.rtr_base.specs.Timings.{default_timing}
 use Rattle.rtr_units.specs.End.{EndMeaning, End, end_list}
-use Rattle.rtr_payload.specs.Payloads.{Payload, origin, key, aspa, Meaning}
+use Rattle.rtr_payload.specs.Payloads.{Meaning, smallest_version}
 use Rattle.rtr_payload.specs.Units.{IsUnit, form_of}
 use Rattle.rtr_payload.specs.Steps.{BeginsUnit}
 
@@ -40,12 +40,6 @@ pub record IsKept (b : List ℕ) (limit : ℕ) (front : List ℕ) (ms : List Mea
   pub units : AreUnits front ms
   pub few : length ms ≤ limit
   pub longest : (limit ≡ length ms) ⊎ (BeginsUnit rest → ⊥)
-
--- the smallest protocol version that has this payload
-abbrev pub smallest_version : Payload → ℕ
-smallest_version (origin f a l x n) = 0
-smallest_version (key i n k) = 1
-smallest_version (aspa c ps) = 2
 
 abbrev pub in_version : ℕ → Meaning → Meaning
 in_version v m = record m { version = v }

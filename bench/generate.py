@@ -1,0 +1,65 @@
+#!/usr/bin/env python3
+"""Writes a sequence of payload units and an end of data to standard output.
+
+usage: generate.py [--units N] [--seed N] [--mix KIND=SHARE,..]
+
+KIND is ipv4, ipv6, key (91 bytes of key info) or aspa (1 to 8 providers), SHARE a whole number; without --mix all units
+are ipv4. The same arguments give the same bytes.
+"""
+import argparse
+import random
+import struct
+import sys
+
+
+def header(version, kind, session, length):
+    return struct.pack(">BBHI", version, kind, session, length)
+
+
+def prefix(rng, kind, width):
+    length = rng.randint(8, width)
+    max_length = rng.randint(length, width)
+    flags = rng.randint(0, 255)
+    body = struct.pack(">BBBB", flags, length, max_length, rng.randint(0, 255))
+    body += rng.getrandbits(width).to_bytes(width // 8, "big") + rng.getrandbits(32).to_bytes(4, "big")
+    return header(1, kind, rng.getrandbits(16), 8 + len(body)) + body
+
+
+def key(rng):
+    body = rng.getrandbits(160).to_bytes(20, "big") + rng.getrandbits(32).to_bytes(4, "big")
+    body += rng.getrandbits(8 * 91).to_bytes(91, "big")
+    return header(1, 9, rng.randint(0, 255) << 8, 8 + len(body)) + body
+
+
+def aspa(rng):
+    count = rng.randint(1, 8)
+    body = rng.getrandbits(32 * (1 + count)).to_bytes(4 * (1 + count), "big")
+    return header(2, 11, rng.randint(0, 255) << 8, 8 + len(body)) + body
+
+
+KINDS = {
+    "ipv4": lambda rng: prefix(rng, 4, 32),
+    "ipv6": lambda rng: prefix(rng, 6, 128),
+    "key": key,
+    "aspa": aspa,
+}
+
+
+def main():
+    parser = argparse.ArgumentParser()
+    parser.add_argument("--units", type=int, default=1_000_000)
+    parser.add_argument("--seed", type=int, default=1)
+    parser.add_argument("--mix", default="ipv4=1")
+    args = parser.parse_args()
+    shares = dict((kind, int(share)) for kind, share in (part.split("=") for part in args.mix.split(",")))
+    rng = random.Random(args.seed)
+    kinds = rng.choices(list(shares), weights=list(shares.values()), k=args.units)
+    out = sys.stdout.buffer
+    for kind in kinds:
+        out.write(KINDS[kind](rng))
+    timings = struct.pack(">III", 3600, 600, 7200)
+    out.write(header(1, 7, 0x1234, 24) + struct.pack(">I", 7) + timings)
+
+
+if __name__ == "__main__":
+    main()

@@ -1,0 +1,158 @@
+-- Reading a unit behind its header.
+use Rattle.std.proofs.Common.{◌≡◌, ℕ, ◌+◌, ◌<◌, ◌≤◌, List, [], ◌++◌, length, Option, Some, None, refl, sym, ap, subst, ◌∙◌, append-nil, get_or, arith}
+use Rattle.std.proofs.lemmas.Bool.Decides.{nat_tests}
+use Rattle.std.proofs.lemmas.List.{length-append}
+use Rattle.std.specs.Io.KnownBytes.{Consumes, IsAtEnd}
+use Rattle.std.proofs.KnownBytes.{Consumes-trans}
+use Rattle.rtr_base.specs.Addresses.{Family, v4, v6}
+use Rattle.rtr_units.specs.Causes.{Refusal, short, unit_type, unit_version, too_long, unit_length, empty_providers, refused, Cause, by_reader, by_writer, too_many, no_memory, wrong, cause_of}
+use Rattle.rtr_units.specs.declared.end.EndOfData.{EndOfData}
+use Rattle.rtr_units.specs.End.{End}
+use Rattle.rtr_units.specs.Ends.{end_bytes, end_meaning, end_length, HasEndHeader, ReadsEnd, StopsEnd}
+use Rattle.rtr_units.specs.FixedUnits.{prefix_type, prefix_size}
+use Rattle.rtr_units.specs.Header.{version_field, type_field, length_field}
+use Rattle.rtr_units.specs.Reads.{Takes, ReadsRest, StopsRest}
+use Rattle.rtr_units.specs.Stream.{FallsShort}
+use Rattle.rtr_units.specs.declared.fault.Fault.{Fault}
+use Rattle.rtr_units.specs.declared.fault.Fault.TheVariants.{Reader, Writer, Short, UnitType, UnitLength, TooLong, EmptyProviders, UnitVersion, Refused, TooMany, Memory}
+use Rattle.rtr_units.specs.Views.{AreBytes}
+use Rattle.rtr_units.proofs.Headers.{same_header}
+use Rattle.rtr_payload.specs.Places.{prefix_fields}
+use Rattle.rtr_payload.specs.Reads.{IsPartial, IsRefused, StopsReadingUnit, IsReport}
+use Rattle.rtr_payload.specs.UnitValues.{unit_bytes, unit_fields, NeedsMemory, HasNoPayload}
+use Rattle.rtr_payload.specs.declared.pdu_payload.Payload.{Payload}
+use Rattle.rtr_payload.specs.declared.pdu_payload.Payload.TheVariants.{V4, V6, RouterKey, Aspa}
+use Rattle.std.specs.Prelude.{IsSome}
+use Rattle.rtr_payload.specs.Steps.{PrefixFault, header_fault, header_step, rule_of, refusal_report}
+use Rattle.rtr_payload.specs.Units.{HasFields}
+use Rattle.rtr_payload.proofs.Frames.{Whole}
+use Rattle.rtr_payload.proofs.Refusals.{header_short, unit_short, body_short, header_refused}
+use Rattle.rtr_payload.proofs.Wholes.{body_whole, prefix_whole, ends_whole, key_whole, aspa_whole}
+
+-- ---- headers by their type
+
+prefix_sized : (f : Family) (v g n : ℕ) → n ≡ prefix_size f → header_fault v (prefix_type f) g n ≡ None
+unfolding header_fault
+prefix_sized v4 v g n h = rw h refl
+prefix_sized v6 v g n h = rw h refl
+
+prefix_unsized : (f : Family) (v g n : ℕ) → ¬ (n ≡ prefix_size f) → header_fault v (prefix_type f) g n ≡ Some unit_length
+unfolding header_fault
+prefix_unsized v4 v g n h = grind (arith, nat_tests)
+prefix_unsized v6 v g n h = grind (arith, nat_tests)
+
+unknown_type : (v t g n : ℕ) → ¬ (t ≡ 4) → ¬ (t ≡ 6) → ¬ (t ≡ 7) → ¬ (t ≡ 9) → ¬ (t ≡ 11) → header_fault v t g n ≡ Some (unit_type t)
+unfolding header_fault
+unknown_type v t g n a b c d e = grind (arith, nat_tests)
+
+-- ---- behind a header
+
+-- no whole header came
+pub header_stops : (f : Fault) (a b : Option (List ℕ)) → FallsShort f a b 8 → Takes a b (λ t. StopsReadingUnit (cause_of f) t b)
+header_stops Short a b (t, took, less, end) = (t, took, (header_short t less, end))
+header_stops (Reader e) a b (t, took, less, stop) = (t, took, header_short t less)
+header_stops f a b (t, took, less, stop) = absurd stop
+
+-- the header h was taken, and reading on behind it stopped
+pub behind : (h : List ℕ) (P Q : List ℕ → Type 0) (a b c : Option (List ℕ)) → Consumes a b h → Takes b c P → ((t : List ℕ) → P t → Q (h ++ t)) → Takes a c Q
+behind h P Q a b c took (t, taken, p) so = (h ++ t, Consumes-trans a b c h t took taken, so t p)
+
+-- ---- a prefix unit behind its header h
+
+module _ (f : Family) (h : List ℕ) (is : AreBytes 8 h) (kind : type_field h ≡ prefix_type f) where
+  in_order : length_field h ≡ prefix_size f → header_step h ≡ None
+  in_order n = rw kind (prefix_sized f (version_field h) (get_or h 2 0) (length_field h) n)
+
+  part : (t : List ℕ) → length_field h ≡ prefix_size f → 8 + length t < prefix_size f → IsPartial (h ++ t)
+  part t n less = body_short h t is.0 (in_order n) (omega (arith, n))
+
+  length_refused : ¬ (length_field h ≡ prefix_size f) → IsRefused h unit_length
+  length_refused n = header_refused h unit_length is.0 (rw kind (prefix_unsized f (version_field h) (get_or h 2 0) (length_field h) n))
+
+  pub prefix_stops : (c : Cause) (t : List ℕ) (left : Option (List ℕ)) → StopsRest (prefix_size f) h c t left → StopsReadingUnit c (h ++ t) left
+  prefix_stops by_reader t left (n, less) = part t n less
+  prefix_stops by_writer t left s = absurd s
+  prefix_stops too_many t left s = absurd s
+  prefix_stops no_memory t left s = absurd s
+  prefix_stops (wrong short) t left (n, less, end) = (part t n less, end)
+  prefix_stops (wrong unit_length) t left (n, none) = subst (λ l. IsRefused l unit_length) (sym (ap (λ t. h ++ t) none ∙ append-nil h)) (length_refused n)
+  prefix_stops (wrong (unit_type k)) t left s = absurd s
+  prefix_stops (wrong (unit_version v)) t left s = absurd s
+  prefix_stops (wrong too_long) t left s = absurd s
+  prefix_stops (wrong empty_providers) t left s = absurd s
+  prefix_stops (wrong (refused r)) t left s = absurd s
+
+  pub prefix_reads : (u : List ℕ) (a b c : Option (List ℕ)) → Consumes a b h → ReadsRest (prefix_size f) h u b c → Consumes a c u × HasFields u (prefix_fields f u)
+  prefix_reads u a b c took (n, head, all, (t, taken, e)) =
+      let size : 8 + length t ≡ length_field h = omega (arith, n, all.0, ap length e, length-append h t, is.0) in
+      let whole : Whole u = subst Whole (sym e) (body_whole h t is.0 (in_order n) size) in
+      let same = same_header h t (omega (arith, is.0)) in
+      (subst (Consumes a c) (sym e) (Consumes-trans a b c h t took taken), prefix_whole f u all.1 whole (ap type_field e ∙ same.kind ∙ kind))
+
+-- ---- an end of data behind its header h
+
+end_sized : (v g n : ℕ) → v ≤ 2 → n ≡ end_length v → header_fault v 7 g n ≡ None
+unfolding header_fault
+end_sized v g n le h = grind (arith, nat_tests)
+
+end_unsized : (v g n : ℕ) → v ≤ 2 → ¬ (n ≡ end_length v) → header_fault v 7 g n ≡ Some unit_length
+unfolding header_fault
+end_unsized v g n le h = grind (arith, nat_tests)
+
+end_versioned : (v g n : ℕ) → 2 < v → header_fault v 7 g n ≡ Some (unit_version v)
+unfolding header_fault
+end_versioned v g n lt = grind (arith, nat_tests)
+
+module _ (h : List ℕ) (is : AreBytes 8 h) (kind : type_field h ≡ 7) where
+  end_in_order : HasEndHeader h → header_step h ≡ None
+  end_in_order has = rw kind (end_sized (version_field h) (get_or h 2 0) (length_field h) has.0 has.1)
+
+  -- a header that is refused, behind which nothing was taken
+  end_refused : (f : Refusal) (t : List ℕ) → t ≡ [] → header_fault (version_field h) 7 (get_or h 2 0) (length_field h) ≡ Some f → IsRefused (h ++ t) f
+  end_refused f t none e = subst (λ l. IsRefused l f) (sym (ap (λ t. h ++ t) none ∙ append-nil h)) (header_refused h f is.0 (rw kind e))
+
+  pub end_stops : (c : Cause) (t : List ℕ) (left : Option (List ℕ)) → StopsEnd h c t left → StopsReadingUnit c (h ++ t) left
+  end_stops by_reader t left (has, less) = body_short h t is.0 (end_in_order has) less
+  end_stops by_writer t left s = absurd s
+  end_stops too_many t left s = absurd s
+  end_stops no_memory t left s = absurd s
+  end_stops (wrong short) t left (has, less, end) = (body_short h t is.0 (end_in_order has) less, end)
+  end_stops (wrong unit_length) t left (le, n, none) = end_refused unit_length t none (end_unsized (version_field h) (get_or h 2 0) (length_field h) le n)
+  end_stops (wrong (unit_version v)) t left (e, lt, none) =
+      end_refused (unit_version v) t none (subst (λ v. header_fault (version_field h) 7 (get_or h 2 0) (length_field h) ≡ Some (unit_version v)) (sym e) (end_versioned (version_field h) (get_or h 2 0) (length_field h) (omega arith)))
+  end_stops (wrong (unit_type k)) t left s = absurd s
+  end_stops (wrong too_long) t left s = absurd s
+  end_stops (wrong empty_providers) t left s = absurd s
+  end_stops (wrong (refused r)) t left s = absurd s
+
+  pub end_reads : (e : EndOfData) (a b c : Option (List ℕ)) → Consumes a b h → ReadsEnd h e b c → Consumes a c (end_bytes e) × End (end_bytes e) (end_meaning e)
+  end_reads e a b c took (has, (t, taken, is), version, end) = (subst (Consumes a c) (sym is) (Consumes-trans a b c h t took taken), end kind)
+
+-- ---- a header of no unit that is read
+
+pub type_refused : (h : List ℕ) (t : ℕ) → AreBytes 8 h → type_field h ≡ t → ¬ (t ≡ 4) → ¬ (t ≡ 6) → ¬ (t ≡ 7) → ¬ (t ≡ 9) → ¬ (t ≡ 11) → IsRefused h (unit_type t)
+type_refused h t is kind a b c d e = header_refused h (unit_type t) is.0 (rw kind (unknown_type (version_field h) t (get_or h 2 0) (length_field h) a b c d e))
+
+-- ---- a prefix unit that breaks the rule on its lengths
+
+some_of : {A : Type 0} (o : Option A) (x : A) → o ≡ Some x → IsSome o
+some_of o x e = subst IsSome (sym e) refl
+
+needs_report : (u : Payload) (f : PrefixFault) → rule_of (unit_fields u) ≡ Some f → NeedsMemory u
+needs_report (V4 u) f e = some_of _ f e
+needs_report (V6 u) f e = some_of _ f e
+needs_report (RouterKey u) f e = tt
+needs_report (Aspa u) f e = tt
+
+pub no_payload : (u : Payload) (f : PrefixFault) (c : Cause) → rule_of (unit_fields u) ≡ Some f → IsReport c (refusal_report (unit_bytes u) f) → HasNoPayload u c
+no_payload u f (wrong (refused report)) e r = (f, e, r)
+no_payload u f no_memory e r = needs_report u f e
+no_payload u f by_reader e r = absurd r
+no_payload u f by_writer e r = absurd r
+no_payload u f too_many e r = absurd r
+no_payload u f (wrong short) e r = absurd r
+no_payload u f (wrong (unit_type t)) e r = absurd r
+no_payload u f (wrong (unit_version v)) e r = absurd r
+no_payload u f (wrong too_long) e r = absurd r
+no_payload u f (wrong unit_length) e r = absurd r
+no_payload u f (wrong empty_providers) e r = absurd r

@@ -1,0 +1,101 @@
+-- What the values of payload units are: their bytes, and the fields that stand in them.
+use Rattle.std.specs.Prelude.{◌≡◌, ◌≤◌, slice_index, List, ℕ, Option, Some, None, Result, Ok, Err, IsSome}
+use Rattle.std.specs.Io.KnownBytes.{Consumes}
+use Rattle.rtr_base.specs.Addresses.{v4, v6}
+use Rattle.rtr_base.specs.declared.payload.Action.{Action}
+use Rattle.rtr_units.specs.Causes.{Refusal, refused, Cause, no_memory, wrong, cause_of}
+use Rattle.rtr_units.specs.End.{End}
+use Rattle.rtr_units.specs.Header.{version_field}
+use Rattle.rtr_units.specs.Reads.{Takes}
+use Rattle.rtr_units.specs.Units.{ipv4_bytes, ipv6_bytes}
+use Rattle.rtr_units.specs.Ends.{end_bytes, end_meaning}
+use Rattle.rtr_units.specs.declared.end.EndOfData.{EndOfData}
+use Rattle.rtr_units.specs.declared.fault.Fault.{Fault}
+use Rattle.rtr_payload.specs.Places.{prefix_fields, key_fields, aspa_fields}
+use Rattle.rtr_payload.specs.Reads.{StopsReadingUnit}
+use Rattle.rtr_payload.specs.Steps.{PrefixFault, rule_of, refusal_report}
+use Rattle.rtr_payload.specs.Units.{Fields, HasFields, LengthsAgree, meaning}
+use Rattle.rtr_payload.specs.Values.{payload_of, origin_in}
+use Rattle.rtr_payload.specs.declared.payload.Payload.{Payload as Value}
+use Rattle.rtr_payload.specs.declared.payload.Payload.TheVariants as values
+use Rattle.rtr_payload.specs.declared.payload.PayloadRef.{PayloadRef}
+use Rattle.rtr_payload.specs.declared.payload.PayloadRef.TheVariants as lent
+use Rattle.rtr_payload.specs.Payloads.{Payload as Meant, smallest_version}
+use Rattle.rtr_payload.specs.declared.pdu_payload.Payload.{Payload}
+use Rattle.rtr_payload.specs.declared.pdu_payload.Payload.TheVariants as units
+
+abbrev pub unit_bytes : Payload → List ℕ
+unit_bytes (units.V4 u) = ipv4_bytes u
+unit_bytes (units.V6 u) = ipv6_bytes u
+unit_bytes (units.RouterKey u) = u
+unit_bytes (units.Aspa u) = u
+
+-- by the variant, whatever the bytes of type and length say
+abbrev pub unit_fields : Payload → Fields
+unit_fields (units.V4 u) = prefix_fields v4 (ipv4_bytes u)
+unit_fields (units.V6 u) = prefix_fields v6 (ipv6_bytes u)
+unit_fields (units.RouterKey u) = key_fields u
+unit_fields (units.Aspa u) = aspa_fields u
+
+-- what reading one unit or end of data leaves
+abbrev pub ReadsPayload : Result (Result (Option Payload) EndOfData) Fault → Option (List ℕ) → Option (List ℕ) → Type 0
+ReadsPayload (Ok (Ok (Some u))) old new = Consumes old new (unit_bytes u) × HasFields (unit_bytes u) (unit_fields u)
+ReadsPayload (Ok (Ok None)) old new = ⊥
+ReadsPayload (Ok (Err d)) old new = Consumes old new (end_bytes d) × End (end_bytes d) (end_meaning d)
+ReadsPayload (Err f) old new = Takes old new (λ h. StopsReadingUnit (cause_of f) h new)
+
+-- an origin whose max length was given
+abbrev pub HasMaxLen : Value → Type 0
+HasMaxLen (values.Origin o) = IsSome o.prefix.max_len
+HasMaxLen (values.RouterKey k) = Unit {0}
+HasMaxLen (values.Aspa a) = Unit {0}
+
+-- The unit means this payload with this action. An origin's max length is given.
+pub record MeansPayload (u : Payload) (action : Action) (p : Value) : Type 0 where
+  pub lengths : LengthsAgree (unit_fields u)
+  pub means : record { version = version_field (unit_bytes u); action = action; payload = payload_of p } ≡ meaning (unit_fields u)
+  pub max_len : HasMaxLen p
+
+-- the units whose payload asks for memory: the bytes of keys and providers are shared, and a report is made of a prefix
+-- that breaks its rule
+abbrev pub NeedsMemory : Payload → Type 0
+NeedsMemory (units.V4 u) = IsSome (rule_of (prefix_fields v4 (ipv4_bytes u)))
+NeedsMemory (units.V6 u) = IsSome (rule_of (prefix_fields v6 (ipv6_bytes u)))
+NeedsMemory (units.RouterKey u) = Unit {0}
+NeedsMemory (units.Aspa u) = Unit {0}
+
+-- why the unit has no payload: its prefix breaks a rule, of which the report tells, or memory was refused
+abbrev pub HasNoPayload : Payload → Cause → Type 0
+HasNoPayload u (wrong (refused report)) = (f : PrefixFault) × (rule_of (unit_fields u) ≡ Some f) × (report ≡ refusal_report (unit_bytes u) f)
+HasNoPayload u no_memory = NeedsMemory u
+HasNoPayload u c = ⊥
+
+-- ---- kinds
+
+abbrev pub IsPrefixUnit : Payload → Type 0
+IsPrefixUnit (units.V4 u) = Unit {0}
+IsPrefixUnit (units.V6 u) = Unit {0}
+IsPrefixUnit (units.RouterKey u) = ⊥
+IsPrefixUnit (units.Aspa u) = ⊥
+
+-- how long the part of a fixed size is
+abbrev pub partial_len : Payload → ℕ
+partial_len (units.V4 u) = 20
+partial_len (units.V6 u) = 32
+partial_len (units.RouterKey u) = 32
+partial_len (units.Aspa u) = 12
+
+abbrev pub flags_in : Payload → ℕ
+flags_in (units.V4 u) = slice_index (ipv4_bytes u) 8
+flags_in (units.V6 u) = slice_index (ipv6_bytes u) 8
+flags_in (units.RouterKey u) = slice_index u 2
+flags_in (units.Aspa u) = slice_index u 2
+
+abbrev pub IsOriginRef : PayloadRef → Type 0
+IsOriginRef (lent.Origin o) = Unit {0}
+IsOriginRef (lent.RouterKey k) = ⊥
+IsOriginRef (lent.Aspa a) = ⊥
+
+-- the protocol versions that have this payload
+abbrev pub IsSupported : ℕ → Meant → Type 0
+IsSupported version p = smallest_version p ≤ version

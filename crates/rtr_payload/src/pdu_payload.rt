@@ -1,0 +1,306 @@
+//! Payload units of any kind.
+
+ghost use Rattle.std.specs.Prelude.{◌≡◌, ◌≤◌, ◌↔◌, IfOk, IfErr, IsOk, IsSome, IfSome, length, take, not};
+ghost use Rattle.rtr_units.specs.Causes.{cause_of, no_memory};
+ghost use Rattle.rtr_units.specs.Header.{version_field};
+ghost use Rattle.rtr_units.specs.Stream.{PutsForm, count_after, is_reader_fault, is_writer_fault};
+ghost use Rattle.rtr_units.specs.Report.{report};
+ghost use Rattle.rtr_payload.specs.Payloads.{smallest_version as smallest};
+ghost use Rattle.rtr_payload.specs.Places.{key_fields, aspa_fields};
+ghost use Rattle.rtr_payload.specs.PrefixRules.{fault_of};
+ghost use Rattle.rtr_payload.specs.Reads.{IsReport};
+ghost use Rattle.rtr_payload.specs.Steps.{text_of};
+ghost use Rattle.rtr_payload.specs.Units.{form, meaning};
+ghost use Rattle.rtr_payload.specs.Values.{payload_of, payload_of_ref, origin_of, key_of, aspa_of};
+
+use crate::aspa::Aspa;
+use crate::payload;
+use crate::payload::{PayloadRef, RouteOrigin};
+use crate::prefix_rule::{PrefixRule, ipv4_prefix, ipv6_prefix};
+use crate::providers::ProviderAsns;
+use crate::router_key::RouterKey;
+use rtr_base::keys::KeyIdentifier;
+use rtr_base::payload::Action;
+use rtr_units::end::EndOfData;
+use rtr_units::error::Error;
+use rtr_units::fault::Fault;
+use rtr_units::fixed::{Ipv4Prefix, Ipv6Prefix};
+use rtr_units::header::Header;
+use rtr_units::source::{Sink, Source};
+use rtr_units::unit::Unit;
+use std::alloc::{AllocError, Global};
+use std::net::IpAddr;
+
+/// A payload unit.
+#[derive(Debug, Drop, PartialEq, Eq, Hash)]
+pub enum Payload {
+    /// An IPv4 prefix (RFC 8210 section 5.6).
+    V4(Ipv4Prefix),
+    /// An IPv6 prefix (RFC 8210 section 5.7).
+    V6(Ipv6Prefix),
+    /// A router key (RFC 8210 section 5.10).
+    RouterKey(RouterKey),
+    /// An ASPA unit (the crate's own).
+    Aspa(Aspa),
+}
+
+impl Payload {
+    ghost use Rattle.rtr_payload.specs.UnitValues.{unit_bytes, flags_in, partial_len, ReadsPayload, MeansPayload, HasNoPayload, IsOriginRef, IsPrefixUnit, IsSupported};
+
+    /// The unit of this version and these flags that has the payload. Free bytes are zero. Keys and ASPAs ask for
+    /// memory, as their bytes are shared.
+    #[inline(always)]
+    pub fn new(version: u8, flags: u8, payload: &PayloadRef<'_>) -> Result<Self, AllocError>
+        ensures form { IfOk result (λ u. unit_bytes u ≡ form version flags (payload_of_ref payload.now)) }
+        ensures origin { IsOriginRef payload.now → IsOk result }
+    {
+        match payload {
+            PayloadRef::Origin(origin) => Ok(Payload::from_origin(version, flags, *origin)),
+            PayloadRef::RouterKey(key) => Payload::from_key(version, flags, key),
+            PayloadRef::Aspa(aspa) => Payload::from_aspa(version, flags, aspa),
+        }
+    }
+
+    /// The unit that has the router key, whose key info is shared.
+    fn from_key(version: u8, flags: u8, key: &payload::RouterKey) -> Result<Self, AllocError>
+        ensures { IfOk result (λ u. unit_bytes u ≡ form version flags (key_of key.now)) }
+    {
+        let info = key.key_info.clone()?;
+        let unit = RouterKey::new(version, flags, key.key_identifier.into(), key.asn, info);
+        Ok(Payload::RouterKey(unit))
+    }
+
+    /// The unit that has the ASPA, whose providers are shared.
+    fn from_aspa(version: u8, flags: u8, aspa: &payload::Aspa) -> Result<Self, AllocError>
+        ensures { IfOk result (λ u. unit_bytes u ≡ form version flags (aspa_of aspa.now)) }
+    {
+        let providers = aspa.providers.clone()?;
+        let unit = Aspa::new(version, flags, aspa.customer, providers);
+        Ok(Payload::Aspa(unit))
+    }
+
+    /// The prefix unit that has the origin.
+    #[inline(always)]
+    fn from_origin(version: u8, flags: u8, origin: RouteOrigin) -> Self
+        ensures { unit_bytes result ≡ form version flags (origin_of origin) }
+    {
+        let prefix = origin.prefix;
+        let len = prefix.prefix_len();
+        let max_len = prefix.resolved_max_len();
+        match prefix.addr() {
+            IpAddr::V4(addr) => {
+                let unit = Ipv4Prefix::new(version, flags, len, max_len, addr, origin.asn);
+                Payload::V4(unit)
+            }
+            IpAddr::V6(addr) => {
+                let unit = Ipv6Prefix::new(version, flags, len, max_len, addr, origin.asn);
+                Payload::V6(unit)
+            }
+        }
+    }
+
+    /// As `new`, or none where the version has no such payload: origins need version 0, router keys version 1 and ASPAs
+    /// version 2.
+    pub fn new_if_supported(
+        version: u8,
+        flags: u8,
+        payload: &PayloadRef<'_>,
+    ) -> Result<Option<Self>, AllocError>
+        ensures supported { IfOk result (λ o. IsSome o ↔ IsSupported version (payload_of_ref payload.now)) }
+        ensures form { IfOk result (λ o. IfSome o (λ u. unit_bytes u ≡ form version flags (payload_of_ref payload.now))) }
+        ensures origin { IsOriginRef payload.now → IsOk result }
+        ensures unsupported { (IsSupported version (payload_of_ref payload.now) → ⊥) → IsOk result }
+    {
+        if version < smallest_version(payload) {
+            return Ok(None);
+        }
+        let unit = Payload::new(version, flags, payload)?;
+        Ok(Some(unit))
+    }
+
+    /// Reads one payload unit, or an end of data in its place. Never answers none.
+    ///
+    /// Faults, in this order: `Short` or `Reader` inside the header; `UnitType`; `UnitVersion` for an end of data of a
+    /// version above 2; `TooLong` for a key or an ASPA unit of more than 65535 bytes; `UnitLength`; `EmptyProviders` for
+    /// an ASPA that is announced without providers; `Memory` for a key or an ASPA unit, or `Short` or `Reader` inside the
+    /// unit. The first five take the header alone.
+    #[inline(always)]
+    pub fn read<R: Source>(
+        alloc: Global,
+        reader: &mut R,
+    ) -> Result<Result<Option<Self>, EndOfData>, Fault>
+        ensures bytes { ReadsPayload result (R.remaining reader.old) (R.remaining reader.new) }
+        ensures count { R.failures reader.new ≡ count_after (R.failures reader.old) (not (is_reader_fault result)) }
+    {
+        let header = match Header::read(reader) {
+            Ok(header) => header,
+            Err(e) => return Err(e),
+        };
+        match header.pdu() {
+            4 => match Ipv4Prefix::read_payload(header, reader) {
+                Ok(unit) => Ok(Ok(Some(Payload::V4(unit)))),
+                Err(e) => Err(e),
+            },
+            6 => match Ipv6Prefix::read_payload(header, reader) {
+                Ok(unit) => Ok(Ok(Some(Payload::V6(unit)))),
+                Err(e) => Err(e),
+            },
+            7 => match EndOfData::read_payload(header, reader) {
+                Ok(end) => Ok(Err(end)),
+                Err(e) => Err(e),
+            },
+            pdu => Err(Fault::UnitType(pdu)),
+        }
+    }
+
+    /// The version of the protocol.
+    #[inline(always)]
+    pub fn version(&self) -> u8
+        ensures { result ≡ version_field (unit_bytes self.now) }
+    {
+        match self {
+            Payload::V4(unit) => unit.version(),
+            Payload::V6(unit) => unit.version(),
+            Payload::RouterKey(unit) => unit.version(),
+            Payload::Aspa(unit) => unit.version(),
+        }
+    }
+
+    /// The flags, of which the lowest bit alone counts.
+    #[inline(always)]
+    pub fn flags(&self) -> u8
+        ensures { result ≡ flags_in self.now }
+    {
+        match self {
+            Payload::V4(unit) => unit.flags(),
+            Payload::V6(unit) => unit.flags(),
+            Payload::RouterKey(unit) => unit.flags(),
+            Payload::Aspa(unit) => unit.flags(),
+        }
+    }
+
+    /// Writes all bytes of the unit.
+    #[inline(always)]
+    pub fn write<W: Sink>(&self, writer: &mut W) -> Result<(), Fault>
+        ensures bytes { PutsForm result (W.contents writer.old) (W.contents writer.new) (unit_bytes self.now) }
+        ensures count { W.failures writer.new ≡ count_after (W.failures writer.old) (not (is_writer_fault result)) }
+    {
+        match self {
+            Payload::V4(unit) => unit.write(writer),
+            Payload::V6(unit) => unit.write(writer),
+            Payload::RouterKey(unit) => unit.write(writer),
+            Payload::Aspa(unit) => unit.write(writer),
+        }
+    }
+
+    /// The action and the payload that the unit means, by its variant, whatever its type and length bytes say.
+    ///
+    /// `Refused` with the report on a prefix that breaks the rule on its lengths, or `Memory`.
+    #[inline(always)]
+    pub fn to_payload(&self, alloc: Global) -> Result<(Action, payload::Payload), Fault>
+        ensures ok { IfOk result (λ m. MeansPayload self.now m.0 m.1) }
+        ensures err { IfErr result (λ e. HasNoPayload self.now (cause_of e)) }
+    {
+        match self {
+            Payload::V4(unit) => {
+                match ipv4_prefix(unit.prefix(), unit.prefix_len(), unit.max_len()) {
+                    Ok(prefix) => {
+                        let action = Action::from_flags(unit.flags());
+                        Ok((action, payload::Payload::origin(prefix, unit.asn())))
+                    }
+                    Err(rule) => Err(refused(alloc, unit.version(), unit.as_ref(), rule)),
+                }
+            }
+            Payload::V6(unit) => {
+                match ipv6_prefix(unit.prefix(), unit.prefix_len(), unit.max_len()) {
+                    Ok(prefix) => {
+                        let action = Action::from_flags(unit.flags());
+                        Ok((action, payload::Payload::origin(prefix, unit.asn())))
+                    }
+                    Err(rule) => Err(refused(alloc, unit.version(), unit.as_ref(), rule)),
+                }
+            }
+            Payload::RouterKey(unit) => key_payload(unit),
+            Payload::Aspa(unit) => aspa_payload(alloc, unit),
+        }
+    }
+
+    /// The part of the unit that has a fixed size: all bytes of a prefix, the first 32 of a router key, the first 12 of an
+    /// ASPA unit.
+    pub fn as_partial_slice(&self) -> &[u8]
+        ensures { result.now ≡ take (partial_len self.now) (unit_bytes self.now) }
+    {
+        match self {
+            Payload::V4(unit) => unit.as_ref(),
+            Payload::V6(unit) => unit.as_ref(),
+            Payload::RouterKey(unit) => unit.as_partial_slice(),
+            Payload::Aspa(unit) => unit.as_partial_slice(),
+        }
+    }
+
+    /// The same unit once more. Keys and ASPAs ask for memory, as their bytes are shared.
+    pub fn clone(&self) -> Result<Self, AllocError>
+        ensures same { IfOk result (λ u. u ≡ self.now) }
+        ensures prefix { IsPrefixUnit self.now → IsOk result }
+    {
+        match self {
+            Payload::V4(unit) => Ok(Payload::V4(*unit)),
+            Payload::V6(unit) => Ok(Payload::V6(*unit)),
+            Payload::RouterKey(unit) => Ok(Payload::RouterKey(unit.clone()?)),
+            Payload::Aspa(unit) => Ok(Payload::Aspa(unit.clone()?)),
+        }
+    }
+}
+
+/// The smallest version of the protocol that has the payload.
+fn smallest_version(payload: &PayloadRef<'_>) -> u8
+    ensures { result ≡ smallest (payload_of_ref payload.now) }
+{
+    match payload {
+        PayloadRef::Origin(_) => 0,
+        PayloadRef::RouterKey(_) => 1,
+        PayloadRef::Aspa(_) => 2,
+    }
+}
+
+/// The fault of a prefix unit that breaks the rule: a report with error code 0, the whole unit and a text, or `Memory`
+/// where there is none for the report.
+fn refused(alloc: Global, version: u8, unit: &[u8], rule: PrefixRule) -> Fault
+    requires { length unit.now ≤ 32 }
+    ensures { IsReport (cause_of result) (report version 0 unit.now (text_of (fault_of rule))) }
+{
+    match Error::new(alloc, version, 0, unit, rule.text()) {
+        Ok(report) => Fault::Refused(report),
+        Err(_) => Fault::Memory,
+    }
+}
+
+/// What a router key means. Its key info is shared.
+fn key_payload(unit: &RouterKey) -> Result<(Action, payload::Payload), Fault>
+    ensures ok { IfOk result (λ m. record { version = version_field unit.now; action = m.0; payload = payload_of m.1 } ≡ meaning (key_fields unit.now)) }
+    ensures err { IfErr result (λ e. cause_of e ≡ no_memory) }
+{
+    let Ok(info) = unit.key_info().clone() else {
+        return Err(Fault::Memory);
+    };
+    let identifier = KeyIdentifier::from(unit.key_identifier());
+    let payload = payload::Payload::router_key(identifier, unit.asn(), info);
+    Ok((Action::from_flags(unit.flags()), payload))
+}
+
+/// What an ASPA unit means. Its providers are shared, and those of a withdrawal left out.
+fn aspa_payload(alloc: Global, unit: &Aspa) -> Result<(Action, payload::Payload), Fault>
+    ensures ok { IfOk result (λ m. record { version = version_field unit.now; action = m.0; payload = payload_of m.1 } ≡ meaning (aspa_fields unit.now)) }
+    ensures err { IfErr result (λ e. cause_of e ≡ no_memory) }
+{
+    let action = Action::from_flags(unit.flags());
+    let providers = match action {
+        Action::Announce => unit.providers().clone(),
+        Action::Withdraw => ProviderAsns::empty(alloc),
+    };
+    let Ok(providers) = providers else {
+        return Err(Fault::Memory);
+    };
+    let payload = payload::Payload::aspa(unit.customer(), providers);
+    Ok((action, payload))
+}

@@ -1,0 +1,78 @@
+//! The rule on the lengths of a prefix unit (RFC 8210 section 5.6).
+
+ghost use Rattle.std.specs.Prelude.{◌≡◌, ◌≤◌, Some, None, IfOk, IfErr};
+ghost use Rattle.rtr_base.specs.Addresses.{v4, v6, width, cleared};
+ghost use Rattle.std.specs.Net.Addr.{ipv4_bits, ipv6_bits};
+ghost use Rattle.rtr_payload.specs.Steps.{broken_rule, text_of};
+ghost use Rattle.rtr_payload.specs.PrefixRules.{fault_of};
+
+use rtr_base::addr::{MaxLenError, MaxLenPrefix, Prefix};
+use std::net::{Ipv4Addr, Ipv6Addr};
+
+/// The part of the rule on a prefix length and a max length that is broken.
+#[derive(Clone, Copy, Debug, PartialEq, Eq)]
+pub enum PrefixRule {
+    /// The prefix length is over 32 for IPv4 or over 128 for IPv6.
+    LenOverflow,
+    /// The max length is over 32 for IPv4 or over 128 for IPv6.
+    MaxOverflow,
+    /// The max length is below the prefix length.
+    MaxUnderflow,
+}
+
+impl PrefixRule {
+    /// The text of a report on the broken rule.
+    pub fn text(self) -> &'static [u8]
+        ensures { result.now ≡ text_of (fault_of self) }
+    {
+        match self {
+            PrefixRule::LenOverflow => b"prefix length too large",
+            PrefixRule::MaxOverflow => b"max-length too large",
+            PrefixRule::MaxUnderflow => b"max-length smaller than prefix length",
+        }
+    }
+}
+
+/// The IPv4 prefix and the max length that stand in a unit. Host bits are cleared.
+#[inline(always)]
+#[tactic(auto, unfolding(crate::specs::Steps::broken_rule))]
+pub fn ipv4_prefix(addr: Ipv4Addr, len: u8, max_len: u8) -> Result<MaxLenPrefix, PrefixRule>
+    ensures ok { IfOk result (λ p. p ≡ record { prefix = record { family = v4; address = cleared 32 len (ipv4_bits addr); len = len }; max_len = Some max_len }) }
+    ensures kept { IfOk result (λ _. broken_rule 32 len max_len ≡ None) }
+    ensures broken { IfErr result (λ r. broken_rule 32 len max_len ≡ Some (fault_of r)) }
+{
+    match Prefix::new_v4_relaxed(addr, len) {
+        Ok(prefix) => with_max_len(prefix, max_len),
+        Err(_) => Err(PrefixRule::LenOverflow),
+    }
+}
+
+/// The IPv6 prefix and the max length that stand in a unit. Host bits are cleared.
+#[inline(always)]
+#[tactic(auto, unfolding(crate::specs::Steps::broken_rule))]
+pub fn ipv6_prefix(addr: Ipv6Addr, len: u8, max_len: u8) -> Result<MaxLenPrefix, PrefixRule>
+    ensures ok { IfOk result (λ p. p ≡ record { prefix = record { family = v6; address = cleared 128 len (ipv6_bits addr); len = len }; max_len = Some max_len }) }
+    ensures kept { IfOk result (λ _. broken_rule 128 len max_len ≡ None) }
+    ensures broken { IfErr result (λ r. broken_rule 128 len max_len ≡ Some (fault_of r)) }
+{
+    match Prefix::new_v6_relaxed(addr, len) {
+        Ok(prefix) => with_max_len(prefix, max_len),
+        Err(_) => Err(PrefixRule::LenOverflow),
+    }
+}
+
+/// The prefix with a max length.
+#[inline(always)]
+#[tactic(auto, unfolding(crate::specs::Steps::broken_rule))]
+fn with_max_len(prefix: Prefix, max_len: u8) -> Result<MaxLenPrefix, PrefixRule>
+    requires { prefix.len ≤ width prefix.family }
+    ensures ok { IfOk result (λ p. p ≡ record { prefix = prefix; max_len = Some max_len }) }
+    ensures kept { IfOk result (λ _. broken_rule (width prefix.family) prefix.len max_len ≡ None) }
+    ensures broken { IfErr result (λ r. broken_rule (width prefix.family) prefix.len max_len ≡ Some (fault_of r)) }
+{
+    match MaxLenPrefix::new(prefix, Some(max_len)) {
+        Ok(prefix) => Ok(prefix),
+        Err(MaxLenError::Overflow) => Err(PrefixRule::MaxOverflow),
+        Err(MaxLenError::Underflow) => Err(PrefixRule::MaxUnderflow),
+    }
+}
