@@ -1,5 +1,5 @@
 -- Reading a unit behind its header.
-use Rattle.std.proofs.Common.{◌≡◌, ℕ, ◌+◌, ◌<◌, ◌≤◌, List, [], ◌++◌, length, Option, Some, None, refl, sym, ap, subst, ◌∙◌, append-nil, get_or, arith}
+use Rattle.std.proofs.Common.{◌≡◌, ℕ, ◌+◌, ◌<◌, ◌≤◌, List, [], ◌++◌, length, Option, Some, None, refl, sym, ap, subst, ◌∙◌, append-nil, get_or, arith, ◌⊎◌}
 use Rattle.std.proofs.lemmas.Bool.Decides.{nat_tests}
 use Rattle.std.proofs.lemmas.List.{length-append}
 use Rattle.std.specs.Io.KnownBytes.{Consumes, IsAtEnd}
@@ -17,6 +17,7 @@ use Rattle.rtr_units.specs.declared.fault.Fault.{Fault}
 use Rattle.rtr_units.specs.declared.fault.Fault.TheVariants.{Reader, Writer, Short, UnitType, UnitLength, TooLong, EmptyProviders, UnitVersion, Refused, TooMany, Memory}
 use Rattle.rtr_units.specs.Views.{AreBytes}
 use Rattle.rtr_units.proofs.Headers.{same_header}
+use Rattle.rtr_payload.specs.Frames.{fault_as, StopsInUnit}
 use Rattle.rtr_payload.specs.Places.{prefix_fields}
 use Rattle.rtr_payload.specs.Reads.{IsPartial, IsRefused, StopsReadingUnit, IsReport}
 use Rattle.rtr_payload.specs.UnitValues.{unit_bytes, unit_fields, NeedsMemory, HasNoPayload}
@@ -127,6 +128,40 @@ module _ (h : List ℕ) (is : AreBytes 8 h) (kind : type_field h ≡ 7) where
 
   pub end_reads : (e : EndOfData) (a b c : Option (List ℕ)) → Consumes a b h → ReadsEnd h e b c → Consumes a c (end_bytes e) × End (end_bytes e) (end_meaning e)
   end_reads e a b c took (has, (t, taken, is), version, end) = (subst (Consumes a c) (sym is) (Consumes-trans a b c h t took taken), end kind)
+
+-- ---- a router key or an ASPA unit, by the bytes u of it that were there
+
+never_short : (v t g n : ℕ) → header_fault v t g n ≡ Some short → ⊥
+unfolding header_fault
+never_short v t g n e = grind (arith, nat_tests)
+
+never_report : (v t g n : ℕ) (report : List ℕ) → header_fault v t g n ≡ Some (refused report) → ⊥
+unfolding header_fault
+never_report v t g n report e = grind (arith, nat_tests)
+
+module _ (k : ℕ) (u : List ℕ) (kind : type_field u ≡ k) (long : 8 ≤ length u) where
+  step_is : (o : Option Refusal) → fault_as k u ≡ o → header_step u ≡ o
+  step_is o e = rw kind e
+
+  variable_stops : (c : Cause) (left : Option (List ℕ)) → (k ≡ 9) ⊎ (k ≡ 11) → StopsInUnit (fault_as k) c u left → StopsReadingUnit c u left
+  variable_stops by_reader left some part = let p = part long in unit_short u long (step_is None p.0) p.1
+  variable_stops by_writer left some s = absurd s
+  variable_stops too_many left some s = absurd s
+  variable_stops no_memory left some (there, e, within) = record { whole_header = long; kind = rw kind some; in_order = step_is None e; within = within }
+  variable_stops (wrong short) left some (part, end) = let p = part long in (unit_short u long (step_is None p.0) p.1, end)
+  variable_stops (wrong (refused report)) left some (eight, e) = absurd (never_report (version_field u) k (get_or u 2 0) (length_field u) report e)
+  variable_stops (wrong (unit_type t)) left some (eight, e) = header_refused u (unit_type t) eight (step_is (Some (unit_type t)) e)
+  variable_stops (wrong (unit_version v)) left some (eight, e) = header_refused u (unit_version v) eight (step_is (Some (unit_version v)) e)
+  variable_stops (wrong too_long) left some (eight, e) = header_refused u too_long eight (step_is (Some too_long) e)
+  variable_stops (wrong unit_length) left some (eight, e) = header_refused u unit_length eight (step_is (Some unit_length) e)
+  variable_stops (wrong empty_providers) left some (eight, e) = header_refused u empty_providers eight (step_is (Some empty_providers) e)
+
+module _ (k : ℕ) (h : List ℕ) (is : AreBytes 8 h) (kind : type_field h ≡ k) (some : (k ≡ 9) ⊎ (k ≡ 11)) where
+  pub behind_stops : (c : Cause) (left : Option (List ℕ)) (t : List ℕ) → StopsInUnit (fault_as k) c (h ++ t) left → StopsReadingUnit c (h ++ t) left
+  behind_stops c left t s = variable_stops k (h ++ t) ((same_header h t (omega (arith, is.0))).kind ∙ kind) (omega (arith, length-append h t, is.0)) c left some s
+
+  pub behind_reads : (u : List ℕ) (a b c : Option (List ℕ)) → Consumes a b h → Takes b c (λ t. u ≡ h ++ t) → Consumes a c u
+  behind_reads u a b c took (t, taken, e) = subst (Consumes a c) (sym e) (Consumes-trans a b c h t took taken)
 
 -- ---- a header of no unit that is read
 

@@ -149,6 +149,14 @@ impl Payload {
                 Ok(end) => Ok(Err(end)),
                 Err(e) => Err(e),
             },
+            9 => match RouterKey::read_payload(alloc, header, reader) {
+                Ok(unit) => Ok(Ok(Some(Payload::RouterKey(unit)))),
+                Err(e) => Err(e),
+            },
+            11 => match Aspa::read_payload(alloc, header, reader) {
+                Ok(unit) => Ok(Ok(Some(Payload::Aspa(unit)))),
+                Err(e) => Err(e),
+            },
             pdu => Err(Fault::UnitType(pdu)),
         }
     }
