@@ -113,7 +113,7 @@ unit_whole (providers v g z c ps) h w =
     let size : length (unit_list (providers v g z c ps)) ≡ 12 + 4 * length ps = omega (arith, length-words ps) in
     record { long = omega arith; in_order = ap (header_fault v 11 g) len ∙ eleven_in_order v g (12 + 4 * length ps) (omega arith) (omega arith) (omega arith) (providers_named g ps w); size = len ∙ sym size }
 
-shape_whole : (b : List ℕ) (u : Fields) → HasFields b u → Whole b
+pub shape_whole : (b : List ℕ) (u : Fields) → HasFields b u → Whole b
 shape_whole b u h = subst Whole (sym h.bytes) (unit_whole u h.fits h.limits)
 
 end_whole : (v s q : ℕ) (t : Option Timing) → HasTimingOf v t → Whole (timed_list v s q t)

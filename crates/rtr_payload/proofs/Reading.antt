@@ -19,14 +19,14 @@ use Rattle.rtr_units.specs.Views.{AreBytes}
 use Rattle.rtr_units.proofs.Headers.{same_header}
 use Rattle.rtr_payload.specs.Frames.{fault_as, StopsInUnit}
 use Rattle.rtr_payload.specs.Places.{prefix_fields}
-use Rattle.rtr_payload.specs.Reads.{IsPartial, IsRefused, StopsReadingUnit, IsReport}
+use Rattle.rtr_payload.specs.Reads.{IsPartial, IsRefused, IsVariable, StopsReadingUnit, IsReport}
 use Rattle.rtr_payload.specs.UnitValues.{unit_bytes, unit_fields, NeedsMemory, HasNoPayload}
 use Rattle.rtr_payload.specs.declared.pdu_payload.Payload.{Payload}
 use Rattle.rtr_payload.specs.declared.pdu_payload.Payload.TheVariants.{V4, V6, RouterKey, Aspa}
 use Rattle.std.specs.Prelude.{IsSome}
 use Rattle.rtr_payload.specs.Steps.{PrefixFault, header_fault, header_step, rule_of, refusal_report}
-use Rattle.rtr_payload.specs.Units.{HasFields}
-use Rattle.rtr_payload.proofs.Frames.{Whole}
+use Rattle.rtr_payload.specs.Units.{Fields, HasFields}
+use Rattle.rtr_payload.proofs.Frames.{Whole, shape_whole}
 use Rattle.rtr_payload.proofs.Refusals.{header_short, unit_short, body_short, header_refused}
 use Rattle.rtr_payload.proofs.Wholes.{body_whole, prefix_whole, ends_whole, key_whole, aspa_whole}
 
@@ -167,6 +167,12 @@ module _ (k : ℕ) (h : List ℕ) (is : AreBytes 8 h) (kind : type_field h ≡ k
 
 pub type_refused : (h : List ℕ) (t : ℕ) → AreBytes 8 h → type_field h ≡ t → ¬ (t ≡ 4) → ¬ (t ≡ 6) → ¬ (t ≡ 7) → ¬ (t ≡ 9) → ¬ (t ≡ 11) → IsRefused h (unit_type t)
 type_refused h t is kind a b c d e = header_refused h (unit_type t) is.0 (rw kind (unknown_type (version_field h) t (get_or h 2 0) (length_field h) a b c d e))
+
+-- the whole of a router key or an ASPA unit
+pub shape_variable : (b : List ℕ) (u : Fields) → HasFields b u → (type_field b ≡ 9) ⊎ (type_field b ≡ 11) → IsVariable b
+shape_variable b u h kind =
+    let w = shape_whole b u h in
+    record { whole_header = w.long; kind = kind; in_order = w.in_order; within = omega (arith, w.size) }
 
 -- ---- a prefix unit that breaks the rule on its lengths
 

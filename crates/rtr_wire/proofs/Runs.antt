@@ -14,7 +14,8 @@ use Rattle.std.specs.List.{filter}
 use Rattle.std.specs.Prelude.{unwrap_or}
 use Rattle.rtr_base.specs.declared.payload.Timing.{Timing}
 use Rattle.rtr_payload.proofs.Apart.{form_or_end, unit_or_end}
-use Rattle.rtr_wire.specs.Sequences.{AreUnits, IsSequence, Accepts, IsKept, forms, sequence_form, smallest_version, in_version, units_for, end_for}
+use Rattle.rtr_wire.specs.Sequences.{AreUnits, IsSequence, Accepts, IsKept, forms, sequence_form, in_version, units_for, end_for}
+use Rattle.rtr_payload.specs.Payloads.{smallest_version}
 use Rattle.rtr_base.specs.Timings.{default_timing}
 
 -- sequences that begin one list have one meaning
@@ -100,7 +101,7 @@ kept_longest b limit a r c s ms ns k j few e = elim (cases_lt (length ms) (lengt
   | inr le ↦ le
 ]
 
-same_run : (a r c s : List ℕ) (ms ns : List Meaning) → AreUnits a ms → AreUnits c ns → a ++ r ≡ c ++ s → length ms ≡ length ns → (a ≡ c) × (ms ≡ ns) × (r ≡ s)
+pub same_run : (a r c s : List ℕ) (ms ns : List Meaning) → AreUnits a ms → AreUnits c ns → a ++ r ≡ c ++ s → length ms ≡ length ns → (a ≡ c) × (ms ≡ ns) × (r ≡ s)
 same_run a r c s [] [] h j e l = (h ∙ sym j, refl, rw h at (rw j at e))
 same_run a r c s [] (n ∷ ns) h j e l = absurd (omega arith)
 same_run a r c s (m ∷ ms) [] h j e l = absurd (omega arith)

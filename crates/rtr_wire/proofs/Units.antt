@@ -8,17 +8,24 @@ use Rattle.rtr_units.specs.declared.fault.Fault.{Fault}
 use Rattle.rtr_units.specs.declared.fault.Fault.TheVariants.{Reader, Writer, Short, UnitType, UnitLength, TooLong, EmptyProviders, UnitVersion, Refused, TooMany, Memory}
 use Rattle.rtr_units.specs.Causes.{Refusal, short, unit_type, unit_version, too_long, unit_length, empty_providers, refused, Cause, by_reader, by_writer, too_many, no_memory, wrong, cause_of}
 use Rattle.rtr_units.specs.End.{End}
-use Rattle.rtr_units.specs.Header.{type_field}
-use Rattle.rtr_units.specs.Stream.{StopsWriting, WritesPart}
-use Rattle.rtr_units.specs.Units.{end_bytes, end_meaning}
+use Rattle.rtr_units.specs.Header.{version_field, type_field}
+use Rattle.rtr_units.specs.Stream.{StopsWriting, WritesPart, PutsForm}
+use Rattle.rtr_units.specs.Ends.{end_bytes, end_meaning}
 use Rattle.rtr_payload.specs.Reads.{IsPartial, IsRefused, IsVariable, StopsReadingUnit}
 use Rattle.rtr_payload.specs.Steps.{PrefixFault, rule_of, refusal_report}
 use Rattle.rtr_payload.specs.Places.{key_fields, aspa_fields}
-use Rattle.rtr_payload.specs.Units.{HasFields, IsUnit, LengthsAgree, meaning, form_of}
-use Rattle.rtr_payload.specs.UnitValues.{unit_bytes, unit_fields, ReadsPayload, HasNoPayload, NeedsMemory}
+use Rattle.rtr_payload.specs.Units.{HasFields, IsUnit, LengthsAgree, meaning, form, form_of}
+use Rattle.rtr_payload.specs.UnitValues.{unit_bytes, unit_fields, ReadsPayload, HasNoPayload, NeedsMemory, MeansPayload}
+use Rattle.rtr_payload.specs.Values.{payload_of, payload_of_ref, referent}
+use Rattle.rtr_payload.specs.declared.payload.Payload.{Payload as Value}
+use Rattle.rtr_payload.specs.declared.payload.PayloadRef.{PayloadRef}
+use Rattle.rtr_payload.specs.declared.payload.PayloadRef.TheVariants as lent
+use Rattle.rtr_base.specs.declared.payload.Action.{Action}
+use Rattle.rtr_base.specs.Actions.{flags_of}
 use Rattle.rtr_payload.specs.declared.pdu_payload.Payload.{Payload}
 use Rattle.rtr_payload.specs.declared.pdu_payload.Payload.TheVariants.{V4, V6, RouterKey, Aspa}
-use Rattle.rtr_payload.proofs.Frames.{prefix_refused, shape_variable}
+use Rattle.rtr_payload.proofs.Reading.{shape_variable}
+use Rattle.rtr_payload.proofs.Refusals.{prefix_refused}
 use Rattle.rtr_wire.specs.Outcome.{StepTells, StopsAt, MayNeedMemory, FormTells, IsPartOfForm, IsProperPrefix, WritesForm, Steps}
 
 -- ---- reading stopped
@@ -49,8 +56,8 @@ some_rule None h = absurd cc
 needs : (u : Payload) → HasFields (unit_bytes u) (unit_fields u) → NeedsMemory u → MayNeedMemory (unit_bytes u)
 needs (V4 u) shape need = let (f, e) = some_rule _ need in inr (_, prefix_refused _ _ f shape e)
 needs (V6 u) shape need = let (f, e) = some_rule _ need in inr (_, prefix_refused _ _ f shape e)
-needs (RouterKey u) shape need = inl (shape_variable u (key_fields u) shape tt)
-needs (Aspa u) shape need = inl (shape_variable u (aspa_fields u) shape tt)
+needs (RouterKey u) shape need = inl (shape_variable u (key_fields u) shape (inl (ap type_field shape.bytes)))
+needs (Aspa u) shape need = inl (shape_variable u (aspa_fields u) shape (inr (ap type_field shape.bytes)))
 
 module _ (u : Payload) (shape : HasFields (unit_bytes u) (unit_fields u)) where
   is_unit : LengthsAgree (unit_fields u) → IsUnit (unit_bytes u) (meaning (unit_fields u))
@@ -72,8 +79,8 @@ module _ (u : Payload) (shape : HasFields (unit_bytes u) (unit_fields u)) where
 pub unit_written : {T : Type 0} (u : Payload) (x : T) (a b held holds : Option (List ℕ)) → ReadsPayload (Ok (Ok (Some u))) a b → WritesForm u (Ok x) held holds → Steps (Ok true) a b held holds
 unit_written u x a b held holds (took, shape) (w, wrote, (agree, is)) = (unit_bytes u, w, took, wrote, (meaning (unit_fields u), is_unit u shape agree, is))
 
-pub unit_not_written : {T : Type 0} (u : Payload) (f : Fault) (a b held holds : Option (List ℕ)) → ReadsPayload (Ok (Ok (Some u))) a b → WritesForm {T = T} u (Err f) held holds → Steps (Err f) a b held holds
-unit_not_written u f a b held holds (took, shape) (w, wrote, told) = (unit_bytes u, w, took, wrote, form_stops u shape (cause_of f) w b told)
+pub unit_not_written : (T : Type 0) (u : Payload) (f : Fault) (a b held holds : Option (List ℕ)) → ReadsPayload (Ok (Ok (Some u))) a b → WritesForm {T = T} u (Err f) held holds → Steps (Err f) a b held holds
+unit_not_written T u f a b held holds (took, shape) (w, wrote, told) = (unit_bytes u, w, took, wrote, form_stops u shape (cause_of f) w b told)
 
 -- ---- an end of data was read
 
@@ -88,3 +95,22 @@ pub end_not_written : (d : EndOfData) (f : Fault) (a b held holds : Option (List
 end_not_written d f a b held holds (took, end) (w, r, wrote, split, some, stop) =
     let told : StepTells (Err by_writer) (end_bytes d) w b = inr (end_meaning d, end, (r, sym end.bytes ∙ split, some)) in
     (end_bytes d, w, took, wrote, subst (λ c. StepTells (Err c) (end_bytes d) w b) (sym (by_writer_alone f stop)) told)
+
+-- ---- the form of what a unit means
+
+-- a payload and the loan of it mean the same
+lent_means : (r : PayloadRef) → payload_of_ref r ≡ payload_of (referent r)
+lent_means (lent.Origin o) = refl
+lent_means (lent.RouterKey k) = refl
+lent_means (lent.Aspa a) = refl
+
+pub form_is : (u : Payload) (action : Action) (p : Value) (r : PayloadRef) (b : List ℕ) (v f : ℕ) → MeansPayload u action p → v ≡ version_field (unit_bytes u) → f ≡ flags_of action → referent r ≡ p → b ≡ form v f (payload_of_ref r) → b ≡ form_of (meaning (unit_fields u))
+form_is u action p r b v f m ev ef er is =
+    let same : payload_of_ref r ≡ payload_of p = lent_means r ∙ ap payload_of er in
+    is ∙ (λ i. form (ev i) (ef i) (same i)) ∙ ap form_of m.means
+
+pub form_put : {T : Type 0} (u : Payload) (b : List ℕ) (r : Result T Fault) (held holds : Option (List ℕ)) → LengthsAgree (unit_fields u) → b ≡ form_of (meaning (unit_fields u)) → PutsForm r held holds b → WritesForm u r held holds
+form_put u b (Ok x) held holds agree is wrote = (b, wrote, (agree, is))
+form_put u b (Err f) held holds agree is (w, r, wrote, split, some, stop) =
+    let told : FormTells {T = Unit {0}} u (Err by_writer) w = (agree, (r, sym is ∙ split, some)) in
+    (w, wrote, subst (λ c. FormTells {T = Unit {0}} u (Err c) w) (sym (by_writer_alone f stop)) told)
