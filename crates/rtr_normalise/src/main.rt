@@ -40,11 +40,5 @@ fn main(rt: HostRuntime) -> ExitCode {
     };
     let mut input = Counted::new(buffered_input(&rt));
     let mut output = Counted::new(buffered_output(&rt));
-    ExitCode::from(run::run(
-        rt.alloc(),
-        &args,
-        &mut input,
-        &mut output,
-        &mut faults,
-    ))
+    ExitCode::from(run::run(rt.alloc(), &args, &mut input, &mut output, &mut faults))
 }
