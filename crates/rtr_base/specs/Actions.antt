@@ -1,4 +1,4 @@
--- Whether a record is announced or withdrawn (RFC 8210 section 5.6).
+-- Whether a record is announced or withdrawn (the flags of RFC 8210 section 5.1).
 use Rattle.std.specs.Prelude.{ℕ, ◌%◌, ◌==◌, if◌then◌else◌}
 use Rattle.rtr_base.specs.declared.payload.Action.{Action}
 use Rattle.rtr_base.specs.declared.payload.Action.TheVariants.{Announce, Withdraw}
@@ -7,6 +7,7 @@ use Rattle.rtr_base.specs.declared.payload.Action.TheVariants.{Announce, Withdra
 abbrev pub act : ℕ → Action
 act g = if g % 2 == 1 then Announce else Withdraw
 
+-- the flags that are written
 abbrev pub flags_of : Action → ℕ
 flags_of Announce = 1
 flags_of Withdraw = 0

@@ -1,4 +1,4 @@
--- Numbers as bytes in network order.
+-- Numbers as bytes in network order (RFC 8210 section 5).
 use Rattle.std.specs.Prelude.{ℕ, ◌+◌, ◌*◌, ◌^◌, ◌<◌, List, [], ◌∷◌, length, get_or}
 use Rattle.std.specs.Int.{bytes_high_first}
 use Rattle.std.specs.List.{flat_map}

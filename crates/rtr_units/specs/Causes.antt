@@ -1,4 +1,4 @@
--- Why a call on units stopped, apart from how the code keeps it.
+-- Why a call on units stopped (the Rust crate's own faults), apart from how the code keeps it.
 use Rattle.std.specs.Prelude.{ℕ, List}
 use Rattle.rtr_units.specs.declared.fault.Fault.{Fault}
 use Rattle.rtr_units.specs.declared.fault.Fault.TheVariants.{Reader, Writer, Short, UnitType, UnitLength, TooLong, EmptyProviders, UnitVersion, Refused, TooMany, Memory}

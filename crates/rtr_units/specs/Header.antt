@@ -1,4 +1,4 @@
--- The header of a unit (RFC 6810 and RFC 8210 section 5.1).
+-- The header of a unit (RFC 8210 section 5.1, RFC 6810 section 5.1).
 use Rattle.std.specs.Prelude.{ℕ, List, ◌∷◌, ◌++◌, take, drop, slice_index}
 use Rattle.rtr_base.specs.Bytes.{be, value}
 

@@ -1,51 +1,64 @@
 -- Sequences of units.
-use Rattle.std.proofs.Common.{◌≡◌, ℕ, ◌<◌, ◌≤◌, List, [], ◌∷◌, ◌++◌, length, Option, Some, None, refl, sym, ap, ◌∙◌, ◌↔◌, append_assoc, arith, inl, inr}
-use Rattle.std.specs.List.{AllByRecursion}
+use Rattle.std.proofs.Common.{◌≡◌, ℕ, ◌<◌, ◌≤◌, ◌⊎◌, List, [], ◌∷◌, ◌++◌, length, Option, Some, None, refl, sym, ap, ◌∙◌, ◌↔◌, append_assoc, arith, inl, inr, eqb, leb, map, lit<}
+use Rattle.std.specs.List.{AllByRecursion, filter}
+use Rattle.std.specs.Prelude.{unwrap_or}
 use Rattle.std.proofs.lemmas.List.{append-nil}
+use Rattle.std.proofs.lemmas.Bool.{cases_order, cases_lt, cond_both, eqb-true, eqb-false}
+use Rattle.rtr_base.specs.declared.payload.Timing.{Timing}
+use Rattle.rtr_base.specs.Timings.{default_timing}
 use Rattle.rtr_units.specs.End.{EndMeaning, End, IsEndMeaning, HasTimingOf, end_list}
 use Rattle.rtr_units.proofs.Ends.{end_one, end_made}
-use Rattle.rtr_payload.specs.Payloads.{IsPayload, Meaning}
+use Rattle.rtr_payload.specs.Payloads.{IsPayload, Meaning, smallest_version}
 use Rattle.rtr_payload.specs.Units.{form_of}
-use Rattle.rtr_payload.proofs.Fields.{forms_same, units_same, form_is_unit}
 use Rattle.rtr_payload.specs.Steps.{BeginsUnit, BeginsEnd}
-use Rattle.std.proofs.lemmas.Bool.{cases_lt, cond_both, eqb-true, eqb-false}
-use Rattle.std.proofs.Common.{eqb, leb, map, lit<}
-use Rattle.std.specs.List.{filter}
-use Rattle.std.specs.Prelude.{unwrap_or}
-use Rattle.rtr_base.specs.declared.payload.Timing.{Timing}
-use Rattle.rtr_payload.proofs.Apart.{form_or_end, unit_or_end}
+use Rattle.rtr_payload.proofs.Apart.{form_or_end, begins_apart}
+use Rattle.rtr_payload.proofs.Fields.{forms_same, units_same, form_is_unit}
 use Rattle.rtr_wire.specs.Sequences.{AreUnits, IsSequence, Accepts, IsKept, forms, sequence_form, in_version, units_for, end_for}
-use Rattle.rtr_payload.specs.Payloads.{smallest_version}
-use Rattle.rtr_base.specs.Timings.{default_timing}
 
--- sequences that begin one list have one meaning
-pub runs_same : (a b x y r s : List ℕ) (ms ns : List Meaning) (d e : EndMeaning) → AreUnits a ms → AreUnits b ns → End x d → End y e →
-    a ++ (x ++ r) ≡ b ++ (y ++ s) → (a ≡ b) × (x ≡ y) × (ms ≡ ns) × (d ≡ e)
-runs_same a b x y r s [] [] d e h j p q eq =
-    let eq' : x ++ r ≡ y ++ s = rw h at (rw j at eq) in
-    let t = end_one x y r s d e p q eq' in
-    (h ∙ sym j, t.0, refl, t.1)
-runs_same a b x y r s [] (n ∷ ns) d e h j p q eq =
-    let eq' : j.0 ++ (j.1 ++ (y ++ s)) ≡ x ++ r = sym (append_assoc j.0 j.1 (y ++ s)) ∙ ap (λ (l : List ℕ). l ++ (y ++ s)) (sym j.2) ∙ sym eq ∙ ap (λ (l : List ℕ). l ++ (x ++ r)) h in
-    absurd (unit_or_end j.0 x (j.1 ++ (y ++ s)) r n d j.3 p eq')
-runs_same a b x y r s (m ∷ ms) [] d e h j p q eq =
-    let eq' : h.0 ++ (h.1 ++ (x ++ r)) ≡ y ++ s = sym (append_assoc h.0 h.1 (x ++ r)) ∙ ap (λ (l : List ℕ). l ++ (x ++ r)) (sym h.2) ∙ eq ∙ ap (λ (l : List ℕ). l ++ (y ++ s)) j in
-    absurd (unit_or_end h.0 y (h.1 ++ (x ++ r)) s m e h.3 q eq')
-runs_same a b x y r s (m ∷ ms) (n ∷ ns) d e h j p q eq =
-    let eq' : h.0 ++ (h.1 ++ (x ++ r)) ≡ j.0 ++ (j.1 ++ (y ++ s)) = sym (append_assoc h.0 h.1 (x ++ r)) ∙ ap (λ (l : List ℕ). l ++ (x ++ r)) (sym h.2) ∙ eq ∙ ap (λ (l : List ℕ). l ++ (y ++ s)) j.2 ∙ append_assoc j.0 j.1 (y ++ s) in
-    let f = units_same h.0 j.0 (h.1 ++ (x ++ r)) (j.1 ++ (y ++ s)) m n h.3 j.3 eq' in
-    let t = runs_same h.1 j.1 x y r s ms ns d e h.4 j.4 p q f.2 in
-    let ab : h.0 ++ h.1 ≡ j.0 ++ j.1 = λ i. f.0 i ++ t.0 i in
-    (h.2 ∙ ab ∙ sym j.2, t.1, λ i. f.1 i ∷ t.2 i, t.3)
+-- what follows a list that is joined of two
+after : (a first rest r : List ℕ) → a ≡ first ++ rest → a ++ r ≡ first ++ (rest ++ r)
+after a first rest r e = ap (λ (b : List ℕ). b ++ r) e ∙ append_assoc first rest r
 
+-- ---- units at the front of one list
+
+-- behind the shorter of two lists of units a unit begins
+pub goes_on : (a r c s : List ℕ) (ms ns : List Meaning) → AreUnits a ms → AreUnits c ns → a ++ r ≡ c ++ s → length ms < length ns → BeginsUnit r
+goes_on a r c s [] [] h j e l = absurd (omega arith)
+goes_on a r c s [] (n ∷ ns) h j e l = record { bytes = j.0; means = n; rest = j.1 ++ s; unit = j.3; parts = sym (after a [] [] r h) ∙ e ∙ after c j.0 j.1 s j.2 }
+goes_on a r c s (m ∷ ms) [] h j e l = absurd (omega arith)
+goes_on a r c s (m ∷ ms) (n ∷ ns) h j e l =
+    let f = units_same h.0 j.0 (h.1 ++ r) (j.1 ++ s) m n h.3 j.3 (sym (after a h.0 h.1 r h.2) ∙ e ∙ after c j.0 j.1 s j.2) in
+    goes_on h.1 r j.1 s ms ns h.4 j.4 f.2 (omega arith)
+
+-- as many units are the same units
+pub same_run : (a r c s : List ℕ) (ms ns : List Meaning) → AreUnits a ms → AreUnits c ns → a ++ r ≡ c ++ s → length ms ≡ length ns → (a ≡ c) × (ms ≡ ns) × (r ≡ s)
+same_run a r c s [] [] h j e l = (h ∙ sym j, refl, rw h at (rw j at e))
+same_run a r c s [] (n ∷ ns) h j e l = absurd (omega arith)
+same_run a r c s (m ∷ ms) [] h j e l = absurd (omega arith)
+same_run a r c s (m ∷ ms) (n ∷ ns) h j e l =
+    let f = units_same h.0 j.0 (h.1 ++ r) (j.1 ++ s) m n h.3 j.3 (sym (after a h.0 h.1 r h.2) ∙ e ∙ after c j.0 j.1 s j.2) in
+    let t = same_run h.1 r j.1 s ms ns h.4 j.4 f.2 (omega arith) in
+    (h.2 ∙ (λ i. f.0 i ++ t.0 i) ∙ sym j.2, λ i. f.1 i ∷ t.1 i, t.2)
+
+-- units before an end of data are the same units
+pub up_to_end : (a r c s : List ℕ) (ms ns : List Meaning) → AreUnits a ms → AreUnits c ns → BeginsEnd r → BeginsEnd s → a ++ r ≡ c ++ s → (a ≡ c) × (ms ≡ ns) × (r ≡ s)
+up_to_end a r c s ms ns h j p q e = elim (cases_order (length ms) (length ns)) [
+  | inr (inl lt) ↦ absurd (begins_apart r (goes_on a r c s ms ns h j e lt) p)
+  | inl l ↦ same_run a r c s ms ns h j e l
+  | inr (inr gt) ↦ absurd (begins_apart s (goes_on c s a r ns ms j h (sym e) gt) q)
+]
+
+-- sequences that begin one list are one
 pub accepted_same : (input a b : List ℕ) (ms ns : List Meaning) (d e : EndMeaning) → Accepts input a ms d → Accepts input b ns e → (a ≡ b) × (ms ≡ ns) × (d ≡ e)
 accepted_same input a b ms ns d e h j =
     let hs = h.sequence in
     let js = j.sequence in
-    let hp : input ≡ hs.front ++ (hs.last ++ h.rest) = h.parts ∙ ap (λ (l : List ℕ). l ++ h.rest) hs.parts ∙ append_assoc hs.front hs.last h.rest in
-    let jp : input ≡ js.front ++ (js.last ++ j.rest) = j.parts ∙ ap (λ (l : List ℕ). l ++ j.rest) js.parts ∙ append_assoc js.front js.last j.rest in
-    let t = runs_same hs.front js.front hs.last js.last h.rest j.rest ms ns d e hs.units js.units hs.end js.end (sym hp ∙ jp) in
-    (hs.parts ∙ (λ i. t.0 i ++ t.1 i) ∙ sym js.parts, t.2, t.3)
+    let both : hs.front ++ (hs.last ++ h.rest) ≡ js.front ++ (js.last ++ j.rest) = sym (after a hs.front hs.last h.rest hs.parts) ∙ sym h.parts ∙ j.parts ∙ after b js.front js.last j.rest js.parts in
+    let p : BeginsEnd (hs.last ++ h.rest) = record { bytes = hs.last; means = d; rest = h.rest; end = hs.end; parts = refl } in
+    let q : BeginsEnd (js.last ++ j.rest) = record { bytes = js.last; means = e; rest = j.rest; end = js.end; parts = refl } in
+    let t = up_to_end hs.front (hs.last ++ h.rest) js.front (js.last ++ j.rest) ms ns hs.units js.units p q both in
+    let u = end_one hs.last js.last h.rest j.rest d e hs.end js.end t.2 in
+    (hs.parts ∙ (λ i. t.0 i ++ u.0 i) ∙ sym js.parts, t.1, u.1)
 
 -- ---- written sequences
 
@@ -79,19 +92,6 @@ exactly_same ms ns d e h j p q = (written_same ms ns d e h j p q, λ t. λ i. se
 
 -- ---- the longest front of units
 
--- of two fronts of units the shorter begins the longer, or both are one
-module _ where
-  -- what stands after a shorter run of units begins with a unit
-  pub goes_on : (a r c s : List ℕ) (ms ns : List Meaning) → AreUnits a ms → AreUnits c ns → a ++ r ≡ c ++ s → length ms < length ns → BeginsUnit r
-  goes_on a r c s [] [] h j e l = absurd (omega arith)
-  goes_on a r c s [] (n ∷ ns) h j e l =
-      record { bytes = j.0; means = n; rest = j.1 ++ s; unit = j.3; parts = ap (λ (x : List ℕ). x ++ r) (sym h) ∙ e ∙ ap (λ (x : List ℕ). x ++ s) j.2 ∙ append_assoc j.0 j.1 s }
-  goes_on a r c s (m ∷ ms) [] h j e l = absurd (omega arith)
-  goes_on a r c s (m ∷ ms) (n ∷ ns) h j e l =
-      let e' : h.0 ++ (h.1 ++ r) ≡ j.0 ++ (j.1 ++ s) = sym (append_assoc h.0 h.1 r) ∙ ap (λ (x : List ℕ). x ++ r) (sym h.2) ∙ e ∙ ap (λ (x : List ℕ). x ++ s) j.2 ∙ append_assoc j.0 j.1 s in
-      let f = units_same h.0 j.0 (h.1 ++ r) (j.1 ++ s) m n h.3 j.3 e' in
-      goes_on h.1 r j.1 s ms ns h.4 j.4 f.2 (omega arith)
-
 pub kept_longest : (b : List ℕ) (limit : ℕ) (a r c s : List ℕ) (ms ns : List Meaning) → IsKept b limit a ms r → AreUnits c ns → length ns ≤ limit → b ≡ c ++ s → length ns ≤ length ms
 kept_longest b limit a r c s ms ns k j few e = elim (cases_lt (length ms) (length ns)) [
   | inl lt ↦ elim k.longest [
@@ -101,21 +101,25 @@ kept_longest b limit a r c s ms ns k j few e = elim (cases_lt (length ms) (lengt
   | inr le ↦ le
 ]
 
-pub same_run : (a r c s : List ℕ) (ms ns : List Meaning) → AreUnits a ms → AreUnits c ns → a ++ r ≡ c ++ s → length ms ≡ length ns → (a ≡ c) × (ms ≡ ns) × (r ≡ s)
-same_run a r c s [] [] h j e l = (h ∙ sym j, refl, rw h at (rw j at e))
-same_run a r c s [] (n ∷ ns) h j e l = absurd (omega arith)
-same_run a r c s (m ∷ ms) [] h j e l = absurd (omega arith)
-same_run a r c s (m ∷ ms) (n ∷ ns) h j e l =
-    let e' : h.0 ++ (h.1 ++ r) ≡ j.0 ++ (j.1 ++ s) = sym (append_assoc h.0 h.1 r) ∙ ap (λ (x : List ℕ). x ++ r) (sym h.2) ∙ e ∙ ap (λ (x : List ℕ). x ++ s) j.2 ∙ append_assoc j.0 j.1 s in
-    let f = units_same h.0 j.0 (h.1 ++ r) (j.1 ++ s) m n h.3 j.3 e' in
-    let t = same_run h.1 r j.1 s ms ns h.4 j.4 f.2 (omega arith) in
-    (h.2 ∙ (λ i. f.0 i ++ t.0 i) ∙ sym j.2, λ i. f.1 i ∷ t.1 i, t.2)
-
 pub kept_same : (b : List ℕ) (limit : ℕ) (a c r s : List ℕ) (ms ns : List Meaning) → IsKept b limit a ms r → IsKept b limit c ns s → (a ≡ c) × (ms ≡ ns) × (r ≡ s)
 kept_same b limit a c r s ms ns h j =
     let up = kept_longest b limit a r c s ms ns h j.units j.few j.parts in
     let down = kept_longest b limit c s a r ns ms j h.units h.few h.parts in
     same_run a r c s ms ns h.units j.units (sym h.parts ∙ j.parts) (omega arith)
+
+-- where a sequence of fewer than limit units is a front of b, its units are kept, and its end of data comes next
+pub kept_accepted : (b : List ℕ) (limit : ℕ) (a r x : List ℕ) (ms ns : List Meaning) (e : EndMeaning) → IsKept b limit a ns r → Accepts b x ms e → length ms < limit → (ns ≡ ms) × BeginsEnd r
+kept_accepted b limit a r x ms ns e k j few =
+    let s = j.sequence in
+    let parts : b ≡ s.front ++ (s.last ++ j.rest) = j.parts ∙ after x s.front s.last j.rest s.parts in
+    let at_end : BeginsEnd (s.last ++ j.rest) = record { bytes = s.last; means = e; rest = j.rest; end = s.end; parts = refl } in
+    let le = kept_longest b limit a r s.front (s.last ++ j.rest) ns ms k s.units (omega arith) parts in
+    elim (cases_lt (length ms) (length ns)) [
+      | inl lt ↦ absurd (begins_apart (s.last ++ j.rest) (goes_on s.front (s.last ++ j.rest) a r ms ns s.units k.units (sym parts ∙ k.parts) lt) at_end)
+      | inr ge ↦
+          let t = same_run a r s.front (s.last ++ j.rest) ns ms k.units s.units (sym k.parts ∙ parts) (omega arith) in
+          (t.1, record { bytes = s.last; means = e; rest = j.rest; end = s.end; parts = t.2 })
+    ]
 
 -- ---- in one version
 
@@ -144,18 +148,3 @@ end_fits_for v e le h = record {
 pub same_for : (v : ℕ) (ms ns : List Meaning) (d e : EndMeaning) → v ≤ 2 → AllPayloads ms → AllPayloads ns → IsEndMeaning d → IsEndMeaning e →
     (sequence_form (units_for v ms) (end_for v d) ≡ sequence_form (units_for v ns) (end_for v e)) ↔ ((units_for v ms ≡ units_for v ns) × (end_for v d ≡ end_for v e))
 same_for v ms ns d e le h j p q = exactly_same (units_for v ms) (units_for v ns) (end_for v d) (end_for v e) (for_payloads v ms h) (for_payloads v ns j) (end_fits_for v d le p) (end_fits_for v e le q)
-
--- where a sequence of fewer than limit units is a front of b, the longest front of units is its units, and its end comes next
-pub kept_accepted : (b : List ℕ) (limit : ℕ) (a r x : List ℕ) (ms ns : List Meaning) (e : EndMeaning) → IsKept b limit a ns r → Accepts b x ms e → length ms < limit → (ns ≡ ms) × BeginsEnd r
-kept_accepted b limit a r x ms ns e k j few =
-    let s = j.sequence in
-    let jp : b ≡ s.front ++ (s.last ++ j.rest) = j.parts ∙ ap (λ (l : List ℕ). l ++ j.rest) s.parts ∙ append_assoc s.front s.last j.rest in
-    let le = kept_longest b limit a r s.front (s.last ++ j.rest) ns ms k s.units (omega arith) jp in
-    elim (cases_lt (length ms) (length ns)) [
-      | inl lt ↦
-          let u = goes_on s.front (s.last ++ j.rest) a r ms ns s.units k.units (sym jp ∙ k.parts) lt in
-          absurd (unit_or_end u.bytes s.last u.rest j.rest u.means e u.unit s.end (sym u.parts))
-      | inr ge ↦
-          let t = same_run a r s.front (s.last ++ j.rest) ns ms k.units s.units (sym k.parts ∙ jp) (omega arith) in
-          (t.1, record { bytes = s.last; means = e; rest = j.rest; end = s.end; parts = t.2 })
-    ]

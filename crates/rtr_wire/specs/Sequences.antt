@@ -1,4 +1,5 @@
--- Sequences of payload units and an end of data (RFC 8210 section 8.1 and 8.2, after the cache response).
+-- Sequences of payload units and an end of data: what a cache sends behind its cache response (RFC 8210 sections 8.1 and 8.2,
+-- RFC 6810 sections 6.1 and 6.2).
 use Rattle.std.specs.Prelude.{◌≡◌, ℕ, ◌≤◌, ◌⊎◌, List, [], ◌∷◌, ◌++◌, length, map, filter, Some, None, unwrap_or, ◌==◌, nat_le, if◌then◌else◌}
 use Rattle.std.specs.List.{flat_map}
 use Rattle.rtr_base.specs.Timings.{default_timing}
@@ -34,13 +35,16 @@ forms ms = flat_map form_of ms
 abbrev pub sequence_form : List Meaning → EndMeaning → List ℕ
 sequence_form ms e = forms ms ++ end_list e
 
--- the longest list of units at the front of b, at most limit of them
+-- What is kept of an input (this library's own): the longest list of units at the front of b, at most limit of them
 pub record IsKept (b : List ℕ) (limit : ℕ) (front : List ℕ) (ms : List Meaning) (rest : List ℕ) : Type 0 where
   pub parts : b ≡ front ++ rest
   pub units : AreUnits front ms
   pub few : length ms ≤ limit
   pub longest : (limit ≡ length ms) ⊎ (BeginsUnit rest → ⊥)
 
+-- ---- sequences for one protocol version (this library's own)
+
+-- what means the same in version v
 abbrev pub in_version : ℕ → Meaning → Meaning
 in_version v m = record m { version = v }
 
@@ -48,5 +52,6 @@ in_version v m = record m { version = v }
 abbrev pub units_for : ℕ → List Meaning → List Meaning
 units_for v ms = map (in_version v) (filter (λ m. nat_le (smallest_version m.payload) v) ms)
 
+-- the end of data in version v: without timings in version 0, and otherwise with its own, or with the recommended ones
 abbrev pub end_for : ℕ → EndMeaning → EndMeaning
 end_for v e = record e { version = v; timing = if v == 0 then None else Some (unwrap_or e.timing default_timing) }
