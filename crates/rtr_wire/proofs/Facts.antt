@@ -1,5 +1,5 @@
 -- What the definitions say of single lists of bytes, by computation.
-use Rattle.std.proofs.Common.{◌≡◌, ◌≢◌, ℕ, suc, ◌+◌, ◌-◌, ◌*◌, ◌%◌, ◌^◌, ◌<◌, Bool, true, false, cond, ltb, List, [], ◌∷◌, ◌++◌, length, take, drop, Option, Some, None, refl, ap, codes, inl, inr, lit<, lit≤, arith}
+use Rattle.std.proofs.Common.{◌≡◌, ◌≢◌, ℕ, suc, ◌+◌, ◌-◌, ◌*◌, ◌%◌, ◌^◌, ◌<◌, Bool, true, false, cond, ltb, List, [], ◌∷◌, ◌++◌, take, drop, Some, None, refl, ap, codes, inl, inr, lit<, lit≤, arith}
 use Rattle.std.specs.declared.cmp.Ordering.TheVariants.{Less}
 use Rattle.std.proofs.lemmas.Bool.{ltb-true}
 use Rattle.rtr_base.specs.declared.payload.Action.TheVariants.{Announce, Withdraw}
@@ -12,9 +12,8 @@ use Rattle.rtr_units.specs.End.{EndMeaning, End, end_list}
 use Rattle.rtr_units.specs.Report.{report}
 use Rattle.rtr_payload.specs.Payloads.{origin, key, aspa, Meaning}
 use Rattle.rtr_payload.specs.Reads.{IsPartial, IsRefused}
-use Rattle.rtr_payload.specs.Steps.{header_fault, header_step, broken_rule, len_overflow, max_overflow, max_underflow, refusal_report, rule_of}
+use Rattle.rtr_payload.specs.Steps.{header_fault, header_step, broken_rule, len_overflow, max_overflow, max_underflow, refusal_report}
 use Rattle.rtr_payload.specs.Units.{Fields, prefix, router_key, providers, unit_list, meaning, Fit, WithinLimits, LengthsAgree, HasFields, IsUnit, form_of}
-use Rattle.rtr_payload.proofs.Frames.{Whole}
 use Rattle.rtr_payload.proofs.Refusals.{header_short, header_refused, prefix_refused, cut_short}
 use Rattle.rtr_wire.specs.Sequences.{IsSequence, sequence_form, units_for, end_for}
 

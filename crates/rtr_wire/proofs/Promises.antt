@@ -1,20 +1,19 @@
 -- What a run leaves is what is promised.
-use Rattle.std.proofs.Common.{◌≡◌, ◌≢◌, ℕ, ◌+◌, ◌-◌, ◌^◌, ◌<◌, ◌≤◌, Bool, true, false, not, min, List, [], ◌∷◌, ◌++◌, length, take, drop, Option, Some, None, Result, Ok, Err, refl, sym, ap, subst, ◌∙◌, append_assoc, append-nil, arith, inl, inr, ◌⊎◌}
+use Rattle.std.proofs.Common.{◌≡◌, ℕ, ◌<◌, ◌≤◌, Bool, true, false, not, List, [], ◌∷◌, ◌++◌, length, Option, Some, None, Result, Ok, Err, refl, sym, ap, subst, ◌∙◌, append_assoc, append-nil, arith, inl, inr, ◌⊎◌}
 use Rattle.std.specs.Prelude.{IfSome}
 use Rattle.std.specs.List.{AllByRecursion}
-use Rattle.std.specs.Io.KnownBytes.{Consumes, Appends, IsAtEnd}
-use Rattle.std.proofs.lemmas.Bool.{cases_lt, cases_order}
+use Rattle.std.specs.Io.KnownBytes.{Appends}
+use Rattle.std.proofs.lemmas.Bool.{cases_order}
 use Rattle.rtr_units.specs.declared.fault.Fault.{Fault}
-use Rattle.rtr_units.specs.declared.fault.Fault.TheVariants.{Reader, Writer, Short, UnitType, UnitLength, TooLong, EmptyProviders, UnitVersion, Refused, TooMany, Memory}
+use Rattle.rtr_units.specs.declared.fault.Fault.TheVariants.{Reader, Writer}
 use Rattle.rtr_units.specs.Causes.{Refusal, short, unit_type, unit_version, too_long, unit_length, empty_providers, refused, Cause, by_reader, by_writer, too_many, no_memory, wrong, cause_of}
 use Rattle.rtr_units.specs.Stream.{count_after, is_reader_fault, is_writer_fault}
 use Rattle.rtr_units.specs.End.{EndMeaning}
 use Rattle.rtr_payload.specs.Payloads.{Meaning}
 use Rattle.rtr_payload.specs.Steps.{first_fault, taken, BeginsUnit, BeginsEnd}
-use Rattle.rtr_payload.specs.Reads.{IsPartial, IsRefused, IsVariable}
 use Rattle.rtr_payload.proofs.Rests.{begins_unit_none, begins_end_none}
-use Rattle.rtr_wire.specs.Sequences.{AreUnits, Accepts, IsSequence, IsKept, forms, sequence_form}
-use Rattle.rtr_wire.specs.Outcome.{Runs, RunTells, Stopped, StopsAt, MayNeedMemory, by_cause}
+use Rattle.rtr_wire.specs.Sequences.{AreUnits, Accepts, IsKept, forms, sequence_form}
+use Rattle.rtr_wire.specs.Outcome.{Runs, Stopped, StopsAt, MayNeedMemory, by_cause}
 use Rattle.rtr_wire.specs.Promise.{NoFailure, HadMemory, Moved, Succeeds, SucceedsOnly, Refuses, Fills, IsCut, IsHalted, IsStarved, IsOriginPayload, Spares, Sides, Normalises}
 use Rattle.rtr_wire.proofs.Runs.{accepted_same, kept_accepted, same_run, goes_on as run_goes_on}
 use Rattle.rtr_payload.proofs.Fields.{units_same}

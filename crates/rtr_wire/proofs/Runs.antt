@@ -1,12 +1,12 @@
 -- Sequences of units.
-use Rattle.std.proofs.Common.{◌≡◌, ℕ, ◌<◌, ◌≤◌, ◌⊎◌, List, [], ◌∷◌, ◌++◌, length, Option, Some, None, refl, sym, ap, ◌∙◌, ◌↔◌, append_assoc, arith, inl, inr, eqb, leb, map, lit<}
+use Rattle.std.proofs.Common.{◌≡◌, ℕ, ◌<◌, ◌≤◌, List, [], ◌∷◌, ◌++◌, length, Option, Some, None, refl, sym, ap, ◌∙◌, ◌↔◌, append_assoc, arith, inl, inr, eqb, leb, map, lit<}
 use Rattle.std.specs.List.{AllByRecursion, filter}
 use Rattle.std.specs.Prelude.{unwrap_or}
 use Rattle.std.proofs.lemmas.List.{append-nil}
 use Rattle.std.proofs.lemmas.Bool.{cases_order, cases_lt, cond_both, eqb-true, eqb-false}
 use Rattle.rtr_base.specs.declared.payload.Timing.{Timing}
 use Rattle.rtr_base.specs.Timings.{default_timing}
-use Rattle.rtr_units.specs.End.{EndMeaning, End, IsEndMeaning, HasTimingOf, end_list}
+use Rattle.rtr_units.specs.End.{EndMeaning, IsEndMeaning, HasTimingOf, end_list}
 use Rattle.rtr_units.proofs.Ends.{end_one, end_made}
 use Rattle.rtr_payload.specs.Payloads.{IsPayload, Meaning, smallest_version}
 use Rattle.rtr_payload.specs.Units.{form_of}

@@ -1,24 +1,15 @@
 -- Units one after the other.
-use Rattle.std.proofs.Common.{◌≡◌, ℕ, ◌+◌, ◌<◌, true, false, List, [], ◌∷◌, ◌++◌, length, Option, Ok, Err, refl, sym, ap, subst, ◌∙◌, append_assoc, append-nil, arith}
+use Rattle.std.proofs.Common.{◌≡◌, ℕ, ◌+◌, ◌<◌, true, false, List, [], ◌∷◌, ◌++◌, length, Option, Ok, Err, refl, sym, ap, subst, ◌∙◌, append-nil, arith}
 use Rattle.std.proofs.lemmas.List.{length-append}
 use Rattle.std.specs.Io.KnownBytes.{Consumes, Appends}
 use Rattle.std.proofs.KnownBytes.{Consumes-trans, Appends-trans, Consumes-nil, Appends-nil}
 use Rattle.rtr_units.specs.declared.fault.Fault.{Fault}
-use Rattle.rtr_units.specs.declared.fault.Fault.TheVariants.{Reader, Writer, Short, UnitType, UnitLength, TooLong, EmptyProviders, UnitVersion, Refused, TooMany, Memory}
-use Rattle.rtr_units.specs.Causes.{Refusal, short, unit_type, unit_version, too_long, unit_length, empty_providers, refused, Cause, by_reader, by_writer, too_many, no_memory, wrong, cause_of}
-use Rattle.rtr_units.specs.Stream.{WritesPart}
+use Rattle.rtr_units.specs.declared.fault.Fault.TheVariants.{TooMany}
+use Rattle.rtr_units.specs.Causes.{Cause, by_reader, by_writer, too_many, no_memory, wrong, cause_of}
 use Rattle.rtr_payload.specs.Payloads.{Meaning}
-use Rattle.rtr_payload.specs.Units.{IsUnit, form_of}
-use Rattle.rtr_wire.specs.Outcome.{StepTells, Stopped, StopsAt, IsPartOfForm, IsProperPrefix, Steps, Runs}
+use Rattle.rtr_wire.specs.Outcome.{StepTells, Stopped, Steps, Runs}
 use Rattle.rtr_wire.specs.Sequences.{AreUnits, forms}
-
-pub units_push : (us : List ℕ) (ms : List Meaning) (b : List ℕ) (m : Meaning) → AreUnits us ms → IsUnit b m → AreUnits (us ++ b) (ms ++ m ∷ [])
-units_push us [] b m e h = (b, [], ap (λ t. t ++ b) e ∙ sym (append-nil b), h, refl)
-units_push us (n ∷ ms) b m (u, rest, e, first, others) h = (u, rest ++ b, ap (λ t. t ++ b) e ∙ append_assoc u rest b, first, units_push rest ms b m others h)
-
-pub forms_push : (ms : List Meaning) (m : Meaning) → forms (ms ++ m ∷ []) ≡ forms ms ++ form_of m
-forms_push [] m = append-nil (form_of m)
-forms_push (n ∷ ms) m = ap (λ t. form_of n ++ t) (forms_push ms m) ∙ sym (append_assoc (form_of n) (forms ms) (form_of m))
+use Rattle.rtr_wire.proofs.Push.{units_push, forms_push}
 
 -- what the units so far leave
 pub record Behind (count : ℕ) (old new held holds : Option (List ℕ)) : Type 0 where
@@ -37,7 +28,7 @@ goes_on count a b c h i j p (t, w, took, wrote, (m, unit, is)) = record {
   us = p.us ++ t;
   ms = p.ms ++ m ∷ [];
   taken = Consumes-trans a b c p.us t p.taken took;
-  units = units_push p.us p.ms t m p.units unit;
+  units = units_push p.us t p.ms m p.units unit;
   counted = omega (arith, length-append p.ms (m ∷ []), p.counted);
   written = subst (Appends h j) (ap (λ l. forms p.ms ++ l) is ∙ sym (forms_push p.ms m)) (Appends-trans h i j (forms p.ms) w p.written wrote);
 }

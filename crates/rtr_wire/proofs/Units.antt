@@ -1,21 +1,20 @@
 -- One unit: what reading it and writing its form tell together.
-use Rattle.std.proofs.Common.{◌≡◌, ℕ, ◌≤◌, true, false, List, [], ◌++◌, length, Option, Some, None, Result, Ok, Err, refl, sym, ap, subst, ◌∙◌, arith, inl, inr, ◌⊎◌}
+use Rattle.std.proofs.Common.{◌≡◌, ℕ, true, false, List, [], Option, Some, None, Result, Ok, Err, refl, sym, ap, subst, ◌∙◌, inl, inr}
 use Rattle.std.specs.Prelude.{IsSome}
-use Rattle.std.specs.Io.KnownBytes.{Consumes, Appends}
+use Rattle.std.specs.Io.KnownBytes.{Appends}
 use Rattle.std.proofs.KnownBytes.{Appends-nil}
 use Rattle.rtr_units.specs.declared.end.EndOfData.{EndOfData}
 use Rattle.rtr_units.specs.declared.fault.Fault.{Fault}
-use Rattle.rtr_units.specs.declared.fault.Fault.TheVariants.{Reader, Writer, Short, UnitType, UnitLength, TooLong, EmptyProviders, UnitVersion, Refused, TooMany, Memory}
-use Rattle.rtr_units.specs.Causes.{Refusal, short, unit_type, unit_version, too_long, unit_length, empty_providers, refused, Cause, by_reader, by_writer, too_many, no_memory, wrong, cause_of}
-use Rattle.rtr_units.specs.End.{End}
+use Rattle.rtr_units.specs.declared.fault.Fault.TheVariants.{Writer}
+use Rattle.rtr_units.specs.Causes.{short, unit_type, unit_version, too_long, unit_length, empty_providers, refused, Cause, by_reader, by_writer, too_many, no_memory, wrong, cause_of}
 use Rattle.rtr_units.specs.Header.{version_field, type_field}
 use Rattle.rtr_units.specs.Stream.{StopsWriting, WritesPart, PutsForm}
 use Rattle.rtr_units.specs.Ends.{end_bytes, end_meaning}
-use Rattle.rtr_payload.specs.Reads.{IsPartial, IsRefused, IsVariable, StopsReadingUnit}
-use Rattle.rtr_payload.specs.Steps.{PrefixFault, rule_of, refusal_report}
+use Rattle.rtr_payload.specs.Reads.{IsRefused, StopsReadingUnit}
+use Rattle.rtr_payload.specs.Steps.{PrefixFault}
 use Rattle.rtr_payload.specs.Places.{key_fields, aspa_fields}
 use Rattle.rtr_payload.specs.Units.{HasFields, IsUnit, LengthsAgree, meaning, form, form_of}
-use Rattle.rtr_payload.specs.UnitValues.{unit_bytes, unit_fields, ReadsPayload, HasNoPayload, NeedsMemory, MeansPayload}
+use Rattle.rtr_payload.specs.UnitValues.{unit_bytes, unit_fields, ReadsPayload, NeedsMemory, MeansPayload}
 use Rattle.rtr_payload.specs.Values.{payload_of, payload_of_ref, referent}
 use Rattle.rtr_payload.specs.declared.payload.Payload.{Payload as Value}
 use Rattle.rtr_payload.specs.declared.payload.PayloadRef.{PayloadRef}
@@ -26,7 +25,7 @@ use Rattle.rtr_payload.specs.declared.pdu_payload.Payload.{Payload}
 use Rattle.rtr_payload.specs.declared.pdu_payload.Payload.TheVariants.{V4, V6, RouterKey, Aspa}
 use Rattle.rtr_payload.proofs.Reading.{shape_variable}
 use Rattle.rtr_payload.proofs.Refusals.{prefix_refused}
-use Rattle.rtr_wire.specs.Outcome.{StepTells, StopsAt, MayNeedMemory, FormTells, IsPartOfForm, IsProperPrefix, WritesForm, Steps}
+use Rattle.rtr_wire.specs.Outcome.{StepTells, MayNeedMemory, FormTells, WritesForm, Steps}
 
 -- ---- reading stopped
 

@@ -2,7 +2,7 @@
 use Rattle.std.specs.Prelude.{◌≡◌, ◌⊎◌, ℕ, ◌<◌, Bool, true, false, List, [], ◌++◌, length, Option, Result, Ok, Err}
 use Rattle.std.specs.Io.KnownBytes.{Consumes, Appends, IsAtEnd}
 use Rattle.rtr_units.specs.declared.fault.Fault.{Fault}
-use Rattle.rtr_units.specs.Causes.{Refusal, short, unit_type, unit_version, too_long, unit_length, empty_providers, refused, Cause, by_reader, by_writer, too_many, no_memory, wrong, cause_of}
+use Rattle.rtr_units.specs.Causes.{short, refused, Cause, by_reader, by_writer, too_many, no_memory, wrong, cause_of}
 use Rattle.rtr_units.specs.End.{EndMeaning, End, end_list}
 use Rattle.rtr_payload.specs.Payloads.{Meaning}
 use Rattle.rtr_payload.specs.Units.{IsUnit, LengthsAgree, meaning, form_of}
