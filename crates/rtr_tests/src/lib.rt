@@ -4,4 +4,6 @@
 #[cfg(test)]
 mod base;
 #[cfg(test)]
+mod meanings;
+#[cfg(test)]
 mod support;
