@@ -10,8 +10,8 @@ ghost use Rattle.rtr_units.specs.Units.{ipv4_bytes, ipv6_bytes, end_v0_bytes, en
 ghost use Rattle.rtr_units.specs.Units.{serial_field, flags_field, prefix_len_field, max_len_field};
 ghost use Rattle.rtr_units.specs.Units.{ipv4_field, ipv4_asn_field, ipv6_field, ipv6_asn_field};
 
-use crate::cells;
 use crate::cells::Cells;
+use crate::numbers::{u32_at, u128_at};
 use crate::unit::Unit;
 use rtr_base::asn::Asn;
 use rtr_base::payload::Timing;
@@ -120,7 +120,7 @@ impl Ipv4Prefix {
     pub fn prefix(&self) -> Ipv4Addr
         ensures { ipv4_bits result ≡ ipv4_field (ipv4_bytes self.now) }
     {
-        Ipv4Addr::from_bits(cells::u32_at(self.as_ref(), 12))
+        Ipv4Addr::from_bits(u32_at(self.as_ref(), 12))
     }
 
     /// The autonomous system.
@@ -128,7 +128,7 @@ impl Ipv4Prefix {
     pub fn asn(&self) -> Asn
         ensures { result ≡ ipv4_asn_field (ipv4_bytes self.now) }
     {
-        Asn::from_u32(cells::u32_at(self.as_ref(), 16))
+        Asn::from_u32(u32_at(self.as_ref(), 16))
     }
 }
 
@@ -251,7 +251,7 @@ impl Ipv6Prefix {
     pub fn prefix(&self) -> Ipv6Addr
         ensures { ipv6_bits result ≡ ipv6_field (ipv6_bytes self.now) }
     {
-        Ipv6Addr::from_bits(cells::u128_at(self.as_ref(), 12))
+        Ipv6Addr::from_bits(u128_at(self.as_ref(), 12))
     }
 
     /// The autonomous system.
@@ -259,7 +259,7 @@ impl Ipv6Prefix {
     pub fn asn(&self) -> Asn
         ensures { result ≡ ipv6_asn_field (ipv6_bytes self.now) }
     {
-        Asn::from_u32(cells::u32_at(self.as_ref(), 28))
+        Asn::from_u32(u32_at(self.as_ref(), 28))
     }
 }
 
@@ -330,7 +330,7 @@ impl EndOfDataV0 {
     pub fn serial(&self) -> Serial
         ensures { result.0 ≡ serial_field (end_v0_bytes self.now) }
     {
-        Serial(cells::u32_at(self.as_ref(), 8))
+        Serial(u32_at(self.as_ref(), 8))
     }
 }
 
@@ -407,7 +407,7 @@ impl EndOfDataV1 {
     pub fn serial(&self) -> Serial
         ensures { result.0 ≡ serial_field (end_v1_bytes self.now) }
     {
-        Serial(cells::u32_at(self.as_ref(), 8))
+        Serial(u32_at(self.as_ref(), 8))
     }
 
     /// The timing parameters, in seconds.
@@ -417,9 +417,9 @@ impl EndOfDataV1 {
     {
         let bytes = self.as_ref();
         Timing {
-            refresh: cells::u32_at(bytes, 12),
-            retry: cells::u32_at(bytes, 16),
-            expire: cells::u32_at(bytes, 20),
+            refresh: u32_at(bytes, 12),
+            retry: u32_at(bytes, 16),
+            expire: u32_at(bytes, 20),
         }
     }
 }

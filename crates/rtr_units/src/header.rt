@@ -8,9 +8,9 @@ ghost use Rattle.rtr_units.specs.Header.{header, version_field, type_field, sess
 ghost use Rattle.rtr_units.specs.Stream.{FallsShort, PutsForm, count_after, is_reader_fault, is_writer_fault};
 ghost use Rattle.rtr_units.specs.Views.{header_bytes, AreBytes};
 
-use crate::cells;
 use crate::cells::Cells;
 use crate::fault::Fault;
+use crate::numbers::{u16_at, u32_at};
 use crate::piece::{fill, put};
 use crate::source::{Sink, Source};
 
@@ -91,7 +91,7 @@ impl Header {
     pub fn session(&self) -> u16
         ensures { result ≡ session_field (header_bytes self.now) }
     {
-        cells::u16_at(self.as_ref(), 2)
+        u16_at(self.as_ref(), 2)
     }
 
     /// The length field: the bytes of the whole unit, header included.
@@ -99,7 +99,7 @@ impl Header {
     pub fn length(&self) -> u32
         ensures { result ≡ length_field (header_bytes self.now) }
     {
-        cells::u32_at(self.as_ref(), 4)
+        u32_at(self.as_ref(), 4)
     }
 
     /// The length field as a size in memory, or `UnitLength` where it does not fit one.

@@ -1,13 +1,14 @@
 //! Units of the RPKI to Router protocol as lists of bytes, and the readers and writers that they pass through.
 #![tactic(auto)]
 
-mod cells;
+pub mod cells;
 pub mod end;
 pub mod error;
 pub mod fault;
 pub mod fixed;
 pub mod header;
 pub mod laws;
+mod numbers;
 pub mod piece;
 pub mod session;
 pub mod source;

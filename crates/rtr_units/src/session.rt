@@ -10,9 +10,9 @@ ghost use Rattle.rtr_units.specs.Stream.{FallsShort, PutsForm, count_after, is_r
 ghost use Rattle.rtr_units.specs.Units.{notify_bytes, query_bytes, reset_query_bytes, response_bytes, cache_reset_bytes, query_payload_bytes};
 ghost use Rattle.rtr_units.specs.Views.{AreBytes};
 
-use crate::cells;
 use crate::cells::Cells;
 use crate::fault::Fault;
+use crate::numbers::u32_at;
 use crate::piece::{fill, put};
 use crate::source::{Sink, Source};
 use crate::unit::Unit;
@@ -194,7 +194,7 @@ impl SerialQueryPayload {
     pub fn serial(&self) -> Serial
         ensures { result.0 ≡ value (query_payload_bytes self.now) }
     {
-        Serial(cells::u32_at(self.as_ref(), 0))
+        Serial(u32_at(self.as_ref(), 0))
     }
 
     /// Writes the four bytes.

@@ -10,10 +10,10 @@ ghost use Rattle.rtr_units.specs.Reads.{Takes, ReadsRest, StopsRest, ReadsUnit, 
 ghost use Rattle.rtr_units.specs.Stream.{PutsForm, count_after, is_reader_fault, is_writer_fault};
 ghost use Rattle.rtr_units.specs.Views.{header_bytes, AreBytes};
 
-use crate::cells;
 use crate::error::Error;
 use crate::fault::Fault;
 use crate::header::Header;
+use crate::numbers::u16_at;
 use crate::piece::{fill, put};
 use crate::source::{Sink, Source};
 
@@ -70,7 +70,7 @@ pub trait Unit: Drop + Copy {
     final fn session(&self) -> u16
         ensures { result ≡ session_field (bytes self.now) }
     {
-        cells::u16_at(self.as_ref(), 2)
+        u16_at(self.as_ref(), 2)
     }
 
     /// The size of the whole unit in bytes.
