@@ -1,12 +1,12 @@
 -- The fields that are read off a list of bytes, and the units that lists of bytes are.
-use Rattle.std.proofs.Common.{◌≡◌, ◌≢◌, ℕ, ◌+◌, ◌-◌, ◌*◌, ◌%◌, ◌^◌, ◌<◌, ◌≤◌, List, [], ◌∷◌, ◌++◌, length, take, drop, get_or, refl, sym, ap, ◌∙◌, append_assoc, append-nil, arith, eqb, inl, inr}
+use Rattle.std.proofs.Common.{◌≡◌, ◌≢◌, ℕ, ◌+◌, ◌-◌, ◌*◌, ◌%◌, ◌^◌, ◌<◌, ◌≤◌, List, [], ◌∷◌, ◌++◌, length, take, drop, get_or, refl, sym, ap, ◌∙◌, append_assoc, arith, eqb, inl, inr}
 use Rattle.std.specs.List.{AllByRecursion}
 use Rattle.std.proofs.lemmas.Bool.{cases_lt, cond_both, eqb-true}
-use Rattle.std.proofs.lemmas.List.{take_at, drop_at, drop-drop, length-append, length-drop, length-take-le}
+use Rattle.std.proofs.lemmas.List.{take_at, drop_at, drop-drop, length-drop, length-take-le}
 use Rattle.rtr_base.specs.declared.payload.Action.TheVariants.{Announce, Withdraw}
 use Rattle.rtr_base.specs.Actions.{act}
 use Rattle.rtr_base.specs.Bytes.{be, value, words, IsBytes}
-use Rattle.rtr_base.proofs.Numbers.{value-be, be-value, value_below, IsBytes-drop}
+use Rattle.rtr_base.proofs.Numbers.{value-be, IsBytes-drop}
 use Rattle.rtr_base.proofs.Cuts.{cut_byte, cut_bytes, cut_number, cut_end, number_fits}
 use Rattle.rtr_base.specs.Addresses.{Family, v4, v6, width}
 use Rattle.rtr_units.specs.FixedUnits.{prefix_type, prefix_size, address_bytes, prefix_list}

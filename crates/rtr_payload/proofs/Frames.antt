@@ -1,23 +1,22 @@
 -- The steps of a list of bytes by its front: what a header, a unit and an end of data say whatever follows them.
-use Rattle.std.proofs.Common.{◌≡◌, ◌≢◌, ℕ, ◌+◌, ◌*◌, ◌%◌, ◌^◌, ◌<◌, ◌≤◌, ◌⊎◌, Bool, true, false, cond, ltb, eqb, List, [], ◌++◌, length, take, Option, Some, None, refl, sym, ap, subst, ◌∙◌, arith, get_or, inl, inr}
-use Rattle.std.proofs.lemmas.Bool.{le-ltb, lt-ltb, ltb-false, eq-eqb, cond-true}
+use Rattle.std.proofs.Common.{◌≡◌, ◌≢◌, ℕ, ◌+◌, ◌*◌, ◌%◌, ◌≤◌, Bool, true, false, cond, ltb, eqb, List, ◌++◌, length, Option, Some, None, refl, sym, ap, subst, ◌∙◌, arith, inl, inr}
+use Rattle.std.proofs.lemmas.Bool.{le-ltb, ltb-false, eq-eqb, cond-true}
 use Rattle.std.proofs.lemmas.Bool.Decides.{nat_tests}
 use Rattle.std.proofs.lemmas.List.{length-append, take_at}
 use Rattle.rtr_base.specs.declared.payload.Action.{Action}
 use Rattle.rtr_base.specs.declared.payload.Action.TheVariants.{Announce, Withdraw}
 use Rattle.rtr_base.specs.declared.payload.Timing.{Timing}
 use Rattle.rtr_base.specs.Actions.{act}
-use Rattle.rtr_base.specs.Addresses.{Family, v4, v6, width}
-use Rattle.rtr_base.specs.Bytes.{be, value, words}
+use Rattle.rtr_base.specs.Addresses.{Family, v4, v6}
+use Rattle.rtr_base.specs.Bytes.{be, value}
 use Rattle.rtr_base.proofs.Numbers.{length-words, value-be}
-use Rattle.rtr_units.specs.Causes.{Refusal, short, unit_type, unit_version, too_long, unit_length, empty_providers, refused}
-use Rattle.rtr_units.specs.End.{EndMeaning, End, HasTimingOf, timed_list, end_list}
+use Rattle.rtr_units.specs.Causes.{Refusal, short}
+use Rattle.rtr_units.specs.End.{EndMeaning, End, HasTimingOf, timed_list}
 use Rattle.rtr_units.specs.FixedUnits.{prefix_type, prefix_size}
-use Rattle.rtr_units.specs.Header.{version_field, type_field, length_field}
+use Rattle.rtr_units.specs.Header.{type_field, length_field}
 use Rattle.rtr_units.proofs.Headers.{same_header}
-use Rattle.rtr_payload.specs.Reads.{IsPartial, IsRefused}
-use Rattle.rtr_payload.specs.Steps.{PrefixFault, header_fault, header_step, length_step, lengths_fault, frame_fault, first_of, first_fault, first_unit, taken, broken_rule, rule_of, refuse, refusal_report}
-use Rattle.rtr_payload.specs.Units.{Fields, prefix, router_key, providers, unit_list, HasProviders, Fit, WithinLimits, LengthsAgree, HasFields}
+use Rattle.rtr_payload.specs.Steps.{header_fault, header_step, length_step, lengths_fault, frame_fault, first_of, first_fault, first_unit, rule_of, refuse}
+use Rattle.rtr_payload.specs.Units.{Fields, prefix, router_key, providers, unit_list, HasProviders, Fit, WithinLimits, HasFields}
 
 -- ---- the first of two steps
 

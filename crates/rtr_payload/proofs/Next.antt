@@ -1,13 +1,11 @@
 -- The unit or the end of data at the front, cut off by its length field.
-use Rattle.std.proofs.Common.{◌≡◌, ◌≢◌, ℕ, ◌≤◌, List, ◌++◌, length, take, None, Some, refl, sym, ap, ◌∙◌, arith, get_or, inl, inr, Option}
-use Rattle.rtr_base.specs.Addresses.{v4, v6}
-use Rattle.rtr_base.specs.declared.payload.Timing.{Timing}
+use Rattle.std.proofs.Common.{◌≡◌, ◌≢◌, ℕ, ◌≤◌, List, length, None, ap, ◌∙◌, inl, inr}
 use Rattle.rtr_base.specs.Bytes.{IsBytes}
-use Rattle.rtr_units.specs.End.{EndMeaning, End, end_list, timed_list}
+use Rattle.rtr_units.specs.End.{EndMeaning, End}
 use Rattle.rtr_units.specs.Header.{length_field, type_field}
 use Rattle.rtr_payload.specs.Payloads.{Meaning}
-use Rattle.rtr_payload.specs.Units.{Fields, prefix, router_key, providers, unit_list, IsUnit}
-use Rattle.rtr_payload.specs.Steps.{lengths_fault, frame_fault, first_fault, first_unit, BeginsUnit, BeginsEnd}
+use Rattle.rtr_payload.specs.Units.{IsUnit}
+use Rattle.rtr_payload.specs.Steps.{lengths_fault, frame_fault, first_fault, first_unit}
 use Rattle.rtr_payload.proofs.Frames.{first_none, none_in_frame, shape_cut, end_cut}
 use Rattle.rtr_payload.proofs.Apart.{unit_type, end_type}
 use Rattle.rtr_payload.proofs.Rests.{none_begins}

@@ -1,5 +1,5 @@
 -- Where reading a unit stops: lists that end too early, headers and prefix lengths that are refused.
-use Rattle.std.proofs.Common.{◌≡◌, ℕ, ◌+◌, ◌<◌, ◌≤◌, Bool, true, cond, ltb, List, ◌++◌, length, take, drop, inl, inr, Option, Some, None, refl, sym, ap, ◌∙◌, arith, get_or}
+use Rattle.std.proofs.Common.{◌≡◌, ℕ, ◌+◌, ◌<◌, ◌≤◌, Bool, cond, List, ◌++◌, length, take, drop, inl, inr, Some, None, refl, sym, ap, ◌∙◌, arith, get_or}
 use Rattle.std.proofs.lemmas.Bool.{cases_lt, lt-ltb}
 use Rattle.std.proofs.lemmas.Bool.Decides.{nat_tests}
 use Rattle.std.proofs.lemmas.List.{length-append, length-take-le, take-append-drop, take_at}
@@ -7,7 +7,7 @@ use Rattle.rtr_units.specs.Causes.{Refusal, short, unit_type, unit_version, too_
 use Rattle.rtr_units.specs.Header.{version_field, type_field, length_field}
 use Rattle.rtr_units.proofs.Headers.{same_header}
 use Rattle.rtr_payload.specs.Reads.{IsPartial, IsRefused}
-use Rattle.rtr_payload.specs.Steps.{PrefixFault, header_fault, header_step, length_step, lengths_fault, frame_fault, first_of, first_fault, first_unit, taken, rule_of, refuse, refusal_report}
+use Rattle.rtr_payload.specs.Steps.{PrefixFault, header_fault, header_step, length_step, lengths_fault, frame_fault, first_of, first_unit, taken, rule_of, refuse, refusal_report}
 use Rattle.rtr_payload.specs.Units.{Fields, HasFields}
 use Rattle.rtr_payload.proofs.Frames.{Whole, behind_header, same_step, shape_fault, shape_cut}
 

@@ -1,21 +1,16 @@
 -- Each list of bytes begins with a unit, begins with an end of data, or meets a step.
-use Rattle.std.proofs.Common.{◌≡◌, ◌≢◌, ℕ, ◌*◌, ◌%◌, ◌<◌, ◌≤◌, ◌⊎◌, List, [], ◌∷◌, ◌++◌, length, take, drop, Option, Some, None, refl, sym, ap, subst, ◌∙◌, arith, get_or, inl, inr}
+use Rattle.std.proofs.Common.{◌≡◌, ℕ, ◌≤◌, ◌⊎◌, List, ◌++◌, length, take, drop, Option, Some, None, refl, sym, ap, ◌∙◌, arith, get_or, inl, inr}
 use Rattle.std.specs.Prelude.{IsSome}
 use Rattle.std.proofs.lemmas.Bool.Decides.{nat_tests}
 use Rattle.std.proofs.lemmas.List.{take-append-drop, length-take-le}
-use Rattle.rtr_base.specs.Addresses.{Family, v4, v6, width}
+use Rattle.rtr_base.specs.Addresses.{width}
 use Rattle.rtr_base.specs.Bytes.{IsBytes}
 use Rattle.rtr_base.proofs.Numbers.{IsBytes-take}
 use Rattle.rtr_units.specs.Causes.{Refusal}
-use Rattle.rtr_units.specs.End.{EndMeaning, End, end_fields}
-use Rattle.rtr_units.specs.FixedUnits.{prefix_type, prefix_size}
 use Rattle.rtr_units.specs.Header.{version_field, type_field, length_field}
 use Rattle.rtr_units.proofs.Headers.{same_header}
-use Rattle.rtr_units.proofs.EndsRead.{untimed_has, timed_has}
-use Rattle.rtr_payload.specs.Payloads.{Meaning}
-use Rattle.rtr_payload.specs.Places.{prefix_fields, key_fields, aspa_fields}
 use Rattle.rtr_payload.specs.Steps.{header_fault, header_step, lengths_fault, frame_fault, first_fault, first_unit, BeginsShape, BeginsUnit, BeginsEnd, broken_rule, rule_of, refuse}
-use Rattle.rtr_payload.specs.Units.{Fields, prefix, router_key, providers, LengthsAgree, HasFields, IsUnit, meaning}
+use Rattle.rtr_payload.specs.Units.{Fields, prefix, router_key, providers, LengthsAgree, meaning}
 use Rattle.rtr_payload.proofs.Wholes.{whole_is}
 use Rattle.rtr_payload.proofs.Frames.{Whole, InFrame, none_in_frame, first_none, same_step, shape_fault, end_fault}
 

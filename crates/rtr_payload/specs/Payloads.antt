@@ -1,5 +1,5 @@
 -- What a payload unit means: route origins (RFC 8210 sections 5.6 and 5.7), router keys (RFC 8210 section 5.10) and ASPA (the Rust crate's own).
-use Rattle.std.specs.Prelude.{◌≡◌, ℕ, ◌%◌, ◌-◌, ◌^◌, ◌<◌, ◌≤◌, List, length, ◌==◌, if◌then◌else◌}
+use Rattle.std.specs.Prelude.{◌≡◌, ℕ, ◌%◌, ◌-◌, ◌^◌, ◌<◌, ◌≤◌, List, length}
 use Rattle.std.specs.List.{AllByRecursion}
 use Rattle.rtr_base.specs.declared.payload.Action.{Action}
 use Rattle.rtr_base.specs.Addresses.{Family, width}

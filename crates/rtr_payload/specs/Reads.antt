@@ -2,7 +2,7 @@
 use Rattle.std.specs.Prelude.{◌≡◌, ◌⊎◌, ℕ, ◌≤◌, List, ◌++◌, length, slice_index, Option, Some, None}
 use Rattle.std.specs.Io.KnownBytes.{IsAtEnd}
 use Rattle.rtr_units.specs.Header.{version_field, type_field, length_field}
-use Rattle.rtr_units.specs.Causes.{Refusal, short, unit_type, unit_version, too_long, unit_length, empty_providers, refused, Cause, by_reader, by_writer, too_many, no_memory, wrong}
+use Rattle.rtr_units.specs.Causes.{Refusal, short, refused, Cause, by_reader, by_writer, too_many, no_memory, wrong}
 use Rattle.rtr_payload.specs.Steps.{header_fault, first_fault, taken}
 
 -- h is less than a whole unit, and nothing is wrong but that

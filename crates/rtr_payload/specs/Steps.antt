@@ -8,7 +8,7 @@
 --   6  an ASPA is announced and its length leaves no room for a provider
 --   7  there are fewer bytes than the length field says
 --   8  the lengths of a prefix break their rule
-use Rattle.std.specs.Prelude.{codes, ◌≡◌, ℕ, ◌%◌, Bool, not, ◌&&◌, ◌||◌, List, ◌++◌, length, take, drop, slice_index, Option, Some, None, nat_lt, nat_le, ◌==◌, if◌then◌else◌}
+use Rattle.std.specs.Prelude.{codes, ◌≡◌, ℕ, ◌%◌, Bool, not, ◌&&◌, ◌||◌, List, ◌++◌, length, take, slice_index, Option, Some, None, nat_lt, nat_le, ◌==◌, if◌then◌else◌}
 use Rattle.rtr_base.specs.Addresses.{width}
 use Rattle.rtr_units.specs.Header.{version_field, type_field, length_field}
 use Rattle.rtr_units.specs.End.{EndMeaning, End}

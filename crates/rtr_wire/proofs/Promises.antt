@@ -14,7 +14,7 @@ use Rattle.rtr_payload.specs.Steps.{first_fault, taken, BeginsUnit, BeginsEnd}
 use Rattle.rtr_payload.proofs.Rests.{begins_unit_none, begins_end_none}
 use Rattle.rtr_wire.specs.Sequences.{AreUnits, Accepts, IsKept, forms, sequence_form}
 use Rattle.rtr_wire.specs.Outcome.{Runs, Stopped, StopsAt, MayNeedMemory, by_cause}
-use Rattle.rtr_wire.specs.Promise.{NoFailure, HadMemory, Moved, Succeeds, SucceedsOnly, Refuses, Fills, IsCut, IsHalted, IsStarved, IsOriginPayload, Spares, Sides, Normalises}
+use Rattle.rtr_wire.specs.Promise.{NoFailure, HadMemory, Moved, Succeeds, SucceedsOnly, FirstFault, IsFull, Refuses, Fills, IsCut, IsHalted, IsStarved, IsOriginPayload, Spares, Sides, Normalises}
 use Rattle.rtr_wire.proofs.Runs.{accepted_same, kept_accepted, same_run, goes_on as run_goes_on}
 use Rattle.rtr_payload.proofs.Fields.{units_same}
 use Rattle.rtr_payload.proofs.Apart.{unit_or_end, end_type}
@@ -104,9 +104,7 @@ module _ (limit : ℕ) (input left : List ℕ) (old new : Sides) (at : new.left 
         us = p.us;
         ms = p.ms;
         rest = p.h ++ left;
-        kept = kept_before input p.us (p.h ++ left) limit p.ms f p.parts p.units lt fault;
-        below = lt;
-        fault = fault;
+        first = record { kept = kept_before input p.us (p.h ++ left) limit p.ms f p.parts p.units lt fault; below = lt; fault = fault };
         moved = subst (λ h. Moved input (p.us ++ h) (forms p.ms) old new) (sym took) (moved p.us p.h p.w (forms p.ms) p.parts p.wrote is);
       }
 
@@ -118,8 +116,7 @@ module _ (limit : ℕ) (input left : List ℕ) (old new : Sides) (at : new.left 
         us = p.us;
         ms = p.ms;
         rest = left;
-        kept = kept_full input p.us left limit p.ms parts p.units same;
-        at_limit = same;
+        full = record { kept = kept_full input p.us left limit p.ms parts p.units same; at_limit = same };
         moved = record { rest = left; parts = parts; left = at; wrote = subst (Appends old.held new.held) is p.wrote };
       }
 
@@ -147,17 +144,15 @@ module _ (limit : ℕ) (input left : List ℕ) (old new : Sides) (at : new.left 
       let (lt, place, is) = p.why in
       record { us = p.us; last = p.h; ms = p.ms; units = p.units; below = lt; place = place; moved = moved p.us p.h p.w (forms p.ms) p.parts p.wrote is }
 
-  -- an accepted input is no run that stopped by a cause of the input
-  not_refused : (f : Refusal) (b : List ℕ) (ms : List Meaning) (e : EndMeaning) → Accepts input b ms e → length ms < limit → StoppedBy limit (wrong f) input left old new → ⊥
-  not_refused f b ms e a lt p =
-      let q = refuses f p in
-      no_end q.rest f q.fault (kept_accepted input limit q.us q.rest b ms q.ms e q.kept a lt).1
+-- ---- an accepted input has no fault
 
-  not_full : (b : List ℕ) (ms : List Meaning) (e : EndMeaning) → Accepts input b ms e → length ms < limit → StoppedBy limit too_many input left old new → ⊥
-  not_full b ms e a lt p =
-      let q = fills p in
-      let same = (kept_accepted input limit q.us q.rest b ms q.ms e q.kept a lt).0 in
-      absurd (omega (arith, ap length same, q.at_limit))
+pub no_first_fault : (limit : ℕ) (f : Refusal) (input us rest b : List ℕ) (ns ms : List Meaning) (e : EndMeaning) → FirstFault limit f input us ns rest → Accepts input b ms e → length ms < limit → ⊥
+no_first_fault limit f input us rest b ns ms e q a lt = no_end rest f q.fault (kept_accepted input limit us rest b ms ns e q.kept a lt).1
+
+pub not_full : (limit : ℕ) (input us rest b : List ℕ) (ns ms : List Meaning) (e : EndMeaning) → IsFull limit input us ns rest → Accepts input b ms e → length ms < limit → ⊥
+not_full limit input us rest b ns ms e q a lt =
+    let same = (kept_accepted input limit us rest b ms ns e q.kept a lt).0 in
+    absurd (omega (arith, ap length same, q.at_limit))
 
 -- ---- no side failed
 
@@ -165,7 +160,7 @@ not_failed : (n m : ℕ) (b : Bool) → NoFailure n m → m ≡ count_after n (n
 not_failed n m false p e = refl
 not_failed n m true p e = absurd (omega (arith, p.0, p.1, e))
 
-by_reader_is : (g : Fault) → cause_of g ≡ by_reader → is_reader_fault {T = ℕ} (Err g) ≡ true
+pub by_reader_is : (g : Fault) → cause_of g ≡ by_reader → is_reader_fault {T = ℕ} (Err g) ≡ true
 by_reader_is (Reader e) h = refl
 by_reader_is g h = absurd cc
 
@@ -191,8 +186,12 @@ module _ (limit : ℕ) (input left : List ℕ) (old new : Sides) (at : new.left 
       unaccepted by_reader same b ms e a lt = let is = by_reader_is g same in absurd cc
       unaccepted by_writer same b ms e a lt = let is = by_writer_is g same in absurd cc
       unaccepted no_memory same b ms e a lt = m (ap Err same)
-      unaccepted too_many same b ms e a lt = not_full limit input left old new at b ms e a lt (stopped_by limit (Err g) too_many input left old new (ap Err same) run)
-      unaccepted (wrong f) same b ms e a lt = not_refused limit input left old new at f b ms e a lt (stopped_by limit (Err g) (wrong f) input left old new (ap Err same) run)
+      unaccepted too_many same b ms e a lt =
+          let q = fills limit input left old new at (stopped_by limit (Err g) too_many input left old new (ap Err same) run) in
+          not_full limit input q.us q.rest b q.ms ms e q.full a lt
+      unaccepted (wrong f) same b ms e a lt =
+          let q = refuses limit input left old new at f (stopped_by limit (Err g) (wrong f) input left old new (ap Err same) run) in
+          no_first_fault limit f input q.us q.rest b q.ms ms e q.first a lt
 
 -- ---- origins need no memory
 

@@ -55,23 +55,31 @@ Succeeds limit r input old new = (b : List ℕ) (ms : List Meaning) (e : EndMean
 abbrev pub SucceedsOnly : ℕ → Result ℕ Fault → List ℕ → Sides → Sides → Type 0
 SucceedsOnly limit r input old new = IfOk r (λ n. (b : List ℕ) × (ms : List Meaning) × (e : EndMeaning) × Accepts input b ms e × (length ms ≡ n) × (n < limit) × Moved input b (sequence_form ms e) old new)
 
--- behind the longest front of units, fewer than `limit`, the rest has this first fault, with the bytes that it takes
+-- behind the longest front us of units, fewer than `limit`, this is the first fault of the rest
+pub record FirstFault (limit : ℕ) (f : Refusal) (input us : List ℕ) (ms : List Meaning) (rest : List ℕ) : Type 0 where
+  pub kept : IsKept input limit us ms rest
+  pub below : length ms < limit
+  pub fault : first_fault rest ≡ Some f
+
+-- the input begins with `limit` units
+pub record IsFull (limit : ℕ) (input us : List ℕ) (ms : List Meaning) (rest : List ℕ) : Type 0 where
+  pub kept : IsKept input limit us ms rest
+  pub at_limit : length ms ≡ limit
+
+-- the first fault was met, with the bytes that it takes, and the units before it are written
 pub record Refuses (limit : ℕ) (f : Refusal) (input : List ℕ) (old new : Sides) : Type 0 where
   pub us : List ℕ
   pub ms : List Meaning
   pub rest : List ℕ
-  pub kept : IsKept input limit us ms rest
-  pub below : length ms < limit
-  pub fault : first_fault rest ≡ Some f
+  pub first : FirstFault limit f input us ms rest
   pub moved : Moved input (us ++ taken f rest) (forms ms) old new
 
--- the input begins with `limit` units, and nothing behind them was taken
+-- `limit` units were read and written, and nothing behind them was taken
 pub record Fills (limit : ℕ) (input : List ℕ) (old new : Sides) : Type 0 where
   pub us : List ℕ
   pub ms : List Meaning
   pub rest : List ℕ
-  pub kept : IsKept input limit us ms rest
-  pub at_limit : length ms ≡ limit
+  pub full : IsFull limit input us ms rest
   pub moved : Moved input us (forms ms) old new
 
 -- the reader failed within, or right behind, the units: the bytes t that were taken are less than a sequence
