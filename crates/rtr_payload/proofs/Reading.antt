@@ -28,7 +28,7 @@ use Rattle.rtr_payload.specs.Steps.{PrefixFault, header_fault, header_step, rule
 use Rattle.rtr_payload.specs.Units.{Fields, HasFields}
 use Rattle.rtr_payload.proofs.Frames.{Whole, shape_whole}
 use Rattle.rtr_payload.proofs.Refusals.{header_short, unit_short, body_short, header_refused}
-use Rattle.rtr_payload.proofs.Wholes.{body_whole, prefix_whole, ends_whole, key_whole, aspa_whole}
+use Rattle.rtr_payload.proofs.Wholes.{body_whole, prefix_whole, key_whole, aspa_whole}
 
 -- ---- headers by their type
 

@@ -4,7 +4,7 @@ use Rattle.std.proofs.lemmas.Bool.Decides.{nat_tests}
 use Rattle.std.proofs.lemmas.List.{length-append}
 use Rattle.rtr_base.specs.Addresses.{Family, v4, v6}
 use Rattle.rtr_base.specs.Bytes.{IsBytes}
-use Rattle.rtr_units.specs.End.{EndMeaning, End, end_fields}
+use Rattle.rtr_units.specs.End.{EndMeaning, End, untimed_meaning, timed_meaning}
 use Rattle.rtr_units.specs.FixedUnits.{prefix_type, prefix_size}
 use Rattle.rtr_units.specs.Header.{version_field, type_field, length_field}
 use Rattle.rtr_units.proofs.Headers.{same_header}
@@ -65,16 +65,16 @@ aspa_whole b h w t =
     let n = aspa_said (version_field b) (get_or b 2 0) (length_field b) (step_of b 11 w t) in
     aspa_has b h (omega (arith, w.size)) (omega (arith, w.size)) (rw (← w.size) n.2) (λ e. n.3 (w.size ∙ e)) t w.size
 
-pub ends_whole : (b : List ℕ) → IsBytes b → Whole b → type_field b ≡ 7 → End b (end_fields b)
-ends_whole b h w t = elim (end_said (version_field b) (get_or b 2 0) (length_field b) (step_of b 7 w t)) [
-  | inl x ↦ untimed_has b h x.0 t (sym w.size ∙ x.1) x.1
-  | inr x ↦ timed_has b h x.0 t (sym w.size ∙ x.1) x.1
+pub end_whole : (b : List ℕ) → IsBytes b → Whole b → type_field b ≡ 7 → (e : EndMeaning) × End b e
+end_whole b h w t = elim (end_said (version_field b) (get_or b 2 0) (length_field b) (step_of b 7 w t)) [
+  | inl x ↦ (untimed_meaning b, untimed_has b h x.0 t (sym w.size ∙ x.1) x.1)
+  | inr x ↦ (timed_meaning b, timed_has b h x.0 t (sym w.size ∙ x.1) x.1)
 ]
 
 pub whole_is : (b : List ℕ) → IsBytes b → Whole b → ((u : Fields) × HasFields b u) ⊎ ((e : EndMeaning) × End b e)
 whole_is b h w = elim (kinds (version_field b) (type_field b) (get_or b 2 0) (length_field b) w.in_order) [
   | inl x ↦ inl (prefix_fields x.0 b, prefix_whole x.0 b h w x.1)
-  | inr (inl t) ↦ inr (end_fields b, ends_whole b h w t)
+  | inr (inl t) ↦ inr (end_whole b h w t)
   | inr (inr (inl t)) ↦ inl (key_fields b, key_whole b h w t)
   | inr (inr (inr t)) ↦ inl (aspa_fields b, aspa_whole b h w t)
 ]

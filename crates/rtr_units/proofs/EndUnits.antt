@@ -2,18 +2,10 @@
 use Rattle.std.proofs.Common.{◌≡◌, ℕ, zero, suc, ◌≤◌, ◌⊎◌, inl, inr, List, length, take, drop, Option, Some, None, refl, sym, ap, ◌∙◌, subst, eqb, arith}
 use Rattle.std.proofs.lemmas.Bool.{cond-true, cond-false, eq-eqb, ne_eqb}
 use Rattle.rtr_base.specs.Bytes.{IsBytes}
-use Rattle.rtr_units.specs.End.{EndMeaning, End, end_fields, timing_fields}
-use Rattle.rtr_units.specs.Ends.{HasEndHeader, end_length, untimed_meaning, timed_meaning}
+use Rattle.rtr_units.specs.End.{End, timed_meaning}
+use Rattle.rtr_units.specs.Ends.{HasEndHeader, end_length}
 use Rattle.rtr_units.specs.Header.{version_field, type_field, session_field, length_field}
-use Rattle.rtr_units.specs.Units.{serial_field}
-use Rattle.rtr_units.proofs.EndsRead.{untimed_has, timed_has}
-
--- twelve bytes of version 0
-pub end_without_timing : (u : List ℕ) → IsBytes u → length u ≡ 12 → version_field u ≡ 0 → type_field u ≡ 7 → length_field u ≡ 12 → End u (untimed_meaning u)
-end_without_timing u h size v t n =
-    let none : (end_fields u).timing ≡ None = cond-true (eqb (version_field u) 0) None (Some (timing_fields u)) (eq-eqb (version_field u) 0 v) in
-    let same : end_fields u ≡ untimed_meaning u = λ i. record { version = v i; session = session_field u; serial = serial_field u; timing = none i } in
-    subst (End u) same (untimed_has u h v t size n)
+use Rattle.rtr_units.proofs.EndsRead.{timed_has}
 
 one_or_two : (n : ℕ) → n ≤ 2 → ¬ (n ≡ 0) → (n ≡ 1) ⊎ (n ≡ 2)
 one_or_two zero small some = absurd (some refl)
@@ -23,10 +15,7 @@ one_or_two (suc (suc (suc n))) small some = absurd (omega arith)
 
 -- 24 bytes of version 1 or 2
 pub end_with_timing : (u : List ℕ) → IsBytes u → length u ≡ 24 → version_field u ≤ 2 → ¬ (version_field u ≡ 0) → type_field u ≡ 7 → length_field u ≡ 24 → End u (timed_meaning u)
-end_with_timing u h size small later t n =
-    let some : (end_fields u).timing ≡ Some (timing_fields u) = cond-false (eqb (version_field u) 0) None (Some (timing_fields u)) (ne_eqb (version_field u) 0 later) in
-    let same : end_fields u ≡ timed_meaning u = λ i. record { version = version_field u; session = session_field u; serial = serial_field u; timing = some i } in
-    subst (End u) same (timed_has u h (one_or_two (version_field u) small later) t size n)
+end_with_timing u h size small later t n = timed_has u h (one_or_two (version_field u) small later) t size n
 
 pub header_without_timing : (h : List ℕ) → version_field h ≡ 0 → length_field h ≡ 12 → HasEndHeader h
 header_without_timing h v n = (omega arith, n ∙ ap end_length (sym v))

@@ -1,5 +1,5 @@
 -- The end of data (RFC 6810 section 5.8, RFC 8210 section 5.8; version 2, which is the crate's own, is laid out as version 1).
-use Rattle.std.specs.Prelude.{◌≡◌, ℕ, ◌^◌, ◌<◌, ◌⊎◌, List, ◌∷◌, ◌++◌, take, drop, Option, Some, None, ◌==◌, if◌then◌else◌}
+use Rattle.std.specs.Prelude.{◌≡◌, ℕ, ◌^◌, ◌<◌, ◌⊎◌, List, ◌∷◌, ◌++◌, take, drop, Option, Some, None}
 use Rattle.rtr_base.specs.declared.payload.Timing.{Timing}
 use Rattle.rtr_base.specs.Bytes.{be, value}
 use Rattle.rtr_units.specs.Header.{header, version_field, session_field}
@@ -35,15 +35,15 @@ pub record End (b : List ℕ) (e : EndMeaning) : Type 0 where
   pub fits : IsEndMeaning e
   pub bytes : b ≡ end_list e
 
--- ---- the fields of an end of data, read off its bytes
+-- ---- what the bytes of an end of data mean, read off at their places
 
 abbrev pub timing_fields : List ℕ → Timing
 timing_fields b = record { refresh = value (take 4 (drop 12 b)); retry = value (take 4 (drop 16 b)); expire = value (take 4 (drop 20 b)) }
 
-abbrev pub end_fields : List ℕ → EndMeaning
-end_fields b = record {
-  version = version_field b;
-  session = session_field b;
-  serial = value (take 4 (drop 8 b));
-  timing = if version_field b == 0 then None else Some (timing_fields b);
-}
+-- as one of version 0, whatever their version field says
+abbrev pub untimed_meaning : List ℕ → EndMeaning
+untimed_meaning b = record { version = 0; session = session_field b; serial = value (take 4 (drop 8 b)); timing = None }
+
+-- as one of a later version
+abbrev pub timed_meaning : List ℕ → EndMeaning
+timed_meaning b = record { version = version_field b; session = session_field b; serial = value (take 4 (drop 8 b)); timing = Some (timing_fields b) }

@@ -2,24 +2,16 @@
 use Rattle.std.specs.Prelude.{◌≡◌, ℕ, ◌+◌, ◌<◌, ◌≤◌, List, [], ◌++◌, length, Option, Some, None, ◌==◌, if◌then◌else◌}
 use Rattle.std.specs.Io.KnownBytes.{IsAtEnd}
 use Rattle.rtr_units.specs.Causes.{short, unit_version, unit_length, Cause, by_reader, wrong}
-use Rattle.rtr_units.specs.End.{EndMeaning, End, timing_fields}
-use Rattle.rtr_units.specs.Header.{version_field, type_field, session_field, length_field}
+use Rattle.rtr_units.specs.End.{EndMeaning, End, untimed_meaning, timed_meaning}
+use Rattle.rtr_units.specs.Header.{version_field, type_field, length_field}
 use Rattle.rtr_units.specs.Reads.{Takes}
-use Rattle.rtr_units.specs.Units.{end_v0_bytes, end_v1_bytes, serial_field}
+use Rattle.rtr_units.specs.Units.{end_v0_bytes, end_v1_bytes}
 use Rattle.rtr_units.specs.declared.end.EndOfData.{EndOfData}
 use Rattle.rtr_units.specs.declared.end.EndOfData.TheVariants.{V0, V1}
 
 abbrev pub end_bytes : EndOfData → List ℕ
 end_bytes (V0 u) = end_v0_bytes u
 end_bytes (V1 u) = end_v1_bytes u
-
--- what bytes mean as an end of data of version 0, whatever their version field says
-abbrev pub untimed_meaning : List ℕ → EndMeaning
-untimed_meaning u = record { version = 0; session = session_field u; serial = serial_field u; timing = None }
-
--- what bytes mean as an end of data of a later version
-abbrev pub timed_meaning : List ℕ → EndMeaning
-timed_meaning u = record { version = version_field u; session = session_field u; serial = serial_field u; timing = Some (timing_fields u) }
 
 abbrev pub end_meaning : EndOfData → EndMeaning
 end_meaning (V0 u) = untimed_meaning (end_v0_bytes u)

@@ -1,6 +1,7 @@
 use Rattle.std.proofs.Common.{◌≡◌, ◌≤◌, ◌∙◌, ◌++◌, sym, ap, arith}
 use Rattle.rtr_units.specs.Header.{version_field, type_field, length_field}
-use Rattle.rtr_units.proofs.EndUnits.{end_without_timing, end_with_timing, header_without_timing, header_with_timing}
+use Rattle.rtr_units.proofs.EndsRead.{untimed_has}
+use Rattle.rtr_units.proofs.EndUnits.{end_with_timing, header_without_timing, header_with_timing}
 use Rattle.rtr_units.proofs.Headers.{same_header}
 use Rattle.rtr_units.proofs.end.EndOfData.read_payload.Goals as goal
 
@@ -17,7 +18,7 @@ returns-in-Ok-clause-bytes g c =
       header_without_timing h is_version is_length,
       (t, taken, parts),
       sym is_version,
-      λ is_type. end_without_timing u range size (version ∙ is_version) (kind ∙ is_type) (field ∙ is_length),
+      λ is_type. untimed_has u range (version ∙ is_version) (kind ∙ is_type) size (field ∙ is_length),
     )
 
 pub returns-in-Ok-read_payload-clause-bytes : goal.returns-in-Ok-read_payload-clause-bytes
