@@ -4,11 +4,11 @@ use crate::support::{
     ASPA_BARE, ASPA_NAMED, END_1, IPV4, IPV4_STRAY, KEY, Page, granted, normalised, tell,
 };
 use rtr_wire::base::{Asn, KeyIdentifier};
-use rtr_wire::payload;
 use rtr_wire::pdu::{
     Aspa, Counted, Error, Fault, Header, KeyInfoVecError, Payload, ProviderAsns, ProviderIterError,
     RouterKey, RouterKeyInfo, SliceSource,
 };
+use rtr_wire::{payload, same_meaning};
 use std::alloc::Global;
 use std::io::Write;
 use std::process::Abort;
@@ -243,4 +243,14 @@ fn meant(rt: &impl Abort, alloc: Global) -> Result<(), Fault> {
 #[test]
 fn meanings(rt: HostRuntime) -> Result<(), Fail> {
     tell(&rt, meant(&rt, rt.alloc()))
+}
+
+#[test]
+fn compared_keys(rt: HostRuntime) -> Result<(), Fail> {
+    let left = Page::spelled(&[KEY, END_1])?;
+    let right = Page::spelled(&[KEY, END_1])?;
+    let same = same_meaning(rt.alloc(), left.bytes(), right.bytes(), 9);
+    assert_eq!(rt; left.bytes(), right.bytes());
+    assert!(rt; !matches!(same, Ok(false)));
+    tell(&rt, same.map(|_| ()))
 }

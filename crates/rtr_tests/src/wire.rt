@@ -1,5 +1,6 @@
 //! Whole sequences: what `normalise` answers to rows of inputs, by readers and writers of all kinds.
 
+mod compared;
 mod rows;
 mod shown;
 
