@@ -7,3 +7,5 @@ mod base;
 mod meanings;
 #[cfg(test)]
 mod support;
+#[cfg(test)]
+mod wire;

@@ -1,0 +1,110 @@
+//! Units that ask for one frame behind their header.
+
+use crate::support::{ASPA_BARE, ASPA_NAMED, END_1, IPV4, IPV4_STRAY, KEY, Page, normalised};
+use rtr_wire::pdu::{Aspa, Counted, Fault, RouterKey, SliceSource};
+use std::alloc::Global;
+use std::process::Abort;
+use std::test::Fail;
+
+/// The word for a unit whose growth was refused, by how many of its bytes were taken.
+fn word(rt: &impl Abort, taken: usize, unit: usize) -> &'static str {
+    if taken == 8 {
+        return "header";
+    }
+    assert_eq!(rt; taken, unit);
+    "unit"
+}
+
+#[test]
+fn router_key(rt: HostRuntime) -> Result<(), Fail> {
+    let input = Page::spelled(&[KEY])?;
+    let mut reader = SliceSource::new(input.bytes());
+    match RouterKey::read(rt.alloc(), &mut reader) {
+        Ok(unit) => {
+            let mut writer = Counted::new(Page::new());
+            unit.write(&mut writer)?;
+            assert_eq!(rt; writer.into_inner().bytes(), input.bytes());
+            assert_eq!(rt; reader.rest().len(), 0);
+            println!(rt; "whole")?;
+        }
+        Err(Fault::Memory) => {
+            let taken = input.bytes().len().saturating_sub(reader.rest().len());
+            println!(rt; "{}", word(&rt, taken, 36))?;
+        }
+        Err(fault) => panic!(rt; "{fault}"),
+    }
+    Ok(())
+}
+
+#[test]
+fn aspa(rt: HostRuntime) -> Result<(), Fail> {
+    let input = Page::spelled(&[ASPA_NAMED])?;
+    let mut reader = SliceSource::new(input.bytes());
+    match Aspa::read(rt.alloc(), &mut reader) {
+        Ok(unit) => {
+            let mut writer = Counted::new(Page::new());
+            unit.write(&mut writer)?;
+            assert_eq!(rt; writer.into_inner().bytes(), input.bytes());
+            assert_eq!(rt; reader.rest().len(), 0);
+            println!(rt; "whole")?;
+        }
+        Err(Fault::Memory) => {
+            let taken = input.bytes().len().saturating_sub(reader.rest().len());
+            println!(rt; "{}", word(&rt, taken, 20))?;
+        }
+        Err(fault) => panic!(rt; "{fault}"),
+    }
+    Ok(())
+}
+
+/// Asserts that units, one more behind them and an end of data have their form, or that memory ran out in that last
+/// unit behind the form of the others. Answers the word.
+fn sequence(
+    rt: &impl Abort,
+    alloc: Global,
+    units: [&str; 2],
+    forms: [&str; 2],
+) -> Result<&'static str, Fail> {
+    let [before, unit] = units;
+    let [held, form] = forms;
+    let input = Page::spelled(&[before, unit, END_1])?;
+    let before = Page::spelled(&[before])?;
+    let unit = Page::spelled(&[unit])?;
+    let seen = normalised(alloc, input.bytes());
+    match seen.answer {
+        Ok(_) => {
+            let output = Page::spelled(&[held, form, END_1])?;
+            assert_eq!(rt; seen.output.bytes(), output.bytes());
+            assert_eq!(rt; seen.taken, input.bytes().len());
+            Ok("whole")
+        }
+        Err(Fault::Memory) => {
+            let output = Page::spelled(&[held])?;
+            assert_eq!(rt; seen.output.bytes(), output.bytes());
+            let taken = seen.taken.saturating_sub(before.bytes().len());
+            Ok(word(rt, taken, unit.bytes().len()))
+        }
+        Err(fault) => panic!(rt; "{fault}"),
+    }
+}
+
+#[test]
+fn normalised_key(rt: HostRuntime) -> Result<(), Fail> {
+    let word = sequence(&rt, rt.alloc(), ["", KEY], ["", KEY])?;
+    println!(rt; "{word}")?;
+    Ok(())
+}
+
+#[test]
+fn normalised_key_behind_prefix(rt: HostRuntime) -> Result<(), Fail> {
+    let word = sequence(&rt, rt.alloc(), [IPV4_STRAY, KEY], [IPV4, KEY])?;
+    println!(rt; "{word}")?;
+    Ok(())
+}
+
+#[test]
+fn normalised_aspa(rt: HostRuntime) -> Result<(), Fail> {
+    let word = sequence(&rt, rt.alloc(), ["", ASPA_NAMED], ["", ASPA_BARE])?;
+    println!(rt; "{word}")?;
+    Ok(())
+}

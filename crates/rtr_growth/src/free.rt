@@ -1,0 +1,170 @@
+//! Inputs for which `normalise` asks for no growth: sequences of prefixes, and faults that come before a body.
+
+use crate::support::{END_0, END_1, IPV4, IPV4_STRAY, KEY, Page, normalised};
+use std::io::Write;
+use std::test::Fail;
+
+/// Sequences of prefixes, and their forms.
+const ACCEPTED: &[(&[&str], u64, &[&str])] = &[
+    (&[END_0], 0, &[END_0]),
+    (&[IPV4_STRAY, END_1], 1, &[IPV4, END_1]),
+    (&[IPV4_STRAY, IPV4, END_0], 2, &[IPV4, IPV4, END_0]),
+    (
+        &[
+            "01 04 00 00 00 00 00 14 01 00 00 00 ff ff ff ff 00 01 00 0f",
+            END_1,
+        ],
+        1,
+        &[
+            "01 04 00 00 00 00 00 14 01 00 00 00 00 00 00 00 00 01 00 0f",
+            END_1,
+        ],
+    ),
+    (
+        &[
+            "01 06 00 00 00 00 00 20 01 17 1a 00 20 01 0d b8 00 00 00 02 00 0a 00 00 de ad be ef 00 01 00 0f",
+            END_1,
+        ],
+        1,
+        &[
+            "01 06 00 00 00 00 00 20 01 17 1a 00 20 01 0c 00 00 00 00 00 00 00 00 00 00 00 00 00 00 01 00 0f",
+            END_1,
+        ],
+    ),
+];
+
+/// An input that is refused with no report: the fault's text, how many bytes are taken, and the output.
+type Refused = (
+    &'static [&'static str],
+    &'static str,
+    usize,
+    &'static [&'static str],
+);
+
+/// Inputs that are refused with no report.
+const REFUSED: &[Refused] = &[
+    (
+        &["01 09 01 00 00 00 00 1f", KEY],
+        "invalid unit length",
+        8,
+        &[],
+    ),
+    (
+        &["01 09 01 00 00 01 00 00", KEY],
+        "unit is longer than 65535 bytes",
+        8,
+        &[],
+    ),
+    (
+        &["01 09 01 00 ff ff ff ff", KEY],
+        "unit is longer than 65535 bytes",
+        8,
+        &[],
+    ),
+    (
+        &["02 0b 01 00 00 00 00 0c", KEY],
+        "ASPA unit has no providers",
+        8,
+        &[],
+    ),
+    (
+        &["02 0b 01 00 00 00 00 0b", KEY],
+        "invalid unit length",
+        8,
+        &[],
+    ),
+    (
+        &["02 0b 01 00 00 00 00 0e", KEY],
+        "invalid unit length",
+        8,
+        &[],
+    ),
+    (
+        &["02 0b 01 00 00 00 ff ff", KEY],
+        "invalid unit length",
+        8,
+        &[],
+    ),
+    (
+        &["02 0b 01 00 00 01 00 00", KEY],
+        "unit is longer than 65535 bytes",
+        8,
+        &[],
+    ),
+    (
+        &["03 07 12 34 00 00 00 18", KEY],
+        "version 3 is not supported here",
+        8,
+        &[],
+    ),
+    (
+        &["00 07 12 34 00 00 00 18", KEY],
+        "invalid unit length",
+        8,
+        &[],
+    ),
+    (
+        &["01 07 12 34 00 00 00 0c", KEY],
+        "invalid unit length",
+        8,
+        &[],
+    ),
+    (
+        &[IPV4, "01 0a 00 03 00 00 00 12"],
+        "unit type 10 is not allowed here",
+        28,
+        &[IPV4],
+    ),
+    (
+        &[IPV4, "01 05 00 03 00 00 00 12"],
+        "unit type 5 is not allowed here",
+        28,
+        &[IPV4],
+    ),
+    (
+        &[IPV4, "01 03 00 03 00 00 00 12"],
+        "unit type 3 is not allowed here",
+        28,
+        &[IPV4],
+    ),
+    (&[], "unexpected end of input", 0, &[]),
+    (&[IPV4_STRAY], "unexpected end of input", 20, &[IPV4]),
+];
+
+#[test]
+fn accepted_prefixes(rt: HostRuntime) -> Result<(), Fail> {
+    for (input, units, output) in ACCEPTED {
+        let input = Page::spelled(input)?;
+        let seen = normalised(rt.alloc(), input.bytes());
+        match &seen.answer {
+            Ok(count) => assert_eq!(rt; *count, *units),
+            Err(fault) => panic!(rt; "{fault}"),
+        }
+        let output = Page::spelled(output)?;
+        assert_eq!(rt; seen.output.bytes(), output.bytes());
+        assert_eq!(rt; seen.taken, input.bytes().len());
+    }
+    println!(rt; "whole")?;
+    Ok(())
+}
+
+#[test]
+fn refused_units(rt: HostRuntime) -> Result<(), Fail> {
+    for (input, text, taken, output) in REFUSED {
+        let input = Page::spelled(input)?;
+        let seen = normalised(rt.alloc(), input.bytes());
+        match &seen.answer {
+            Ok(count) => panic!(rt; "{count} units, not {text}"),
+            Err(fault) => {
+                let mut shown = Page::new();
+                write!(shown, "{fault}")?;
+                assert_eq!(rt; shown.bytes(), text.as_bytes());
+            }
+        }
+        let output = Page::spelled(output)?;
+        assert_eq!(rt; seen.output.bytes(), output.bytes());
+        assert_eq!(rt; seen.taken, *taken);
+    }
+    println!(rt; "whole")?;
+    Ok(())
+}

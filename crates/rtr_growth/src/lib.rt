@@ -1,0 +1,19 @@
+//! Tests of what a refused growth leaves. Each takes the whole answer or want of memory, checks either in full, and
+//! prints one word that says which. `.ci/growth` runs them with each growth refused in turn and compares the words:
+//! - tests of `framed` ask for their unit's frame first, so that the first refusal leaves all behind the header unread,
+//!   and they print `header`; a later one leaves the unit taken, and they print `unit`;
+//! - tests of `refused` print `memory` where a growth was refused, the first among them;
+//! - tests of `lent` print `memory` where a growth was refused, if they ask for any;
+//! - tests of `free` ask for no growth, and always print `whole`, as all others do with no growth refused.
+#![tactic(auto)]
+
+#[cfg(test)]
+mod framed;
+#[cfg(test)]
+mod free;
+#[cfg(test)]
+mod lent;
+#[cfg(test)]
+mod refused;
+#[cfg(test)]
+mod support;

@@ -1,0 +1,119 @@
+//! Bytes and a writer without memory.
+
+use rtr_wire::normalise;
+use rtr_wire::pdu::{Counted, Fault, SliceSource};
+use std::alloc::{AllocError, Global};
+use std::io;
+use std::io::Write;
+use std::process::Abort;
+use std::test::Fail;
+
+/// More units than any test has.
+pub const LIMIT: u64 = 4294967295;
+
+pub const IPV4_STRAY: &str = "01 04 00 07 00 00 00 14 03 17 1a 09 c0 00 02 0a 00 01 00 0f";
+
+/// The form of `IPV4_STRAY`.
+pub const IPV4: &str = "01 04 00 00 00 00 00 14 01 17 1a 00 c0 00 02 00 00 01 00 0f";
+
+pub const KEY: &str =
+    "01 09 01 00 00 00 00 24 01 02 03 04 05 06 07 08 09 0a 0b 0c 0d 0e 0f 10 11 12 13 14 00 01 00 0f 15 16 17 18";
+
+/// An ASPA unit that withdraws and names two providers.
+pub const ASPA_NAMED: &str = "02 0b 00 00 00 00 00 14 00 01 00 0f 00 01 00 0d 00 01 00 0e";
+
+/// The form of `ASPA_NAMED`.
+pub const ASPA_BARE: &str = "02 0b 00 00 00 00 00 0c 00 01 00 0f";
+
+pub const END_0: &str = "00 07 12 34 00 00 00 0c de ad be ef";
+
+pub const END_1: &str = "01 07 12 34 00 00 00 18 de ad be ef 00 00 0e 10 00 00 02 58 00 00 1c 20";
+
+/// Bytes in an array: at most 256.
+#[derive(Drop)]
+pub struct Page {
+    bytes: [u8; 256],
+    held: usize,
+}
+
+impl Page {
+    /// No bytes.
+    pub fn new() -> Page {
+        Page {
+            bytes: [0; 256],
+            held: 0,
+        }
+    }
+
+    /// The bytes that the texts stand for, one text after the other: pairs of hex digits between spaces.
+    pub fn spelled(texts: &[&str]) -> Result<Page, Fail> {
+        let mut page = Page::new();
+        for text in texts {
+            page.spell(text)?;
+        }
+        Ok(page)
+    }
+
+    /// Appends the bytes that the text stands for.
+    fn spell(&mut self, text: &str) -> Result<(), Fail> {
+        for word in text.split_ascii_whitespace() {
+            self.write_all(&[u8::from_str_radix(word, 16)?])?;
+        }
+        Ok(())
+    }
+
+    /// The bytes.
+    pub fn bytes(&self) -> &[u8] {
+        let (held, _) = self.bytes.split_at(self.held.min(256));
+        held
+    }
+}
+
+impl Write for Page {
+    fn write(&mut self, piece: &[u8]) -> io::Result<usize> {
+        let from = self.held.min(256);
+        let count = piece.len().min(256 - from);
+        self.bytes[from..from + count].copy_from_slice(&piece[..count]);
+        self.held = from + count;
+        Ok(count)
+    }
+
+    fn flush(&mut self) -> io::Result<()> {
+        Ok(())
+    }
+}
+
+/// What a call of `normalise` answered and left.
+#[derive(Drop)]
+pub struct Outcome {
+    pub answer: Result<u64, Fault>,
+    pub output: Page,
+    pub taken: usize,
+}
+
+/// Calls `normalise`.
+pub fn normalised(alloc: Global, input: &[u8]) -> Outcome {
+    let mut reader = SliceSource::new(input);
+    let mut writer = Counted::new(Page::new());
+    let answer = normalise(alloc, &mut reader, &mut writer, LIMIT);
+    Outcome {
+        answer,
+        output: writer.into_inner(),
+        taken: input.len().saturating_sub(reader.rest().len()),
+    }
+}
+
+/// The value, or want of memory as a fault.
+pub fn granted<T>(answer: Result<T, AllocError>) -> Result<T, Fault> {
+    answer.map_err(|_| Fault::Memory)
+}
+
+/// Prints `whole` where all went well, and `memory` where a growth was refused.
+pub fn tell(rt: &(impl Abort + Print), answer: Result<(), Fault>) -> Result<(), Fail> {
+    match answer {
+        Ok(()) => println!(rt; "whole")?,
+        Err(Fault::Memory) => println!(rt; "memory")?,
+        Err(fault) => panic!(rt; "{fault}"),
+    }
+    Ok(())
+}

@@ -1,0 +1,411 @@
+//! Whole sequences: what `normalise` answers to rows of inputs, by readers and writers of all kinds.
+
+mod compared;
+mod rows;
+mod shown;
+
+use crate::support::{
+    END_1, IPV4, IPV4_STRAY, ONES, Pieces, Recorder, STEPS, WHOLE, bytes, filler, front,
+};
+use rows::{ACCEPTED, Accepted, REFUSED, REPORTED, SINGLES, Single};
+use rtr_wire::normalise;
+use rtr_wire::pdu::{CacheResponse, Counted, Fault, SliceSource, Unit};
+use rtr_wire::state::{Serial, State};
+use std::alloc::Global;
+use std::io::ErrorKind;
+use std::process::Abort;
+use std::test::Fail;
+
+/// More units than any row has.
+const LIMIT: u64 = 4294967295;
+
+/// What a call of `normalise` answered and left.
+#[derive(Drop)]
+struct Outcome {
+    answer: Result<u64, Fault>,
+    output: Vec<u8>,
+    taken: usize,
+    ends: usize,
+}
+
+impl Outcome {
+    /// Whether the answer holds an error of the kind that the reader or the writer gave.
+    fn is_interrupted(&self) -> bool {
+        match &self.answer {
+            Err(Fault::Reader(error)) | Err(Fault::Writer(error)) => {
+                error.kind() == ErrorKind::Interrupted
+            }
+            _ => false,
+        }
+    }
+
+    /// The bytes of the report in the answer, or none.
+    fn report(&self) -> &[u8] {
+        match &self.answer {
+            Err(Fault::Refused(error)) => error.as_ref(),
+            _ => &[],
+        }
+    }
+}
+
+/// Calls `normalise`.
+fn normalise_pieces(alloc: Global, reader: Pieces<'_>, writer: Recorder, limit: u64) -> Outcome {
+    let mut reader = Counted::new(reader);
+    let mut writer = Counted::new(writer);
+    let answer = normalise(alloc, &mut reader, &mut writer, limit);
+    let reader = reader.into_inner();
+    Outcome {
+        answer,
+        output: writer.into_inner().into_held(),
+        taken: reader.taken(),
+        ends: reader.ends(),
+    }
+}
+
+/// Asserts that the call answered this number of units, or a fault of this text, with this output and so many bytes
+/// taken.
+fn expect(
+    rt: &impl Abort,
+    alloc: Global,
+    name: &str,
+    seen: &Outcome,
+    answer: Result<u64, &str>,
+    output: &[u8],
+    taken: usize,
+) -> Result<(), Fail> {
+    match (&seen.answer, answer) {
+        (Ok(units), Ok(wanted)) => assert_eq!(rt; *units, wanted, "{name}"),
+        (Err(fault), Err(wanted)) => {
+            let text = format!(in alloc; "{fault}")?;
+            assert_eq!(rt; text.as_str(), wanted, "{name}");
+        }
+        (Ok(units), Err(wanted)) => panic!(rt; "{name}: {units}, not {wanted}"),
+        (Err(fault), Ok(_)) => panic!(rt; "{name}: {fault}"),
+    }
+    assert_eq!(rt; seen.output.as_slice(), output, "{name}");
+    assert_eq!(rt; seen.taken, taken, "{name}");
+    Ok(())
+}
+
+/// Asserts what an accepted row says, with bytes behind it that are not to be read.
+fn expect_accepted(
+    rt: &impl Abort,
+    alloc: Global,
+    row: &Accepted,
+    sizes: &[usize],
+    size: usize,
+) -> Result<(), Fail> {
+    let input = bytes(alloc, row.input)?;
+    let output = bytes(alloc, row.output)?;
+    let mut stray = input.clone()?;
+    stray.extend_from_slice(&[1, 4, 0, 0, 0])?;
+    let first = normalise_pieces(
+        alloc,
+        Pieces::new(&stray, sizes),
+        Recorder::new(alloc, size),
+        LIMIT,
+    );
+    expect(
+        rt,
+        alloc,
+        row.name,
+        &first,
+        Ok(row.units),
+        &output,
+        input.len(),
+    )?;
+    let again = normalise_pieces(
+        alloc,
+        Pieces::new(&output, sizes),
+        Recorder::new(alloc, size),
+        LIMIT,
+    );
+    expect(
+        rt,
+        alloc,
+        row.name,
+        &again,
+        Ok(row.units),
+        &output,
+        output.len(),
+    )
+}
+
+#[test]
+fn accepted_inputs(rt: HostRuntime) -> Result<(), Fail> {
+    for row in ACCEPTED {
+        for sizes in [ONES, STEPS, WHOLE] {
+            for size in [1, 7, usize::MAX] {
+                expect_accepted(&rt, rt.alloc(), row, sizes, size)?;
+            }
+        }
+    }
+    Ok(())
+}
+
+#[test]
+fn refused_inputs(rt: HostRuntime) -> Result<(), Fail> {
+    let alloc = rt.alloc();
+    for row in REFUSED {
+        let input = bytes(alloc, row.input)?;
+        let output = bytes(alloc, row.output)?;
+        for sizes in [ONES, STEPS, WHOLE] {
+            let seen = normalise_pieces(
+                alloc,
+                Pieces::new(&input, sizes),
+                Recorder::new(alloc, 1),
+                LIMIT,
+            );
+            expect(
+                &rt,
+                alloc,
+                row.name,
+                &seen,
+                Err(row.fault),
+                &output,
+                row.taken,
+            )?;
+        }
+    }
+    Ok(())
+}
+
+#[test]
+fn refused_types(rt: HostRuntime) -> Result<(), Fail> {
+    let alloc = rt.alloc();
+    for unit_type in 0..=255 {
+        if ![4, 6, 7, 9, 11].contains(&unit_type) {
+            let input = [255, unit_type, 0, 0, 255, 255, 255, 255];
+            let fault = format!(in alloc; "unit type {unit_type} is not allowed here")?;
+            let seen = normalise_pieces(
+                alloc,
+                Pieces::new(&input, WHOLE),
+                Recorder::new(alloc, 1),
+                LIMIT,
+            );
+            expect(&rt, alloc, "a type", &seen, Err(fault.as_str()), &[], 8)?;
+        }
+    }
+    Ok(())
+}
+
+#[test]
+fn refused_prefixes(rt: HostRuntime) -> Result<(), Fail> {
+    let alloc = rt.alloc();
+    for row in REPORTED {
+        let name = row.name;
+        let mut input = bytes(alloc, row.before)?;
+        input.extend_from_slice(&bytes(alloc, &[row.unit])?)?;
+        let taken = input.len();
+        input.extend_from_slice(&bytes(alloc, &[END_1])?)?;
+        let output = bytes(alloc, row.output)?;
+        let mut report = bytes(alloc, &[row.head, row.unit, row.size])?;
+        report.extend_from_slice(row.text.as_bytes())?;
+        for sizes in [ONES, STEPS, WHOLE] {
+            let seen = normalise_pieces(
+                alloc,
+                Pieces::new(&input, sizes),
+                Recorder::new(alloc, 1),
+                LIMIT,
+            );
+            let fault = Err("prefix fields are not allowed");
+            expect(&rt, alloc, name, &seen, fault, &output, taken)?;
+            assert_eq!(rt; seen.report(), report.as_slice(), "{name}");
+        }
+    }
+    Ok(())
+}
+
+/// Asserts what a single unit and an end of data give where the input stops after each number of bytes: cut there, and
+/// by a reader of one byte that fails there.
+fn expect_stops(rt: &impl Abort, alloc: Global, row: &Single) -> Result<(), Fail> {
+    let name = row.name;
+    let input = bytes(alloc, row.input)?;
+    let output = bytes(alloc, row.output)?;
+    for (count, _) in input.iter().enumerate() {
+        let kept = front(&output, if count < row.unit { 0 } else { row.form });
+        for sizes in [ONES, STEPS, WHOLE] {
+            let cut = Pieces::new(front(&input, count), sizes);
+            let seen = normalise_pieces(alloc, cut, Recorder::new(alloc, usize::MAX), LIMIT);
+            expect(
+                rt,
+                alloc,
+                name,
+                &seen,
+                Err("unexpected end of input"),
+                kept,
+                count,
+            )?;
+            assert_eq!(rt; seen.ends, 1, "{name}: asked after the end");
+        }
+        let failing = Pieces::failing(&input, ONES, count.saturating_add(1));
+        let seen = normalise_pieces(alloc, failing, Recorder::new(alloc, usize::MAX), LIMIT);
+        expect(rt, alloc, name, &seen, Err("read failed"), kept, count)?;
+        assert!(rt; seen.is_interrupted(), "{name}");
+    }
+    Ok(())
+}
+
+#[test]
+fn inputs_that_stop(rt: HostRuntime) -> Result<(), Fail> {
+    for row in SINGLES {
+        expect_stops(&rt, rt.alloc(), row)?;
+    }
+    Ok(())
+}
+
+/// Asserts what a single unit and an end of data give where a writer of one byte fails after each number of bytes, by
+/// an error and by taking nothing.
+fn expect_full(rt: &impl Abort, alloc: Global, row: &Single) -> Result<(), Fail> {
+    let name = row.name;
+    let input = bytes(alloc, row.input)?;
+    let output = bytes(alloc, row.output)?;
+    for (count, _) in output.iter().enumerate() {
+        let kept = front(&output, count);
+        let taken = if count < row.form {
+            row.unit
+        } else {
+            input.len()
+        };
+        let fails_at = count.saturating_add(1);
+        let failing = Recorder::failing(alloc, 1, fails_at);
+        let seen = normalise_pieces(alloc, Pieces::new(&input, WHOLE), failing, LIMIT);
+        expect(rt, alloc, name, &seen, Err("write failed"), kept, taken)?;
+        assert!(rt; seen.is_interrupted(), "{name}");
+        let stopping = Recorder::stopping(alloc, 1, fails_at);
+        let seen = normalise_pieces(alloc, Pieces::new(&input, WHOLE), stopping, LIMIT);
+        expect(rt, alloc, name, &seen, Err("write failed"), kept, taken)?;
+    }
+    Ok(())
+}
+
+#[test]
+fn writers_that_fail(rt: HostRuntime) -> Result<(), Fail> {
+    let alloc = rt.alloc();
+    for row in SINGLES {
+        expect_full(&rt, alloc, row)?;
+    }
+    let input = bytes(alloc, &[IPV4_STRAY, END_1])?;
+    let output = bytes(alloc, &["01 04 00 00 00 00 00"])?;
+    let seven = Recorder::failing(alloc, 7, 2);
+    let seen = normalise_pieces(alloc, Pieces::new(&input, WHOLE), seven, LIMIT);
+    expect(
+        &rt,
+        alloc,
+        "seven bytes",
+        &seen,
+        Err("write failed"),
+        &output,
+        20,
+    )
+}
+
+#[test]
+fn limits(rt: HostRuntime) -> Result<(), Fail> {
+    let alloc = rt.alloc();
+    let input = bytes(alloc, &[IPV4_STRAY, END_1])?;
+    let output = bytes(alloc, &[IPV4, END_1])?;
+    let (unit, end) = output.split_at(20.min(output.len()));
+    let many: Result<u64, &str> = Err("too many units");
+    let rows = [(0, many, 0, 0), (1, many, 20, 20), (2, Ok(1), 44, 44)];
+    for (limit, answer, taken, held) in rows {
+        let held = front(&output, held);
+        let seen = normalise_pieces(
+            alloc,
+            Pieces::new(&input, WHOLE),
+            Recorder::new(alloc, 1),
+            limit,
+        );
+        expect(&rt, alloc, "a limit", &seen, answer, held, taken)?;
+    }
+    // A second call goes on where the first stopped.
+    let mut reader = SliceSource::new(&input);
+    let mut writer = Counted::new(Recorder::new(alloc, 1));
+    let first = normalise(alloc, &mut reader, &mut writer, 1);
+    assert!(rt; matches!(&first, Err(Fault::TooMany)));
+    let mut rest = Counted::new(Recorder::new(alloc, 1));
+    let second = normalise(alloc, &mut reader, &mut rest, 1);
+    assert!(rt; matches!(&second, Ok(0)));
+    assert_eq!(rt; writer.into_inner().held(), unit);
+    assert_eq!(rt; rest.into_inner().held(), end);
+    Ok(())
+}
+
+#[test]
+fn units_without_end(rt: HostRuntime) -> Result<(), Fail> {
+    let alloc = rt.alloc();
+    let unit = bytes(alloc, &[IPV4])?;
+    let output = bytes(alloc, &[IPV4, IPV4, IPV4])?;
+    for (limit, taken) in [(3, 60), (0, 0)] {
+        let held = front(&output, taken);
+        let mut reader = Counted::new(Pieces::endless(&unit));
+        let mut writer = Counted::new(Recorder::new(alloc, usize::MAX));
+        let answer = normalise(alloc, &mut reader, &mut writer, limit);
+        assert!(rt; matches!(&answer, Err(Fault::TooMany)));
+        assert_eq!(rt; writer.into_inner().held(), held);
+        let reader = reader.into_inner();
+        assert_eq!(rt; reader.taken(), taken);
+        assert_eq!(rt; reader.calls() == 0, limit == 0);
+    }
+    Ok(())
+}
+
+#[test]
+fn large_units(rt: HostRuntime) -> Result<(), Fail> {
+    let alloc = rt.alloc();
+    let rows = [
+        ("01 09 01 00 00 00 ff ff", 65527),
+        ("02 0b 01 00 00 00 ff fc", 65524),
+    ];
+    for (header, count) in rows {
+        let mut input = bytes(alloc, &[header])?;
+        input.extend_from_slice(&filler(alloc, count)?)?;
+        input.extend_from_slice(&bytes(alloc, &[END_1])?)?;
+        for sizes in [ONES, STEPS, WHOLE] {
+            let reader = Pieces::new(&input, sizes);
+            let seen = normalise_pieces(alloc, reader, Recorder::new(alloc, 4096), LIMIT);
+            expect(&rt, alloc, header, &seen, Ok(1), &input, input.len())?;
+        }
+    }
+    Ok(())
+}
+
+#[test]
+fn many_units(rt: HostRuntime) -> Result<(), Fail> {
+    let alloc = rt.alloc();
+    let unit = bytes(alloc, &[IPV4])?;
+    let mut input = Vec::new(alloc);
+    for _ in 0..65537 {
+        input.extend_from_slice(&unit)?;
+    }
+    input.extend_from_slice(&bytes(alloc, &[END_1])?)?;
+    let mut reader = SliceSource::new(&input);
+    let mut writer = Counted::new(Vec::new(alloc));
+    let answer = normalise(alloc, &mut reader, &mut writer, LIMIT);
+    assert!(rt; matches!(&answer, Ok(65537)));
+    assert!(rt; writer.into_inner().as_slice() == input.as_slice());
+    Ok(())
+}
+
+#[test]
+fn after_a_cache_response(rt: HostRuntime) -> Result<(), Fail> {
+    let alloc = rt.alloc();
+    let input = bytes(alloc, &["01 03 12 34 00 00 00 08", IPV4_STRAY, END_1])?;
+    let output = bytes(alloc, &[IPV4, END_1])?;
+    let mut reader = SliceSource::new(&input);
+    let mut writer = Counted::new(Vec::new(alloc));
+    let response = CacheResponse::read(&mut reader)?;
+    let state = State::from_parts(0x1234, Serial(0xdeadbeef));
+    assert!(rt; response == CacheResponse::new(1, state));
+    let answer = normalise(alloc, &mut reader, &mut writer, LIMIT);
+    assert!(rt; matches!(&answer, Ok(1)));
+    assert_eq!(rt; writer.into_inner().as_slice(), output.as_slice());
+    Ok(())
+}
+
+#[test]
+fn text_of_want_of_memory(rt: HostRuntime) -> Result<(), Fail> {
+    let text = format!(in rt.alloc(); "{}", Fault::Memory)?;
+    assert_eq!(rt; text.as_str(), "out of memory");
+    Ok(())
+}
