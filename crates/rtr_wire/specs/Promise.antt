@@ -115,25 +115,32 @@ pub record IsStarved (limit : ℕ) (input : List ℕ) (old new : Sides) : Type 0
   pub place : MayNeedMemory last
   pub moved : Moved input (us ++ last) (forms ms) old new
 
+-- a payload that is a route origin
 abbrev pub IsOriginPayload : Payload → Type 0
 IsOriginPayload (origin f a l x n) = Unit {0}
 IsOriginPayload (key i n k) = ⊥
 IsOriginPayload (aspa c ps) = ⊥
 
--- origins need no memory
+-- an accepted input of origins alone is not answered by want of memory
 abbrev pub Spares : ℕ → Result ℕ Fault → List ℕ → Type 0
 Spares limit r input = (b : List ℕ) (ms : List Meaning) (e : EndMeaning) → Accepts input b ms e → length ms < limit → AllByRecursion (λ m. IsOriginPayload m.payload) ms → HadMemory r
 
 -- ---- the whole promise of normalise, with its limit and its answer
 
 pub record Normalises (limit : ℕ) (r : Result ℕ Fault) (old new : Sides) : Type 0 where
+  -- where memory suffices and neither side fails, every accepted input is answered by its count, taken and written
   pub succeeds : Honest old new → HadMemory r → OnInput old (λ input. Succeeds limit r input old new)
+  -- and no other input is
   pub succeeds_only : OnInput old (λ input. SucceedsOnly limit r input old new)
+  -- each refusal is the first fault behind the longest front of units
   pub refuses : (f : Refusal) → by_cause r ≡ Err (wrong f) → OnInput old (λ input. Refuses limit f input old new)
+  -- too many units are answered before the next header is read
   pub fills : by_cause r ≡ Err too_many → OnInput old (λ input. Fills limit input old new)
+  -- what the reader's error, the writer's failure and want of memory leave
   pub cut : by_cause r ≡ Err by_reader → OnInput old (λ input. IsCut limit input old new)
   pub halted : by_cause r ≡ Err by_writer → OnInput old (λ input. IsHalted limit input old new)
   pub starved : by_cause r ≡ Err no_memory → OnInput old (λ input. IsStarved limit input old new)
+  -- origins and an end of data want no memory
   pub spares : OnInput old (λ input. Spares limit r input)
   -- the reader's, or the writer's, fault comes exactly where its count of failures rose
   pub reads : new.reads_failed ≡ count_after old.reads_failed (not (is_reader_fault r))
