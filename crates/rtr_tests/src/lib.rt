@@ -8,4 +8,6 @@ mod meanings;
 #[cfg(test)]
 mod support;
 #[cfg(test)]
+mod units;
+#[cfg(test)]
 mod wire;

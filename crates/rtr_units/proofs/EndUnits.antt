@@ -1,10 +1,10 @@
 -- What the bytes of an end of data mean, by its kind.
-use Rattle.std.proofs.Common.{◌≡◌, ℕ, zero, suc, ◌≤◌, ◌⊎◌, inl, inr, List, length, take, drop, Option, Some, None, refl, sym, ap, ◌∙◌, subst, eqb, arith}
-use Rattle.std.proofs.lemmas.Bool.{cond-true, cond-false, eq-eqb, ne_eqb}
+use Rattle.std.proofs.Common.{◌≡◌, ℕ, zero, suc, ◌≤◌, ◌⊎◌, inl, inr, List, length, refl, sym, ap, ◌∙◌, eqb, arith}
+use Rattle.std.proofs.lemmas.Bool.{cond-false, ne_eqb}
 use Rattle.rtr_base.specs.Bytes.{IsBytes}
 use Rattle.rtr_units.specs.End.{End, timed_meaning}
 use Rattle.rtr_units.specs.Ends.{HasEndHeader, end_length}
-use Rattle.rtr_units.specs.Header.{version_field, type_field, session_field, length_field}
+use Rattle.rtr_units.specs.Header.{version_field, type_field, length_field}
 use Rattle.rtr_units.proofs.EndsRead.{timed_has}
 
 one_or_two : (n : ℕ) → n ≤ 2 → ¬ (n ≡ 0) → (n ≡ 1) ⊎ (n ≡ 2)

@@ -1,5 +1,5 @@
 -- Bytes whose type, version and length field say so are an end of data.
-use Rattle.std.proofs.Common.{◌≡◌, ℕ, ◌++◌, ◌⊎◌, List, [], length, refl, take, drop, sym, ◌∙◌, arith}
+use Rattle.std.proofs.Common.{◌≡◌, ℕ, ◌++◌, ◌⊎◌, List, [], length, refl, take, drop, ◌∙◌, arith}
 use Rattle.rtr_base.specs.Bytes.{be, value, IsBytes}
 use Rattle.rtr_base.proofs.Cuts.{cut_number, cut_end, number_fits}
 use Rattle.rtr_units.specs.End.{End, timing_fields, untimed_meaning, timed_meaning}

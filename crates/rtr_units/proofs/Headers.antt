@@ -1,6 +1,6 @@
 -- A list of bytes as a header and what follows.
-use Rattle.std.proofs.Common.{◌≡◌, ℕ, suc, ◌+◌, ◌^◌, ◌<◌, ◌≤◌, List, [], ◌∷◌, ◌++◌, length, take, drop, get_or, refl, sym, ap, ◌∙◌, arith}
-use Rattle.rtr_base.specs.Bytes.{be, value, IsBytes}
+use Rattle.std.proofs.Common.{◌≡◌, ℕ, ◌^◌, ◌<◌, ◌≤◌, List, ◌∷◌, ◌++◌, length, drop, get_or, refl, arith}
+use Rattle.rtr_base.specs.Bytes.{be, IsBytes}
 use Rattle.rtr_base.proofs.Numbers.{IsBytes-cons, IsBytes-append, IsBytes-be}
 use Rattle.rtr_base.proofs.Cuts.{cut_byte, cut_number, number_fits}
 use Rattle.rtr_units.specs.Header.{header, version_field, type_field, session_field, length_field}

@@ -1,6 +1,6 @@
 -- A unit whose rest can't be read
-use Rattle.std.proofs.Common.{◌≡◌, ℕ, ◌+◌, ◌<◌, ◌≤◌, List, [], ◌++◌, length, Option, refl, sym, ap, ◌∙◌, subst, arith, length-append, append-nil}
-use Rattle.rtr_units.specs.Causes.{Cause, by_reader, by_writer, too_many, no_memory, wrong, Refusal, short, unit_type, unit_version, too_long, unit_length, empty_providers, refused}
+use Rattle.std.proofs.Common.{◌≡◌, ℕ, ◌+◌, ◌<◌, List, ◌++◌, length, Option, sym, ap, ◌∙◌, arith, length-append}
+use Rattle.rtr_units.specs.Causes.{Cause, by_reader, by_writer, too_many, no_memory, wrong, short, unit_type, unit_version, too_long, unit_length, empty_providers, refused}
 use Rattle.rtr_units.specs.Header.{type_field, length_field}
 use Rattle.rtr_units.specs.Reads.{StopsRest, StopsUnit, IsPartOfUnit}
 use Rattle.rtr_units.proofs.Headers.{same_header}

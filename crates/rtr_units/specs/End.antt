@@ -1,5 +1,5 @@
 -- The end of data (RFC 6810 section 5.8, RFC 8210 section 5.8; version 2, which is the crate's own, is laid out as version 1).
-use Rattle.std.specs.Prelude.{◌≡◌, ℕ, ◌^◌, ◌<◌, ◌⊎◌, List, ◌∷◌, ◌++◌, take, drop, Option, Some, None}
+use Rattle.std.specs.Prelude.{◌≡◌, ℕ, ◌^◌, ◌<◌, ◌⊎◌, List, ◌++◌, take, drop, Option, Some, None}
 use Rattle.rtr_base.specs.declared.payload.Timing.{Timing}
 use Rattle.rtr_base.specs.Bytes.{be, value}
 use Rattle.rtr_units.specs.Header.{header, version_field, session_field}

@@ -1,5 +1,5 @@
 -- An end of data of any version: its bytes, its meaning, and what reading it leaves.
-use Rattle.std.specs.Prelude.{◌≡◌, ℕ, ◌+◌, ◌<◌, ◌≤◌, List, [], ◌++◌, length, Option, Some, None, ◌==◌, if◌then◌else◌}
+use Rattle.std.specs.Prelude.{◌≡◌, ℕ, Bool, true, false, ◌+◌, ◌<◌, ◌≤◌, List, [], ◌++◌, length, Option, ◌==◌, if◌then◌else◌}
 use Rattle.std.specs.Io.KnownBytes.{IsAtEnd}
 use Rattle.rtr_units.specs.Causes.{short, unit_version, unit_length, Cause, by_reader, wrong}
 use Rattle.rtr_units.specs.End.{EndMeaning, End, untimed_meaning, timed_meaning}
@@ -16,6 +16,11 @@ end_bytes (V1 u) = end_v1_bytes u
 abbrev pub end_meaning : EndOfData → EndMeaning
 end_meaning (V0 u) = untimed_meaning (end_v0_bytes u)
 end_meaning (V1 u) = timed_meaning (end_v1_bytes u)
+
+-- whether it has timings
+abbrev pub is_timed : EndOfData → Bool
+is_timed (V0 u) = false
+is_timed (V1 u) = true
 
 -- how many bytes there are in a version
 abbrev pub end_length : ℕ → ℕ

@@ -1,5 +1,5 @@
 -- What reading a unit leaves, told by the bytes that it took. The order of the refusals is the crate's own.
-use Rattle.std.specs.Prelude.{◌≡◌, ℕ, ◌+◌, ◌<◌, ◌≤◌, List, [], ◌++◌, length, Option, ⊤}
+use Rattle.std.specs.Prelude.{◌≡◌, ℕ, ◌+◌, ◌<◌, ◌≤◌, List, [], ◌++◌, length, Option}
 use Rattle.std.specs.Io.KnownBytes.{Consumes, IsAtEnd}
 use Rattle.rtr_units.specs.Causes.{short, unit_type, too_long, unit_length, Cause, by_reader, wrong}
 use Rattle.rtr_units.specs.Header.{type_field, length_field}

@@ -1,11 +1,11 @@
 //! The end of data (RFC 6810 and RFC 8210 section 5.8).
 
-ghost use Rattle.std.specs.Prelude.{◌≡◌, ℕ, List, length, MatchResult, MatchOption, Some, None, not, IfSome};
+ghost use Rattle.std.specs.Prelude.{◌≡◌, ℕ, List, length, MatchResult, Some, not, ◌==◌};
 ghost use Rattle.std.specs.Borrow.{sem};
 ghost use Rattle.rtr_base.specs.Bytes.{IsBytes};
 ghost use Rattle.rtr_units.specs.Causes.{cause_of};
 ghost use Rattle.rtr_units.specs.End.{timed_list};
-ghost use Rattle.rtr_units.specs.Ends.{end_bytes, end_meaning, ReadsEnd, StopsEnd};
+ghost use Rattle.rtr_units.specs.Ends.{end_bytes, end_meaning, is_timed, ReadsEnd, StopsEnd};
 ghost use Rattle.rtr_units.specs.FixedUnits.{serial_list};
 ghost use Rattle.rtr_units.specs.Reads.{Takes};
 ghost use Rattle.rtr_units.specs.Stream.{PutsForm, count_after, is_reader_fault, is_writer_fault};
@@ -40,6 +40,7 @@ impl EndOfData {
         ensures zero { version ≡ 0 → end_bytes result ≡ serial_list 0 7 state.session state.serial }
         ensures later { ¬ (version ≡ 0) → end_bytes result ≡ timed_list version state.session state.serial (Some timing) }
         ensures version { (end_meaning result).version ≡ version }
+        ensures kind { is_timed result ≡ not (version == 0) }
     {
         if version == 0 {
             EndOfData::V0(EndOfDataV0::new(state))

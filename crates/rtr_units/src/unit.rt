@@ -75,7 +75,7 @@ pub trait Unit: Drop + Copy {
 
     /// The size of the whole unit in bytes.
     #[inline(always)]
-    final fn size(&self) -> u32
+    final fn size() -> u32
         ensures { result ≡ LENGTH }
     {
         Self::LENGTH as u32

@@ -1,4 +1,4 @@
-use Rattle.std.proofs.Common.{rules, arith, ◌≡◌, ◌+◌, ◌-◌, ◌<◌, ◌≤◌, length, List, ℕ, ◌++◌, ◌∙◌, length-append, length-drop, drop, length-take-le}
+use Rattle.std.proofs.Common.{rules, arith, ◌≡◌, length, ◌++◌, ◌∙◌, length-append, length-drop, drop, length-take-le}
 use Rattle.std.proofs.KnownBytes.{Consumes-trans}
 use Rattle.rtr_units.proofs.error.skip.Goals as goal
 

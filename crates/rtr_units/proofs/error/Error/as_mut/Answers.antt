@@ -1,4 +1,4 @@
-use Rattle.std.proofs.Common.{refl, ap, ◌∙◌, rules, List, ℕ, ◌++◌, length, take, drop}
+use Rattle.std.proofs.Common.{refl, ap, ◌∙◌, rules, ◌++◌, length, take, drop}
 use Rattle.rtr_units.specs.LendingError.{overwritten}
 use Rattle.rtr_units.proofs.error.Error.as_mut.Goals as goal
 
