@@ -6,6 +6,8 @@ mod base;
 #[cfg(test)]
 mod meanings;
 #[cfg(test)]
+mod payload;
+#[cfg(test)]
 mod support;
 #[cfg(test)]
 mod units;
