@@ -1,6 +1,6 @@
 //! Laws of payload units.
 
-ghost use Rattle.std.specs.Prelude.{◌≡◌, ◌++◌, ◌↔◌, ◌%◌, ◌<◌, ◌^◌, ◌⊎◌, ℕ, List, None, IsSome};
+ghost use Rattle.std.specs.Prelude.{◌≡◌, ◌++◌, ◌↔◌, ◌<◌, ◌^◌, ◌⊎◌, ℕ, List, None, IsSome};
 ghost use Rattle.rtr_base.specs.Bytes.{IsBytes, words};
 ghost use Rattle.rtr_payload.specs.Steps.{BeginsShape, BeginsUnit, BeginsEnd, frame_fault, first_fault};
 ghost use Rattle.std.specs.Cmp.{IsTotalOrder};
@@ -10,7 +10,7 @@ ghost use Rattle.rtr_payload.specs.Orders.{list_cmp, payload_cmp};
 ghost use Rattle.rtr_payload.specs.Places.{fields_like};
 ghost use Rattle.rtr_payload.specs.Payloads.{Payload, IsPayload, Meaning};
 ghost use Rattle.rtr_base.specs.Actions.{act};
-ghost use Rattle.rtr_payload.specs.Units.{Fields, Fit, IsUnit, unit_list, form, form_of, meaning, written, stripped};
+ghost use Rattle.rtr_payload.specs.Units.{IsUnit, form, form_of, meaning, written, stripped};
 
 /// With one version and one pair of flags, payloads have one form exactly where they are equal.
 pub fn payload_forms()
