@@ -9,7 +9,10 @@ ghost use Rattle.rtr_payload.specs.Steps.{BeginsEnd};
 ghost use Rattle.rtr_wire.specs.Sequences.{Accepts, IsSequence, sequence_form, AreUnits, IsKept, units_for, end_for};
 
 pub use rtr_base::laws::{serial_half_circle, serial_reversed};
-pub use rtr_payload::laws::{exactly_one, payload_forms, provider_order};
+pub use rtr_payload::laws::{
+    exactly_one, payload_forms, payload_order, provider_order, unit_self_delimiting,
+};
+pub use rtr_units::laws::{end_form, end_self_delimiting};
 
 /// No written unit and no written end of data begins another, nor do the lists that are read.
 pub fn self_delimiting()
