@@ -12,6 +12,7 @@ pub use rtr_base::laws::{serial_half_circle, serial_reversed};
 pub use rtr_payload::laws::{
     exactly_one, payload_forms, payload_order, provider_order, unit_self_delimiting,
 };
+pub use rtr_payload::payload::laws::equal_values;
 pub use rtr_units::laws::{end_form, end_self_delimiting};
 
 /// No written unit and no written end of data begins another, nor do the lists that are read.
