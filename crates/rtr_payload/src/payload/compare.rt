@@ -48,14 +48,10 @@ impl Ord for RouteOrigin {
     ghost matches_eq = { λ _ _. refl };
 
     fn cmp(&self, other: &Self) -> Ordering {
-        self.prefix
-            .prefix()
-            .cmp(&other.prefix.prefix())
-            .then(
-                self.prefix
-                    .resolved_max_len()
-                    .cmp(&other.prefix.resolved_max_len()),
-            )
+        let (left, right) = (self.prefix, other.prefix);
+        left.prefix()
+            .cmp(&right.prefix())
+            .then(left.resolved_max_len().cmp(&right.resolved_max_len()))
             .then(self.asn.cmp(&other.asn))
     }
 }
