@@ -1,4 +1,4 @@
-//! Equality, order and hash of payloads: those of what they mean.
+//! Equality, order and hash of router keys, ASPAs and payloads: those of what they mean.
 
 ghost use Rattle.std.specs.Prelude.{refl};
 ghost use Rattle.std.specs.Cmp.{eq_by_cmp_equiv, on_equiv, on_po, on_total, partial_equiv_from_equiv, partial_order_from_total};
@@ -7,70 +7,11 @@ ghost use Rattle.std.specs.Ordering.{as_partial_cmp, eq_by_cmp, on};
 ghost use Rattle.rtr_payload.specs.OrderLaws.{payload_decides, payload_total};
 ghost use Rattle.rtr_payload.specs.Hashes.{part_writes, payload_writes};
 ghost use Rattle.rtr_payload.specs.Orders.{payload_cmp};
-ghost use Rattle.rtr_payload.specs.Values.{aspa_of, key_of, origin_of, payload_of, payload_of_ref};
+ghost use Rattle.rtr_payload.specs.Values.{aspa_of, key_of, payload_of, payload_of_ref};
 
-use super::{Aspa, Payload, PayloadRef, RouteOrigin, RouterKey};
+use super::{Aspa, Payload, PayloadRef, RouterKey};
 use std::cmp::Ordering;
 use std::hash::{Hash, Hasher};
-
-impl PartialEq for RouteOrigin {
-    ghost eq = { on origin_of (eq_by_cmp payload_cmp) };
-
-    ghost laws = { partial_equiv_from_equiv (on_equiv origin_of (eq_by_cmp_equiv payload_total)) };
-
-    fn eq(&self, other: &Self) -> bool {
-        self.cmp(other).is_eq()
-    }
-}
-
-impl Eq for RouteOrigin {
-    ghost laws = { on_equiv origin_of (eq_by_cmp_equiv payload_total) };
-}
-
-impl PartialOrd for RouteOrigin {
-    ghost partial_cmp = { on origin_of (as_partial_cmp payload_cmp) };
-
-    ghost laws = { on_po origin_of (partial_order_from_total payload_total) };
-
-    fn partial_cmp(&self, other: &Self) -> Option<Ordering> {
-        Some(self.cmp(other))
-    }
-}
-
-/// By the prefix, then by the longest prefix length that is meant, then by the ASN.
-impl Ord for RouteOrigin {
-    ghost cmp = { on origin_of payload_cmp };
-
-    ghost total = { on_total origin_of payload_total };
-
-    ghost matches_partial_cmp = { λ _ _. refl };
-
-    ghost matches_eq = { λ _ _. refl };
-
-    fn cmp(&self, other: &Self) -> Ordering {
-        self.prefix
-            .prefix()
-            .cmp(&other.prefix.prefix())
-            .then(
-                self.prefix
-                    .resolved_max_len()
-                    .cmp(&other.prefix.resolved_max_len()),
-            )
-            .then(self.asn.cmp(&other.asn))
-    }
-}
-
-impl Hash for RouteOrigin {
-    ghost hash_input = { λ value. part_writes (origin_of value) };
-
-    ghost respects_eq = { (on_Alike origin_of (same_Alike part_writes payload_decides)).fed };
-
-    fn hash<H: Hasher>(&self, state: &mut H) {
-        self.prefix.prefix().hash(state);
-        self.prefix.resolved_max_len().hash(state);
-        self.asn.hash(state);
-    }
-}
 
 impl PartialEq for RouterKey {
     ghost eq = { on key_of (eq_by_cmp payload_cmp) };

@@ -5,7 +5,7 @@ use Rattle.std.specs.Ordering.{nat_cmp, ordering_then}
 use Rattle.rtr_base.specs.Addresses.{MaxLenParts, family_cmp, prefix_cmp, resolved_len}
 use Rattle.rtr_payload.specs.Orders.{payload_cmp}
 use Rattle.rtr_payload.specs.Values.{origin_of}
-use Rattle.rtr_payload.proofs.payload.compare.RouteOriginOrd.cmp.Goals as goal
+use Rattle.rtr_payload.proofs.payload.compare_origins.RouteOriginOrd.cmp.Goals as goal
 
 -- five orders that decide in turn
 regrouped : (f a l x n : Ordering) → ordering_then (ordering_then (ordering_then f (ordering_then a l)) x) n ≡ ordering_then f (ordering_then a (ordering_then l (ordering_then x n)))
