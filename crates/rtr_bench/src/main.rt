@@ -1,5 +1,5 @@
 //! Times `normalise` over memory: reads a sequence from standard input, normalises it 21 times, and prints the best
-//! time on standard error, in nanoseconds a unit and megabytes a second.
+//! time on standard error, in nanoseconds a unit and megabytes a second; or the fault, where it is refused.
 #![tactic(auto)]
 
 use rtr_wire::normalise;
@@ -14,6 +14,7 @@ fn main(rt: HostRuntime) -> std::io::Result<()> {
     let alloc = rt.alloc();
     let mut input: Vec<u8> = Vec::new(alloc);
     let mut stdin = rt.stdin();
+    let mut faults = rt.stderr();
     stdin.read_to_end(&mut input)?;
     let mut output: Vec<u8> = Vec::new(alloc);
     let mut best = u128::MAX;
@@ -26,11 +27,11 @@ fn main(rt: HostRuntime) -> std::io::Result<()> {
         let answer = normalise(alloc, &mut reader, &mut writer, u64::MAX);
         best = best.min(start.elapsed(&rt)?.as_nanos());
         output = writer.into_inner();
-        if let Ok(count) = answer {
-            units = count;
+        match answer {
+            Ok(count) => units = count,
+            Err(fault) => return writeln!(faults, "{fault}"),
         }
     }
-    let mut faults = rt.stderr();
     writeln!(
         faults,
         "{units} units, {} bytes: best of {RUNS} runs {best} ns, {} ns a unit, {} MB/s",
