@@ -86,13 +86,23 @@ impl Prefix {
         ensures exact { IsOk result ↔ (len ≤ 32) }
         ensures err { IfErr result (λ e. e ≡ PrefixError.LenOverflow) }
     {
+        Prefix::from_v4_bits(addr.to_bits(), len)
+    }
+
+    /// As `new_v4_relaxed`, of the address as a number.
+    #[inline(always)]
+    pub fn from_v4_bits(bits: u32, len: u8) -> Result<Self, PrefixError>
+        ensures ok { IfOk result (λ p. p ≡ record { family = v4; address = cleared 32 len bits; len = len }) }
+        ensures valid { IfOk result IsPrefix }
+        ensures exact { IsOk result ↔ (len ≤ 32) }
+        ensures err { IfErr result (λ e. e ≡ PrefixError.LenOverflow) }
+    {
         if len > 32 {
             return Err(PrefixError::LenOverflow);
         }
-        let bits = cleared_v4(addr.to_bits(), len);
         Ok(Prefix {
             is_v4: true,
-            bits: bits as u128,
+            bits: cleared_v4(bits, len) as u128,
             len,
         })
     }
@@ -120,12 +130,23 @@ impl Prefix {
         ensures exact { IsOk result ↔ (len ≤ 128) }
         ensures err { IfErr result (λ e. e ≡ PrefixError.LenOverflow) }
     {
+        Prefix::from_v6_bits(addr.to_bits(), len)
+    }
+
+    /// As `new_v6_relaxed`, of the address as a number.
+    #[inline(always)]
+    pub fn from_v6_bits(bits: u128, len: u8) -> Result<Self, PrefixError>
+        ensures ok { IfOk result (λ p. p ≡ record { family = v6; address = cleared 128 len bits; len = len }) }
+        ensures valid { IfOk result IsPrefix }
+        ensures exact { IsOk result ↔ (len ≤ 128) }
+        ensures err { IfErr result (λ e. e ≡ PrefixError.LenOverflow) }
+    {
         if len > 128 {
             return Err(PrefixError::LenOverflow);
         }
         Ok(Prefix {
             is_v4: false,
-            bits: cleared_v6(addr.to_bits(), len),
+            bits: cleared_v6(bits, len),
             len,
         })
     }
@@ -151,6 +172,15 @@ impl Prefix {
         } else {
             IpAddr::V6(Ipv6Addr::from_bits(self.bits))
         }
+    }
+
+    /// The address as a number, whose host bits are zero. That of an IPv4 prefix is below 2^32.
+    #[inline(always)]
+    pub fn bits(self) -> u128
+        ensures number { result ≡ self.address }
+        ensures valid { IsPrefix self }
+    {
+        self.bits
     }
 
     /// How many bits of the address count.

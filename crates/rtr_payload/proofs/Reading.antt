@@ -1,8 +1,8 @@
 -- Reading a unit behind its header.
-use Rattle.std.proofs.Common.{◌≡◌, ℕ, ◌+◌, ◌<◌, ◌≤◌, List, [], ◌++◌, length, Option, Some, None, refl, sym, ap, subst, ◌∙◌, append-nil, get_or, arith, ◌⊎◌}
+use Rattle.std.proofs.Common.{◌≡◌, ℕ, ◌+◌, ◌<◌, ◌≤◌, List, [], ◌++◌, length, Option, Some, None, Result, Ok, Err, refl, sym, ap, subst, ◌∙◌, append-nil, get_or, arith, ◌⊎◌}
 use Rattle.std.proofs.lemmas.Bool.Decides.{nat_tests}
 use Rattle.std.proofs.lemmas.List.{length-append}
-use Rattle.std.specs.Io.KnownBytes.{Consumes, IsAtEnd}
+use Rattle.std.specs.Io.KnownBytes.{Consumes}
 use Rattle.std.proofs.KnownBytes.{Consumes-trans}
 use Rattle.rtr_base.specs.Addresses.{Family, v4, v6}
 use Rattle.rtr_units.specs.Causes.{Refusal, short, unit_type, unit_version, too_long, unit_length, empty_providers, refused, Cause, by_reader, by_writer, too_many, no_memory, wrong, cause_of}
@@ -14,21 +14,21 @@ use Rattle.rtr_units.specs.Header.{version_field, type_field, length_field}
 use Rattle.rtr_units.specs.Reads.{Takes, ReadsRest, StopsRest}
 use Rattle.rtr_units.specs.Stream.{FallsShort}
 use Rattle.rtr_units.specs.declared.fault.Fault.{Fault}
-use Rattle.rtr_units.specs.declared.fault.Fault.TheVariants.{Reader, Writer, Short, UnitType, UnitLength, TooLong, EmptyProviders, UnitVersion, Refused, TooMany, Memory}
+use Rattle.rtr_units.specs.declared.fault.Fault.TheVariants.{Reader, Short}
 use Rattle.rtr_units.specs.Views.{AreBytes}
 use Rattle.rtr_units.proofs.Headers.{same_header}
 use Rattle.rtr_payload.specs.Frames.{fault_as, StopsInUnit}
 use Rattle.rtr_payload.specs.Places.{prefix_fields}
 use Rattle.rtr_payload.specs.Reads.{IsPartial, IsRefused, IsVariable, StopsReadingUnit, IsReport}
-use Rattle.rtr_payload.specs.UnitValues.{unit_bytes, unit_fields, NeedsMemory, HasNoPayload}
+use Rattle.rtr_payload.specs.UnitValues.{unit_bytes, unit_fields, ReadsAfter, NeedsMemory, HasNoPayload}
 use Rattle.rtr_payload.specs.declared.pdu_payload.Payload.{Payload}
 use Rattle.rtr_payload.specs.declared.pdu_payload.Payload.TheVariants.{V4, V6, RouterKey, Aspa}
-use Rattle.std.specs.Prelude.{IsSome}
+use Rattle.std.specs.Prelude.{IsSome, MatchResult}
 use Rattle.rtr_payload.specs.Steps.{PrefixFault, header_fault, header_step, rule_of, refusal_report}
 use Rattle.rtr_payload.specs.Units.{Fields, HasFields}
 use Rattle.rtr_payload.proofs.Frames.{Whole, shape_whole}
 use Rattle.rtr_payload.proofs.Refusals.{header_short, unit_short, body_short, header_refused}
-use Rattle.rtr_payload.proofs.Wholes.{body_whole, prefix_whole, key_whole, aspa_whole}
+use Rattle.rtr_payload.proofs.Wholes.{body_whole, prefix_whole}
 
 -- ---- headers by their type
 
@@ -89,6 +89,12 @@ module _ (f : Family) (h : List ℕ) (is : AreBytes 8 h) (kind : type_field h �
       let whole : Whole u = subst Whole (sym e) (body_whole h t is.0 (in_order n) size) in
       let same = same_header h t (omega (arith, is.0)) in
       (subst (Consumes a c) (sym e) (Consumes-trans a b c h t took taken), prefix_whole f u all.1 whole (ap type_field e ∙ same.kind ∙ kind))
+
+-- the unit u of the family f, whose rest was read behind the header h, or reading stopped
+module _ (f : Family) (u : Payload) (bytes : List ℕ) (n : ℕ) (same : unit_bytes u ≡ bytes) (fields : unit_fields u ≡ prefix_fields f bytes) (size : n ≡ prefix_size f) where
+  pub prefix_after : {T : Type 0} (h : List ℕ) → type_field h ≡ prefix_type f → (r : Result T Fault) (a b : Option (List ℕ)) → MatchResult r (λ x. ReadsRest n h bytes a b) (λ e. Takes a b (λ t. StopsRest n h (cause_of e) t b)) → MatchResult r (λ x. ReadsAfter h (Ok (Ok (Some u))) a b) (λ e. ReadsAfter h (Err e) a b)
+  prefix_after h kind (Ok x) a b reads = λ is before took. rw (same, fields) (prefix_reads f h is kind bytes before a b took (subst (λ n. ReadsRest n h bytes a b) size reads))
+  prefix_after h kind (Err e) a b stops = λ is before took. behind h _ _ before a b took stops (λ t s. prefix_stops f h is kind (cause_of e) t b (subst (λ n. StopsRest n h (cause_of e) t b) size s))
 
 -- ---- an end of data behind its header h
 

@@ -3,11 +3,12 @@ use Rattle.std.specs.Prelude.{◌≡◌, ◌≤◌, slice_index, List, ℕ, Opti
 use Rattle.std.specs.Io.KnownBytes.{Consumes}
 use Rattle.rtr_base.specs.Addresses.{v4, v6}
 use Rattle.rtr_base.specs.declared.payload.Action.{Action}
-use Rattle.rtr_units.specs.Causes.{Refusal, refused, Cause, no_memory, wrong, cause_of}
+use Rattle.rtr_units.specs.Causes.{refused, Cause, no_memory, wrong, cause_of}
 use Rattle.rtr_units.specs.End.{End}
 use Rattle.rtr_units.specs.Header.{version_field}
 use Rattle.rtr_units.specs.Reads.{Takes}
 use Rattle.rtr_units.specs.Units.{ipv4_bytes, ipv6_bytes}
+use Rattle.rtr_units.specs.Views.{AreBytes}
 use Rattle.rtr_units.specs.Ends.{end_bytes, end_meaning}
 use Rattle.rtr_units.specs.declared.end.EndOfData.{EndOfData}
 use Rattle.rtr_units.specs.declared.fault.Fault.{Fault}
@@ -15,7 +16,7 @@ use Rattle.rtr_payload.specs.Places.{prefix_fields, key_fields, aspa_fields}
 use Rattle.rtr_payload.specs.Reads.{StopsReadingUnit}
 use Rattle.rtr_payload.specs.Steps.{PrefixFault, rule_of, refusal_report}
 use Rattle.rtr_payload.specs.Units.{Fields, HasFields, LengthsAgree, meaning}
-use Rattle.rtr_payload.specs.Values.{payload_of, origin_in}
+use Rattle.rtr_payload.specs.Values.{payload_of}
 use Rattle.rtr_payload.specs.declared.payload.Payload.{Payload as Value}
 use Rattle.rtr_payload.specs.declared.payload.Payload.TheVariants as values
 use Rattle.rtr_payload.specs.declared.payload.PayloadRef.{PayloadRef}
@@ -43,6 +44,10 @@ ReadsPayload (Ok (Ok (Some u))) old new = Consumes old new (unit_bytes u) × Has
 ReadsPayload (Ok (Ok None)) old new = ⊥
 ReadsPayload (Ok (Err d)) old new = Consumes old new (end_bytes d) × End (end_bytes d) (end_meaning d)
 ReadsPayload (Err f) old new = Takes old new (λ h. StopsReadingUnit (cause_of f) h new)
+
+-- what reading behind the header h leaves, told of all that was taken: of h, which was taken before, and of what follows it
+abbrev pub ReadsAfter : List ℕ → Result (Result (Option Payload) EndOfData) Fault → Option (List ℕ) → Option (List ℕ) → Type 0
+ReadsAfter h r old new = AreBytes 8 h → (before : Option (List ℕ)) → Consumes before old h → ReadsPayload r before new
 
 -- an origin whose max length was given
 abbrev pub HasMaxLen : Value → Type 0

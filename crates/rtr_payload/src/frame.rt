@@ -5,7 +5,7 @@ ghost use Rattle.rtr_base.specs.Bytes.{IsBytes, value};
 ghost use Rattle.rtr_units.specs.Stream.{count_after, is_reader_fault};
 ghost use Rattle.rtr_payload.specs.Frames.{ReadsFrame};
 
-use bytes::{Bytes, BytesMut};
+use bytes::Bytes;
 use rtr_base::asn::Asn;
 use rtr_units::fault::Fault;
 use rtr_units::piece::fill;
@@ -21,15 +21,15 @@ pub fn read_frame<R: Source>(alloc: Global, size: usize, reader: &mut R) -> Resu
     ensures range { IfOk result IsBytes }
     ensures count { R.failures reader.new ≡ count_after (R.failures reader.old) (not (is_reader_fault result)) }
 {
-    let mut frame = match BytesMut::zeroed(alloc, size) {
-        Ok(frame) => frame,
-        Err(_) => return Err(Fault::Memory),
-    };
+    let mut frame = Vec::new(alloc);
+    if frame.resize(size, 0).is_err() {
+        return Err(Fault::Memory);
+    }
     match fill(reader, frame.as_mut_slice()) {
         Ok(()) => {}
         Err(e) => return Err(e),
     }
-    match frame.freeze() {
+    match Bytes::from_vec(frame) {
         Ok(frame) => Ok(frame),
         Err(_) => Err(Fault::Memory),
     }

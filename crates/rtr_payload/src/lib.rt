@@ -8,6 +8,7 @@ pub mod laws;
 pub mod payload;
 mod pdu_payload;
 mod prefix_rule;
+mod prefix_unit;
 mod providers;
 mod router_key;
 
@@ -16,6 +17,7 @@ pub mod pdu {
     pub use crate::aspa::Aspa;
     pub use crate::key_info::{KeyInfoError, KeyInfoVecError, RouterKeyInfo};
     pub use crate::pdu_payload::Payload;
+    pub use crate::prefix_unit::PrefixUnit;
     pub use crate::providers::{ProviderAsns, ProviderAsnsError, ProviderIter, ProviderIterError};
     pub use crate::router_key::RouterKey;
 }

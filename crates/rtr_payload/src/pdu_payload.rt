@@ -1,10 +1,11 @@
 //! Payload units of any kind.
 
-ghost use Rattle.std.specs.Prelude.{◌≡◌, ◌≤◌, ◌↔◌, IfOk, IfErr, IsOk, IsSome, IfSome, length, take, not};
+ghost use Rattle.std.specs.Prelude.{◌≡◌, ◌≤◌, ◌↔◌, Ok, None, IfOk, IfErr, IsOk, IsSome, IfSome, false, length, take, not};
 ghost use Rattle.rtr_units.specs.Causes.{cause_of, no_memory};
 ghost use Rattle.rtr_units.specs.Header.{version_field};
 ghost use Rattle.rtr_units.specs.Stream.{PutsForm, count_after, is_reader_fault, is_writer_fault};
 ghost use Rattle.rtr_units.specs.Report.{report};
+ghost use Rattle.rtr_units.specs.Views.{header_bytes};
 ghost use Rattle.rtr_payload.specs.Payloads.{smallest_version as smallest};
 ghost use Rattle.rtr_payload.specs.Places.{key_fields, aspa_fields};
 ghost use Rattle.rtr_payload.specs.PrefixRules.{fault_of};
@@ -16,7 +17,8 @@ ghost use Rattle.rtr_payload.specs.Values.{payload_of, payload_of_ref, origin_of
 use crate::aspa::Aspa;
 use crate::payload;
 use crate::payload::{PayloadRef, RouteOrigin};
-use crate::prefix_rule::{PrefixRule, ipv4_prefix, ipv6_prefix};
+use crate::prefix_rule::PrefixRule;
+use crate::prefix_unit::PrefixUnit;
 use crate::providers::ProviderAsns;
 use crate::router_key::RouterKey;
 use rtr_base::keys::KeyIdentifier;
@@ -29,7 +31,6 @@ use rtr_units::header::Header;
 use rtr_units::source::{Sink, Source};
 use rtr_units::unit::Unit;
 use std::alloc::{AllocError, Global};
-use std::net::IpAddr;
 
 /// A payload unit.
 #[derive(Debug, Drop, PartialEq, Eq, Hash)]
@@ -45,7 +46,7 @@ pub enum Payload {
 }
 
 impl Payload {
-    ghost use Rattle.rtr_payload.specs.UnitValues.{unit_bytes, flags_in, partial_len, ReadsPayload, MeansPayload, HasNoPayload, IsOriginRef, IsPrefixUnit, IsSupported};
+    ghost use Rattle.rtr_payload.specs.UnitValues.{unit_bytes, flags_in, partial_len, ReadsPayload, ReadsAfter, MeansPayload, HasNoPayload, IsOriginRef, IsPrefixUnit, IsSupported};
 
     /// The unit of this version and these flags that has the payload. Free bytes are zero. Keys and ASPAs ask for
     /// memory, as their bytes are shared.
@@ -56,27 +57,42 @@ impl Payload {
     {
         match payload {
             PayloadRef::Origin(origin) => Ok(Payload::from_origin(version, flags, *origin)),
-            PayloadRef::RouterKey(key) => Payload::from_key(version, flags, key),
-            PayloadRef::Aspa(aspa) => Payload::from_aspa(version, flags, aspa),
+            PayloadRef::RouterKey(key) => {
+                let key = payload::RouterKey::clone(key)?;
+                Ok(Payload::from_key(version, flags, key))
+            }
+            PayloadRef::Aspa(aspa) => {
+                let aspa = payload::Aspa::clone(aspa)?;
+                Ok(Payload::from_aspa(version, flags, aspa))
+            }
         }
     }
 
-    /// The unit that has the router key, whose key info is shared.
-    fn from_key(version: u8, flags: u8, key: &payload::RouterKey) -> Result<Self, AllocError>
-        ensures { IfOk result (λ u. unit_bytes u ≡ form version flags (key_of key.now)) }
+    /// As `new`, of a payload that is given away. It asks for no memory.
+    pub fn from_payload(version: u8, flags: u8, payload: payload::Payload) -> Self
+        ensures { unit_bytes result ≡ form version flags (payload_of payload) }
     {
-        let info = key.key_info.clone()?;
-        let unit = RouterKey::new(version, flags, key.key_identifier.into(), key.asn, info);
-        Ok(Payload::RouterKey(unit))
+        match payload {
+            payload::Payload::Origin(origin) => Payload::from_origin(version, flags, origin),
+            payload::Payload::RouterKey(key) => Payload::from_key(version, flags, key),
+            payload::Payload::Aspa(aspa) => Payload::from_aspa(version, flags, aspa),
+        }
     }
 
-    /// The unit that has the ASPA, whose providers are shared.
-    fn from_aspa(version: u8, flags: u8, aspa: &payload::Aspa) -> Result<Self, AllocError>
-        ensures { IfOk result (λ u. unit_bytes u ≡ form version flags (aspa_of aspa.now)) }
+    /// The unit that has the router key.
+    fn from_key(version: u8, flags: u8, key: payload::RouterKey) -> Self
+        ensures { unit_bytes result ≡ form version flags (key_of key) }
     {
-        let providers = aspa.providers.clone()?;
-        let unit = Aspa::new(version, flags, aspa.customer, providers);
-        Ok(Payload::Aspa(unit))
+        let identifier = key.key_identifier.into();
+        let unit = RouterKey::new(version, flags, identifier, key.asn, key.key_info);
+        Payload::RouterKey(unit)
+    }
+
+    /// The unit that has the ASPA.
+    fn from_aspa(version: u8, flags: u8, aspa: payload::Aspa) -> Self
+        ensures { unit_bytes result ≡ form version flags (aspa_of aspa) }
+    {
+        Payload::Aspa(Aspa::new(version, flags, aspa.customer, aspa.providers))
     }
 
     /// The prefix unit that has the origin.
@@ -84,18 +100,11 @@ impl Payload {
     fn from_origin(version: u8, flags: u8, origin: RouteOrigin) -> Self
         ensures { unit_bytes result ≡ form version flags (origin_of origin) }
     {
-        let prefix = origin.prefix;
-        let len = prefix.prefix_len();
-        let max_len = prefix.resolved_max_len();
-        match prefix.addr() {
-            IpAddr::V4(addr) => {
-                let unit = Ipv4Prefix::new(version, flags, len, max_len, addr, origin.asn);
-                Payload::V4(unit)
-            }
-            IpAddr::V6(addr) => {
-                let unit = Ipv6Prefix::new(version, flags, len, max_len, addr, origin.asn);
-                Payload::V6(unit)
-            }
+        let prefix = origin.prefix.prefix();
+        if prefix.is_v4() {
+            Payload::V4(Ipv4Prefix::from_origin(version, flags, origin))
+        } else {
+            Payload::V6(Ipv6Prefix::from_origin(version, flags, origin))
         }
     }
 
@@ -132,19 +141,38 @@ impl Payload {
         ensures bytes { ReadsPayload result (R.remaining reader.old) (R.remaining reader.new) }
         ensures count { R.failures reader.new ≡ count_after (R.failures reader.old) (not (is_reader_fault result)) }
     {
-        let header = match Header::read(reader) {
-            Ok(header) => header,
-            Err(e) => return Err(e),
-        };
+        match Header::read(reader) {
+            Ok(header) => Payload::read_payload(alloc, header, reader),
+            Err(e) => Err(e),
+        }
+    }
+
+    /// Reads what follows the header, which is kept as it is, as `read` does.
+    pub fn read_payload<R: Source>(
+        alloc: Global,
+        header: Header,
+        reader: &mut R,
+    ) -> Result<Result<Option<Self>, EndOfData>, Fault>
+        ensures bytes { ReadsAfter (header_bytes header) result (R.remaining reader.old) (R.remaining reader.new) }
+        ensures count { R.failures reader.new ≡ count_after (R.failures reader.old) (not (is_reader_fault result)) }
+        ensures no_writer { is_writer_fault result ≡ false }
+        ensures some { ¬ (result ≡ Ok (Ok None)) }
+    {
         match header.pdu() {
-            4 => match Ipv4Prefix::read_payload(header, reader) {
-                Ok(unit) => Ok(Ok(Some(Payload::V4(unit)))),
-                Err(e) => Err(e),
-            },
-            6 => match Ipv6Prefix::read_payload(header, reader) {
-                Ok(unit) => Ok(Ok(Some(Payload::V6(unit)))),
-                Err(e) => Err(e),
-            },
+            4 => {
+                let mut unit = Ipv4Prefix::zero();
+                match unit.read_after(header, reader) {
+                    Ok(()) => Ok(Ok(Some(Payload::V4(unit)))),
+                    Err(e) => Err(e),
+                }
+            }
+            6 => {
+                let mut unit = Ipv6Prefix::zero();
+                match unit.read_after(header, reader) {
+                    Ok(()) => Ok(Ok(Some(Payload::V6(unit)))),
+                    Err(e) => Err(e),
+                }
+            }
             7 => match EndOfData::read_payload(header, reader) {
                 Ok(end) => Ok(Err(end)),
                 Err(e) => Err(e),
@@ -201,35 +229,37 @@ impl Payload {
         }
     }
 
-    /// The action and the payload that the unit means, by its variant, whatever its type and length bytes say.
+    /// The action and the payload that the unit means, by its variant, whatever its type and length bytes say. Keys and
+    /// ASPAs ask for memory, as their bytes are shared.
     ///
     /// `Refused` with the report on a prefix that breaks the rule on its lengths, or `Memory`.
-    #[inline(always)]
     pub fn to_payload(&self, alloc: Global) -> Result<(Action, payload::Payload), Fault>
         ensures ok { IfOk result (λ m. MeansPayload self.now m.0 m.1) }
         ensures err { IfErr result (λ e. HasNoPayload self.now (cause_of e)) }
     {
+        match self.clone() {
+            Ok(unit) => unit.into_payload(alloc),
+            Err(_) => Err(Fault::Memory),
+        }
+    }
+
+    /// As `to_payload`, of a unit that is given away. Memory is asked for a report alone.
+    pub fn into_payload(self, alloc: Global) -> Result<(Action, payload::Payload), Fault>
+        ensures ok { IfOk result (λ m. MeansPayload self m.0 m.1) }
+        ensures err { IfErr result (λ e. HasNoPayload self (cause_of e)) }
+        ensures variable { (IsPrefixUnit self → ⊥) → IsOk result }
+    {
         match self {
-            Payload::V4(unit) => {
-                match ipv4_prefix(unit.prefix(), unit.prefix_len(), unit.max_len()) {
-                    Ok(prefix) => {
-                        let action = Action::from_flags(unit.flags());
-                        Ok((action, payload::Payload::origin(prefix, unit.asn())))
-                    }
-                    Err(rule) => Err(refused(alloc, unit.version(), unit.as_ref(), rule)),
-                }
-            }
-            Payload::V6(unit) => {
-                match ipv6_prefix(unit.prefix(), unit.prefix_len(), unit.max_len()) {
-                    Ok(prefix) => {
-                        let action = Action::from_flags(unit.flags());
-                        Ok((action, payload::Payload::origin(prefix, unit.asn())))
-                    }
-                    Err(rule) => Err(refused(alloc, unit.version(), unit.as_ref(), rule)),
-                }
-            }
-            Payload::RouterKey(unit) => key_payload(unit),
-            Payload::Aspa(unit) => aspa_payload(alloc, unit),
+            Payload::V4(unit) => match unit.to_origin(alloc) {
+                Ok((action, origin)) => Ok((action, payload::Payload::Origin(origin))),
+                Err(e) => Err(e),
+            },
+            Payload::V6(unit) => match unit.to_origin(alloc) {
+                Ok((action, origin)) => Ok((action, payload::Payload::Origin(origin))),
+                Err(e) => Err(e),
+            },
+            Payload::RouterKey(unit) => Ok(key_payload(unit)),
+            Payload::Aspa(unit) => Ok(aspa_payload(unit)),
         }
     }
 
@@ -273,7 +303,7 @@ fn smallest_version(payload: &PayloadRef<'_>) -> u8
 
 /// The fault of a prefix unit that breaks the rule: a report with error code 0, the whole unit and a text, or `Memory`
 /// where there is none for the report.
-fn refused(alloc: Global, version: u8, unit: &[u8], rule: PrefixRule) -> Fault
+pub(crate) fn refused(alloc: Global, version: u8, unit: &[u8], rule: PrefixRule) -> Fault
     requires { length unit.now ≤ 32 }
     ensures { IsReport (cause_of result) (report version 0 unit.now (text_of (fault_of rule))) }
 {
@@ -283,32 +313,28 @@ fn refused(alloc: Global, version: u8, unit: &[u8], rule: PrefixRule) -> Fault
     }
 }
 
-/// What a router key means. Its key info is shared.
-fn key_payload(unit: &RouterKey) -> Result<(Action, payload::Payload), Fault>
-    ensures ok { IfOk result (λ m. record { version = version_field unit.now; action = m.0; payload = payload_of m.1 } ≡ meaning (key_fields unit.now)) }
-    ensures err { IfErr result (λ e. cause_of e ≡ no_memory) }
-{
-    let Ok(info) = unit.key_info().clone() else {
-        return Err(Fault::Memory);
-    };
-    let identifier = KeyIdentifier::from(unit.key_identifier());
-    let payload = payload::Payload::router_key(identifier, unit.asn(), info);
-    Ok((Action::from_flags(unit.flags()), payload))
-}
-
-/// What an ASPA unit means. Its providers are shared, and those of a withdrawal left out.
-fn aspa_payload(alloc: Global, unit: &Aspa) -> Result<(Action, payload::Payload), Fault>
-    ensures ok { IfOk result (λ m. record { version = version_field unit.now; action = m.0; payload = payload_of m.1 } ≡ meaning (aspa_fields unit.now)) }
-    ensures err { IfErr result (λ e. cause_of e ≡ no_memory) }
+/// What a router key means.
+fn key_payload(unit: RouterKey) -> (Action, payload::Payload)
+    ensures { record { version = version_field unit; action = result.0; payload = payload_of result.1 } ≡ meaning (key_fields unit) }
 {
     let action = Action::from_flags(unit.flags());
+    let identifier = KeyIdentifier::from(unit.key_identifier());
+    let asn = unit.asn();
+    (
+        action,
+        payload::Payload::router_key(identifier, asn, unit.into_key_info()),
+    )
+}
+
+/// What an ASPA unit means. The providers of a withdrawal are left out.
+fn aspa_payload(unit: Aspa) -> (Action, payload::Payload)
+    ensures { record { version = version_field unit; action = result.0; payload = payload_of result.1 } ≡ meaning (aspa_fields unit) }
+{
+    let action = Action::from_flags(unit.flags());
+    let customer = unit.customer();
     let providers = match action {
-        Action::Announce => unit.providers().clone(),
-        Action::Withdraw => ProviderAsns::empty(alloc),
+        Action::Announce => unit.into_providers(),
+        Action::Withdraw => ProviderAsns::none(),
     };
-    let Ok(providers) = providers else {
-        return Err(Fault::Memory);
-    };
-    let payload = payload::Payload::aspa(unit.customer(), providers);
-    Ok((action, payload))
+    (action, payload::Payload::aspa(customer, providers))
 }

@@ -2,12 +2,10 @@
 
 ghost use Rattle.std.specs.Prelude.{◌≡◌, ◌≤◌, Some, None, IfOk, IfErr};
 ghost use Rattle.rtr_base.specs.Addresses.{v4, v6, width, cleared};
-ghost use Rattle.std.specs.Net.Addr.{ipv4_bits, ipv6_bits};
 ghost use Rattle.rtr_payload.specs.Steps.{broken_rule, text_of};
 ghost use Rattle.rtr_payload.specs.PrefixRules.{fault_of};
 
 use rtr_base::addr::{MaxLenError, MaxLenPrefix, Prefix};
-use std::net::{Ipv4Addr, Ipv6Addr};
 
 /// The part of the rule on a prefix length and a max length that is broken.
 #[derive(Clone, Copy, Debug, PartialEq, Eq)]
@@ -36,12 +34,12 @@ impl PrefixRule {
 /// The IPv4 prefix and the max length that stand in a unit. Host bits are cleared.
 #[inline(always)]
 #[tactic(auto, unfolding(crate::specs::Steps::broken_rule))]
-pub fn ipv4_prefix(addr: Ipv4Addr, len: u8, max_len: u8) -> Result<MaxLenPrefix, PrefixRule>
-    ensures ok { IfOk result (λ p. p ≡ record { prefix = record { family = v4; address = cleared 32 len (ipv4_bits addr); len = len }; max_len = Some max_len }) }
+pub fn ipv4_prefix(bits: u32, len: u8, max_len: u8) -> Result<MaxLenPrefix, PrefixRule>
+    ensures ok { IfOk result (λ p. p ≡ record { prefix = record { family = v4; address = cleared 32 len bits; len = len }; max_len = Some max_len }) }
     ensures kept { IfOk result (λ _. broken_rule 32 len max_len ≡ None) }
     ensures broken { IfErr result (λ r. broken_rule 32 len max_len ≡ Some (fault_of r)) }
 {
-    match Prefix::new_v4_relaxed(addr, len) {
+    match Prefix::from_v4_bits(bits, len) {
         Ok(prefix) => with_max_len(prefix, max_len),
         Err(_) => Err(PrefixRule::LenOverflow),
     }
@@ -50,12 +48,12 @@ pub fn ipv4_prefix(addr: Ipv4Addr, len: u8, max_len: u8) -> Result<MaxLenPrefix,
 /// The IPv6 prefix and the max length that stand in a unit. Host bits are cleared.
 #[inline(always)]
 #[tactic(auto, unfolding(crate::specs::Steps::broken_rule))]
-pub fn ipv6_prefix(addr: Ipv6Addr, len: u8, max_len: u8) -> Result<MaxLenPrefix, PrefixRule>
-    ensures ok { IfOk result (λ p. p ≡ record { prefix = record { family = v6; address = cleared 128 len (ipv6_bits addr); len = len }; max_len = Some max_len }) }
+pub fn ipv6_prefix(bits: u128, len: u8, max_len: u8) -> Result<MaxLenPrefix, PrefixRule>
+    ensures ok { IfOk result (λ p. p ≡ record { prefix = record { family = v6; address = cleared 128 len bits; len = len }; max_len = Some max_len }) }
     ensures kept { IfOk result (λ _. broken_rule 128 len max_len ≡ None) }
     ensures broken { IfErr result (λ r. broken_rule 128 len max_len ≡ Some (fault_of r)) }
 {
-    match Prefix::new_v6_relaxed(addr, len) {
+    match Prefix::from_v6_bits(bits, len) {
         Ok(prefix) => with_max_len(prefix, max_len),
         Err(_) => Err(PrefixRule::LenOverflow),
     }

@@ -63,7 +63,14 @@ impl ProviderAsns {
     pub fn empty(_alloc: Global) -> Result<Self, AllocError>
         ensures { IfOk result (λ p. p ≡ []) }
     {
-        Ok(ProviderAsns(Bytes::new()))
+        Ok(ProviderAsns::none())
+    }
+
+    /// No providers, for which no memory is asked.
+    pub(crate) fn none() -> Self
+        ensures { result ≡ [] }
+    {
+        ProviderAsns(Bytes::new())
     }
 
     /// The items of the iterator, in their order. No more than 16381 are asked for, and its size hint isn't.

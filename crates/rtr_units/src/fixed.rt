@@ -11,7 +11,7 @@ ghost use Rattle.rtr_units.specs.Units.{serial_field, flags_field, prefix_len_fi
 ghost use Rattle.rtr_units.specs.Units.{ipv4_field, ipv4_asn_field, ipv6_field, ipv6_asn_field};
 
 use crate::cells::Cells;
-use crate::numbers::{u32_at, u128_at};
+use crate::numbers::{u32_at, u128_at, u128_bytes};
 use crate::unit::Unit;
 use rtr_base::asn::Asn;
 use rtr_base::payload::Timing;
@@ -80,13 +80,28 @@ impl Ipv4Prefix {
     ) -> Self
         ensures { ipv4_bytes result ≡ prefix_list v4 version 0 flags prefix_len max_len 0 (ipv4_bits prefix) asn }
     {
-        let [p0, p1, p2, p3] = prefix.to_bits().to_be_bytes();
-        let [n0, n1, n2, n3] = asn.into_u32().to_be_bytes();
+        Ipv4Prefix::from_bits(version, flags, prefix_len, max_len, prefix.to_bits(), asn)
+    }
+
+    /// As `new`, of the address as a number.
+    #[inline]
+    pub fn from_bits(
+        version: u8,
+        flags: u8,
+        prefix_len: u8,
+        max_len: u8,
+        prefix: u32,
+        asn: Asn,
+    ) -> Self
+        ensures { ipv4_bytes result ≡ prefix_list v4 version 0 flags prefix_len max_len 0 prefix asn }
+    {
+        let mut bytes = [0; 20];
+        let front = [version, 4, 0, 0, 0, 0, 0, 20, flags, prefix_len, max_len, 0];
+        bytes[..12].copy_from_slice(&front);
+        bytes[12..16].copy_from_slice(&prefix.to_be_bytes());
+        bytes[16..].copy_from_slice(&asn.into_u32().to_be_bytes());
         Ipv4Prefix {
-            cells: Cells::new([
-                version, 4, 0, 0, 0, 0, 0, 20, flags, prefix_len, max_len, 0, p0, p1, p2, p3, n0,
-                n1, n2, n3,
-            ]),
+            cells: Cells::new(bytes),
         }
     }
 
@@ -120,7 +135,15 @@ impl Ipv4Prefix {
     pub fn prefix(&self) -> Ipv4Addr
         ensures { ipv4_bits result ≡ ipv4_field (ipv4_bytes self.now) }
     {
-        Ipv4Addr::from_bits(u32_at(self.as_ref(), 12))
+        Ipv4Addr::from_bits(self.prefix_bits())
+    }
+
+    /// The address as a number, host bits included.
+    #[inline(always)]
+    pub fn prefix_bits(&self) -> u32
+        ensures { result ≡ ipv4_field (ipv4_bytes self.now) }
+    {
+        u32_at(self.as_ref(), 12)
     }
 
     /// The autonomous system.
@@ -194,30 +217,28 @@ impl Ipv6Prefix {
     ) -> Self
         ensures { ipv6_bytes result ≡ prefix_list v6 version 0 flags prefix_len max_len 0 (ipv6_bits prefix) asn }
     {
-        let [
-            p0,
-            p1,
-            p2,
-            p3,
-            p4,
-            p5,
-            p6,
-            p7,
-            p8,
-            p9,
-            p10,
-            p11,
-            p12,
-            p13,
-            p14,
-            p15,
-        ] = prefix.to_bits().to_be_bytes();
-        let [n0, n1, n2, n3] = asn.into_u32().to_be_bytes();
+        Ipv6Prefix::from_bits(version, flags, prefix_len, max_len, prefix.to_bits(), asn)
+    }
+
+    /// As `new`, of the address as a number.
+    #[inline]
+    pub fn from_bits(
+        version: u8,
+        flags: u8,
+        prefix_len: u8,
+        max_len: u8,
+        prefix: u128,
+        asn: Asn,
+    ) -> Self
+        ensures { ipv6_bytes result ≡ prefix_list v6 version 0 flags prefix_len max_len 0 prefix asn }
+    {
+        let mut bytes = [0; 32];
+        let front = [version, 6, 0, 0, 0, 0, 0, 32, flags, prefix_len, max_len, 0];
+        bytes[..12].copy_from_slice(&front);
+        bytes[12..28].copy_from_slice(&u128_bytes(prefix));
+        bytes[28..].copy_from_slice(&asn.into_u32().to_be_bytes());
         Ipv6Prefix {
-            cells: Cells::new([
-                version, 6, 0, 0, 0, 0, 0, 32, flags, prefix_len, max_len, 0, p0, p1, p2, p3, p4,
-                p5, p6, p7, p8, p9, p10, p11, p12, p13, p14, p15, n0, n1, n2, n3,
-            ]),
+            cells: Cells::new(bytes),
         }
     }
 
@@ -251,7 +272,15 @@ impl Ipv6Prefix {
     pub fn prefix(&self) -> Ipv6Addr
         ensures { ipv6_bits result ≡ ipv6_field (ipv6_bytes self.now) }
     {
-        Ipv6Addr::from_bits(u128_at(self.as_ref(), 12))
+        Ipv6Addr::from_bits(self.prefix_bits())
+    }
+
+    /// The address as a number, host bits included.
+    #[inline(always)]
+    pub fn prefix_bits(&self) -> u128
+        ensures { result ≡ ipv6_field (ipv6_bytes self.now) }
+    {
+        u128_at(self.as_ref(), 12)
     }
 
     /// The autonomous system.

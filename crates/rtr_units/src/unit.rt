@@ -130,17 +130,28 @@ pub trait Unit: Drop + Copy {
             (λ e. Takes (R.remaining reader.old) (R.remaining reader.new) (λ t. StopsRest LENGTH (header_bytes header) (cause_of e) t (R.remaining reader.new))) }
         ensures count { R.failures reader.new ≡ count_after (R.failures reader.old) (not (is_reader_fault result)) }
     {
-        if header.length() != Self::LENGTH as u32 {
-            return Err(Fault::UnitLength);
-        }
         let mut unit = Self::zero();
-        let whole = unit.as_mut();
-        let (front, rest) = whole.split_at_mut(8);
-        front.copy_from_slice(header.as_ref());
-        match fill(reader, rest) {
+        match unit.read_rest(header, reader) {
             Ok(()) => Ok(unit),
             Err(e) => Err(e),
         }
+    }
+
+    /// Reads what follows the header as `read_payload` does, into this unit. What it then holds after a fault isn't
+    /// said.
+    #[inline(always)]
+    final fn read_rest<R: Source>(&mut self, header: Header, reader: &mut R) -> Result<(), Fault>
+        ensures bytes { MatchResult result
+            (λ _. ReadsRest LENGTH (header_bytes header) (bytes self.new) (R.remaining reader.old) (R.remaining reader.new))
+            (λ e. Takes (R.remaining reader.old) (R.remaining reader.new) (λ t. StopsRest LENGTH (header_bytes header) (cause_of e) t (R.remaining reader.new))) }
+        ensures count { R.failures reader.new ≡ count_after (R.failures reader.old) (not (is_reader_fault result)) }
+    {
+        if header.length() != Self::LENGTH as u32 {
+            return Err(Fault::UnitLength);
+        }
+        let (front, rest) = self.as_mut().split_at_mut(8);
+        front.copy_from_slice(header.as_ref());
+        fill(reader, rest)
     }
 
     /// Writes all bytes of the unit.

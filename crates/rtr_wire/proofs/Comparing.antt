@@ -1,16 +1,14 @@
 -- Comparing two inputs by the forms of their meanings.
-use Rattle.std.proofs.Common.{◌≡◌, ◌≢◌, ℕ, ◌<◌, Bool, true, false, List, [], ◌∷◌, ◌++◌, length, Option, Some, Result, Ok, Err, refl, sym, ap, subst, ◌∙◌, ◌↔◌, ◌⊎◌, inl, inr, arith}
-use Rattle.std.specs.Prelude.{IsTrue, IsOk}
+use Rattle.std.proofs.Common.{◌≡◌, ◌≢◌, ℕ, Bool, List, [], ◌∷◌, Some, Ok, Err, refl, sym, ap, subst, ◌∙◌, ◌↔◌, ◌⊎◌, inl, inr, arith}
+use Rattle.std.specs.Prelude.{IsTrue}
 use Rattle.std.specs.List.{AllByRecursion}
 use Rattle.rtr_units.specs.declared.fault.Fault.{Fault}
-use Rattle.rtr_units.specs.Causes.{Refusal, Cause, by_reader, by_writer, too_many, no_memory, wrong, cause_of}
-use Rattle.rtr_units.specs.End.{EndMeaning}
+use Rattle.rtr_units.specs.Causes.{Cause, by_reader, by_writer, too_many, no_memory, wrong, cause_of}
 use Rattle.rtr_payload.specs.Payloads.{IsPayload, Meaning}
 use Rattle.rtr_payload.proofs.Fields.{unit_payload}
-use Rattle.rtr_wire.specs.Comparison.{Accepted, IsAccepted, IsFaultOf, IsFormOf, Compares, in_memory_cause}
-use Rattle.rtr_wire.specs.Outcome.{by_cause}
+use Rattle.rtr_wire.specs.Comparison.{IsAccepted, IsFaultOf, IsFormOf, Compares, in_memory_cause}
 use Rattle.rtr_wire.specs.Promise.{Sides, Normalises}
-use Rattle.rtr_wire.specs.Sequences.{AreUnits, sequence_form}
+use Rattle.rtr_wire.specs.Sequences.{AreUnits}
 use Rattle.rtr_wire.proofs.Promises.{no_first_fault, not_full, by_reader_is}
 use Rattle.rtr_wire.proofs.Runs.{exactly_same}
 

@@ -14,11 +14,9 @@ use Rattle.rtr_payload.specs.Reads.{IsRefused, StopsReadingUnit}
 use Rattle.rtr_payload.specs.Steps.{PrefixFault}
 use Rattle.rtr_payload.specs.Places.{key_fields, aspa_fields}
 use Rattle.rtr_payload.specs.Units.{HasFields, IsUnit, LengthsAgree, meaning, form, form_of}
-use Rattle.rtr_payload.specs.UnitValues.{unit_bytes, unit_fields, ReadsPayload, NeedsMemory, MeansPayload}
-use Rattle.rtr_payload.specs.Values.{payload_of, payload_of_ref, referent}
+use Rattle.rtr_payload.specs.UnitValues.{unit_bytes, unit_fields, ReadsPayload, NeedsMemory, MeansPayload, HasNoPayload}
+use Rattle.rtr_payload.specs.Values.{payload_of}
 use Rattle.rtr_payload.specs.declared.payload.Payload.{Payload as Value}
-use Rattle.rtr_payload.specs.declared.payload.PayloadRef.{PayloadRef}
-use Rattle.rtr_payload.specs.declared.payload.PayloadRef.TheVariants as lent
 use Rattle.rtr_base.specs.declared.payload.Action.{Action}
 use Rattle.rtr_base.specs.Actions.{flags_of}
 use Rattle.rtr_payload.specs.declared.pdu_payload.Payload.{Payload}
@@ -97,16 +95,18 @@ end_not_written d f a b held holds (took, end) (w, r, wrote, split, some, stop) 
 
 -- ---- the form of what a unit means
 
--- a payload and the loan of it mean the same
-lent_means : (r : PayloadRef) → payload_of_ref r ≡ payload_of (referent r)
-lent_means (lent.Origin o) = refl
-lent_means (lent.RouterKey k) = refl
-lent_means (lent.Aspa a) = refl
+form_tells : (u : Payload) (c : Cause) → HasNoPayload u c → FormTells {T = Unit {0}} u (Err c) []
+form_tells u by_writer none = absurd none
+form_tells u by_reader none = (none, refl)
+form_tells u too_many none = (none, refl)
+form_tells u no_memory none = (none, refl)
+form_tells u (wrong f) none = (none, refl)
 
-pub form_is : (u : Payload) (action : Action) (p : Value) (r : PayloadRef) (b : List ℕ) (v f : ℕ) → MeansPayload u action p → v ≡ version_field (unit_bytes u) → f ≡ flags_of action → referent r ≡ p → b ≡ form v f (payload_of_ref r) → b ≡ form_of (meaning (unit_fields u))
-form_is u action p r b v f m ev ef er is =
-    let same : payload_of_ref r ≡ payload_of p = lent_means r ∙ ap payload_of er in
-    is ∙ (λ i. form (ev i) (ef i) (same i)) ∙ ap form_of m.means
+pub not_meant : (u : Payload) (f : Fault) (held : Option (List ℕ)) → HasNoPayload u (cause_of f) → WritesForm {T = Unit {0}} u (Err f) held held
+not_meant u f held none = ([], Appends-nil held, form_tells u (cause_of f) none)
+
+pub form_is : (u : Payload) (action : Action) (p : Value) (b : List ℕ) (v f : ℕ) → MeansPayload u action p → v ≡ version_field (unit_bytes u) → f ≡ flags_of action → b ≡ form v f (payload_of p) → b ≡ form_of (meaning (unit_fields u))
+form_is u action p b v f m ev ef is = is ∙ (λ i. form (ev i) (ef i) (payload_of p)) ∙ ap form_of m.means
 
 pub form_put : {T : Type 0} (u : Payload) (b : List ℕ) (r : Result T Fault) (held holds : Option (List ℕ)) → LengthsAgree (unit_fields u) → b ≡ form_of (meaning (unit_fields u)) → PutsForm r held holds b → WritesForm u r held holds
 form_put u b (Ok x) held holds agree is wrote = (b, wrote, (agree, is))

@@ -3,6 +3,7 @@ use Rattle.std.specs.Prelude.{◌≡◌, ◌⊎◌, ℕ, ◌<◌, Bool, true, fa
 use Rattle.std.specs.Io.KnownBytes.{Consumes, Appends, IsAtEnd}
 use Rattle.rtr_units.specs.declared.fault.Fault.{Fault}
 use Rattle.rtr_units.specs.Causes.{short, refused, Cause, by_reader, by_writer, too_many, no_memory, wrong, cause_of}
+use Rattle.rtr_units.specs.Views.{AreBytes}
 use Rattle.rtr_units.specs.End.{EndMeaning, End, end_list}
 use Rattle.rtr_payload.specs.Payloads.{Meaning}
 use Rattle.rtr_payload.specs.Units.{IsUnit, LengthsAgree, meaning, form_of}
@@ -72,6 +73,10 @@ WritesForm u r held holds = (w : List ℕ) × Appends held holds w × FormTells 
 -- one unit: the reader's bytes before and after, the writer's before and after
 abbrev pub Steps : Result Bool Fault → Option (List ℕ) → Option (List ℕ) → Option (List ℕ) → Option (List ℕ) → Type 0
 Steps r old new held holds = Moves old new held holds (λ t w. StepTells (by_cause r) t w new)
+
+-- one unit behind the header h, told of all that was taken: of h, which was taken before, and of what follows it
+abbrev pub StepsAfter : List ℕ → Result Bool Fault → Option (List ℕ) → Option (List ℕ) → Option (List ℕ) → Option (List ℕ) → Type 0
+StepsAfter h r old new held holds = AreBytes 8 h → (before : Option (List ℕ)) → Consumes before old h → Steps r before new held holds
 
 -- a run of units
 abbrev pub Runs : ℕ → Result ℕ Fault → Option (List ℕ) → Option (List ℕ) → Option (List ℕ) → Option (List ℕ) → Type 0

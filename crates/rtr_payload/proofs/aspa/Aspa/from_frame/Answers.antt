@@ -1,7 +1,6 @@
-use Rattle.std.proofs.Common.{◌≡◌, ◌≤◌, ◌%◌, length, drop, arith, ◌∙◌, ap, sym, append-nil, []}
+use Rattle.std.proofs.Common.{drop, arith, ◌∙◌, append-nil}
 use Rattle.std.proofs.lemmas.List.{length-append, length-drop}
 use Rattle.rtr_base.proofs.Numbers.{IsBytes-drop}
-use Rattle.rtr_payload.specs.Providers.{AreProviderBytes}
 use Rattle.rtr_payload.proofs.Joined.{rejoined}
 use Rattle.rtr_payload.proofs.ProviderBytes.{provider_bytes_of}
 use Rattle.rtr_payload.proofs.aspa.Aspa.from_frame.Goals as goal

@@ -1,4 +1,4 @@
-use Rattle.std.proofs.Common.{◌≡◌, ◌≢◌, ◌≤◌, ◌+◌, ◌-◌, ◌%◌, ◌++◌, [], List, length, get_or, sym, ap, ◌∙◌, arith, rules, ℕ, Some, None}
+use Rattle.std.proofs.Common.{◌≡◌, ◌≢◌, ◌+◌, ◌-◌, ◌%◌, ◌++◌, [], List, length, get_or, sym, ap, ◌∙◌, arith, rules, ℕ, Some, None}
 use Rattle.std.proofs.KnownBytes.{Consumes-nil}
 use Rattle.rtr_units.specs.Causes.{too_long, unit_length, empty_providers, cause_of}
 use Rattle.rtr_units.specs.Header.{length_field, version_field}

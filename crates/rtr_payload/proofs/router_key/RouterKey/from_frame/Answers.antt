@@ -1,4 +1,4 @@
-use Rattle.std.proofs.Common.{arith, ◌∙◌, append-nil, []}
+use Rattle.std.proofs.Common.{arith, ◌∙◌, append-nil}
 use Rattle.std.proofs.lemmas.List.{length-append}
 use Rattle.rtr_payload.proofs.Joined.{rejoined}
 use Rattle.rtr_payload.proofs.router_key.RouterKey.from_frame.Goals as goal

@@ -1,11 +1,9 @@
-use Rattle.std.proofs.Common.{◌≡◌, ◌≤◌, ◌+◌, ◌-◌, ◌++◌, [], List, length, sym, ap, ◌∙◌, arith, rules, ℕ, Option, None}
+use Rattle.std.proofs.Common.{◌≡◌, ◌+◌, ◌-◌, ◌++◌, [], List, length, sym, ap, ◌∙◌, arith, rules, ℕ, None}
 use Rattle.std.proofs.KnownBytes.{Consumes-nil}
 use Rattle.rtr_units.specs.Causes.{too_long, unit_length, cause_of}
-use Rattle.rtr_units.specs.Header.{length_field, type_field}
+use Rattle.rtr_units.specs.Header.{length_field}
 use Rattle.rtr_units.specs.Views.{AreBytes, header_bytes}
-use Rattle.rtr_payload.specs.Frames.{fault_as, IsWhole}
-use Rattle.rtr_payload.specs.Places.{key_fields}
-use Rattle.rtr_payload.specs.Units.{HasFields}
+use Rattle.rtr_payload.specs.Frames.{fault_as}
 use Rattle.rtr_payload.proofs.Frames.{nine_in_order}
 use Rattle.rtr_payload.proofs.Variable.{key_too_long, key_length, header_stops, frame_stops, key_read}
 use Rattle.rtr_payload.proofs.router_key.RouterKey.read_payload.Goals as goal
