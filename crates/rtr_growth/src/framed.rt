@@ -1,6 +1,7 @@
 //! Units that ask for one frame behind their header.
 
-use crate::support::{ASPA_BARE, ASPA_NAMED, END_1, IPV4, IPV4_STRAY, KEY, Page, normalised};
+use crate::support::{Page, normalised};
+use rtr_support::{ASPA_BARE, ASPA_NAMED, END_1, IPV4, IPV4_STRAY, KEY, expect_equal};
 use rtr_wire::pdu::{Aspa, Counted, Fault, RouterKey, SliceSource};
 use std::alloc::Global;
 use std::process::Abort;
@@ -11,7 +12,7 @@ fn word(rt: &impl Abort, taken: usize, unit: usize) -> &'static str {
     if taken == 8 {
         return "header";
     }
-    assert_eq!(rt; taken, unit);
+    expect_equal(rt, taken, unit);
     "unit"
 }
 
@@ -23,8 +24,8 @@ fn router_key(rt: HostRuntime) -> Result<(), Fail> {
         Ok(unit) => {
             let mut writer = Counted::new(Page::new());
             unit.write(&mut writer)?;
-            assert_eq!(rt; writer.into_inner().bytes(), input.bytes());
-            assert_eq!(rt; reader.rest().len(), 0);
+            expect_equal(&rt, writer.into_inner().bytes(), input.bytes());
+            expect_equal(&rt, reader.rest().len(), 0);
             println!(rt; "whole")?;
         }
         Err(Fault::Memory) => {
@@ -44,8 +45,8 @@ fn aspa(rt: HostRuntime) -> Result<(), Fail> {
         Ok(unit) => {
             let mut writer = Counted::new(Page::new());
             unit.write(&mut writer)?;
-            assert_eq!(rt; writer.into_inner().bytes(), input.bytes());
-            assert_eq!(rt; reader.rest().len(), 0);
+            expect_equal(&rt, writer.into_inner().bytes(), input.bytes());
+            expect_equal(&rt, reader.rest().len(), 0);
             println!(rt; "whole")?;
         }
         Err(Fault::Memory) => {
@@ -74,13 +75,13 @@ fn sequence(
     match seen.answer {
         Ok(_) => {
             let output = Page::spelled(&[held, form, END_1])?;
-            assert_eq!(rt; seen.output.bytes(), output.bytes());
-            assert_eq!(rt; seen.taken, input.bytes().len());
+            expect_equal(&rt, seen.output.bytes(), output.bytes());
+            expect_equal(&rt, seen.taken, input.bytes().len());
             Ok("whole")
         }
         Err(Fault::Memory) => {
             let output = Page::spelled(&[held])?;
-            assert_eq!(rt; seen.output.bytes(), output.bytes());
+            expect_equal(&rt, seen.output.bytes(), output.bytes());
             let taken = seen.taken.saturating_sub(before.bytes().len());
             Ok(word(rt, taken, unit.bytes().len()))
         }

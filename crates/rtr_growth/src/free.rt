@@ -1,6 +1,7 @@
 //! Inputs for which `normalise` asks for no growth: sequences of prefixes, and faults that come before a body.
 
-use crate::support::{END_0, END_1, IPV4, IPV4_STRAY, KEY, Page, normalised};
+use crate::support::{Page, normalised};
+use rtr_support::{END_0, END_1, IPV4, IPV4_STRAY, IPV6, IPV6_STRAY, KEY, expect_equal};
 use std::io::Write;
 use std::test::Fail;
 
@@ -20,17 +21,7 @@ const ACCEPTED: &[(&[&str], u64, &[&str])] = &[
             END_1,
         ],
     ),
-    (
-        &[
-            "01 06 00 00 00 00 00 20 01 17 1a 00 20 01 0d b8 00 00 00 02 00 0a 00 00 de ad be ef 00 01 00 0f",
-            END_1,
-        ],
-        1,
-        &[
-            "01 06 00 00 00 00 00 20 01 17 1a 00 20 01 0c 00 00 00 00 00 00 00 00 00 00 00 00 00 00 01 00 0f",
-            END_1,
-        ],
-    ),
+    (&[IPV6_STRAY, END_1], 1, &[IPV6, END_1]),
 ];
 
 /// An input that is refused with no report: the fault's text, how many bytes are taken, and the output.
@@ -137,12 +128,12 @@ fn accepted_prefixes(rt: HostRuntime) -> Result<(), Fail> {
         let input = Page::spelled(input)?;
         let seen = normalised(rt.alloc(), input.bytes());
         match &seen.answer {
-            Ok(count) => assert_eq!(rt; *count, *units),
+            Ok(count) => expect_equal(&rt, *count, *units),
             Err(fault) => panic!(rt; "{fault}"),
         }
         let output = Page::spelled(output)?;
-        assert_eq!(rt; seen.output.bytes(), output.bytes());
-        assert_eq!(rt; seen.taken, input.bytes().len());
+        expect_equal(&rt, seen.output.bytes(), output.bytes());
+        expect_equal(&rt, seen.taken, input.bytes().len());
     }
     println!(rt; "whole")?;
     Ok(())
@@ -158,12 +149,12 @@ fn refused_units(rt: HostRuntime) -> Result<(), Fail> {
             Err(fault) => {
                 let mut shown = Page::new();
                 write!(shown, "{fault}")?;
-                assert_eq!(rt; shown.bytes(), text.as_bytes());
+                expect_equal(&rt, shown.bytes(), text.as_bytes());
             }
         }
         let output = Page::spelled(output)?;
-        assert_eq!(rt; seen.output.bytes(), output.bytes());
-        assert_eq!(rt; seen.taken, *taken);
+        expect_equal(&rt, seen.output.bytes(), output.bytes());
+        expect_equal(&rt, seen.taken, *taken);
     }
     println!(rt; "whole")?;
     Ok(())

@@ -1,6 +1,7 @@
 //! Calls that may ask for memory, and what they leave of what they were lent.
 
-use crate::support::{END_1, IPV4, IPV4_STRAY, Page, granted, tell};
+use crate::support::{Page, granted, tell};
+use rtr_support::{END_1, IPV4, IPV4_STRAY, expect_equal};
 use rtr_wire::pdu::{Error, Fault, ProviderAsns};
 use rtr_wire::same_meaning;
 use std::alloc::Global;
@@ -12,8 +13,12 @@ fn compared_prefixes(rt: HostRuntime) -> Result<(), Fail> {
     let left = Page::spelled(&[IPV4_STRAY, END_1])?;
     let right = Page::spelled(&[IPV4, END_1])?;
     let same = same_meaning(rt.alloc(), left.bytes(), right.bytes(), 4294967295);
-    assert_eq!(rt; left.bytes(), Page::spelled(&[IPV4_STRAY, END_1])?.bytes());
-    assert_eq!(rt; right.bytes(), Page::spelled(&[IPV4, END_1])?.bytes());
+    expect_equal(
+        &rt,
+        left.bytes(),
+        Page::spelled(&[IPV4_STRAY, END_1])?.bytes(),
+    );
+    expect_equal(&rt, right.bytes(), Page::spelled(&[IPV4, END_1])?.bytes());
     assert!(rt; !matches!(same, Ok(false)));
     tell(&rt, same.map(|_| ()))
 }

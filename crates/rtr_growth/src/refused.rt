@@ -1,8 +1,7 @@
 //! Calls that ask for memory, and what they leave of what they were lent.
 
-use crate::support::{
-    ASPA_BARE, ASPA_NAMED, END_1, IPV4, IPV4_STRAY, KEY, Page, granted, normalised, tell,
-};
+use crate::support::{Page, granted, normalised, tell};
+use rtr_support::{ASPA_BARE, ASPA_NAMED, END_1, IPV4, IPV4_STRAY, KEY, expect_equal};
 use rtr_wire::base::{Asn, KeyIdentifier};
 use rtr_wire::pdu::{
     Aspa, Counted, Error, Fault, Header, KeyInfoVecError, Payload, ProviderAsns, ProviderIterError,
@@ -27,16 +26,17 @@ fn broken(
     let end = Page::spelled(&[END_1])?;
     let output = Page::spelled(&[held])?;
     let seen = normalised(alloc, input.bytes());
-    assert_eq!(rt; seen.output.bytes(), output.bytes());
-    assert_eq!(rt;
+    expect_equal(rt, seen.output.bytes(), output.bytes());
+    expect_equal(
+        rt,
         seen.taken.saturating_add(end.bytes().len()),
-        input.bytes().len()
+        input.bytes().len(),
     );
     match seen.answer {
         Err(Fault::Refused(error)) => {
             let mut report = Page::spelled(&[head, unit, size])?;
             report.write_all(text.as_bytes())?;
-            assert_eq!(rt; error.as_ref(), report.bytes());
+            expect_equal(rt, error.as_ref(), report.bytes());
             Ok(Ok(()))
         }
         Err(fault) => Ok(Err(fault)),
@@ -74,9 +74,9 @@ fn broken_prefix_behind_prefix(rt: HostRuntime) -> Result<(), Fail> {
 fn reported(rt: &impl Abort, alloc: Global, bytes: &[u8]) -> Result<(), Fault> {
     let error = granted(Error::new(alloc, 1, 3, &[], b"no"))?;
     let copy = error.clone();
-    assert_eq!(rt; error.as_ref(), bytes);
+    expect_equal(rt, error.as_ref(), bytes);
     let copy = granted(copy)?;
-    assert_eq!(rt; copy.as_ref(), bytes);
+    expect_equal(rt, copy.as_ref(), bytes);
     Ok(())
 }
 
@@ -99,22 +99,33 @@ fn info(rt: &impl Abort, alloc: Global) -> Result<RouterKeyInfo, Fault> {
     }
 }
 
-/// Key info, its clone and its text.
+/// Key info and its clone.
 fn informed(rt: &impl Abort, alloc: Global) -> Result<(), Fault> {
     let info = info(rt, alloc)?;
     let copy = info.clone();
-    assert_eq!(rt; info.as_slice(), INFO.as_slice());
+    expect_equal(rt, info.as_slice(), INFO.as_slice());
     let copy = granted(copy)?;
-    assert_eq!(rt; copy.as_slice(), INFO.as_slice());
+    expect_equal(rt, copy.as_slice(), INFO.as_slice());
+    Ok(())
+}
+
+/// Key info and its text.
+fn shown(rt: &impl Abort, alloc: Global) -> Result<(), Fault> {
+    let info = info(rt, alloc)?;
     let text = info.to_text(alloc);
-    assert_eq!(rt; info.as_slice(), INFO.as_slice());
-    assert_eq!(rt; granted(text)?.as_str(), "FRYXGA");
+    expect_equal(rt, info.as_slice(), INFO.as_slice());
+    expect_equal(rt, granted(text)?.as_str(), "FRYXGA");
     Ok(())
 }
 
 #[test]
 fn key_info(rt: HostRuntime) -> Result<(), Fail> {
     tell(&rt, informed(&rt, rt.alloc()))
+}
+
+#[test]
+fn key_info_text(rt: HostRuntime) -> Result<(), Fail> {
+    tell(&rt, shown(&rt, rt.alloc()))
 }
 
 /// The providers 65549 and 65550.
@@ -131,9 +142,9 @@ fn provided(rt: &impl Abort, alloc: Global) -> Result<(), Fault> {
     let bytes = [0, 1, 0, 13, 0, 1, 0, 14];
     let providers = two_providers(rt, alloc)?;
     let copy = providers.clone();
-    assert_eq!(rt; providers.as_slice(), bytes.as_slice());
+    expect_equal(rt, providers.as_slice(), bytes.as_slice());
     let copy = granted(copy)?;
-    assert_eq!(rt; copy.as_slice(), bytes.as_slice());
+    expect_equal(rt, copy.as_slice(), bytes.as_slice());
     Ok(())
 }
 
@@ -142,7 +153,7 @@ fn providers(rt: HostRuntime) -> Result<(), Fail> {
     tell(&rt, provided(&rt, rt.alloc()))
 }
 
-/// A unit that was read, its clone, its meaning, and the unit of that meaning.
+/// A unit that was read, its clone and its meaning, lent and given away.
 fn read_payload(rt: &impl Abort, alloc: Global, bytes: &[u8], form: &[u8]) -> Result<(), Fault> {
     let mut reader = SliceSource::new(bytes);
     let unit = match Payload::read(alloc, &mut reader)? {
@@ -156,11 +167,29 @@ fn read_payload(rt: &impl Abort, alloc: Global, bytes: &[u8], form: &[u8]) -> Re
     let meaning = unit.to_payload(alloc);
     expect_written(rt, &unit, bytes)?;
     let (action, meaning) = meaning?;
-    let made = Payload::new(unit.version(), action.into_flags(), &meaning.as_ref());
+    expect_form(rt, unit.version(), action, &meaning, form)?;
+    let version = unit.version();
+    let Ok((action, given)) = unit.into_payload(alloc) else {
+        panic!(rt; "a growth for a unit that is given away");
+    };
+    assert!(rt; given == meaning);
+    let made = Payload::from_payload(version, action.into_flags(), given);
+    expect_written(rt, &made, form)
+}
+
+/// Asserts that the unit of a meaning is written as this form, and that the meaning is its clone.
+fn expect_form(
+    rt: &impl Abort,
+    version: u8,
+    action: payload::Action,
+    meaning: &payload::Payload,
+    form: &[u8],
+) -> Result<(), Fault> {
+    let made = Payload::new(version, action.into_flags(), &meaning.as_ref());
     let copy = meaning.clone();
     expect_written(rt, &granted(made)?, form)?;
     let copy = granted(copy)?;
-    assert!(rt; copy == meaning);
+    assert!(rt; copy == *meaning);
     Ok(())
 }
 
@@ -168,7 +197,7 @@ fn read_payload(rt: &impl Abort, alloc: Global, bytes: &[u8], form: &[u8]) -> Re
 fn expect_written(rt: &impl Abort, unit: &Payload, bytes: &[u8]) -> Result<(), Fault> {
     let mut writer = Counted::new(Page::new());
     unit.write(&mut writer)?;
-    assert_eq!(rt; writer.into_inner().bytes(), bytes);
+    expect_equal(rt, writer.into_inner().bytes(), bytes);
     Ok(())
 }
 
@@ -194,7 +223,7 @@ fn read_key(rt: &impl Abort, alloc: Global, bytes: &[u8]) -> Result<(), Fault> {
     let header = Header::read(&mut reader)?;
     let unit = RouterKey::read_payload(alloc, header, &mut reader)?;
     let copy = unit.clone();
-    assert_eq!(rt; unit.key_info().as_slice(), INFO.as_slice());
+    expect_equal(rt, unit.key_info().as_slice(), INFO.as_slice());
     assert!(rt; granted(copy)? == unit);
     Ok(())
 }
@@ -211,7 +240,7 @@ fn read_aspa(rt: &impl Abort, alloc: Global, bytes: &[u8]) -> Result<(), Fault> 
     let header = Header::read(&mut reader)?;
     let unit = Aspa::read_payload(alloc, header, &mut reader)?;
     let copy = unit.clone();
-    assert_eq!(rt; unit.providers().asn_count(), 2);
+    expect_equal(rt, unit.providers().asn_count(), 2);
     assert!(rt; granted(copy)? == unit);
     Ok(())
 }
@@ -222,27 +251,37 @@ fn aspa_unit(rt: HostRuntime) -> Result<(), Fail> {
     tell(&rt, read_aspa(&rt, rt.alloc(), unit.bytes()))
 }
 
-/// A key and its clone; an ASPA, its clone and its withdrawal.
-fn meant(rt: &impl Abort, alloc: Global) -> Result<(), Fault> {
+/// A key and its clone.
+fn meant_key(rt: &impl Abort, alloc: Global) -> Result<(), Fault> {
     let identifier = KeyIdentifier::from([7; 20]);
     let key = payload::RouterKey::new(identifier, Asn::from_u32(65551), info(rt, alloc)?);
     let copy = key.clone();
-    assert_eq!(rt; key.key_info.as_slice(), INFO.as_slice());
+    expect_equal(rt, key.key_info.as_slice(), INFO.as_slice());
     assert!(rt; granted(copy)? == key);
+    Ok(())
+}
+
+/// An ASPA, its clone and its withdrawal.
+fn meant_aspa(rt: &impl Abort, alloc: Global) -> Result<(), Fault> {
     let aspa = payload::Aspa::new(Asn::from_u32(65551), two_providers(rt, alloc)?);
     let copy = aspa.clone();
     let withdrawn = aspa.withdraw(alloc);
-    assert_eq!(rt; aspa.providers.asn_count(), 2);
+    expect_equal(rt, aspa.providers.asn_count(), 2);
     assert!(rt; granted(copy)? == aspa);
     let withdrawn = granted(withdrawn)?;
     assert!(rt; withdrawn.providers.is_empty());
-    assert_eq!(rt; withdrawn.key(), aspa.key());
+    expect_equal(rt, withdrawn.key(), aspa.key());
     Ok(())
 }
 
 #[test]
-fn meanings(rt: HostRuntime) -> Result<(), Fail> {
-    tell(&rt, meant(&rt, rt.alloc()))
+fn key_meaning(rt: HostRuntime) -> Result<(), Fail> {
+    tell(&rt, meant_key(&rt, rt.alloc()))
+}
+
+#[test]
+fn aspa_meaning(rt: HostRuntime) -> Result<(), Fail> {
+    tell(&rt, meant_aspa(&rt, rt.alloc()))
 }
 
 #[test]
@@ -250,7 +289,7 @@ fn compared_keys(rt: HostRuntime) -> Result<(), Fail> {
     let left = Page::spelled(&[KEY, END_1])?;
     let right = Page::spelled(&[KEY, END_1])?;
     let same = same_meaning(rt.alloc(), left.bytes(), right.bytes(), 9);
-    assert_eq!(rt; left.bytes(), right.bytes());
+    expect_equal(&rt, left.bytes(), right.bytes());
     assert!(rt; !matches!(same, Ok(false)));
     tell(&rt, same.map(|_| ()))
 }

@@ -11,24 +11,6 @@ use std::test::Fail;
 /// More units than any test has.
 pub const LIMIT: u64 = 4294967295;
 
-pub const IPV4_STRAY: &str = "01 04 00 07 00 00 00 14 03 17 1a 09 c0 00 02 0a 00 01 00 0f";
-
-/// The form of `IPV4_STRAY`.
-pub const IPV4: &str = "01 04 00 00 00 00 00 14 01 17 1a 00 c0 00 02 00 00 01 00 0f";
-
-pub const KEY: &str =
-    "01 09 01 00 00 00 00 24 01 02 03 04 05 06 07 08 09 0a 0b 0c 0d 0e 0f 10 11 12 13 14 00 01 00 0f 15 16 17 18";
-
-/// An ASPA unit that withdraws and names two providers.
-pub const ASPA_NAMED: &str = "02 0b 00 00 00 00 00 14 00 01 00 0f 00 01 00 0d 00 01 00 0e";
-
-/// The form of `ASPA_NAMED`.
-pub const ASPA_BARE: &str = "02 0b 00 00 00 00 00 0c 00 01 00 0f";
-
-pub const END_0: &str = "00 07 12 34 00 00 00 0c de ad be ef";
-
-pub const END_1: &str = "01 07 12 34 00 00 00 18 de ad be ef 00 00 0e 10 00 00 02 58 00 00 1c 20";
-
 /// Bytes in an array: at most 256.
 #[derive(Drop)]
 pub struct Page {

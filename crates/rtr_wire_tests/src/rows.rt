@@ -1,6 +1,6 @@
 //! Inputs of `normalise` and what it answers to them.
 
-use crate::support::{
+use rtr_support::{
     ASPA_BARE, ASPA_NAMED, ASPA_REST, END_0, END_1, END_REST, IPV4, IPV4_STRAY, IPV6, IPV6_STRAY,
     KEY, KEY_REST,
 };

@@ -2,6 +2,7 @@
 
 use rtr_wire::{base, laws, payload, pdu, state};
 use std::mem::size_of;
+use std::process::Abort;
 
 /// Each law is called once: a call does nothing.
 #[test]
@@ -15,9 +16,16 @@ fn laws_are_shown() {
     laws::idempotent();
 }
 
-/// Each type is named once, in the module that shows it.
+/// Asserts that each size is one of a value of few words.
+fn expect_small(rt: &impl Abort, sizes: &[usize]) {
+    for size in sizes {
+        assert!(rt; *size <= 128);
+    }
+}
+
+/// Each type of the modules of plain values is named once.
 #[test]
-fn types_are_shown(rt: HostRuntime) {
+fn plain_values_are_shown(rt: HostRuntime) {
     let sizes = [
         size_of::<state::Serial>(),
         size_of::<state::State>(),
@@ -27,6 +35,14 @@ fn types_are_shown(rt: HostRuntime) {
         size_of::<base::MaxLenPrefix>(),
         size_of::<base::PrefixError>(),
         size_of::<base::MaxLenError>(),
+    ];
+    expect_small(&rt, &sizes);
+}
+
+/// Each type of module `payload` is named once.
+#[test]
+fn meanings_are_shown(rt: HostRuntime) {
+    let sizes = [
         size_of::<payload::Action>(),
         size_of::<payload::Afi>(),
         size_of::<payload::Timing>(),
@@ -35,6 +51,15 @@ fn types_are_shown(rt: HostRuntime) {
         size_of::<payload::Aspa>(),
         size_of::<payload::Payload>(),
         size_of::<payload::PayloadType>(),
+        size_of::<payload::PayloadRef<'static>>(),
+    ];
+    expect_small(&rt, &sizes);
+}
+
+/// Each type of readers, faults and units of a fixed size is named once.
+#[test]
+fn fixed_units_are_shown(rt: HostRuntime) {
+    let sizes = [
         size_of::<pdu::ErrorCode>(),
         size_of::<pdu::Fault>(),
         size_of::<pdu::Header>(),
@@ -50,6 +75,16 @@ fn types_are_shown(rt: HostRuntime) {
         size_of::<pdu::EndOfDataV1>(),
         size_of::<pdu::EndOfData>(),
         size_of::<pdu::Error>(),
+        size_of::<pdu::SliceSource<'static>>(),
+        size_of::<pdu::Counted<u8>>(),
+    ];
+    expect_small(&rt, &sizes);
+}
+
+/// Each type of variable units and what they hold is named once.
+#[test]
+fn variable_units_are_shown(rt: HostRuntime) {
+    let sizes = [
         size_of::<pdu::RouterKeyInfo>(),
         size_of::<pdu::ProviderAsns>(),
         size_of::<pdu::KeyInfoError>(),
@@ -59,12 +94,7 @@ fn types_are_shown(rt: HostRuntime) {
         size_of::<pdu::RouterKey>(),
         size_of::<pdu::Aspa>(),
         size_of::<pdu::Payload>(),
-        size_of::<payload::PayloadRef<'static>>(),
         size_of::<pdu::ProviderIter<'static>>(),
-        size_of::<pdu::SliceSource<'static>>(),
-        size_of::<pdu::Counted<u8>>(),
     ];
-    for size in sizes {
-        assert!(rt; size <= 128);
-    }
+    expect_small(&rt, &sizes);
 }

@@ -1,13 +1,10 @@
 //! Whole sequences: what `normalise` answers to rows of inputs, by readers and writers of all kinds.
 
-mod compared;
-mod rows;
-mod shown;
-
-use crate::support::{
-    END_1, IPV4, IPV4_STRAY, ONES, Pieces, Recorder, STEPS, WHOLE, bytes, filler, front,
+use crate::rows::{ACCEPTED, Accepted, REFUSED, REPORTED, Refused, Reported, SINGLES, Single};
+use rtr_support::{
+    END_1, IPV4, IPV4_STRAY, ONES, Pieces, Recorder, STEPS, WHOLE, bytes, expect_equal, filler,
+    front,
 };
-use rows::{ACCEPTED, Accepted, REFUSED, REPORTED, SINGLES, Single};
 use rtr_wire::normalise;
 use rtr_wire::pdu::{CacheResponse, Counted, Fault, SliceSource, Unit};
 use rtr_wire::state::{Serial, State};
@@ -87,7 +84,21 @@ fn expect(
     Ok(())
 }
 
-/// Asserts what an accepted row says, with bytes behind it that are not to be read.
+/// Asserts that this reader and this writer give what an accepted row says, with so many bytes taken.
+fn expect_form(
+    rt: &impl Abort,
+    alloc: Global,
+    row: &Accepted,
+    reader: Pieces<'_>,
+    writer: Recorder,
+    taken: usize,
+) -> Result<(), Fail> {
+    let output = bytes(alloc, row.output)?;
+    let seen = normalise_pieces(alloc, reader, writer, LIMIT);
+    expect(rt, alloc, row.name, &seen, Ok(row.units), &output, taken)
+}
+
+/// Asserts what an accepted row says of its input, with bytes behind it that are not to be read, and of its form.
 fn expect_accepted(
     rt: &impl Abort,
     alloc: Global,
@@ -96,76 +107,63 @@ fn expect_accepted(
     size: usize,
 ) -> Result<(), Fail> {
     let input = bytes(alloc, row.input)?;
-    let output = bytes(alloc, row.output)?;
     let mut stray = input.clone()?;
     stray.extend_from_slice(&[1, 4, 0, 0, 0])?;
-    let first = normalise_pieces(
-        alloc,
-        Pieces::new(&stray, sizes),
-        Recorder::new(alloc, size),
-        LIMIT,
-    );
-    expect(
-        rt,
-        alloc,
-        row.name,
-        &first,
-        Ok(row.units),
-        &output,
-        input.len(),
-    )?;
-    let again = normalise_pieces(
-        alloc,
-        Pieces::new(&output, sizes),
-        Recorder::new(alloc, size),
-        LIMIT,
-    );
-    expect(
-        rt,
-        alloc,
-        row.name,
-        &again,
-        Ok(row.units),
-        &output,
-        output.len(),
-    )
+    let reader = Pieces::new(&stray, sizes);
+    let writer = Recorder::new(alloc, size);
+    expect_form(rt, alloc, row, reader, writer, input.len())?;
+    let form = bytes(alloc, row.output)?;
+    let reader = Pieces::new(&form, sizes);
+    let writer = Recorder::new(alloc, size);
+    expect_form(rt, alloc, row, reader, writer, form.len())
+}
+
+/// The sizes of the readers and of the writers that accepted inputs are given.
+const SIZES: &[(&[usize], usize)] = &[
+    (ONES, 1),
+    (ONES, 7),
+    (ONES, usize::MAX),
+    (STEPS, 1),
+    (STEPS, 7),
+    (STEPS, usize::MAX),
+    (WHOLE, 1),
+    (WHOLE, 7),
+    (WHOLE, usize::MAX),
+];
+
+/// Asserts what an accepted row says, for readers and writers of all sizes.
+fn expect_accepted_in_pieces(rt: &impl Abort, alloc: Global, row: &Accepted) -> Result<(), Fail> {
+    for (sizes, size) in SIZES {
+        expect_accepted(rt, alloc, row, sizes, *size)?;
+    }
+    Ok(())
 }
 
 #[test]
 fn accepted_inputs(rt: HostRuntime) -> Result<(), Fail> {
     for row in ACCEPTED {
-        for sizes in [ONES, STEPS, WHOLE] {
-            for size in [1, 7, usize::MAX] {
-                expect_accepted(&rt, rt.alloc(), row, sizes, size)?;
-            }
-        }
+        expect_accepted_in_pieces(&rt, rt.alloc(), row)?;
+    }
+    Ok(())
+}
+
+/// Asserts what a refused row says, for readers of all sizes.
+fn expect_refused(rt: &impl Abort, alloc: Global, row: &Refused) -> Result<(), Fail> {
+    let input = bytes(alloc, row.input)?;
+    let output = bytes(alloc, row.output)?;
+    for sizes in [ONES, STEPS, WHOLE] {
+        let reader = Pieces::new(&input, sizes);
+        let seen = normalise_pieces(alloc, reader, Recorder::new(alloc, 1), LIMIT);
+        let fault = Err(row.fault);
+        expect(rt, alloc, row.name, &seen, fault, &output, row.taken)?;
     }
     Ok(())
 }
 
 #[test]
 fn refused_inputs(rt: HostRuntime) -> Result<(), Fail> {
-    let alloc = rt.alloc();
     for row in REFUSED {
-        let input = bytes(alloc, row.input)?;
-        let output = bytes(alloc, row.output)?;
-        for sizes in [ONES, STEPS, WHOLE] {
-            let seen = normalise_pieces(
-                alloc,
-                Pieces::new(&input, sizes),
-                Recorder::new(alloc, 1),
-                LIMIT,
-            );
-            expect(
-                &rt,
-                alloc,
-                row.name,
-                &seen,
-                Err(row.fault),
-                &output,
-                row.taken,
-            )?;
-        }
+        expect_refused(&rt, rt.alloc(), row)?;
     }
     Ok(())
 }
@@ -189,29 +187,61 @@ fn refused_types(rt: HostRuntime) -> Result<(), Fail> {
     Ok(())
 }
 
+/// Asserts that the call answered this report, with this output and so many bytes taken.
+fn expect_report(
+    rt: &impl Abort,
+    alloc: Global,
+    name: &str,
+    seen: &Outcome,
+    report: &[u8],
+    output: &[u8],
+    taken: usize,
+) -> Result<(), Fail> {
+    let fault = Err("prefix fields are not allowed");
+    expect(rt, alloc, name, seen, fault, output, taken)?;
+    assert_eq!(rt; seen.report(), report, "{name}");
+    Ok(())
+}
+
+/// Asserts what a row of a broken prefix says, for readers of all sizes.
+fn expect_reported(rt: &impl Abort, alloc: Global, row: &Reported) -> Result<(), Fail> {
+    let mut input = bytes(alloc, row.before)?;
+    input.extend_from_slice(&bytes(alloc, &[row.unit])?)?;
+    let taken = input.len();
+    input.extend_from_slice(&bytes(alloc, &[END_1])?)?;
+    let output = bytes(alloc, row.output)?;
+    let mut report = bytes(alloc, &[row.head, row.unit, row.size])?;
+    report.extend_from_slice(row.text.as_bytes())?;
+    for sizes in [ONES, STEPS, WHOLE] {
+        let reader = Pieces::new(&input, sizes);
+        let seen = normalise_pieces(alloc, reader, Recorder::new(alloc, 1), LIMIT);
+        expect_report(rt, alloc, row.name, &seen, &report, &output, taken)?;
+    }
+    Ok(())
+}
+
 #[test]
 fn refused_prefixes(rt: HostRuntime) -> Result<(), Fail> {
-    let alloc = rt.alloc();
     for row in REPORTED {
-        let name = row.name;
-        let mut input = bytes(alloc, row.before)?;
-        input.extend_from_slice(&bytes(alloc, &[row.unit])?)?;
-        let taken = input.len();
-        input.extend_from_slice(&bytes(alloc, &[END_1])?)?;
-        let output = bytes(alloc, row.output)?;
-        let mut report = bytes(alloc, &[row.head, row.unit, row.size])?;
-        report.extend_from_slice(row.text.as_bytes())?;
-        for sizes in [ONES, STEPS, WHOLE] {
-            let seen = normalise_pieces(
-                alloc,
-                Pieces::new(&input, sizes),
-                Recorder::new(alloc, 1),
-                LIMIT,
-            );
-            let fault = Err("prefix fields are not allowed");
-            expect(&rt, alloc, name, &seen, fault, &output, taken)?;
-            assert_eq!(rt; seen.report(), report.as_slice(), "{name}");
-        }
+        expect_reported(&rt, rt.alloc(), row)?;
+    }
+    Ok(())
+}
+
+/// Asserts that an input that is cut is taken whole and leaves this output, for readers of all sizes.
+fn expect_cut(
+    rt: &impl Abort,
+    alloc: Global,
+    name: &str,
+    input: &[u8],
+    output: &[u8],
+) -> Result<(), Fail> {
+    for sizes in [ONES, STEPS, WHOLE] {
+        let reader = Pieces::new(input, sizes);
+        let seen = normalise_pieces(alloc, reader, Recorder::new(alloc, usize::MAX), LIMIT);
+        let fault = Err("unexpected end of input");
+        expect(rt, alloc, name, &seen, fault, output, input.len())?;
+        assert_eq!(rt; seen.ends, 1, "{name}: asked after the end");
     }
     Ok(())
 }
@@ -224,20 +254,7 @@ fn expect_stops(rt: &impl Abort, alloc: Global, row: &Single) -> Result<(), Fail
     let output = bytes(alloc, row.output)?;
     for (count, _) in input.iter().enumerate() {
         let kept = front(&output, if count < row.unit { 0 } else { row.form });
-        for sizes in [ONES, STEPS, WHOLE] {
-            let cut = Pieces::new(front(&input, count), sizes);
-            let seen = normalise_pieces(alloc, cut, Recorder::new(alloc, usize::MAX), LIMIT);
-            expect(
-                rt,
-                alloc,
-                name,
-                &seen,
-                Err("unexpected end of input"),
-                kept,
-                count,
-            )?;
-            assert_eq!(rt; seen.ends, 1, "{name}: asked after the end");
-        }
+        expect_cut(rt, alloc, name, front(&input, count), kept)?;
         let failing = Pieces::failing(&input, ONES, count.saturating_add(1));
         let seen = normalise_pieces(alloc, failing, Recorder::new(alloc, usize::MAX), LIMIT);
         expect(rt, alloc, name, &seen, Err("read failed"), kept, count)?;
@@ -326,8 +343,8 @@ fn limits(rt: HostRuntime) -> Result<(), Fail> {
     let mut rest = Counted::new(Recorder::new(alloc, 1));
     let second = normalise(alloc, &mut reader, &mut rest, 1);
     assert!(rt; matches!(&second, Ok(0)));
-    assert_eq!(rt; writer.into_inner().held(), unit);
-    assert_eq!(rt; rest.into_inner().held(), end);
+    expect_equal(&rt, writer.into_inner().held(), unit);
+    expect_equal(&rt, rest.into_inner().held(), end);
     Ok(())
 }
 
@@ -342,32 +359,31 @@ fn units_without_end(rt: HostRuntime) -> Result<(), Fail> {
         let mut writer = Counted::new(Recorder::new(alloc, usize::MAX));
         let answer = normalise(alloc, &mut reader, &mut writer, limit);
         assert!(rt; matches!(&answer, Err(Fault::TooMany)));
-        assert_eq!(rt; writer.into_inner().held(), held);
+        expect_equal(&rt, writer.into_inner().held(), held);
         let reader = reader.into_inner();
-        assert_eq!(rt; reader.taken(), taken);
-        assert_eq!(rt; reader.calls() == 0, limit == 0);
+        expect_equal(&rt, reader.taken(), taken);
+        expect_equal(&rt, reader.calls() == 0, limit == 0);
+    }
+    Ok(())
+}
+
+/// Asserts that a unit of this header and so many bytes is accepted as it is, for readers of all sizes.
+fn expect_large(rt: &impl Abort, alloc: Global, header: &str, count: usize) -> Result<(), Fail> {
+    let mut input = bytes(alloc, &[header])?;
+    input.extend_from_slice(&filler(alloc, count)?)?;
+    input.extend_from_slice(&bytes(alloc, &[END_1])?)?;
+    for sizes in [ONES, STEPS, WHOLE] {
+        let reader = Pieces::new(&input, sizes);
+        let seen = normalise_pieces(alloc, reader, Recorder::new(alloc, 4096), LIMIT);
+        expect(rt, alloc, header, &seen, Ok(1), &input, input.len())?;
     }
     Ok(())
 }
 
 #[test]
 fn large_units(rt: HostRuntime) -> Result<(), Fail> {
-    let alloc = rt.alloc();
-    let rows = [
-        ("01 09 01 00 00 00 ff ff", 65527),
-        ("02 0b 01 00 00 00 ff fc", 65524),
-    ];
-    for (header, count) in rows {
-        let mut input = bytes(alloc, &[header])?;
-        input.extend_from_slice(&filler(alloc, count)?)?;
-        input.extend_from_slice(&bytes(alloc, &[END_1])?)?;
-        for sizes in [ONES, STEPS, WHOLE] {
-            let reader = Pieces::new(&input, sizes);
-            let seen = normalise_pieces(alloc, reader, Recorder::new(alloc, 4096), LIMIT);
-            expect(&rt, alloc, header, &seen, Ok(1), &input, input.len())?;
-        }
-    }
-    Ok(())
+    expect_large(&rt, rt.alloc(), "01 09 01 00 00 00 ff ff", 65527)?;
+    expect_large(&rt, rt.alloc(), "02 0b 01 00 00 00 ff fc", 65524)
 }
 
 #[test]
@@ -399,13 +415,13 @@ fn after_a_cache_response(rt: HostRuntime) -> Result<(), Fail> {
     assert!(rt; response == CacheResponse::new(1, state));
     let answer = normalise(alloc, &mut reader, &mut writer, LIMIT);
     assert!(rt; matches!(&answer, Ok(1)));
-    assert_eq!(rt; writer.into_inner().as_slice(), output.as_slice());
+    expect_equal(&rt, writer.into_inner().as_slice(), output.as_slice());
     Ok(())
 }
 
 #[test]
 fn text_of_want_of_memory(rt: HostRuntime) -> Result<(), Fail> {
     let text = format!(in rt.alloc(); "{}", Fault::Memory)?;
-    assert_eq!(rt; text.as_str(), "out of memory");
+    expect_equal(&rt, text.as_str(), "out of memory");
     Ok(())
 }

@@ -1,6 +1,6 @@
 //! What `same_meaning` answers to pairs of inputs.
 
-use crate::support::{ASPA_BARE, ASPA_NAMED, END_0, END_1, IPV4, IPV4_STRAY, KEY, bytes};
+use rtr_support::{ASPA_BARE, ASPA_NAMED, END_0, END_1, IPV4, IPV4_STRAY, KEY, bytes};
 use rtr_wire::same_meaning;
 use std::test::Fail;
 

@@ -1,8 +1,12 @@
-//! Bytes written as hex, and readers and writers that give and take them in pieces and fail.
+//! What tests share: bytes written as hex, and readers and writers that give and take them in pieces and fail.
+#![tactic(auto)]
 
 use std::alloc::Global;
+use std::fmt::Debug;
+use std::hash::{DefaultHasher, Hash, Hasher};
 use std::io;
 use std::io::{Error, ErrorKind, Read, Write};
+use std::process::Abort;
 use std::test::Fail;
 
 /// An IPv4 prefix unit with a session, upper flag bits, a free byte and host bits.
@@ -76,6 +80,18 @@ pub fn filler(alloc: Global, count: usize) -> Result<Vec<u8>, Fail> {
 pub fn front(bytes: &[u8], count: usize) -> &[u8] {
     let (front, _) = bytes.split_at(count.min(bytes.len()));
     front
+}
+
+/// Asserts that the two are equal. A test that calls it is proved sooner than one in which the macro stands.
+pub fn expect_equal<T: PartialEq + Debug + Drop>(rt: &impl Abort, left: T, right: T) {
+    assert_eq!(rt; left, right);
+}
+
+/// The hash of a value.
+pub fn hash_of<T: Hash>(x: &T) -> u64 {
+    let mut state = DefaultHasher::new();
+    x.hash(&mut state);
+    state.finish()
 }
 
 /// The sizes of a reader of one byte at a time.
@@ -259,35 +275,4 @@ impl Write for Recorder {
         self.flushes = self.flushes.saturating_add(1);
         Ok(())
     }
-}
-
-#[test]
-fn pieces_and_recorder(rt: HostRuntime) -> Result<(), Fail> {
-    let alloc = rt.alloc();
-    let input = bytes(alloc, &["01 02", "", "03 04 05 06 07"])?;
-    let mut reader = Pieces::failing(&input, STEPS, 5);
-    let mut writer = Recorder::failing(alloc, 2, 3);
-    let mut buffer = [0; 4];
-    for count in [1, 2, 3, 1] {
-        assert_eq!(rt; reader.read(&mut buffer)?, count);
-    }
-    assert!(rt; reader.read(&mut buffer).is_err());
-    assert_eq!(rt; reader.read(&mut buffer)?, 0);
-    assert_eq!(rt; (reader.calls(), reader.ends(), reader.taken()), (6, 1, 7));
-    for count in [2, 2] {
-        assert_eq!(rt; writer.write(&input)?, count);
-    }
-    assert!(rt; writer.write(&input).is_err());
-    writer.flush()?;
-    assert_eq!(rt; writer.held(), [1, 2, 1, 2].as_slice());
-    assert_eq!(rt; (writer.calls(), writer.flushes()), (3, 1));
-    let mut endless = Pieces::endless(&input);
-    let mut stopping = Recorder::stopping(alloc, 1, 1);
-    for _ in 0..8 {
-        assert_eq!(rt; endless.read(&mut buffer[..1])?, 1);
-    }
-    assert_eq!(rt; stopping.write(&input)?, 0);
-    assert_eq!(rt; buffer[0], 1);
-    assert_eq!(rt; filler(alloc, 252)?.as_slice().last(), Some(&0));
-    Ok(())
 }

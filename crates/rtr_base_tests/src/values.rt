@@ -1,0 +1,103 @@
+//! ASNs, keys, actions, families, timings and error codes.
+
+use rtr_base::asn::Asn;
+use rtr_base::keys::KeyIdentifier;
+use rtr_base::payload::{Action, Afi, Timing};
+use rtr_base::pdu::ErrorCode;
+use rtr_support::{expect_equal, hash_of};
+use std::test::Fail;
+
+#[test]
+fn numbers_and_keys(rt: HostRuntime) {
+    expect_equal(&rt, Asn::from_u32(65551).into_u32(), 65551);
+    expect_equal(&rt, Asn::from(65551), Asn::from_u32(65551));
+    assert!(rt; Asn::from_u32(2) < Asn::from_u32(256));
+    expect_equal(&rt, hash_of(&Asn::from_u32(7)), hash_of(&Asn::from_u32(7)));
+
+    let mut bytes = [0; 20];
+    bytes[0] = 1;
+    let key = KeyIdentifier::from(bytes);
+    let back: [u8; 20] = key.into();
+    assert!(rt; back == bytes);
+    bytes[19] = 1;
+    let next = KeyIdentifier::from(bytes);
+    assert!(rt; key < next);
+    assert!(rt; key != next);
+    expect_equal(&rt, hash_of(&key), hash_of(&KeyIdentifier::from(back)));
+}
+
+#[test]
+fn actions_and_families(rt: HostRuntime) -> Result<(), Fail> {
+    for (flags, want) in [
+        (0, Action::Withdraw),
+        (1, Action::Announce),
+        (128, Action::Withdraw),
+        (255, Action::Announce),
+    ] {
+        assert_eq!(rt; Action::from_flags(flags), want, "at {flags}");
+    }
+    expect_equal(&rt, Action::Announce.into_flags(), 1);
+    expect_equal(&rt, Action::Withdraw.into_flags(), 0);
+    assert!(rt; Action::Announce < Action::Withdraw);
+    assert!(rt; Action::Announce.is_announce() && !Action::Announce.is_withdraw());
+    assert!(rt; Action::Withdraw.is_withdraw() && !Action::Withdraw.is_announce());
+
+    let other = Afi::from_u8(2);
+    let shown = format!(in rt.alloc();
+        "{} {} {other} {:>9}",
+        Afi::ipv4(),
+        Afi::ipv6(),
+        Afi::ipv6()
+    )?;
+    expect_equal(&rt, shown.as_str(), "ipv4 ipv6 ipv4 ipv6");
+    assert!(rt; other != Afi::ipv4());
+    assert!(rt; Afi::ipv6() < other);
+    assert!(rt; other.is_ipv4() && !other.is_ipv6());
+    assert!(rt; Afi::ipv6().is_ipv6() && !Afi::ipv6().is_ipv4());
+    expect_equal(&rt, other.into_u8(), 2);
+    expect_equal(&rt, Afi::from_u8(1), Afi::ipv6());
+    Ok(())
+}
+
+#[test]
+fn timings_by_default(rt: HostRuntime) {
+    let timing = Timing::default();
+    expect_equal(
+        &rt,
+        timing,
+        Timing {
+            refresh: 3600,
+            retry: 600,
+            expire: 7200,
+        },
+    );
+    expect_equal(&rt, timing.refresh_duration().as_secs(), 3600);
+    expect_equal(&rt, timing.refresh_duration().subsec_nanos(), 0);
+}
+
+#[test]
+fn error_codes(rt: HostRuntime) {
+    let codes = [
+        (ErrorCode::CORRUPT_DATA, 0),
+        (ErrorCode::INTERNAL_ERROR, 1),
+        (ErrorCode::NO_DATA_AVAILABLE, 2),
+        (ErrorCode::INVALID_REQUEST, 3),
+        (ErrorCode::UNSUPPORTED_PROTOCOL_VERSION, 4),
+        (ErrorCode::UNSUPPORTED_PDU_TYPE, 5),
+        (ErrorCode::WITHDRAWAL_OF_UNKNOWN_RECORD, 6),
+        (ErrorCode::DUPLICATE_ANNOUNCEMENT_RECEIVED, 7),
+        (ErrorCode::UNEXPECTED_PROTOCOL_VERSION, 8),
+        (ErrorCode::ASPA_PROVIDER_LIST_ERROR, 9),
+        (ErrorCode::TRANSPORT_ERROR, 10),
+        (ErrorCode::ORDERING_ERROR, 11),
+    ];
+    for (code, number) in codes {
+        expect_equal(&rt, code, ErrorCode(number));
+    }
+    assert!(rt; ErrorCode::CORRUPT_DATA < ErrorCode::INTERNAL_ERROR);
+    expect_equal(
+        &rt,
+        hash_of(&ErrorCode(3)),
+        hash_of(&ErrorCode::INVALID_REQUEST),
+    );
+}

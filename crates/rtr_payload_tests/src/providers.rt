@@ -1,0 +1,136 @@
+//! Providers of ASPA units.
+
+use rtr_base::asn::Asn;
+use rtr_payload::pdu::{ProviderAsns, ProviderIterError};
+use rtr_support::{bytes, expect_equal, hash_of};
+use std::alloc::Global;
+use std::cell::Cell;
+use std::cmp::Ordering;
+use std::test::Fail;
+
+/// Providers of these numbers.
+pub fn providers(alloc: Global, asns: &[u32]) -> Result<ProviderAsns, Fail> {
+    let asns = asns.iter().map(|asn| Asn::from_u32(*asn));
+    Ok(ProviderAsns::try_from_iter(alloc, asns)?)
+}
+
+/// So many ASNs, and how many were asked for. Its hint is the whole number.
+#[derive(Drop)]
+struct Asns<'a> {
+    left: u32,
+    asked: &'a Cell<u32>,
+}
+
+impl<'a> Iterator for Asns<'a> {
+    type Item = Asn;
+
+    ghost use Rattle.std.specs.Iterator.{at_most};
+
+    ghost remaining = { λ asns. at_most asns.left };
+
+    fn next(&mut self) -> Option<Asn> {
+        self.asked.set(self.asked.get().saturating_add(1));
+        if self.left == 0 {
+            return None;
+        }
+        self.left -= 1;
+        Some(Asn::from_u32(self.left))
+    }
+
+    fn size_hint(&self) -> (usize, Option<usize>) {
+        (self.left as usize, Some(self.left as usize))
+    }
+}
+
+/// What providers are made of so many ASNs: their number, or the text of the error.
+fn count_answer(alloc: Global, asns: Asns<'_>) -> Result<String, Fail> {
+    match ProviderAsns::try_from_iter(alloc, asns) {
+        Ok(made) => Ok(made.asn_count().to_string(alloc)?),
+        Err(error) => Ok(error.to_string(alloc)?),
+    }
+}
+
+#[test]
+fn provider_count(rt: HostRuntime) -> Result<(), Fail> {
+    let alloc = rt.alloc();
+    let overflow = "provider ASNs size overflow";
+    let rows: &[(u32, &str, u32)] = &[
+        (0, "0", 1),
+        (16379, "16379", 16380),
+        (16380, "16380", 16381),
+        (16381, overflow, 16381),
+        (4294967295, overflow, 16381),
+    ];
+    for (left, want, asks) in rows {
+        let asked = Cell::new(0);
+        let answer = count_answer(
+            alloc,
+            Asns {
+                left: *left,
+                asked: &asked,
+            },
+        )?;
+        expect_equal(&rt, answer.as_str(), *want);
+        expect_equal(&rt, asked.get(), *asks);
+    }
+    expect_equal(&rt, ProviderAsns::MAX_COUNT, 16380);
+    Ok(())
+}
+
+#[test]
+fn no_providers(rt: HostRuntime) -> Result<(), Fail> {
+    let empty = ProviderAsns::empty(rt.alloc())?;
+    expect_equal(&rt, empty.asn_count(), 0);
+    expect_equal(&rt, empty.len(), 0);
+    assert!(rt; empty.is_empty());
+    assert!(rt; empty.iter().next().is_none());
+    let copy = empty.clone()?;
+    assert!(rt; copy == empty);
+    Ok(())
+}
+
+#[test]
+fn two_providers(rt: HostRuntime) -> Result<(), Fail> {
+    let alloc = rt.alloc();
+    let two = providers(alloc, &[65549, 65550])?;
+    expect_equal(&rt, two.asn_count(), 2);
+    expect_equal(&rt, two.len(), 8);
+    assert!(rt; !two.is_empty());
+    let written = bytes(alloc, &["00 01 00 0d 00 01 00 0e"])?;
+    expect_equal(&rt, two.as_slice(), written.as_slice());
+    let copy = two.clone()?;
+    assert!(rt; copy == two);
+    expect_equal(&rt, hash_of(&copy), hash_of(&two));
+    Ok(())
+}
+
+#[test]
+fn providers_in_their_order(rt: HostRuntime) -> Result<(), Fail> {
+    let named = providers(rt.alloc(), &[7, 5, 7])?;
+    let mut each = named.iter();
+    for asn in [7, 5, 7] {
+        expect_equal(&rt, each.next(), Some(Asn::from_u32(asn)));
+    }
+    assert!(rt; each.next().is_none());
+    assert!(rt; each.next().is_none());
+    Ok(())
+}
+
+#[test]
+fn provider_lists_ascend(rt: HostRuntime) -> Result<(), Fail> {
+    let alloc = rt.alloc();
+    let rows: &[(&[u32], &[u32], Ordering)] = &[
+        (&[1], &[1, 0], Ordering::Less),
+        (&[1, 0], &[256], Ordering::Less),
+        (&[256], &[1], Ordering::Greater),
+        (&[7, 5], &[7, 5], Ordering::Equal),
+    ];
+    for (left, right, order) in rows {
+        let left = providers(alloc, left)?;
+        let right = providers(alloc, right)?;
+        expect_equal(&rt, left.cmp(&right), *order);
+    }
+    let text = ProviderIterError::Memory.to_string(alloc)?;
+    expect_equal(&rt, text.as_str(), "out of memory");
+    Ok(())
+}
