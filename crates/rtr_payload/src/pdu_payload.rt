@@ -147,7 +147,9 @@ impl Payload {
         }
     }
 
-    /// Reads what follows the header, which is kept as it is, as `read` does.
+    /// Reads what follows the header, which is kept as it is. Never answers none.
+    ///
+    /// Faults are those of `read` behind the header, in its order.
     pub fn read_payload<R: Source>(
         alloc: Global,
         header: Header,

@@ -4,13 +4,13 @@ ghost use Rattle.std.specs.Prelude.{◌≡◌, Ok, Err, Some, IfOk, IfErr, Match
 ghost use Rattle.rtr_base.specs.Addresses.{Family, v4, v6};
 ghost use Rattle.rtr_units.specs.Causes.{cause_of};
 ghost use Rattle.rtr_units.specs.FixedUnits.{prefix_type, prefix_size};
-ghost use Rattle.rtr_payload.specs.Places.{prefix_fields};
 ghost use Rattle.rtr_units.specs.Header.{type_field};
 ghost use Rattle.rtr_units.specs.Stream.{count_after, is_reader_fault, is_writer_fault};
 ghost use Rattle.rtr_units.specs.Views.{header_bytes};
 ghost use Rattle.rtr_payload.specs.declared.payload.Payload.TheVariants as payloads;
 ghost use Rattle.rtr_payload.specs.declared.pdu_payload.Payload.{Payload};
 ghost use Rattle.rtr_payload.specs.declared.pdu_payload.Payload.TheVariants as units;
+ghost use Rattle.rtr_payload.specs.Places.{prefix_fields};
 ghost use Rattle.rtr_payload.specs.Units.{form};
 ghost use Rattle.rtr_payload.specs.Values.{origin_of};
 ghost use Rattle.rtr_payload.specs.UnitValues.{unit_bytes, unit_fields, ReadsAfter, MeansPayload, HasNoPayload};
