@@ -4,6 +4,8 @@
 #[cfg(test)]
 mod keys;
 #[cfg(test)]
+mod prefixes;
+#[cfg(test)]
 mod providers;
 #[cfg(test)]
 mod units;
