@@ -85,10 +85,6 @@ fn addresses_as_numbers(rt: HostRuntime) -> Result<(), Fail> {
 #[test]
 fn written_and_read(rt: HostRuntime) -> Result<(), Fail> {
     let alloc = rt.alloc();
-    let v4_address: Ipv4Addr = "192.0.2.10".parse()?;
-    let v6_address: Ipv6Addr = "2001:db8:0:2:a:0:dead:beef".parse()?;
-    let v4 = Ipv4Prefix::new(1, 1, 23, 26, v4_address, Asn::from_u32(65551));
-    let v6 = Ipv6Prefix::new(1, 1, 23, 26, v6_address, Asn::from_u32(65551));
     passes(&rt, alloc, SerialNotify::new(1, state()), NOTIFY)?;
     passes(
         &rt,
@@ -103,8 +99,6 @@ fn written_and_read(rt: HostRuntime) -> Result<(), Fail> {
         CacheResponse::new(1, state()),
         "01 03 12 34 00 00 00 08",
     )?;
-    passes(&rt, alloc, v4, IPV4_HOST)?;
-    passes(&rt, alloc, v6, IPV6_HOST)?;
     passes(&rt, alloc, EndOfDataV0::new(state()), END_0)?;
     passes(
         &rt,
@@ -113,23 +107,30 @@ fn written_and_read(rt: HostRuntime) -> Result<(), Fail> {
         END_1,
     )?;
     passes(&rt, alloc, CacheReset::new(1), "01 08 00 00 00 00 00 08")?;
-    expect_equal(&rt, v4.prefix(), v4_address);
-    expect_equal(&rt, v6.prefix(), v6_address);
-    expect_equal(
-        &rt,
-        (v4.flags(), v4.prefix_len(), v4.max_len()),
-        (1, 23, 26),
-    );
-    expect_equal(
-        &rt,
-        (v6.flags(), v6.prefix_len(), v6.max_len()),
-        (1, 23, 26),
-    );
-    expect_equal(
-        &rt,
-        (v4.asn().into_u32(), v6.asn().into_u32()),
-        (65551, 65551),
-    );
+    Ok(())
+}
+
+#[test]
+fn ipv4_prefix(rt: HostRuntime) -> Result<(), Fail> {
+    let address: Ipv4Addr = "192.0.2.10".parse()?;
+    let unit = Ipv4Prefix::new(1, 1, 23, 26, address, Asn::from_u32(65551));
+    passes(&rt, rt.alloc(), unit, IPV4_HOST)?;
+    expect_equal(&rt, unit.prefix(), address);
+    let lengths = (unit.prefix_len(), unit.max_len());
+    expect_equal(&rt, lengths, (23, 26));
+    expect_equal(&rt, (unit.flags(), unit.asn().into_u32()), (1, 65551));
+    Ok(())
+}
+
+#[test]
+fn ipv6_prefix(rt: HostRuntime) -> Result<(), Fail> {
+    let address: Ipv6Addr = "2001:db8:0:2:a:0:dead:beef".parse()?;
+    let unit = Ipv6Prefix::new(1, 1, 23, 26, address, Asn::from_u32(65551));
+    passes(&rt, rt.alloc(), unit, IPV6_HOST)?;
+    expect_equal(&rt, unit.prefix(), address);
+    let lengths = (unit.prefix_len(), unit.max_len());
+    expect_equal(&rt, lengths, (23, 26));
+    expect_equal(&rt, (unit.flags(), unit.asn().into_u32()), (1, 65551));
     Ok(())
 }
 
