@@ -1,7 +1,8 @@
 //! Units that ask for one frame behind their header.
 
+use crate::expect_equal;
 use crate::support::{Page, normalised};
-use rtr_support::{ASPA_BARE, ASPA_NAMED, END_1, IPV4, IPV4_STRAY, KEY, expect_equal};
+use rtr_support::{ASPA_BARE, ASPA_NAMED, END_1, IPV4, IPV4_STRAY, KEY};
 use rtr_wire::pdu::{Aspa, Counted, Fault, RouterKey, SliceSource};
 use std::alloc::Global;
 use std::process::Abort;

@@ -1,7 +1,8 @@
 //! Inputs for which `normalise` asks for no growth: sequences of prefixes, and faults that come before a body.
 
+use crate::expect_equal;
 use crate::support::{Page, normalised};
-use rtr_support::{END_0, END_1, IPV4, IPV4_STRAY, IPV6, IPV6_STRAY, KEY, expect_equal};
+use rtr_support::{END_0, END_1, IPV4, IPV4_STRAY, IPV6, IPV6_STRAY, KEY};
 use std::io::Write;
 use std::test::Fail;
 

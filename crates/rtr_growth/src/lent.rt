@@ -1,7 +1,8 @@
 //! Calls that may ask for memory, and what they leave of what they were lent.
 
+use crate::expect_equal;
 use crate::support::{Page, granted, tell};
-use rtr_support::{END_1, IPV4, IPV4_STRAY, expect_equal};
+use rtr_support::{END_1, IPV4, IPV4_STRAY};
 use rtr_wire::pdu::{Error, Fault, ProviderAsns};
 use rtr_wire::same_meaning;
 use std::alloc::Global;

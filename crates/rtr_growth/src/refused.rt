@@ -1,7 +1,8 @@
 //! Calls that ask for memory, and what they leave of what they were lent.
 
+use crate::expect_equal;
 use crate::support::{Page, granted, normalised, tell};
-use rtr_support::{ASPA_BARE, ASPA_NAMED, END_1, IPV4, IPV4_STRAY, KEY, expect_equal};
+use rtr_support::{ASPA_BARE, ASPA_NAMED, END_1, IPV4, IPV4_STRAY, KEY};
 use rtr_wire::base::{Asn, KeyIdentifier};
 use rtr_wire::pdu::{
     Aspa, Counted, Error, Fault, Header, KeyInfoVecError, Payload, ProviderAsns, ProviderIterError,

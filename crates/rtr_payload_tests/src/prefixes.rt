@@ -1,9 +1,10 @@
 //! Prefix units as payload units: their meaning and their form, lent and given away.
 
+use crate::expect_equal;
 use rtr_base::payload::Action;
 use rtr_payload::payload;
 use rtr_payload::pdu::Payload;
-use rtr_support::{IPV4, IPV4_STRAY, IPV6, IPV6_STRAY, Recorder, bytes, expect_equal};
+use rtr_support::{IPV4, IPV4_STRAY, IPV6, IPV6_STRAY, Recorder, bytes};
 use rtr_units::fault::Fault;
 use rtr_units::source::{Counted, SliceSource};
 use std::alloc::Global;

@@ -1,8 +1,9 @@
 //! Providers of ASPA units.
 
+use crate::expect_equal;
 use rtr_base::asn::Asn;
 use rtr_payload::pdu::{ProviderAsns, ProviderIterError};
-use rtr_support::{bytes, expect_equal, hash_of};
+use rtr_support::{bytes, hash_of};
 use std::alloc::Global;
 use std::cell::Cell;
 use std::cmp::Ordering;

@@ -1,12 +1,13 @@
 //! Router keys and ASPA units.
 
+use crate::expect_equal;
 use crate::keys::{INFO, key_info};
 use crate::providers::providers;
 use rtr_base::asn::Asn;
 use rtr_payload::pdu::{Aspa, ProviderAsns, RouterKey, RouterKeyInfo};
 use rtr_support::{
-    ASPA_BARE, ASPA_NAMED, ASPA_REST, KEY, KEY_REST, ONES, Pieces, Recorder, STEPS, bytes,
-    expect_equal, filler, hash_of,
+    ASPA_BARE, ASPA_NAMED, ASPA_REST, KEY, KEY_REST, ONES, Pieces, Recorder, STEPS, bytes, filler,
+    hash_of,
 };
 use rtr_units::fault::Fault;
 use rtr_units::header::Header;

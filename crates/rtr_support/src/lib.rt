@@ -2,11 +2,9 @@
 #![tactic(auto)]
 
 use std::alloc::Global;
-use std::fmt::Debug;
 use std::hash::{DefaultHasher, Hash, Hasher};
 use std::io;
 use std::io::{Error, ErrorKind, Read, Write};
-use std::process::Abort;
 use std::test::Fail;
 
 /// An IPv4 prefix unit with a session, upper flag bits, a free byte and host bits.
@@ -80,11 +78,6 @@ pub fn filler(alloc: Global, count: usize) -> Result<Vec<u8>, Fail> {
 pub fn front(bytes: &[u8], count: usize) -> &[u8] {
     let (front, _) = bytes.split_at(count.min(bytes.len()));
     front
-}
-
-/// Asserts that the two are equal. A test that calls it is proved sooner than one in which the macro stands.
-pub fn expect_equal<T: PartialEq + Debug + Drop>(rt: &impl Abort, left: T, right: T) {
-    assert_eq!(rt; left, right);
 }
 
 /// The hash of a value.

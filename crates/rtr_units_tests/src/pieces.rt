@@ -1,6 +1,7 @@
 //! Pieces of input and output.
 
-use rtr_support::{ONES, Pieces, Recorder, STEPS, WHOLE, expect_equal, front};
+use crate::expect_equal;
+use rtr_support::{ONES, Pieces, Recorder, STEPS, WHOLE, front};
 use rtr_units::fault::Fault;
 use rtr_units::piece::{fill, put};
 use rtr_units::source::{Counted, Sink, Source};

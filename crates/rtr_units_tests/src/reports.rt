@@ -1,9 +1,8 @@
 //! Error reports, and reports in place of answers.
 
 use crate::answers::said;
-use rtr_support::{
-    ONES, Pieces, Recorder, STEPS, WHOLE, bytes, expect_equal, filler, front, hash_of,
-};
+use crate::expect_equal;
+use rtr_support::{ONES, Pieces, Recorder, STEPS, WHOLE, bytes, filler, front, hash_of};
 use rtr_units::error::Error;
 use rtr_units::fault::Fault;
 use rtr_units::header::Header;

@@ -1,9 +1,9 @@
 //! Whole sequences: what `normalise` answers to rows of inputs, by readers and writers of all kinds.
 
+use crate::expect_equal;
 use crate::rows::{ACCEPTED, Accepted, REFUSED, REPORTED, Refused, Reported, SINGLES, Single};
 use rtr_support::{
-    END_1, IPV4, IPV4_STRAY, ONES, Pieces, Recorder, STEPS, WHOLE, bytes, expect_equal, filler,
-    front,
+    END_1, IPV4, IPV4_STRAY, ONES, Pieces, Recorder, STEPS, WHOLE, bytes, filler, front,
 };
 use rtr_wire::normalise;
 use rtr_wire::pdu::{CacheResponse, Counted, Fault, SliceSource, Unit};
