@@ -1,7 +1,6 @@
-"""What the program answers to an input, by docs/PROTOCOL.md alone.
+"""What the program answers to an input, by docs/PROTOCOL.md and the texts that faults have.
 
-To be read beside that page: each function here is named after the section that it restates.
-Nothing here knows the library.
+To be read beside that page, whose words it uses. Nothing here is of the library.
 """
 import struct
 

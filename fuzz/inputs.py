@@ -27,7 +27,7 @@ WIDTHS = {4: 32, 6: 128}
 MOST_KEY_INFO = 65503
 MOST_PROVIDERS = 16380
 
-# A number of units that is longer than the buffers of the program.
+# So many units are longer than the buffers of the program.
 MANY_UNITS = 2000
 
 

@@ -50,8 +50,8 @@ def program_answer(args, data):
     try:
         ran = subprocess.run(command, input=data, capture_output=True, timeout=LIMIT)
     except subprocess.TimeoutExpired:
-        return b"", "none in time", ""
-    return ran.stdout, ran.returncode, ran.stderr.decode(errors="replace")
+        return [b"", "none in time", ""]
+    return [ran.stdout, ran.returncode, ran.stderr.decode(errors="replace")]
 
 
 def first_difference(left, right):
@@ -64,7 +64,7 @@ def difference(args, number, data, got, wanted):
     """What differs, and where the input stands."""
     path = os.path.join(tempfile.gettempdir(), f"rtr_normalise-{args.seed}-{number}.hex")
     with open(path, "w", encoding="ascii") as file:
-        file.write(data.hex("\n", 32) + "\n")
+        file.write(data.hex("\n", -32) + "\n")
     lines = [f"--seed {args.seed} --input {number} differs: {len(data)} bytes, kept in {path}"]
     if got[0] != wanted[0]:
         place = first_difference(got[0], wanted[0])
@@ -81,8 +81,7 @@ def try_input(args, number):
     kind, data = input_of(args.seed, number)
     *wanted, row = expected.answer(data, args.version)
     got = program_answer(args, data)
-    same = got == tuple(wanted)
-    return kind, row, "" if same else difference(args, number, data, got, wanted)
+    return kind, row, "" if got == wanted else difference(args, number, data, got, wanted)
 
 
 def work(args, number, end):
