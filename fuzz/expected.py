@@ -22,6 +22,9 @@ ROWS = {
     8: "Refused",
 }
 
+# Those of them that only the end of the input tells.
+SHORT_ROWS = [1, 7]
+
 # Refresh, retry and expire where an end of data has none.
 TIMINGS = struct.pack(">III", 3600, 600, 7200)
 

@@ -3,9 +3,11 @@
 
 usage: run.py [--seconds N] [--seed N] [--program PATH] [--version V] [--workers N] [--input N]
 
-Output, status and the line on standard error are compared with what `expected.py` answers. The
-inputs of a seed are numbered, and each is always the same: --input tries one of them alone. With
---version the program is asked for a sequence for that version of the protocol.
+Output, status and the line on standard error are compared with what `expected.py` answers. Where
+that needs no end of the input, the input mostly stays open, and the program has to end by itself.
+
+The inputs of a seed are numbered, and each is always the same: --input tries one of them alone.
+With --version the program is asked for a sequence for that version of the protocol.
 
 At a difference the input is written to a file as hex, and the status is 1. It is 1 too where a
 run of 20 seconds or more met no input for some row of the table of refusals. Else it is 0.
@@ -28,7 +30,10 @@ TOP = os.path.join(os.path.dirname(os.path.abspath(__file__)), "..")
 PROGRAM = os.path.join(TOP, "crates", "rtr_normalise", "out", "rtr_normalise")
 
 # The program is stopped after so many seconds on one input.
-LIMIT = 60
+LIMIT = 20
+
+# So many bytes go into a pipe before anyone reads it.
+PIPE_SIZE = 4096
 
 # A run of so many seconds has to meet each row.
 WHOLE_RUN = 20
@@ -42,13 +47,27 @@ def input_of(seed, number):
     return inputs.make(random.Random(f"{seed} {number}"))
 
 
-def program_answer(args, data):
-    """Output, status and line of the program."""
+def run_on_open(command, data):
+    """Runs the program on an input that doesn't end."""
+    reading, writing = os.pipe()
+    try:
+        os.write(writing, data)
+        return subprocess.run(command, stdin=reading, capture_output=True, timeout=LIMIT)
+    finally:
+        os.close(reading)
+        os.close(writing)
+
+
+def program_answer(args, data, row):
+    """Output, status and line of the program. A small input that isn't short stays open."""
     command = [args.program]
     if args.version is not None:
         command += ["--version", str(args.version)]
     try:
-        ran = subprocess.run(command, input=data, capture_output=True, timeout=LIMIT)
+        if row not in expected.SHORT_ROWS and len(data) <= PIPE_SIZE:
+            ran = run_on_open(command, data)
+        else:
+            ran = subprocess.run(command, input=data, capture_output=True, timeout=LIMIT)
     except subprocess.TimeoutExpired:
         return [b"", "none in time", ""]
     return [ran.stdout, ran.returncode, ran.stderr.decode(errors="replace")]
@@ -80,7 +99,7 @@ def try_input(args, number):
     """The kind of an input, the row that refuses it or 0, and what differs, if anything does."""
     kind, data = input_of(args.seed, number)
     *wanted, row = expected.answer(data, args.version)
-    got = program_answer(args, data)
+    got = program_answer(args, data, row)
     return kind, row, "" if got == wanted else difference(args, number, data, got, wanted)
 
 
