@@ -30,7 +30,7 @@ TOP = os.path.join(os.path.dirname(os.path.abspath(__file__)), "..")
 PROGRAM = os.path.join(TOP, "crates", "rtr_normalise", "out", "rtr_normalise")
 
 # The program is stopped after so many seconds on one input.
-LIMIT = 20
+LIMIT = 10
 
 # So many bytes go into a pipe before anyone reads it.
 PIPE_SIZE = 4096
