@@ -1,0 +1,106 @@
+"""What the program answers to an input, by docs/PROTOCOL.md and the texts that faults have.
+
+To be read beside that page, whose words it uses. Nothing here is of the library.
+"""
+import struct
+
+# The types of payload units, each with the first version that has them.
+PAYLOAD_TYPES = {4: 0, 6: 0, 9: 1, 11: 2}
+
+# The width of an address.
+WIDTHS = {4: 32, 6: 128}
+
+# The rows of the table of refusals, by number.
+ROWS = {
+    1: "Short in a header",
+    2: "UnitType",
+    3: "UnitVersion",
+    4: "TooLong",
+    5: "UnitLength",
+    6: "EmptyProviders",
+    7: "Short in a unit",
+    8: "Refused",
+}
+
+# Those of them that only the end of the input tells.
+SHORT_ROWS = [1, 7]
+
+# Refresh, retry and expire where an end of data has none.
+TIMINGS = struct.pack(">III", 3600, 600, 7200)
+
+
+def number(piece):
+    """The number that the bytes are, the highest byte first."""
+    return int.from_bytes(piece, "big")
+
+
+def has_length(version, kind, length):
+    """Whether a unit of this type, and for an end of data of this version, can be so long."""
+    if kind == 9:
+        return length >= 32
+    if kind == 11:
+        return length >= 12 and length % 4 == 0
+    return length == {4: 20, 6: 32, 7: 12 if version == 0 else 24}[kind]
+
+
+def when_refused(data):
+    """The number of the first row that holds of the bytes at hand and what is printed, or 0."""
+    if len(data) < 8:
+        return 1, "unexpected end of input"
+    version, kind, flags, _, length = struct.unpack(">BBBBI", data[:8])
+    if kind != 7 and kind not in PAYLOAD_TYPES:
+        return 2, f"unit type {kind} is not allowed here"
+    if kind == 7 and version > 2:
+        return 3, f"version {version} is not supported here"
+    if kind in (9, 11) and length > 65535:
+        return 4, "unit is longer than 65535 bytes"
+    if not has_length(version, kind, length):
+        return 5, "invalid unit length"
+    if kind == 11 and flags % 2 == 1 and length == 12:
+        return 6, "ASPA unit has no providers"
+    if len(data) < length:
+        return 7, "unexpected end of input"
+    if kind in WIDTHS and not data[9] <= data[10] <= WIDTHS[kind]:
+        return 8, "prefix fields are not allowed"
+    return 0, ""
+
+
+def written_form(unit, version):
+    """The form of what a payload unit means, in this version."""
+    kind = unit[1]
+    if kind in WIDTHS:
+        flags, length, max_length = unit[8] % 2, unit[9], unit[10]
+        host_bits = WIDTHS[kind] - length
+        address = number(unit[12:-4]) >> host_bits << host_bits
+        front = struct.pack(">BBHIBBBB", version, kind, 0, len(unit), flags, length, max_length, 0)
+        return front + address.to_bytes(WIDTHS[kind] // 8, "big") + unit[-4:]
+    flags = unit[2] % 2
+    body = unit[8:12] if kind == 11 and flags == 0 else unit[8:]
+    return struct.pack(">BBBBI", version, kind, flags, 0, 8 + len(body)) + body
+
+
+def end_for(end, version):
+    """The end of data in this version."""
+    timings = b"" if version == 0 else end[12:] or TIMINGS
+    header = bytes([version, 7, *end[2:4]]) + struct.pack(">I", 12 + len(timings))
+    return header + end[8:12] + timings
+
+
+def answer(data, wanted=None):
+    """Output, status, line on standard error, and the row of the refusal, or 0.
+
+    With a version wanted, the sequence is written for it.
+    """
+    output = []
+    data = memoryview(data)
+    while True:
+        row, text = when_refused(data)
+        if row > 0:
+            return b"".join(output), 1, text + "\n", row
+        length = number(data[4:8])
+        unit, data = data[:length], data[length:]
+        version = unit[0] if wanted is None else wanted
+        if unit[1] == 7:
+            return b"".join(output) + end_for(unit, version), 0, "", 0
+        if wanted is None or PAYLOAD_TYPES[unit[1]] <= wanted:
+            output.append(written_form(unit, version))

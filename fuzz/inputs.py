@@ -1,0 +1,241 @@
+"""Hostile inputs: sequences of units, with fields at their bounds, cut, joined and broken.
+
+`make` gives an input of a kind that it names. The same generator of random numbers gives the same
+inputs.
+"""
+import struct
+
+# Values for a length field, around the bounds of a type that sequences have.
+BOUNDS = {
+    4: [16, 19, 20, 21, 32],
+    6: [20, 31, 32, 33],
+    7: [8, 11, 12, 13, 23, 24, 25],
+    9: [31, 32, 33, 65534, 65535, 65536, 65537, 2**32 - 1],
+    11: [8, 11, *[12] * 6, 13, 15, 16, 65532, 65535, 65536, 65537, 65538, 2**32 - 1],
+}
+
+# Values for a length field of any type.
+LENGTHS = [0, 7, 8, 11, 12, 13, 15, 16, 19, 20, 21, 23, 24, 31, 32, 33]
+LENGTHS += [65531, 65532, 65533, 65535, 65536, 65537, 2**16 + 20, 2**31, 2**32 - 1]
+
+# Values for a prefix length or a max length.
+PREFIX_LENGTHS = [0, 1, 8, 23, 31, 32, 33, 64, 127, 128, 129, 160, 254, 255]
+
+VERSIONS = [0, 1, 2, 3, 4, 255]
+TYPES = [*range(13), 255]
+WIDTHS = {4: 32, 6: 128}
+MOST_KEY_INFO = 65503
+MOST_PROVIDERS = 16380
+
+# So many units are longer than the buffers of the program.
+MANY_UNITS = 2000
+
+
+def free(rng, bits):
+    """A number of so many bits, whatever it may be: zero, all ones or any."""
+    return rng.choice([0, 2**bits - 1, rng.getrandbits(bits)])
+
+
+def flags(rng):
+    """Flags with upper bits that mean nothing."""
+    return free(rng, 7) << 1 | rng.getrandbits(1)
+
+
+def count(rng, most):
+    """A small number, or now and then one up to the most."""
+    small = [0, 1, 2, 3, 4, rng.randint(0, 40)]
+    return rng.choice([most, most - 1, rng.randint(0, most)] if rng.random() < 0.004 else small)
+
+
+def unit(version, kind, session, body):
+    """A unit with the length that comes of its body."""
+    return struct.pack(">BBHI", version, kind, session, 8 + len(body)) + body
+
+
+def prefix(rng, kind):
+    """A prefix with soiled free bytes and host bits."""
+    width = WIDTHS[kind]
+    length = rng.choice([0, width, rng.randint(0, width), rng.randint(0, width)])
+    max_length = rng.choice([length, width, rng.randint(length, width)])
+    body = struct.pack(">BBBB", flags(rng), length, max_length, free(rng, 8))
+    body += free(rng, width).to_bytes(width // 8, "big") + rng.randbytes(4)
+    return unit(rng.choice(VERSIONS), kind, free(rng, 16), body)
+
+
+def router_key(rng):
+    """A router key with a soiled free byte."""
+    session = flags(rng) << 8 | free(rng, 8)
+    return unit(rng.choice(VERSIONS), 9, session, rng.randbytes(24 + count(rng, MOST_KEY_INFO)))
+
+
+def aspa(rng):
+    """An ASPA, often with repeated providers; a withdrawal may have none."""
+    action = flags(rng)
+    providers = max(action % 2, count(rng, MOST_PROVIDERS))
+    pool = [bytes(4), bytes([255] * 4), rng.randbytes(4), rng.randbytes(4)]
+    body = rng.randbytes(4) + b"".join(rng.choices(pool, k=providers))
+    return unit(rng.choice(VERSIONS), 11, action << 8 | free(rng, 8), body)
+
+
+def end_of_data(rng):
+    """An end of data of a version that there is."""
+    version = rng.randint(0, 2)
+    return unit(version, 7, free(rng, 16), rng.randbytes(4 if version == 0 else 16))
+
+
+def payload_unit(rng):
+    """An acceptable payload unit of any type."""
+    kind = rng.choice([4, 6, 9, 9, 11, 11])
+    if kind in WIDTHS:
+        return prefix(rng, kind)
+    return router_key(rng) if kind == 9 else aspa(rng)
+
+
+def other_unit(rng):
+    """A unit that no sequence has: of another type, or an ASPA announced without providers."""
+    kind = rng.choice([0, 1, 2, 3, 5, 8, 10, 11, 11, 11, 12, 255])
+    if kind == 11:
+        return unit(rng.choice(VERSIONS), kind, (flags(rng) | 1) << 8, rng.randbytes(4))
+    body = b"" if kind in (2, 3, 8) else rng.randbytes(4)
+    if kind == 10:
+        inner = payload_unit(rng)
+        body = struct.pack(">I", len(inner)) + inner + struct.pack(">I", 4) + b"text"
+    return unit(rng.choice(VERSIONS), kind, free(rng, 16), body)
+
+
+def sequence(rng):
+    """Some payload units and an end of data."""
+    units = [payload_unit(rng) for _ in range(rng.choice([0, 0, 1, 1, 2, 3, 6]))]
+    return [*units, end_of_data(rng)]
+
+
+def stray(rng):
+    """Perhaps bytes after the end of data."""
+    return rng.choice([b"", b"", rng.randbytes(rng.randint(1, 40)), b"".join(sequence(rng))])
+
+
+def put(data, place, piece):
+    """The bytes with a piece put over those at a place."""
+    return data[:place] + piece + data[place + len(piece) :]
+
+
+def length_for(rng, kind):
+    """A length at some bound, mostly of this type."""
+    return rng.choice(BOUNDS[kind] if kind in BOUNDS and rng.random() < 0.7 else LENGTHS)
+
+
+def with_length(rng, one):
+    """The unit with another length field, and often as many bytes as it says."""
+    near = len(one) + rng.choice([-4, -1, 1, 4])
+    length = near if rng.random() < 0.1 else length_for(rng, one[1])
+    if rng.random() < (0.7 if length < 100 else 0.1 if length < 70000 else 0):
+        one = (one + rng.randbytes(max(0, length - len(one))))[: max(8, length)]
+    return put(one, 4, struct.pack(">I", length))
+
+
+def with_prefix_lengths(rng, one):
+    """The unit with other bytes where a prefix has its lengths."""
+    length = rng.choice(PREFIX_LENGTHS)
+    near = [max(0, length - 1), length, min(255, length + 1)]
+    return put(one, 9, bytes([length, rng.choice([*near, *PREFIX_LENGTHS])]))
+
+
+def with_altered_field(rng, one):
+    """The unit with one field of another value."""
+    fields = ["version", "type", "session", "length", "length", "length"]
+    if one[1] in WIDTHS:
+        fields = ["version", "type", "session", "length", *["prefix lengths"] * 6]
+    field = rng.choice(fields)
+    if field == "version":
+        return put(one, 0, bytes([rng.choice(VERSIONS)]))
+    if field == "type":
+        return put(one, 1, bytes([rng.choice(TYPES)]))
+    if field == "session":
+        return put(one, 2, rng.randbytes(2))
+    return with_length(rng, one) if field == "length" else with_prefix_lengths(rng, one)
+
+
+def whole(rng):
+    """A sequence, soiled where bytes are free."""
+    return b"".join(sequence(rng)) + stray(rng)
+
+
+def altered(rng):
+    """A sequence in which fields of one unit have other values."""
+    units = sequence(rng)
+    place = rng.choice([0, 0, rng.randrange(len(units)), len(units) - 1])
+    for _ in range(rng.choice([1, 1, 2])):
+        units[place] = with_altered_field(rng, units[place])
+    return b"".join(units) + stray(rng)
+
+
+def cut(rng):
+    """A sequence that ends early, at any byte."""
+    data = b"".join(sequence(rng))
+    return data[: rng.randrange(len(data))]
+
+
+def joined(rng):
+    """Units and parts of units one after the other, in no order."""
+    makers = rng.choices([payload_unit, end_of_data, other_unit], [8, 2, 1], k=rng.randint(1, 6))
+    pieces = [maker(rng) for maker in makers]
+    if rng.random() < 0.3:
+        place = rng.randrange(len(pieces))
+        pieces[place] = pieces[place][rng.randint(0, 12) :]
+    return b"".join(pieces)
+
+
+def headers(rng):
+    """A header of any fields, perhaps after some units, and bytes that may be its unit."""
+    kind = rng.choice(list(BOUNDS) if rng.random() < 0.8 else TYPES)
+    fields = (rng.choice(VERSIONS), kind, free(rng, 16), length_for(rng, kind))
+    units = [payload_unit(rng) for _ in range(rng.choice([0, 0, 1, 2]))]
+    rest = rng.randbytes(rng.choice([0, 1, 4, 16, 24, 40, rng.randint(0, 80)]))
+    return b"".join(units) + struct.pack(">BBHI", *fields) + rest
+
+
+def broken(rng, data):
+    """The bytes with one bit turned, or a byte more or less."""
+    place = rng.randrange(len(data))
+    deed = rng.choice(["bit", "more", "less"])
+    if deed == "bit":
+        return put(data, place, bytes([data[place] ^ 1 << rng.randrange(8)]))
+    if deed == "more":
+        return data[:place] + bytes([free(rng, 8)]) + data[place:]
+    return data[:place] + data[place + 1 :]
+
+
+def mutated(rng):
+    """A recording of a sequence with a few bits or bytes broken."""
+    data = whole(rng)
+    for _ in range(rng.choice([1, 1, 2, 4])):
+        data = broken(rng, data) or b"\0"
+    return data
+
+
+def long(rng):
+    """A sequence longer than the buffers of the program, perhaps broken or cut."""
+    units = [payload_unit(rng) for _ in range(rng.randint(MANY_UNITS // 2, MANY_UNITS))]
+    data = b"".join(units) + end_of_data(rng)
+    deed = rng.choice(["none", "broken", "cut"])
+    if deed == "broken":
+        return broken(rng, data)
+    return data[: rng.randrange(len(data))] if deed == "cut" else data
+
+
+# Each kind of input, and how many of a thousand are of it.
+KINDS = {
+    whole: 200,
+    altered: 328,
+    cut: 80,
+    joined: 80,
+    headers: 160,
+    mutated: 150,
+    long: 2,
+}
+
+
+def make(rng):
+    """The name of a kind, and an input of this kind."""
+    kind = rng.choices(list(KINDS), weights=list(KINDS.values()))[0]
+    return kind.__name__, kind(rng)
