@@ -1,4 +1,4 @@
-"""What the program answers to an input, by docs/PROTOCOL.md and the texts that faults have.
+"""What the program answers to an input, by docs/PROTOCOL.md.
 
 To be read beside that page, whose words it uses. Nothing here is of the library.
 """
