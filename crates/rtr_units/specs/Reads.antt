@@ -3,6 +3,7 @@ use Rattle.std.specs.Prelude.{◌≡◌, ℕ, ◌+◌, ◌<◌, ◌≤◌, List,
 use Rattle.std.specs.Io.KnownBytes.{Consumes, IsAtEnd}
 use Rattle.rtr_units.specs.Causes.{short, unit_type, too_long, unit_length, Cause, by_reader, wrong}
 use Rattle.rtr_units.specs.Header.{type_field, length_field}
+use Rattle.rtr_units.specs.Stream.{BeginsWithTaken}
 use Rattle.rtr_units.specs.Views.{AreBytes}
 
 -- Some bytes t were taken, of which `Told` says more; `left` is what the reader then has.
@@ -20,6 +21,12 @@ StopsRest n h (wrong unit_length) t left = ¬ (length_field h ≡ n) × (t ≡ [
 StopsRest n h (wrong short) t left = (length_field h ≡ n) × (8 + length t < n) × IsAtEnd left
 StopsRest n h by_reader t left = (length_field h ≡ n) × (8 + length t < n)
 StopsRest n h cause t left = ⊥
+
+-- What is left of the unit u into which the rest after a header h was to be read, where reading stopped: at the length
+-- field the unit as it was, and inside the unit the header and then the bytes taken, at the front of v's bytes.
+abbrev pub LeavesUnit : {U : Type 0} → (U → List ℕ) → List ℕ → Cause → (u v : U) → Option (List ℕ) → Option (List ℕ) → Type 0
+LeavesUnit bytes h (wrong unit_length) u v old left = v ≡ u
+LeavesUnit bytes h cause u v old left = (rest : List ℕ) × BeginsWithTaken old left rest × (bytes v ≡ h ++ rest)
 
 -- The unit u of type p and n bytes was read.
 abbrev pub ReadsUnit : (p n : ℕ) → List ℕ → Option (List ℕ) → Option (List ℕ) → Type 0

@@ -1,12 +1,13 @@
 //! The end of data (RFC 6810 and RFC 8210 section 5.8).
 
-ghost use Rattle.std.specs.Prelude.{◌≡◌, ℕ, List, length, MatchResult, Some, not, ◌==◌};
+ghost use Rattle.std.specs.Prelude.{◌≡◌, ℕ, List, length, IfOk, MatchResult, Some, not, ◌==◌};
 ghost use Rattle.std.specs.Borrow.{sem};
 ghost use Rattle.rtr_base.specs.Bytes.{IsBytes};
 ghost use Rattle.rtr_units.specs.Causes.{cause_of};
 ghost use Rattle.rtr_units.specs.End.{timed_list};
 ghost use Rattle.rtr_units.specs.Ends.{end_bytes, end_meaning, is_timed, ReadsEnd, StopsEnd};
 ghost use Rattle.rtr_units.specs.FixedUnits.{serial_list};
+ghost use Rattle.rtr_units.specs.Header.{version_field};
 ghost use Rattle.rtr_units.specs.Reads.{Takes};
 ghost use Rattle.rtr_units.specs.Stream.{PutsForm, count_after, is_reader_fault, is_writer_fault};
 ghost use Rattle.rtr_units.specs.Views.{header_bytes};
@@ -58,6 +59,7 @@ impl EndOfData {
         ensures bytes { MatchResult result
             (λ e. ReadsEnd (header_bytes header) e (R.remaining reader.old) (R.remaining reader.new))
             (λ e. Takes (R.remaining reader.old) (R.remaining reader.new) (λ t. StopsEnd (header_bytes header) (cause_of e) t (R.remaining reader.new))) }
+        ensures kind { IfOk result (λ e. is_timed e ≡ not (version_field (header_bytes header) == 0)) }
         ensures count { R.failures reader.new ≡ count_after (R.failures reader.old) (not (is_reader_fault result)) }
     {
         let version = header.version();

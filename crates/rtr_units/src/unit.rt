@@ -1,12 +1,12 @@
 //! The trait of units of a fixed size.
 
-ghost use Rattle.std.specs.Prelude.{◌≡◌, ℕ, ◌^◌, ◌<◌, ◌≤◌, List, length, replicate, MatchResult, not};
+ghost use Rattle.std.specs.Prelude.{◌≡◌, ℕ, ◌^◌, ◌<◌, ◌≤◌, List, length, replicate, IfErr, MatchResult, not};
 ghost use Rattle.std.specs.Borrow.{sem, Lends, Array, u8};
 ghost use Rattle.std.specs.Io.KnownBytes.{Consumes};
 ghost use Rattle.rtr_base.specs.Bytes.{IsBytes};
 ghost use Rattle.rtr_units.specs.Causes.{cause_of};
 ghost use Rattle.rtr_units.specs.Header.{version_field, type_field, session_field};
-ghost use Rattle.rtr_units.specs.Reads.{Takes, ReadsRest, StopsRest, ReadsUnit, StopsUnit};
+ghost use Rattle.rtr_units.specs.Reads.{Takes, ReadsRest, StopsRest, LeavesUnit, ReadsUnit, StopsUnit};
 ghost use Rattle.rtr_units.specs.Stream.{PutsForm, count_after, is_reader_fault, is_writer_fault};
 ghost use Rattle.rtr_units.specs.Views.{header_bytes, AreBytes};
 
@@ -137,13 +137,16 @@ pub trait Unit: Drop + Copy {
         }
     }
 
-    /// Reads what follows the header as `read_payload` does, into this unit. What it then holds after a fault isn't
-    /// said.
+    /// Reads what follows the header as `read_payload` does, into this unit.
+    ///
+    /// After `UnitLength` the unit is as it was. After `Short` and `Reader` it begins with the header and then the bytes
+    /// that were taken; what its other bytes are isn't said.
     #[inline(always)]
     final fn read_rest<R: Source>(&mut self, header: Header, reader: &mut R) -> Result<(), Fault>
         ensures bytes { MatchResult result
             (λ _. ReadsRest LENGTH (header_bytes header) (bytes self.new) (R.remaining reader.old) (R.remaining reader.new))
             (λ e. Takes (R.remaining reader.old) (R.remaining reader.new) (λ t. StopsRest LENGTH (header_bytes header) (cause_of e) t (R.remaining reader.new))) }
+        ensures left { IfErr result (λ e. LeavesUnit bytes (header_bytes header) (cause_of e) self.old self.new (R.remaining reader.old) (R.remaining reader.new)) }
         ensures count { R.failures reader.new ≡ count_after (R.failures reader.old) (not (is_reader_fault result)) }
     {
         if header.length() != Self::LENGTH as u32 {
