@@ -16,6 +16,26 @@ impl Model for KeyIdentifier {
     ghost inverse = { λ bytes. record { 0 = bytes } };
 }
 
+impl KeyIdentifier {
+    /// The 20 bytes.
+    #[inline(always)]
+    pub fn into_bytes(self) -> [u8; 20]
+        ensures bytes { result ≡ self }
+        ensures size { length result ≡ 20 }
+    {
+        self.0
+    }
+
+    /// The 20 bytes, lent.
+    #[inline(always)]
+    pub fn as_slice(&self) -> &[u8]
+        ensures bytes { result.now ≡ self.now }
+        ensures size { length result.now ≡ 20 }
+    {
+        &self.0
+    }
+}
+
 impl From<[u8; 20]> for KeyIdentifier {
     ghost from_gives = { λ bytes key. key ≡ bytes };
 

@@ -21,6 +21,9 @@ use std::alloc::{AllocError, Global};
 use std::hash::{Hash, Hasher};
 use std::marker::Model;
 
+/// The greatest length of a unit that is read past, as in the Rust crate `rpki`.
+const GREATEST_LENGTH: u32 = 65535;
+
 /// An error report, seen as the list of its bytes.
 #[derive(Drop, Debug)]
 pub struct Error {
@@ -82,7 +85,7 @@ impl Error {
         ensures count { R.failures reader.new ≡ count_after (R.failures reader.old) (not (is_reader_fault result)) }
     {
         let length = header.length();
-        if length > 65535 {
+        if length > GREATEST_LENGTH {
             return Err(Fault::TooLong);
         }
         if length < 8 {

@@ -6,8 +6,9 @@ ghost use Rattle.std.specs.Borrow.{sem};
 ghost use Rattle.std.specs.Io.KnownBytes.{Consumes};
 ghost use Rattle.rtr_base.specs.Bytes.{be, value, IsBytes};
 ghost use Rattle.rtr_units.specs.FixedUnits.{bare_list, serial_list};
+ghost use Rattle.rtr_units.specs.Header.{session_field};
 ghost use Rattle.rtr_units.specs.Stream.{FallsShort, PutsForm, count_after, is_reader_fault, is_writer_fault};
-ghost use Rattle.rtr_units.specs.Units.{notify_bytes, query_bytes, reset_query_bytes, response_bytes, cache_reset_bytes, query_payload_bytes};
+ghost use Rattle.rtr_units.specs.Units.{notify_bytes, query_bytes, reset_query_bytes, response_bytes, cache_reset_bytes, query_payload_bytes, serial_field};
 ghost use Rattle.rtr_units.specs.Views.{AreBytes};
 
 use crate::cells::Cells;
@@ -79,6 +80,23 @@ impl SerialNotify {
             cells: Cells::new([version, 0, s0, s1, 0, 0, 0, 12, q0, q1, q2, q3]),
         }
     }
+
+    /// The serial number.
+    #[inline(always)]
+    pub fn serial(&self) -> Serial
+        ensures { result.0 ≡ serial_field (notify_bytes self.now) }
+    {
+        Serial(u32_at(self.as_ref(), 8))
+    }
+
+    /// The session and the serial number.
+    #[inline(always)]
+    pub fn state(&self) -> State
+        ensures session { result.session ≡ session_field (notify_bytes self.now) }
+        ensures serial { result.serial ≡ serial_field (notify_bytes self.now) }
+    {
+        State::from_parts(self.session(), self.serial())
+    }
 }
 
 /// A router asks for what is new since a state (section 5.3): 12 bytes.
@@ -141,6 +159,23 @@ impl SerialQuery {
         SerialQuery {
             cells: Cells::new([version, 1, s0, s1, 0, 0, 0, 12, q0, q1, q2, q3]),
         }
+    }
+
+    /// The serial number.
+    #[inline(always)]
+    pub fn serial(&self) -> Serial
+        ensures { result.0 ≡ serial_field (query_bytes self.now) }
+    {
+        Serial(u32_at(self.as_ref(), 8))
+    }
+
+    /// The session and the serial number.
+    #[inline(always)]
+    pub fn state(&self) -> State
+        ensures session { result.session ≡ session_field (query_bytes self.now) }
+        ensures serial { result.serial ≡ serial_field (query_bytes self.now) }
+    {
+        State::from_parts(self.session(), self.serial())
     }
 }
 
