@@ -4,7 +4,8 @@ ghost use Rattle.std.specs.Prelude.{◌≡◌, List, ℕ, length};
 
 use std::marker::Model;
 
-/// The identifier of a router's key: the 20 bytes of its subject key identifier (RFC 8210 section 5.10).
+/// The identifier of a router's key: the 20 bytes of its subject key identifier (RFC 8210 section
+/// 5.10).
 #[derive(Clone, Copy, Debug, PartialEq, Eq, PartialOrd, Ord, Hash)]
 pub struct KeyIdentifier([u8; 20]);
 

@@ -7,7 +7,8 @@ ghost use Rattle.rtr_base.specs.Serial.{serial_cmp, serial_distance, reversed};
 
 use crate::pdu::ErrorCode;
 
-/// The numbers of the error codes: up to 8 those of RFC 8210 section 12, above as in the Rust crate `rpki`.
+/// The numbers of the error codes: up to 8 those of RFC 8210 section 12, above as in the Rust crate
+/// `rpki`.
 pub fn error_codes()
     ensures corrupt_data { ErrorCode.CORRUPT_DATA.0 ≡ 0 }
     ensures internal_error { ErrorCode.INTERNAL_ERROR.0 ≡ 1 }
@@ -23,11 +24,13 @@ pub fn error_codes()
     ensures ordering_error { ErrorCode.ORDERING_ERROR.0 ≡ 11 }
 {}
 
-/// Turned about, the order of two serial numbers is reversed. There is none exactly at half the circle,
-/// and equal are exactly equal numbers.
+/// Turned about, the order of two serial numbers is reversed. There is none exactly at half the
+/// circle, and equal are exactly equal numbers.
 pub fn serial_reversed()
-    ensures reversed { (a b : ℕ) → a < 2 ^ 32 → b < 2 ^ 32 → serial_cmp a b ≡ reversed (serial_cmp b a) }
-    ensures none { (a b : ℕ) → a < 2 ^ 32 → b < 2 ^ 32 → (serial_cmp a b ≡ None) ↔ (serial_distance a b ≡ 2 ^ 31) }
+    ensures reversed { (a b : ℕ) → a < 2 ^ 32 → b < 2 ^ 32 →
+        serial_cmp a b ≡ reversed (serial_cmp b a) }
+    ensures none { (a b : ℕ) → a < 2 ^ 32 → b < 2 ^ 32 →
+        (serial_cmp a b ≡ None) ↔ (serial_distance a b ≡ 2 ^ 31) }
     ensures equal { (a b : ℕ) → a < 2 ^ 32 → b < 2 ^ 32 → (serial_cmp a b ≡ Some Equal) ↔ (a ≡ b) }
 {}
 

@@ -1,6 +1,7 @@
 //! Codes of error reports.
 
-/// Why a peer reports an error (RFC 8210 section 12). Codes above 8 are as in the Rust crate `rpki`.
+/// Why a peer reports an error (RFC 8210 section 12). Codes above 8 are as in the Rust crate
+/// `rpki`.
 #[derive(Clone, Copy, Debug, PartialEq, Eq, PartialOrd, Ord, Hash)]
 pub struct ErrorCode(pub u16);
 

@@ -12,7 +12,8 @@ use std::str::FromStr;
 
 /// A serial number: 32 bits, compared as RFC 1982 says.
 ///
-/// The comparison isn't transitive, so there are no operators `<` and `>`: `partial_cmp` is called by name.
+/// The comparison isn't transitive, so there are no operators `<` and `>`: `partial_cmp` is called
+/// by name.
 #[derive(Clone, Copy, Debug, PartialEq, Eq, Hash, Default)]
 pub struct Serial(pub u32);
 

@@ -1,4 +1,5 @@
-//! Units by which a router and a cache speak of their states (RFC 6810 and RFC 8210 sections 5.2 to 5.5 and 5.9).
+//! Units by which a router and a cache speak of their states (RFC 6810 and RFC 8210 sections 5.2 to
+//! 5.5 and 5.9).
 
 ghost use Rattle.std.specs.Prelude.{◌≡◌, ℕ, List, length, replicate, MatchResult, not, refl};
 ghost use Rattle.std.proofs.Common.{rules};
@@ -7,8 +8,11 @@ ghost use Rattle.std.specs.Io.KnownBytes.{Consumes};
 ghost use Rattle.rtr_base.specs.Bytes.{be, value, IsBytes};
 ghost use Rattle.rtr_units.specs.FixedUnits.{bare_list, serial_list};
 ghost use Rattle.rtr_units.specs.Header.{session_field};
-ghost use Rattle.rtr_units.specs.Stream.{FallsShort, PutsForm, count_after, is_reader_fault, is_writer_fault};
-ghost use Rattle.rtr_units.specs.Units.{notify_bytes, query_bytes, reset_query_bytes, response_bytes, cache_reset_bytes, query_payload_bytes, serial_field};
+ghost use Rattle.rtr_units.specs.Stream.{FallsShort, PutsForm, count_after, is_reader_fault};
+ghost use Rattle.rtr_units.specs.Stream.{is_writer_fault};
+ghost use Rattle.rtr_units.specs.Units.{notify_bytes, query_bytes, reset_query_bytes};
+ghost use Rattle.rtr_units.specs.Units.{response_bytes, cache_reset_bytes, query_payload_bytes};
+ghost use Rattle.rtr_units.specs.Units.{serial_field};
 ghost use Rattle.rtr_units.specs.Views.{AreBytes};
 
 use crate::cells::Cells;
@@ -199,7 +203,7 @@ impl Default for SerialQueryPayload {
 impl SerialQueryPayload {
     ghost use Rattle.rtr_units.specs.LendingUnits.{LendsQueryPayload};
 
-    /// The serial number as it stands behind the header.
+    /// The serial number as it stands after the header.
     #[inline(always)]
     pub fn new(serial: Serial) -> Self
         ensures { query_payload_bytes result ≡ be serial.0 4 }
@@ -213,9 +217,11 @@ impl SerialQueryPayload {
     #[inline(always)]
     pub fn read<R: Source>(reader: &mut R) -> Result<Self, Fault>
         ensures bytes { MatchResult result
-            (λ p. Consumes (R.remaining reader.old) (R.remaining reader.new) (query_payload_bytes p) × AreBytes 4 (query_payload_bytes p))
+            (λ p. Consumes (R.remaining reader.old) (R.remaining reader.new)
+            (query_payload_bytes p) × AreBytes 4 (query_payload_bytes p))
             (λ e. FallsShort e (R.remaining reader.old) (R.remaining reader.new) 4) }
-        ensures count { R.failures reader.new ≡ count_after (R.failures reader.old) (not (is_reader_fault result)) }
+        ensures count { R.failures reader.new ≡
+            count_after (R.failures reader.old) (not (is_reader_fault result)) }
     {
         let mut payload = SerialQueryPayload::default();
         match fill(reader, payload.as_mut()) {
@@ -235,8 +241,10 @@ impl SerialQueryPayload {
     /// Writes the four bytes.
     #[inline(always)]
     pub fn write<W: Sink>(&self, writer: &mut W) -> Result<(), Fault>
-        ensures bytes { PutsForm result (W.contents writer.old) (W.contents writer.new) (query_payload_bytes self.now) }
-        ensures count { W.failures writer.new ≡ count_after (W.failures writer.old) (not (is_writer_fault result)) }
+        ensures bytes { PutsForm result (W.contents writer.old) (W.contents writer.new)
+            (query_payload_bytes self.now) }
+        ensures count { W.failures writer.new ≡
+            count_after (W.failures writer.old) (not (is_writer_fault result)) }
     {
         put(writer, self.as_ref())
     }
