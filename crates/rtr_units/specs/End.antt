@@ -55,8 +55,7 @@ untimed_meaning b =
       version = 0;
       session = session_field b;
       serial = value (take 4 (drop 8 b));
-      timing =
-          None;
+      timing = None;
     }
 
 -- as one of a later version
@@ -65,7 +64,6 @@ timed_meaning b =
     record {
       version = version_field b;
       session = session_field b;
-      serial =
-          value (take 4 (drop 8 b));
+      serial = value (take 4 (drop 8 b));
       timing = Some (timing_fields b);
     }

@@ -1,7 +1,7 @@
 //! Units by which a router and a cache speak of their states (RFC 6810 and RFC 8210 sections 5.2 to
 //! 5.5 and 5.9).
 
-ghost use Rattle.std.specs.Prelude.{◌≡◌, ℕ, List, length, replicate, MatchResult, not, refl};
+ghost use Rattle.std.specs.Prelude.{◌≡◌, ◌≤◌, ℕ, List, length, replicate, MatchResult, not, refl};
 ghost use Rattle.std.proofs.Common.{rules};
 ghost use Rattle.std.specs.Borrow.{sem};
 ghost use Rattle.std.specs.Io.KnownBytes.{Consumes};
@@ -90,7 +90,7 @@ impl SerialNotify {
     pub fn serial(&self) -> Serial
         ensures { result.0 ≡ serial_field (notify_bytes self.now) }
     {
-        Serial(u32_at(self.as_ref(), 8))
+        serial_after_header(self.as_ref())
     }
 
     /// The session and the serial number.
@@ -170,7 +170,7 @@ impl SerialQuery {
     pub fn serial(&self) -> Serial
         ensures { result.0 ≡ serial_field (query_bytes self.now) }
     {
-        Serial(u32_at(self.as_ref(), 8))
+        serial_after_header(self.as_ref())
     }
 
     /// The session and the serial number.
@@ -452,4 +452,13 @@ impl CacheReset {
             cells: Cells::new([version, 8, 0, 0, 0, 0, 0, 8]),
         }
     }
+}
+
+/// The serial number that stands after the header of a unit.
+#[inline(always)]
+fn serial_after_header(bytes: &[u8]) -> Serial
+    requires { 12 ≤ length bytes.now }
+    ensures { result.0 ≡ serial_field bytes.now }
+{
+    Serial(u32_at(bytes, 8))
 }
