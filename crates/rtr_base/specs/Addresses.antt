@@ -1,5 +1,6 @@
 -- Addresses and prefixes of addresses (RFC 8210 sections 5.6 and 5.7).
-use Rattle.std.specs.Prelude.{◌≡◌, ℕ, ◌-◌, ◌%◌, ◌^◌, ◌<◌, ◌≤◌, Option, unwrap_or, Bool, true, false, refl}
+use Rattle.std.specs.Prelude.{◌≡◌, ℕ, ◌-◌, ◌%◌, ◌^◌, ◌<◌, ◌≤◌, Option, unwrap_or, Bool, true, false}
+use Rattle.std.specs.Prelude.{refl}
 use Rattle.std.specs.declared.cmp.Ordering.{Ordering}
 use Rattle.std.specs.declared.cmp.Ordering.TheVariants.{Less, Equal, Greater}
 use Rattle.std.specs.declared.net.ip_addr.IpAddr.{IpAddr}
@@ -61,7 +62,7 @@ abbrev pub IsAddressOf : PrefixParts → IpAddr → Type 0
 IsAddressOf p (V4 a) = (p.family ≡ v4) × (ipv4_octets a ≡ be p.address 4)
 IsAddressOf p (V6 a) = (p.family ≡ v6) × (ipv6_octets a ≡ be p.address 16)
 
--- ---- order
+-- ---- order, which is this library's own
 
 -- IPv4 comes before IPv6
 abbrev pub family_cmp : Family → Family → Ordering
@@ -72,9 +73,10 @@ family_cmp v6 v6 = Equal
 
 -- by family, then by the address as a number, then by the length
 abbrev pub prefix_cmp : PrefixParts → PrefixParts → Ordering
-prefix_cmp p q = ordering_then (family_cmp p.family q.family) (ordering_then (nat_cmp p.address q.address) (nat_cmp p.len q.len))
+prefix_cmp p q = ordering_then (family_cmp p.family q.family)
+    (ordering_then (nat_cmp p.address q.address) (nat_cmp p.len q.len))
 
--- ---- the family as a bit
+-- ---- the family as a bit, as this library keeps it
 
 abbrev pub family_of : Bool → Family
 family_of true = v4

@@ -3,7 +3,8 @@ use Rattle.std.specs.Prelude.{ℕ, ◌+◌, ◌*◌, ◌^◌, ◌<◌, List, [],
 use Rattle.std.specs.Int.{bytes_high_first}
 use Rattle.std.specs.List.{flat_map}
 
--- the k bytes of n, the highest first. Std's to_be_bytes w16, w32, w64, w128 compute to it at k = 2, 4, 8, 16
+-- the k bytes of n, the highest first. Std's to_be_bytes w16, w32, w64, w128 compute to it at
+-- k = 2, 4, 8, 16
 abbrev pub be : ℕ → ℕ → List ℕ
 be n k = bytes_high_first k n
 

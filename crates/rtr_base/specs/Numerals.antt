@@ -1,4 +1,5 @@
--- Texts that are numbers: an optional plus, then at least one decimal digit.
+-- Texts that are numbers, as Rust's `u32::from_str` reads them: an optional plus, then at least one
+-- decimal digit.
 use Rattle.std.specs.Prelude.{◌≡◌, ℕ, ◌+◌, ◌*◌, ◌-◌, ◌≤◌, ◌<◌, ◌⊎◌, List, [], ◌∷◌, length}
 use Rattle.std.specs.List.{AllByRecursion}
 

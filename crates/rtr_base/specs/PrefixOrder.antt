@@ -1,4 +1,4 @@
--- The order of prefixes is total.
+-- The order of prefixes, which is this library's own, is total.
 use Rattle.std.specs.Prelude.{◌≡◌, ℕ, refl}
 use Rattle.std.proofs.Common.{subst}
 use Rattle.std.specs.Ordering.{nat_cmp, on}
@@ -22,4 +22,5 @@ family_total = subst IsTotalOrder (λ i f g. by_place f g i) (on_total place nat
 pub prefix_total : IsTotalOrder prefix_cmp
 prefix_total =
     then_total (on_total (λ (p : PrefixParts). p.family) family_total)
-    (then_total (on_total (λ (p : PrefixParts). p.address) nat_cmp_total) (on_total (λ (p : PrefixParts). p.len) nat_cmp_total))
+    (then_total (on_total (λ (p : PrefixParts). p.address) nat_cmp_total)
+    (on_total (λ (p : PrefixParts). p.len) nat_cmp_total))

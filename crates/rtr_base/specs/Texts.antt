@@ -1,4 +1,4 @@
--- The texts of errors and address families.
+-- The texts of errors and address families, as in the Rust crate `rpki`.
 use Rattle.std.specs.Prelude.{ℕ, ◌%◌, ◌==◌, List, codes, if◌then◌else◌}
 use Rattle.rtr_base.specs.declared.addr.PrefixError.{PrefixError}
 use Rattle.rtr_base.specs.declared.addr.PrefixError.TheVariants.{LenOverflow, NonZeroHost}

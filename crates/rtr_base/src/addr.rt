@@ -1,10 +1,14 @@
 //! Prefixes of IP addresses.
 
-ghost use Rattle.std.specs.Prelude.{◌≡◌, ◌≤◌, ◌<◌, ◌↔◌, Option, IfOk, IfErr, IsErrOf, IsOk, IfSome, IsSomeAnd, refl};
-ghost use Rattle.std.specs.Cmp.{partial_equiv_from_equiv, eq_by_cmp_equiv, partial_order_from_agreeing_total};
+ghost use Rattle.std.specs.Prelude.{◌≡◌, ◌≤◌, ◌<◌, ◌↔◌, Option, IfOk, IfErr, IsErrOf, IsOk, IfSome};
+ghost use Rattle.std.specs.Prelude.{IsSomeAnd, refl};
+ghost use Rattle.std.specs.Cmp.{partial_equiv_from_equiv, eq_by_cmp_equiv};
+ghost use Rattle.std.specs.Cmp.{partial_order_from_agreeing_total};
 ghost use Rattle.std.specs.Ordering.{eq_by_cmp, as_partial_cmp};
 ghost use Rattle.std.specs.Net.Addr.{ipv4_bits, ipv6_bits};
-ghost use Rattle.rtr_base.specs.Addresses.{v4, v6, width, cleared, v4_test, IsPrefix, IsMaxLenPrefix, IsAddressOf, ip_number, resolved_len, prefix_cmp};
+ghost use Rattle.rtr_base.specs.Addresses.{v4, v6, width, cleared, v4_test, IsPrefix};
+ghost use Rattle.rtr_base.specs.Addresses.{IsMaxLenPrefix, IsAddressOf, ip_number, resolved_len};
+ghost use Rattle.rtr_base.specs.Addresses.{prefix_cmp};
 ghost use Rattle.rtr_base.specs.PrefixOrder.{prefix_total};
 
 use std::cmp::Ordering;
@@ -24,13 +28,15 @@ pub struct Prefix {
 impl Model for Prefix {
     ghost use Rattle.std.specs.Prelude.{Bool};
     ghost use Rattle.std.proofs.Common.{ap};
-    ghost use Rattle.rtr_base.specs.Addresses.{PrefixParts, family_of, v4_test, v4_test_again, IsPrefix};
+    ghost use Rattle.rtr_base.specs.Addresses.{PrefixParts, family_of, v4_test, v4_test_again};
+    ghost use Rattle.rtr_base.specs.Addresses.{IsPrefix};
 
     ghost Value = { PrefixParts };
 
     ghost view = { λ a. record { family = family_of a.is_v4; address = a.bits; len = a.len } };
 
-    ghost invariant = { λ a. IsPrefix (record { family = family_of a.is_v4; address = a.bits; len = a.len }) };
+    ghost invariant = { λ a.
+        IsPrefix (record { family = family_of a.is_v4; address = a.bits; len = a.len }) };
 
     ghost inverse = { λ p. record { is_v4 = v4_test p.family; bits = p.address; len = p.len } };
 
@@ -65,7 +71,8 @@ impl Error for PrefixError {}
 impl Prefix {
     /// The IPv4 prefix of this address and length.
     pub fn new_v4(addr: Ipv4Addr, len: u8) -> Result<Self, PrefixError>
-        ensures ok { IfOk result (λ p. p ≡ record { family = v4; address = ipv4_bits addr; len = len }) }
+        ensures ok { IfOk result (λ p. p ≡
+            record { family = v4; address = ipv4_bits addr; len = len }) }
         ensures valid { IfOk result IsPrefix }
         ensures len_overflow { IsErrOf result PrefixError.LenOverflow ↔ (32 < len) }
         ensures non_zero_host { IsErrOf result PrefixError.NonZeroHost ↔
@@ -81,7 +88,8 @@ impl Prefix {
     /// The IPv4 prefix of this length that has the address. Host bits are cleared.
     #[inline(always)]
     pub fn new_v4_relaxed(addr: Ipv4Addr, len: u8) -> Result<Self, PrefixError>
-        ensures ok { IfOk result (λ p. p ≡ record { family = v4; address = cleared 32 len (ipv4_bits addr); len = len }) }
+        ensures ok { IfOk result (λ p. p ≡
+            record { family = v4; address = cleared 32 len (ipv4_bits addr); len = len }) }
         ensures valid { IfOk result IsPrefix }
         ensures exact { IsOk result ↔ (len ≤ 32) }
         ensures err { IfErr result (λ e. e ≡ PrefixError.LenOverflow) }
@@ -92,7 +100,8 @@ impl Prefix {
     /// As `new_v4_relaxed`, of the address as a number.
     #[inline(always)]
     pub fn from_v4_bits(bits: u32, len: u8) -> Result<Self, PrefixError>
-        ensures ok { IfOk result (λ p. p ≡ record { family = v4; address = cleared 32 len bits; len = len }) }
+        ensures ok { IfOk result (λ p. p ≡
+            record { family = v4; address = cleared 32 len bits; len = len }) }
         ensures valid { IfOk result IsPrefix }
         ensures exact { IsOk result ↔ (len ≤ 32) }
         ensures err { IfErr result (λ e. e ≡ PrefixError.LenOverflow) }
@@ -109,7 +118,8 @@ impl Prefix {
 
     /// The IPv6 prefix of this address and length.
     pub fn new_v6(addr: Ipv6Addr, len: u8) -> Result<Self, PrefixError>
-        ensures ok { IfOk result (λ p. p ≡ record { family = v6; address = ipv6_bits addr; len = len }) }
+        ensures ok { IfOk result (λ p. p ≡
+            record { family = v6; address = ipv6_bits addr; len = len }) }
         ensures valid { IfOk result IsPrefix }
         ensures len_overflow { IsErrOf result PrefixError.LenOverflow ↔ (128 < len) }
         ensures non_zero_host { IsErrOf result PrefixError.NonZeroHost ↔
@@ -125,7 +135,8 @@ impl Prefix {
     /// The IPv6 prefix of this length that has the address. Host bits are cleared.
     #[inline(always)]
     pub fn new_v6_relaxed(addr: Ipv6Addr, len: u8) -> Result<Self, PrefixError>
-        ensures ok { IfOk result (λ p. p ≡ record { family = v6; address = cleared 128 len (ipv6_bits addr); len = len }) }
+        ensures ok { IfOk result (λ p. p ≡
+            record { family = v6; address = cleared 128 len (ipv6_bits addr); len = len }) }
         ensures valid { IfOk result IsPrefix }
         ensures exact { IsOk result ↔ (len ≤ 128) }
         ensures err { IfErr result (λ e. e ≡ PrefixError.LenOverflow) }
@@ -136,7 +147,8 @@ impl Prefix {
     /// As `new_v6_relaxed`, of the address as a number.
     #[inline(always)]
     pub fn from_v6_bits(bits: u128, len: u8) -> Result<Self, PrefixError>
-        ensures ok { IfOk result (λ p. p ≡ record { family = v6; address = cleared 128 len bits; len = len }) }
+        ensures ok { IfOk result (λ p. p ≡
+            record { family = v6; address = cleared 128 len bits; len = len }) }
         ensures valid { IfOk result IsPrefix }
         ensures exact { IsOk result ↔ (len ≤ 128) }
         ensures err { IfErr result (λ e. e ≡ PrefixError.LenOverflow) }
@@ -210,7 +222,8 @@ impl Eq for Prefix {
 impl PartialOrd for Prefix {
     ghost partial_cmp = { as_partial_cmp prefix_cmp };
 
-    ghost laws = { partial_order_from_agreeing_total prefix_cmp prefix_total (λ _ _. refl) (λ _ _. refl) };
+    ghost laws = { partial_order_from_agreeing_total prefix_cmp prefix_total (λ _ _. refl)
+        (λ _ _. refl) };
 
     fn partial_cmp(&self, other: &Prefix) -> Option<Ordering> {
         Some(self.cmp(other))
@@ -236,7 +249,8 @@ impl Ord for Prefix {
     }
 }
 
-/// A prefix of IP addresses, and the longest prefix length that is meant with it, where one was given.
+/// A prefix of IP addresses, and the longest prefix length that is meant with it, where one was
+/// given.
 #[derive(Clone, Copy, Debug)]
 pub struct MaxLenPrefix {
     prefix: Prefix,
@@ -286,9 +300,12 @@ impl MaxLenPrefix {
     pub fn new(prefix: Prefix, max_len: Option<u8>) -> Result<Self, MaxLenError>
         ensures ok { IfOk result (λ p. p ≡ record { prefix = prefix; max_len = max_len }) }
         ensures valid { IfOk result IsMaxLenPrefix }
-        ensures exact { IsOk result ↔ IfSome max_len (λ x. (prefix.len ≤ x) × (x ≤ width prefix.family)) }
-        ensures overflow { IsErrOf result MaxLenError.Overflow ↔ IsSomeAnd max_len (λ x. width prefix.family < x) }
-        ensures underflow { IsErrOf result MaxLenError.Underflow ↔ IsSomeAnd max_len (λ x. x < prefix.len) }
+        ensures exact { IsOk result ↔
+            IfSome max_len (λ x. (prefix.len ≤ x) × (x ≤ width prefix.family)) }
+        ensures overflow { IsErrOf result MaxLenError.Overflow ↔
+            IsSomeAnd max_len (λ x. width prefix.family < x) }
+        ensures underflow { IsErrOf result MaxLenError.Underflow ↔
+            IsSomeAnd max_len (λ x. x < prefix.len) }
     {
         if let Some(max_len) = max_len {
             let width = if prefix.is_v4() { 32 } else { 128 };
@@ -339,7 +356,8 @@ impl MaxLenPrefix {
         self.max_len
     }
 
-    /// The longest prefix length that is meant: the max length, and where none was given the prefix length.
+    /// The longest prefix length that is meant: the max length, and where none was given the prefix
+    /// length.
     #[inline(always)]
     pub fn resolved_max_len(self) -> u8
         ensures max_len { result ≡ resolved_len self }

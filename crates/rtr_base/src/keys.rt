@@ -4,7 +4,8 @@ ghost use Rattle.std.specs.Prelude.{◌≡◌, List, ℕ, length};
 
 use std::marker::Model;
 
-/// The identifier of a router's key: the 20 bytes of its subject key identifier (RFC 8210 section 5.10).
+/// The identifier of a router's key: the 20 bytes of its subject key identifier (RFC 8210 section
+/// 5.10).
 #[derive(Clone, Copy, Debug, PartialEq, Eq, PartialOrd, Ord, Hash)]
 pub struct KeyIdentifier([u8; 20]);
 
@@ -14,6 +15,26 @@ impl Model for KeyIdentifier {
     ghost view = { λ a. a.0 };
 
     ghost inverse = { λ bytes. record { 0 = bytes } };
+}
+
+impl KeyIdentifier {
+    /// The 20 bytes.
+    #[inline(always)]
+    pub fn into_bytes(self) -> [u8; 20]
+        ensures bytes { result ≡ self }
+        ensures size { length result ≡ 20 }
+    {
+        self.0
+    }
+
+    /// The 20 bytes, lent.
+    #[inline(always)]
+    pub fn as_slice(&self) -> &[u8]
+        ensures bytes { result.now ≡ self.now }
+        ensures size { length result.now ≡ 20 }
+    {
+        &self.0
+    }
 }
 
 impl From<[u8; 20]> for KeyIdentifier {

@@ -1,15 +1,36 @@
-//! Laws of serial numbers.
+//! Laws of serial numbers, and the constants of this crate.
 
 ghost use Rattle.std.specs.Prelude.{◌≡◌, ℕ, ◌+◌, ◌%◌, ◌^◌, ◌<◌, ◌↔◌, None, Some};
 ghost use Rattle.std.specs.Ordering.{nat_cmp};
 ghost use Rattle.std.specs.declared.cmp.Ordering.TheVariants.{Equal};
 ghost use Rattle.rtr_base.specs.Serial.{serial_cmp, serial_distance, reversed};
 
-/// Turned about, the order of two serial numbers is reversed. There is none exactly at half the circle,
-/// and equal are exactly equal numbers.
+use crate::pdu::ErrorCode;
+
+/// The numbers of the error codes: up to 8 those of RFC 8210 section 12, above as in the Rust crate
+/// `rpki`.
+pub fn error_codes()
+    ensures corrupt_data { ErrorCode.CORRUPT_DATA.0 ≡ 0 }
+    ensures internal_error { ErrorCode.INTERNAL_ERROR.0 ≡ 1 }
+    ensures no_data_available { ErrorCode.NO_DATA_AVAILABLE.0 ≡ 2 }
+    ensures invalid_request { ErrorCode.INVALID_REQUEST.0 ≡ 3 }
+    ensures unsupported_protocol_version { ErrorCode.UNSUPPORTED_PROTOCOL_VERSION.0 ≡ 4 }
+    ensures unsupported_pdu_type { ErrorCode.UNSUPPORTED_PDU_TYPE.0 ≡ 5 }
+    ensures withdrawal_of_unknown_record { ErrorCode.WITHDRAWAL_OF_UNKNOWN_RECORD.0 ≡ 6 }
+    ensures duplicate_announcement_received { ErrorCode.DUPLICATE_ANNOUNCEMENT_RECEIVED.0 ≡ 7 }
+    ensures unexpected_protocol_version { ErrorCode.UNEXPECTED_PROTOCOL_VERSION.0 ≡ 8 }
+    ensures aspa_provider_list_error { ErrorCode.ASPA_PROVIDER_LIST_ERROR.0 ≡ 9 }
+    ensures transport_error { ErrorCode.TRANSPORT_ERROR.0 ≡ 10 }
+    ensures ordering_error { ErrorCode.ORDERING_ERROR.0 ≡ 11 }
+{}
+
+/// Turned about, the order of two serial numbers is reversed. There is none exactly at half the
+/// circle, and equal are exactly equal numbers.
 pub fn serial_reversed()
-    ensures reversed { (a b : ℕ) → a < 2 ^ 32 → b < 2 ^ 32 → serial_cmp a b ≡ reversed (serial_cmp b a) }
-    ensures none { (a b : ℕ) → a < 2 ^ 32 → b < 2 ^ 32 → (serial_cmp a b ≡ None) ↔ (serial_distance a b ≡ 2 ^ 31) }
+    ensures reversed { (a b : ℕ) → a < 2 ^ 32 → b < 2 ^ 32 →
+        serial_cmp a b ≡ reversed (serial_cmp b a) }
+    ensures none { (a b : ℕ) → a < 2 ^ 32 → b < 2 ^ 32 →
+        (serial_cmp a b ≡ None) ↔ (serial_distance a b ≡ 2 ^ 31) }
     ensures equal { (a b : ℕ) → a < 2 ^ 32 → b < 2 ^ 32 → (serial_cmp a b ≡ Some Equal) ↔ (a ≡ b) }
 {}
 

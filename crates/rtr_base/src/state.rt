@@ -12,7 +12,8 @@ use std::str::FromStr;
 
 /// A serial number: 32 bits, compared as RFC 1982 says.
 ///
-/// The comparison isn't transitive, so there are no operators `<` and `>`: `partial_cmp` is called by name.
+/// The comparison isn't transitive, so there are no operators `<` and `>`: `partial_cmp` is called
+/// by name.
 #[derive(Clone, Copy, Debug, PartialEq, Eq, Hash, Default)]
 pub struct Serial(pub u32);
 
@@ -34,7 +35,15 @@ impl Serial {
         self.0.to_be_bytes()
     }
 
-    /// The number that is `other` further on; behind the greatest comes 0 (RFC 1982 section 3.1).
+    /// The number itself.
+    #[inline(always)]
+    pub const fn into_u32(self) -> u32
+        ensures { result ≡ self.0 }
+    {
+        self.0
+    }
+
+    /// The number that is `other` further on; after the greatest comes 0 (RFC 1982 section 3.1).
     pub fn add(self, other: u32) -> Self
         requires { other ≤ 2147483647 }
         ensures { result.0 ≡ (self.0 + other) % 2 ^ 32 }
@@ -126,7 +135,7 @@ impl State {
         State { session, serial }
     }
 
-    /// Goes on to the next serial number; behind the greatest comes 0.
+    /// Goes on to the next serial number; after the greatest comes 0.
     pub fn inc(&mut self)
         ensures { self.new ≡ record self.old { serial = (self.old.serial + 1) % 2 ^ 32 } }
     {

@@ -10,7 +10,7 @@ part_of_unit p n h t e is_type is_length below =
     let same = same_header h t (omega arith) in
     (omega (arith, length-append h t), λ _. (same.kind ∙ is_type, same.size ∙ is_length))
 
--- where reading the rest behind the header h stops, reading the unit stops
+-- where reading the rest after the header h stops, reading the unit stops
 pub stops_unit : (p n : ℕ) (cause : Cause) (h t : List ℕ) (left : Option (List ℕ)) → length h ≡ 8 → type_field h ≡ p → StopsRest n h cause t left → StopsUnit p n cause (h ++ t) left
 stops_unit p n by_reader h t left e is_type s = part_of_unit p n h t e is_type s.0 s.1
 stops_unit p n by_writer h t left e is_type s = s

@@ -1,7 +1,9 @@
--- Why a call on units stopped (the Rust crate's own faults), apart from how the code keeps it.
+-- Why a call on units stopped, apart from how the code keeps it. The causes are this library's own.
 use Rattle.std.specs.Prelude.{ℕ, List}
 use Rattle.rtr_units.specs.declared.fault.Fault.{Fault}
-use Rattle.rtr_units.specs.declared.fault.Fault.TheVariants.{Reader, Writer, Short, UnitType, UnitLength, TooLong, EmptyProviders, UnitVersion, Refused, TooMany, Memory}
+use Rattle.rtr_units.specs.declared.fault.Fault.TheVariants.{Reader, Writer, Short, UnitType}
+use Rattle.rtr_units.specs.declared.fault.Fault.TheVariants.{UnitLength, TooLong, EmptyProviders}
+use Rattle.rtr_units.specs.declared.fault.Fault.TheVariants.{UnitVersion, Refused, TooMany, Memory}
 
 -- what is wrong with the bytes that were there
 pub data Refusal : Type 0 where

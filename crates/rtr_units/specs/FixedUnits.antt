@@ -1,4 +1,5 @@
--- Units of a fixed size as lists of bytes (RFC 8210 sections 5.2 to 5.9, RFC 6810 sections 5.2 to 5.9).
+-- Units of a fixed size as lists of bytes (RFC 8210 sections 5.2 to 5.9, RFC 6810 sections 5.2 to
+-- 5.9).
 use Rattle.std.specs.Prelude.{ℕ, List, ◌∷◌, ◌++◌}
 use Rattle.rtr_base.specs.Addresses.{Family, v4, v6}
 use Rattle.rtr_base.specs.Bytes.{be}
@@ -8,7 +9,8 @@ use Rattle.rtr_units.specs.Header.{header}
 abbrev pub bare_list : (v t s : ℕ) → List ℕ
 bare_list v t s = header v t s 8
 
--- a header and a serial number: serial notify, serial query (RFC 8210 sections 5.2 and 5.3), end of data in version 0 (RFC 6810 section 5.8)
+-- a header and a serial number: serial notify, serial query (RFC 8210 sections 5.2 and 5.3), end of
+-- data in version 0 (RFC 6810 section 5.8)
 abbrev pub serial_list : (v t s q : ℕ) → List ℕ
 serial_list v t s q = header v t s 12 ++ be q 4
 
@@ -30,4 +32,5 @@ address_bytes v6 = 16
 
 -- flags g, prefix length l, max length x, a free byte z, address a, ASN n
 abbrev pub prefix_list : Family → (v s g l x z a n : ℕ) → List ℕ
-prefix_list f v s g l x z a n = header v (prefix_type f) s (prefix_size f) ++ (g ∷ l ∷ x ∷ z ∷ be a (address_bytes f) ++ be n 4)
+prefix_list f v s g l x z a n = header v (prefix_type f) s (prefix_size f) ++
+    (g ∷ l ∷ x ∷ z ∷ be a (address_bytes f) ++ be n 4)

@@ -1,4 +1,4 @@
--- What a loan of all bytes of an end of data leaves.
+-- What a loan of all bytes of an end of data leaves (this library's own calls).
 use Rattle.std.specs.Prelude.{ℕ, List}
 use Rattle.std.specs.Borrow.{Lends, MutBor, Fml, u8, Array}
 use Rattle.rtr_units.specs.declared.end.EndOfData.{EndOfData}

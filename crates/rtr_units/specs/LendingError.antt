@@ -1,4 +1,4 @@
--- What a loan of all bytes of an error report leaves.
+-- What a loan of all bytes of an error report leaves (this library's own calls).
 use Rattle.std.specs.Prelude.{ℕ, List, ◌++◌, length, take, drop}
 use Rattle.std.specs.Borrow.{Lends, MutBor, Fml, u8, Array}
 use Rattle.rtr_units.specs.contracts.error.Error.{the_row}

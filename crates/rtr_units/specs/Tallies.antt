@@ -1,4 +1,4 @@
--- Readers and writers whose failures are counted.
+-- Readers and writers whose failures are counted, which is this library's own.
 use Rattle.std.specs.Prelude.{ℕ}
 
 -- the reader or writer, and how many failures there were

@@ -1,4 +1,5 @@
--- Units of a fixed size as the lists of their bytes, and their fields, read off these.
+-- Units of a fixed size as the lists of their bytes, and their fields, read off these (RFC 8210
+-- sections 5.2 to 5.9, RFC 6810 sections 5.2 to 5.9).
 use Rattle.std.specs.Prelude.{ℕ, List, take, drop, slice_index}
 use Rattle.rtr_base.specs.Bytes.{value}
 use Rattle.rtr_units.specs.declared.session.SerialNotify.{SerialNotify}
@@ -42,7 +43,7 @@ end_v0_bytes u = u.cells.bytes
 abbrev pub end_v1_bytes : EndOfDataV1 → List ℕ
 end_v1_bytes u = u.cells.bytes
 
--- ---- fields behind the header
+-- ---- fields after the header
 
 -- of a serial notify, a serial query and an end of data
 abbrev pub serial_field : List ℕ → ℕ

@@ -1,4 +1,4 @@
--- Fixed parts as the lists of their bytes.
+-- A header as the list of its bytes (RFC 8210 section 5.1), and lists of bytes of a known length.
 use Rattle.std.specs.Prelude.{◌≡◌, ℕ, List, length}
 use Rattle.rtr_base.specs.Bytes.{IsBytes}
 use Rattle.rtr_units.specs.declared.header.Header.{Header}

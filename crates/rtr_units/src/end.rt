@@ -1,12 +1,13 @@
-//! The end of data (RFC 6810 and RFC 8210 section 5.8).
+//! The end of data (RFC 6810 and RFC 8210 section 5.8; version 2 as in the Rust crate `rpki`).
 
-ghost use Rattle.std.specs.Prelude.{◌≡◌, ℕ, List, length, MatchResult, Some, not, ◌==◌};
+ghost use Rattle.std.specs.Prelude.{◌≡◌, ℕ, List, length, IfOk, MatchResult, Some, not, ◌==◌};
 ghost use Rattle.std.specs.Borrow.{sem};
 ghost use Rattle.rtr_base.specs.Bytes.{IsBytes};
 ghost use Rattle.rtr_units.specs.Causes.{cause_of};
 ghost use Rattle.rtr_units.specs.End.{timed_list};
 ghost use Rattle.rtr_units.specs.Ends.{end_bytes, end_meaning, is_timed, ReadsEnd, StopsEnd};
 ghost use Rattle.rtr_units.specs.FixedUnits.{serial_list};
+ghost use Rattle.rtr_units.specs.Header.{version_field};
 ghost use Rattle.rtr_units.specs.Reads.{Takes};
 ghost use Rattle.rtr_units.specs.Stream.{PutsForm, count_after, is_reader_fault, is_writer_fault};
 ghost use Rattle.rtr_units.specs.Views.{header_bytes};
@@ -22,7 +23,8 @@ use rtr_base::state::{Serial, State};
 /// An end of data of any version.
 #[derive(Clone, Copy, Debug, PartialEq, Eq, Hash)]
 pub enum EndOfData {
-    /// That of version 0, without timing parameters. It counts as version 0 whatever its version field says.
+    /// That of version 0, without timing parameters. It counts as version 0 whatever its version
+    /// field says.
     V0(EndOfDataV0),
     /// That of a later version.
     V1(EndOfDataV1),
@@ -38,7 +40,8 @@ impl EndOfData {
     #[inline(always)]
     pub fn new(version: u8, state: State, timing: Timing) -> Self
         ensures zero { version ≡ 0 → end_bytes result ≡ serial_list 0 7 state.session state.serial }
-        ensures later { ¬ (version ≡ 0) → end_bytes result ≡ timed_list version state.session state.serial (Some timing) }
+        ensures later { ¬ (version ≡ 0) → end_bytes result ≡
+            timed_list version state.session state.serial (Some timing) }
         ensures version { (end_meaning result).version ≡ version }
         ensures kind { is_timed result ≡ not (version == 0) }
     {
@@ -49,16 +52,23 @@ impl EndOfData {
         }
     }
 
-    /// Reads what follows the header, which is kept as it is. Its type is not judged.
+    /// Reads what follows the header, which is kept as it is. Its type is not checked.
     ///
-    /// `UnitVersion` is answered above version 2, and then `UnitLength` unless the length field is 12 in version 0 and
-    /// 24 in versions 1 and 2. Nothing was read then.
+    /// `UnitVersion` is answered above version 2, and then `UnitLength` unless the length field is
+    /// 12 in version 0 and 24 in versions 1 and 2, with nothing read; then `Short` or `Reader`
+    /// inside the unit. This order, and that versions above 2 are refused, is this library's own;
+    /// version 2 is as in the Rust crate `rpki`.
     #[inline(always)]
     pub fn read_payload<R: Source>(header: Header, reader: &mut R) -> Result<Self, Fault>
         ensures bytes { MatchResult result
-            (λ e. ReadsEnd (header_bytes header) e (R.remaining reader.old) (R.remaining reader.new))
-            (λ e. Takes (R.remaining reader.old) (R.remaining reader.new) (λ t. StopsEnd (header_bytes header) (cause_of e) t (R.remaining reader.new))) }
-        ensures count { R.failures reader.new ≡ count_after (R.failures reader.old) (not (is_reader_fault result)) }
+            (λ e. ReadsEnd (header_bytes header) e (R.remaining reader.old)
+            (R.remaining reader.new))
+            (λ e. Takes (R.remaining reader.old) (R.remaining reader.new)
+            (λ t. StopsEnd (header_bytes header) (cause_of e) t (R.remaining reader.new))) }
+        ensures kind { IfOk result (λ e. is_timed e ≡
+            not (version_field (header_bytes header) == 0)) }
+        ensures count { R.failures reader.new ≡
+            count_after (R.failures reader.old) (not (is_reader_fault result)) }
     {
         let version = header.version();
         if version > 2 {
@@ -133,8 +143,10 @@ impl EndOfData {
     /// Writes all bytes.
     #[inline(always)]
     pub fn write<W: Sink>(&self, writer: &mut W) -> Result<(), Fault>
-        ensures bytes { PutsForm result (W.contents writer.old) (W.contents writer.new) (end_bytes self.now) }
-        ensures count { W.failures writer.new ≡ count_after (W.failures writer.old) (not (is_writer_fault result)) }
+        ensures bytes { PutsForm result (W.contents writer.old) (W.contents writer.new)
+            (end_bytes self.now) }
+        ensures count { W.failures writer.new ≡
+            count_after (W.failures writer.old) (not (is_writer_fault result)) }
     {
         match self {
             EndOfData::V0(unit) => unit.write(writer),

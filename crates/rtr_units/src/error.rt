@@ -1,6 +1,7 @@
 //! The error report (RFC 6810 section 5.10, RFC 8210 section 5.11).
 
-ghost use Rattle.std.specs.Prelude.{◌≡◌, ◌+◌, ◌≤◌, ℕ, List, [], length, nat_eq, IfOk, MatchResult, not};
+ghost use Rattle.std.specs.Prelude.{◌≡◌, ◌+◌, ◌≤◌, ℕ, List, [], length, nat_eq, IfOk, MatchResult};
+ghost use Rattle.std.specs.Prelude.{not};
 ghost use Rattle.std.proofs.Common.{rules};
 ghost use Rattle.std.specs.Borrow.{sem};
 ghost use Rattle.std.specs.Cmp.{partial_equiv_from_equiv};
@@ -10,7 +11,8 @@ ghost use Rattle.std.specs.Hash as fed;
 ghost use Rattle.rtr_units.specs.Causes.{cause_of};
 ghost use Rattle.rtr_units.specs.Reads.{Takes, SkipsRest, StopsSkip};
 ghost use Rattle.rtr_units.specs.Report.{report};
-ghost use Rattle.rtr_units.specs.Stream.{FallsShort, PutsForm, count_after, is_reader_fault, is_writer_fault};
+ghost use Rattle.rtr_units.specs.Stream.{FallsShort, PutsForm, count_after, is_reader_fault};
+ghost use Rattle.rtr_units.specs.Stream.{is_writer_fault};
 ghost use Rattle.rtr_units.specs.Views.{header_bytes};
 
 use crate::fault::Fault;
@@ -20,6 +22,9 @@ use crate::source::{Sink, Source};
 use std::alloc::{AllocError, Global};
 use std::hash::{Hash, Hasher};
 use std::marker::Model;
+
+/// The greatest length of a unit that is read past, as in the Rust crate `rpki`.
+const GREATEST_LENGTH: u32 = 65535;
 
 /// An error report, seen as the list of its bytes.
 #[derive(Drop, Debug)]
@@ -72,17 +77,21 @@ impl Error {
         }
     }
 
-    /// Reads past what follows the header, whatever its type. No byte behind the unit is asked for.
+    /// Reads past what follows the header, whatever its type. No byte after the unit is asked for.
     ///
-    /// `TooLong` is answered for a length field over 65535, and then `UnitLength` for one under 8. Nothing was read then.
+    /// `TooLong` is answered for a length field over 65535, and then `UnitLength` for one under 8,
+    /// with nothing read; then `Short` or `Reader` inside the unit. This order is this library's
+    /// own.
     pub fn skip_payload<R: Source>(header: Header, reader: &mut R) -> Result<(), Fault>
         ensures bytes { MatchResult result
             (λ _. SkipsRest (header_bytes header) (R.remaining reader.old) (R.remaining reader.new))
-            (λ e. Takes (R.remaining reader.old) (R.remaining reader.new) (λ t. StopsSkip (header_bytes header) (cause_of e) t (R.remaining reader.new))) }
-        ensures count { R.failures reader.new ≡ count_after (R.failures reader.old) (not (is_reader_fault result)) }
+            (λ e. Takes (R.remaining reader.old) (R.remaining reader.new)
+            (λ t. StopsSkip (header_bytes header) (cause_of e) t (R.remaining reader.new))) }
+        ensures count { R.failures reader.new ≡
+            count_after (R.failures reader.old) (not (is_reader_fault result)) }
     {
         let length = header.length();
-        if length > 65535 {
+        if length > GREATEST_LENGTH {
             return Err(Fault::TooLong);
         }
         if length < 8 {
@@ -97,7 +106,8 @@ impl Error {
     /// Writes the bytes.
     pub fn write<W: Sink>(&self, writer: &mut W) -> Result<(), Fault>
         ensures bytes { PutsForm result (W.contents writer.old) (W.contents writer.new) self.now }
-        ensures count { W.failures writer.new ≡ count_after (W.failures writer.old) (not (is_writer_fault result)) }
+        ensures count { W.failures writer.new ≡
+            count_after (W.failures writer.old) (not (is_writer_fault result)) }
     {
         put(writer, self.as_ref())
     }
@@ -131,7 +141,8 @@ fn skip<R: Source>(reader: &mut R, size: usize) -> Result<(), Fault>
     ensures bytes { MatchResult result
         (λ _. Takes (R.remaining reader.old) (R.remaining reader.new) (λ t. length t ≡ size))
         (λ e. FallsShort e (R.remaining reader.old) (R.remaining reader.new) size) }
-    ensures count { R.failures reader.new ≡ count_after (R.failures reader.old) (not (is_reader_fault result)) }
+    ensures count { R.failures reader.new ≡
+        count_after (R.failures reader.old) (not (is_reader_fault result)) }
 {
     let mut buffer = [0; 1024];
     let mut left = size;

@@ -1,4 +1,4 @@
-//! Why a call on units failed.
+//! Why a call on units failed: an enum of this library's own.
 
 use crate::error::Error;
 use std::io;

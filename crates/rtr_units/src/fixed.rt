@@ -18,7 +18,7 @@ use rtr_base::payload::Timing;
 use rtr_base::state::{Serial, State};
 use std::net::{Ipv4Addr, Ipv6Addr};
 
-/// An IPv4 prefix (sections 5.6): 20 bytes.
+/// An IPv4 prefix (RFC 8210 section 5.6): 20 bytes.
 #[derive(Clone, Copy, Debug, PartialEq, Eq, Hash)]
 pub struct Ipv4Prefix {
     cells: Cells<20>,
@@ -68,7 +68,7 @@ impl Default for Ipv4Prefix {
 }
 
 impl Ipv4Prefix {
-    /// The unit with these fields. The lengths are not judged.
+    /// The unit with these fields. The lengths are not checked.
     #[inline(always)]
     pub fn new(
         version: u8,
@@ -78,7 +78,8 @@ impl Ipv4Prefix {
         prefix: Ipv4Addr,
         asn: Asn,
     ) -> Self
-        ensures { ipv4_bytes result ≡ prefix_list v4 version 0 flags prefix_len max_len 0 (ipv4_bits prefix) asn }
+        ensures { ipv4_bytes result ≡
+            prefix_list v4 version 0 flags prefix_len max_len 0 (ipv4_bits prefix) asn }
     {
         Ipv4Prefix::from_bits(version, flags, prefix_len, max_len, prefix.to_bits(), asn)
     }
@@ -93,7 +94,8 @@ impl Ipv4Prefix {
         prefix: u32,
         asn: Asn,
     ) -> Self
-        ensures { ipv4_bytes result ≡ prefix_list v4 version 0 flags prefix_len max_len 0 prefix asn }
+        ensures { ipv4_bytes result ≡
+            prefix_list v4 version 0 flags prefix_len max_len 0 prefix asn }
     {
         let mut bytes = [0; 20];
         let front = [version, 4, 0, 0, 0, 0, 0, 20, flags, prefix_len, max_len, 0];
@@ -155,7 +157,7 @@ impl Ipv4Prefix {
     }
 }
 
-/// An IPv6 prefix (sections 5.7): 32 bytes.
+/// An IPv6 prefix (RFC 8210 section 5.7): 32 bytes.
 #[derive(Clone, Copy, Debug, PartialEq, Eq, Hash)]
 pub struct Ipv6Prefix {
     cells: Cells<32>,
@@ -205,7 +207,7 @@ impl Default for Ipv6Prefix {
 }
 
 impl Ipv6Prefix {
-    /// The unit with these fields. The lengths are not judged.
+    /// The unit with these fields. The lengths are not checked.
     #[inline(always)]
     pub fn new(
         version: u8,
@@ -215,7 +217,8 @@ impl Ipv6Prefix {
         prefix: Ipv6Addr,
         asn: Asn,
     ) -> Self
-        ensures { ipv6_bytes result ≡ prefix_list v6 version 0 flags prefix_len max_len 0 (ipv6_bits prefix) asn }
+        ensures { ipv6_bytes result ≡
+            prefix_list v6 version 0 flags prefix_len max_len 0 (ipv6_bits prefix) asn }
     {
         Ipv6Prefix::from_bits(version, flags, prefix_len, max_len, prefix.to_bits(), asn)
     }
@@ -230,7 +233,8 @@ impl Ipv6Prefix {
         prefix: u128,
         asn: Asn,
     ) -> Self
-        ensures { ipv6_bytes result ≡ prefix_list v6 version 0 flags prefix_len max_len 0 prefix asn }
+        ensures { ipv6_bytes result ≡
+            prefix_list v6 version 0 flags prefix_len max_len 0 prefix asn }
     {
         let mut bytes = [0; 32];
         let front = [version, 6, 0, 0, 0, 0, 0, 32, flags, prefix_len, max_len, 0];
@@ -413,10 +417,11 @@ impl Default for EndOfDataV1 {
 }
 
 impl EndOfDataV1 {
-    /// The end of data in this state, with these timings. The version is not judged.
+    /// The end of data in this state, with these timings. The version is not checked.
     #[inline(always)]
     pub fn new(version: u8, state: State, timing: Timing) -> Self
-        ensures { end_v1_bytes result ≡ timed_list version state.session state.serial (Some timing) }
+        ensures { end_v1_bytes result ≡
+            timed_list version state.session state.serial (Some timing) }
     {
         let [s0, s1] = state.session().to_be_bytes();
         let [q0, q1, q2, q3] = state.serial().0.to_be_bytes();

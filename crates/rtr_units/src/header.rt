@@ -1,11 +1,14 @@
 //! The header of a unit (RFC 6810 and RFC 8210 section 5.1).
 
-ghost use Rattle.std.specs.Prelude.{◌≡◌, ◌<◌, ◌≤◌, ◌^◌, ℕ, List, length, replicate, MatchResult, IfOk, IsOk, IfErr, ◌↔◌, not};
+ghost use Rattle.std.specs.Prelude.{◌≡◌, ◌<◌, ◌≤◌, ◌^◌, ℕ, List, length, replicate, MatchResult};
+ghost use Rattle.std.specs.Prelude.{IfOk, IsOk, IfErr, ◌↔◌, not};
 ghost use Rattle.std.specs.Borrow.{sem};
 ghost use Rattle.std.specs.Io.KnownBytes.{Consumes};
 ghost use Rattle.rtr_base.specs.Bytes.{IsBytes};
-ghost use Rattle.rtr_units.specs.Header.{header, version_field, type_field, session_field, length_field};
-ghost use Rattle.rtr_units.specs.Stream.{FallsShort, PutsForm, count_after, is_reader_fault, is_writer_fault};
+ghost use Rattle.rtr_units.specs.Header.{header, version_field, type_field, session_field};
+ghost use Rattle.rtr_units.specs.Header.{length_field};
+ghost use Rattle.rtr_units.specs.Stream.{FallsShort, PutsForm, count_after, is_reader_fault};
+ghost use Rattle.rtr_units.specs.Stream.{is_writer_fault};
 ghost use Rattle.rtr_units.specs.Views.{header_bytes, AreBytes};
 
 use crate::cells::Cells;
@@ -46,13 +49,15 @@ impl Header {
         }
     }
 
-    /// Reads a header: eight bytes, which are not judged.
+    /// Reads a header: eight bytes, which are not checked.
     #[inline(always)]
     pub fn read<R: Source>(reader: &mut R) -> Result<Self, Fault>
         ensures bytes { MatchResult result
-            (λ h. Consumes (R.remaining reader.old) (R.remaining reader.new) (header_bytes h) × AreBytes 8 (header_bytes h))
+            (λ h. Consumes (R.remaining reader.old) (R.remaining reader.new) (header_bytes h) ×
+            AreBytes 8 (header_bytes h))
             (λ e. FallsShort e (R.remaining reader.old) (R.remaining reader.new) 8) }
-        ensures count { R.failures reader.new ≡ count_after (R.failures reader.old) (not (is_reader_fault result)) }
+        ensures count { R.failures reader.new ≡
+            count_after (R.failures reader.old) (not (is_reader_fault result)) }
     {
         let mut header = Header::default();
         match fill(reader, header.as_mut()) {
@@ -64,8 +69,10 @@ impl Header {
     /// Writes the eight bytes.
     #[inline(always)]
     pub fn write<W: Sink>(&self, writer: &mut W) -> Result<(), Fault>
-        ensures bytes { PutsForm result (W.contents writer.old) (W.contents writer.new) (header_bytes self.now) }
-        ensures count { W.failures writer.new ≡ count_after (W.failures writer.old) (not (is_writer_fault result)) }
+        ensures bytes { PutsForm result (W.contents writer.old) (W.contents writer.new)
+            (header_bytes self.now) }
+        ensures count { W.failures writer.new ≡
+            count_after (W.failures writer.old) (not (is_writer_fault result)) }
     {
         put(writer, self.as_ref())
     }

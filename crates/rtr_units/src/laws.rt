@@ -1,11 +1,47 @@
-//! Laws of units of a fixed size.
+//! Laws of units of a fixed size, and the constants of this crate.
 
 ghost use Rattle.std.specs.Prelude.{◌≡◌, ◌++◌, ℕ, List};
 ghost use Rattle.rtr_units.specs.End.{End, IsEndMeaning, EndMeaning, end_list};
 
+use crate::end::EndOfData;
+use crate::error::Error;
+use crate::fixed::{EndOfDataV0, EndOfDataV1, Ipv4Prefix, Ipv6Prefix};
+use crate::session::{CacheReset, CacheResponse, ResetQuery, SerialNotify, SerialQuery};
+use crate::unit::Unit;
+
+/// The type of each unit, and its size in bytes where it is fixed (RFC 8210 sections 5.2 to 5.9 and
+/// 5.11, RFC 6810 section 5.8).
+pub fn types_and_sizes()
+    ensures serial_notify { (⟦<SerialNotify as Unit>⟧.PDU ≡ 0) ×
+        (⟦<SerialNotify as Unit>⟧.LENGTH ≡ 12) }
+    ensures serial_query { (⟦<SerialQuery as Unit>⟧.PDU ≡ 1) ×
+        (⟦<SerialQuery as Unit>⟧.LENGTH ≡ 12) }
+    ensures reset_query { (⟦<ResetQuery as Unit>⟧.PDU ≡ 2) × (⟦<ResetQuery as Unit>⟧.LENGTH ≡ 8) }
+    ensures cache_response { (⟦<CacheResponse as Unit>⟧.PDU ≡ 3) ×
+        (⟦<CacheResponse as Unit>⟧.LENGTH ≡ 8) }
+    ensures ipv4_prefix { (⟦<Ipv4Prefix as Unit>⟧.PDU ≡ 4) × (⟦<Ipv4Prefix as Unit>⟧.LENGTH ≡ 20) }
+    ensures ipv6_prefix { (⟦<Ipv6Prefix as Unit>⟧.PDU ≡ 6) × (⟦<Ipv6Prefix as Unit>⟧.LENGTH ≡ 32) }
+    ensures end_of_data { EndOfData.PDU ≡ 7 }
+    ensures end_of_data_v0 { (⟦<EndOfDataV0 as Unit>⟧.PDU ≡ 7) ×
+        (⟦<EndOfDataV0 as Unit>⟧.LENGTH ≡ 12) }
+    ensures end_of_data_v1 { (⟦<EndOfDataV1 as Unit>⟧.PDU ≡ 7) ×
+        (⟦<EndOfDataV1 as Unit>⟧.LENGTH ≡ 24) }
+    ensures cache_reset { (⟦<CacheReset as Unit>⟧.PDU ≡ 8) × (⟦<CacheReset as Unit>⟧.LENGTH ≡ 8) }
+    ensures error_report { Error.PDU ≡ 10 }
+{}
+
+/// The constants of any unit of a fixed size are those that contracts name.
+pub fn type_and_size<U: Unit>() -> (u8, usize)
+    ensures kind { result.0 ≡ U.PDU }
+    ensures size { result.1 ≡ U.LENGTH }
+{
+    (U::PDU, U::LENGTH)
+}
+
 /// No end of data begins another, and equal lists mean the same.
 pub fn end_self_delimiting()
-    ensures { (a b r s : List ℕ) (d e : EndMeaning) → End a d → End b e → a ++ r ≡ b ++ s → (a ≡ b) × (d ≡ e) × (r ≡ s) }
+    ensures { (a b r s : List ℕ) (d e : EndMeaning) → End a d → End b e → a ++ r ≡ b ++ s →
+        (a ≡ b) × (d ≡ e) × (r ≡ s) }
 {}
 
 /// Each end of data has one list.

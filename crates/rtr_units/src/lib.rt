@@ -1,4 +1,5 @@
-//! Units of the RPKI to Router protocol as lists of bytes, and the readers and writers that they pass through.
+//! Units of the RPKI to Router protocol (the PDUs of RFC 6810 and RFC 8210) as lists of bytes, and
+//! the readers and writers that they pass through.
 #![tactic(auto)]
 
 pub mod cells;

@@ -1,13 +1,18 @@
-//! Units by which a router and a cache speak of their states (RFC 6810 and RFC 8210 sections 5.2 to 5.5 and 5.9).
+//! Units by which a router and a cache speak of their states (RFC 6810 and RFC 8210 sections 5.2 to
+//! 5.5 and 5.9).
 
-ghost use Rattle.std.specs.Prelude.{◌≡◌, ℕ, List, length, replicate, MatchResult, not, refl};
+ghost use Rattle.std.specs.Prelude.{◌≡◌, ◌≤◌, ℕ, List, length, replicate, MatchResult, not, refl};
 ghost use Rattle.std.proofs.Common.{rules};
 ghost use Rattle.std.specs.Borrow.{sem};
 ghost use Rattle.std.specs.Io.KnownBytes.{Consumes};
 ghost use Rattle.rtr_base.specs.Bytes.{be, value, IsBytes};
 ghost use Rattle.rtr_units.specs.FixedUnits.{bare_list, serial_list};
-ghost use Rattle.rtr_units.specs.Stream.{FallsShort, PutsForm, count_after, is_reader_fault, is_writer_fault};
-ghost use Rattle.rtr_units.specs.Units.{notify_bytes, query_bytes, reset_query_bytes, response_bytes, cache_reset_bytes, query_payload_bytes};
+ghost use Rattle.rtr_units.specs.Header.{session_field};
+ghost use Rattle.rtr_units.specs.Stream.{FallsShort, PutsForm, count_after, is_reader_fault};
+ghost use Rattle.rtr_units.specs.Stream.{is_writer_fault};
+ghost use Rattle.rtr_units.specs.Units.{notify_bytes, query_bytes, reset_query_bytes};
+ghost use Rattle.rtr_units.specs.Units.{response_bytes, cache_reset_bytes, query_payload_bytes};
+ghost use Rattle.rtr_units.specs.Units.{serial_field};
 ghost use Rattle.rtr_units.specs.Views.{AreBytes};
 
 use crate::cells::Cells;
@@ -79,6 +84,23 @@ impl SerialNotify {
             cells: Cells::new([version, 0, s0, s1, 0, 0, 0, 12, q0, q1, q2, q3]),
         }
     }
+
+    /// The serial number.
+    #[inline(always)]
+    pub fn serial(&self) -> Serial
+        ensures { result.0 ≡ serial_field (notify_bytes self.now) }
+    {
+        serial_after_header(self.as_ref())
+    }
+
+    /// The session and the serial number.
+    #[inline(always)]
+    pub fn state(&self) -> State
+        ensures session { result.session ≡ session_field (notify_bytes self.now) }
+        ensures serial { result.serial ≡ serial_field (notify_bytes self.now) }
+    {
+        State::from_parts(self.session(), self.serial())
+    }
 }
 
 /// A router asks for what is new since a state (section 5.3): 12 bytes.
@@ -142,6 +164,23 @@ impl SerialQuery {
             cells: Cells::new([version, 1, s0, s1, 0, 0, 0, 12, q0, q1, q2, q3]),
         }
     }
+
+    /// The serial number.
+    #[inline(always)]
+    pub fn serial(&self) -> Serial
+        ensures { result.0 ≡ serial_field (query_bytes self.now) }
+    {
+        serial_after_header(self.as_ref())
+    }
+
+    /// The session and the serial number.
+    #[inline(always)]
+    pub fn state(&self) -> State
+        ensures session { result.session ≡ session_field (query_bytes self.now) }
+        ensures serial { result.serial ≡ serial_field (query_bytes self.now) }
+    {
+        State::from_parts(self.session(), self.serial())
+    }
 }
 
 /// What follows the header of a serial query: 4 bytes.
@@ -164,7 +203,7 @@ impl Default for SerialQueryPayload {
 impl SerialQueryPayload {
     ghost use Rattle.rtr_units.specs.LendingUnits.{LendsQueryPayload};
 
-    /// The serial number as it stands behind the header.
+    /// The serial number as it stands after the header.
     #[inline(always)]
     pub fn new(serial: Serial) -> Self
         ensures { query_payload_bytes result ≡ be serial.0 4 }
@@ -178,9 +217,11 @@ impl SerialQueryPayload {
     #[inline(always)]
     pub fn read<R: Source>(reader: &mut R) -> Result<Self, Fault>
         ensures bytes { MatchResult result
-            (λ p. Consumes (R.remaining reader.old) (R.remaining reader.new) (query_payload_bytes p) × AreBytes 4 (query_payload_bytes p))
+            (λ p. Consumes (R.remaining reader.old) (R.remaining reader.new)
+            (query_payload_bytes p) × AreBytes 4 (query_payload_bytes p))
             (λ e. FallsShort e (R.remaining reader.old) (R.remaining reader.new) 4) }
-        ensures count { R.failures reader.new ≡ count_after (R.failures reader.old) (not (is_reader_fault result)) }
+        ensures count { R.failures reader.new ≡
+            count_after (R.failures reader.old) (not (is_reader_fault result)) }
     {
         let mut payload = SerialQueryPayload::default();
         match fill(reader, payload.as_mut()) {
@@ -200,8 +241,10 @@ impl SerialQueryPayload {
     /// Writes the four bytes.
     #[inline(always)]
     pub fn write<W: Sink>(&self, writer: &mut W) -> Result<(), Fault>
-        ensures bytes { PutsForm result (W.contents writer.old) (W.contents writer.new) (query_payload_bytes self.now) }
-        ensures count { W.failures writer.new ≡ count_after (W.failures writer.old) (not (is_writer_fault result)) }
+        ensures bytes { PutsForm result (W.contents writer.old) (W.contents writer.new)
+            (query_payload_bytes self.now) }
+        ensures count { W.failures writer.new ≡
+            count_after (W.failures writer.old) (not (is_writer_fault result)) }
     {
         put(writer, self.as_ref())
     }
@@ -409,4 +452,13 @@ impl CacheReset {
             cells: Cells::new([version, 8, 0, 0, 0, 0, 0, 8]),
         }
     }
+}
+
+/// The serial number that stands after the header of a unit.
+#[inline(always)]
+fn serial_after_header(bytes: &[u8]) -> Serial
+    requires { 12 ≤ length bytes.now }
+    ensures { result.0 ≡ serial_field bytes.now }
+{
+    Serial(u32_at(bytes, 8))
 }

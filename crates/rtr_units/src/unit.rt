@@ -1,12 +1,16 @@
 //! The trait of units of a fixed size.
+//!
+//! A unit is what the RFCs call a PDU: a header and what follows it, up to its length field.
 
-ghost use Rattle.std.specs.Prelude.{◌≡◌, ℕ, ◌^◌, ◌<◌, ◌≤◌, List, length, replicate, MatchResult, not};
+ghost use Rattle.std.specs.Prelude.{◌≡◌, ℕ, ◌^◌, ◌<◌, ◌≤◌, List, length, replicate, IfErr};
+ghost use Rattle.std.specs.Prelude.{MatchResult, not};
 ghost use Rattle.std.specs.Borrow.{sem, Lends, Array, u8};
 ghost use Rattle.std.specs.Io.KnownBytes.{Consumes};
 ghost use Rattle.rtr_base.specs.Bytes.{IsBytes};
 ghost use Rattle.rtr_units.specs.Causes.{cause_of};
 ghost use Rattle.rtr_units.specs.Header.{version_field, type_field, session_field};
-ghost use Rattle.rtr_units.specs.Reads.{Takes, ReadsRest, StopsRest, ReadsUnit, StopsUnit};
+ghost use Rattle.rtr_units.specs.Reads.{Takes, ReadsRest, StopsRest, LeavesUnit, ReadsUnit};
+ghost use Rattle.rtr_units.specs.Reads.{StopsUnit};
 ghost use Rattle.rtr_units.specs.Stream.{PutsForm, count_after, is_reader_fault, is_writer_fault};
 ghost use Rattle.rtr_units.specs.Views.{header_bytes, AreBytes};
 
@@ -25,8 +29,10 @@ pub trait Unit: Drop + Copy {
     /// The unit with other bytes.
     ghost with_bytes: { Self → List ℕ → Self };
 
+    /// The type, as contracts name it.
     ghost PDU: { ℕ };
 
+    /// The size, as contracts name it.
     ghost LENGTH: { ℕ };
 
     /// The type of the unit.
@@ -47,7 +53,8 @@ pub trait Unit: Drop + Copy {
 
     /// All bytes of the unit, to be changed in place.
     fn as_mut(&mut self) -> &mut [u8]
-        ensures* writes_back { sem 𝓛 (Lends Self.row (Array u8 0) self.entry result (with_bytes self.old)) }
+        ensures* writes_back { sem 𝓛
+            (Lends Self.row (Array u8 0) self.entry result (with_bytes self.old)) }
         ensures bytes { result.now ≡ bytes self.old }
         ensures size { length result.now ≡ LENGTH };
 
@@ -81,13 +88,16 @@ pub trait Unit: Drop + Copy {
         Self::LENGTH as u32
     }
 
-    /// Reads a unit. `UnitType` and `UnitLength` are answered behind the header.
+    /// Reads a unit. `UnitType` and then `UnitLength` are answered after the header, `Short` and
+    /// `Reader` inside the unit.
     #[inline(always)]
     final fn read<R: Source>(reader: &mut R) -> Result<Self, Fault>
         ensures bytes { MatchResult result
             (λ u. ReadsUnit PDU LENGTH (bytes u) (R.remaining reader.old) (R.remaining reader.new))
-            (λ e. Takes (R.remaining reader.old) (R.remaining reader.new) (λ t. StopsUnit PDU LENGTH (cause_of e) t (R.remaining reader.new))) }
-        ensures count { R.failures reader.new ≡ count_after (R.failures reader.old) (not (is_reader_fault result)) }
+            (λ e. Takes (R.remaining reader.old) (R.remaining reader.new)
+            (λ t. StopsUnit PDU LENGTH (cause_of e) t (R.remaining reader.new))) }
+        ensures count { R.failures reader.new ≡
+            count_after (R.failures reader.old) (not (is_reader_fault result)) }
     {
         let header = Header::read(reader)?;
         if header.pdu() != Self::PDU {
@@ -99,15 +109,21 @@ pub trait Unit: Drop + Copy {
         }
     }
 
-    /// Reads a unit as `read` does. An error report in its place gives back its header, and is not read further.
+    /// Reads a unit as `read` does. An error report in its place gives back its header, and is not
+    /// read further.
     #[inline(always)]
     final fn try_read<R: Source>(reader: &mut R) -> Result<Result<Self, Header>, Fault>
         ensures bytes { MatchResult result
             (λ answer. MatchResult answer
-            (λ u. ReadsUnit PDU LENGTH (bytes u) (R.remaining reader.old) (R.remaining reader.new) × ¬ (PDU ≡ 10))
-            (λ h. Consumes (R.remaining reader.old) (R.remaining reader.new) (header_bytes h) × AreBytes 8 (header_bytes h) × (type_field (header_bytes h) ≡ 10)))
-            (λ e. Takes (R.remaining reader.old) (R.remaining reader.new) (λ t. StopsUnit PDU LENGTH (cause_of e) t (R.remaining reader.new) × (8 ≤ length t → ¬ (type_field t ≡ 10)))) }
-        ensures count { R.failures reader.new ≡ count_after (R.failures reader.old) (not (is_reader_fault result)) }
+            (λ u. ReadsUnit PDU LENGTH (bytes u) (R.remaining reader.old) (R.remaining reader.new) ×
+            ¬ (PDU ≡ 10))
+            (λ h. Consumes (R.remaining reader.old) (R.remaining reader.new) (header_bytes h) ×
+            AreBytes 8 (header_bytes h) × (type_field (header_bytes h) ≡ 10)))
+            (λ e. Takes (R.remaining reader.old) (R.remaining reader.new)
+            (λ t. StopsUnit PDU LENGTH (cause_of e) t (R.remaining reader.new) ×
+            (8 ≤ length t → ¬ (type_field t ≡ 10)))) }
+        ensures count { R.failures reader.new ≡
+            count_after (R.failures reader.old) (not (is_reader_fault result)) }
     {
         let header = Header::read(reader)?;
         if header.pdu() == Error::PDU {
@@ -122,13 +138,19 @@ pub trait Unit: Drop + Copy {
         }
     }
 
-    /// Reads what follows the header, which is kept as it is. Its type is not judged.
+    /// Reads what follows the header, which is kept as it is. Its type is not checked.
+    ///
+    /// `UnitLength` is answered with nothing read, `Short` and `Reader` inside the unit.
     #[inline(always)]
     final fn read_payload<R: Source>(header: Header, reader: &mut R) -> Result<Self, Fault>
         ensures bytes { MatchResult result
-            (λ u. ReadsRest LENGTH (header_bytes header) (bytes u) (R.remaining reader.old) (R.remaining reader.new))
-            (λ e. Takes (R.remaining reader.old) (R.remaining reader.new) (λ t. StopsRest LENGTH (header_bytes header) (cause_of e) t (R.remaining reader.new))) }
-        ensures count { R.failures reader.new ≡ count_after (R.failures reader.old) (not (is_reader_fault result)) }
+            (λ u. ReadsRest LENGTH (header_bytes header) (bytes u) (R.remaining reader.old)
+            (R.remaining reader.new))
+            (λ e. Takes (R.remaining reader.old) (R.remaining reader.new)
+            (λ t. StopsRest LENGTH (header_bytes header) (cause_of e) t
+            (R.remaining reader.new))) }
+        ensures count { R.failures reader.new ≡
+            count_after (R.failures reader.old) (not (is_reader_fault result)) }
     {
         let mut unit = Self::zero();
         match unit.read_rest(header, reader) {
@@ -137,14 +159,23 @@ pub trait Unit: Drop + Copy {
         }
     }
 
-    /// Reads what follows the header as `read_payload` does, into this unit. What it then holds after a fault isn't
-    /// said.
+    /// Reads what follows the header as `read_payload` does, into this unit.
+    ///
+    /// After `UnitLength` the unit is as it was. After `Short` and `Reader` it begins with the
+    /// header and then the bytes that were taken.
     #[inline(always)]
     final fn read_rest<R: Source>(&mut self, header: Header, reader: &mut R) -> Result<(), Fault>
         ensures bytes { MatchResult result
-            (λ _. ReadsRest LENGTH (header_bytes header) (bytes self.new) (R.remaining reader.old) (R.remaining reader.new))
-            (λ e. Takes (R.remaining reader.old) (R.remaining reader.new) (λ t. StopsRest LENGTH (header_bytes header) (cause_of e) t (R.remaining reader.new))) }
-        ensures count { R.failures reader.new ≡ count_after (R.failures reader.old) (not (is_reader_fault result)) }
+            (λ _. ReadsRest LENGTH (header_bytes header) (bytes self.new) (R.remaining reader.old)
+            (R.remaining reader.new))
+            (λ e. Takes (R.remaining reader.old) (R.remaining reader.new)
+            (λ t. StopsRest LENGTH (header_bytes header) (cause_of e) t
+            (R.remaining reader.new))) }
+        ensures left { IfErr result
+            (λ e. LeavesUnit bytes (header_bytes header) (cause_of e) self.old self.new
+            (R.remaining reader.old) (R.remaining reader.new)) }
+        ensures count { R.failures reader.new ≡
+            count_after (R.failures reader.old) (not (is_reader_fault result)) }
     {
         if header.length() != Self::LENGTH as u32 {
             return Err(Fault::UnitLength);
@@ -157,8 +188,10 @@ pub trait Unit: Drop + Copy {
     /// Writes all bytes of the unit.
     #[inline(always)]
     final fn write<W: Sink>(&self, writer: &mut W) -> Result<(), Fault>
-        ensures bytes { PutsForm result (W.contents writer.old) (W.contents writer.new) (bytes self.now) }
-        ensures count { W.failures writer.new ≡ count_after (W.failures writer.old) (not (is_writer_fault result)) }
+        ensures bytes { PutsForm result (W.contents writer.old) (W.contents writer.new)
+            (bytes self.now) }
+        ensures count { W.failures writer.new ≡
+            count_after (W.failures writer.old) (not (is_writer_fault result)) }
     {
         put(writer, self.as_ref())
     }
