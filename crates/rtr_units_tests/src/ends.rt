@@ -131,7 +131,11 @@ fn expect_payload(
         let mut reader = Counted::new(Pieces::new(&payload, STEPS));
         let answer = said(alloc, EndOfData::read_payload(header, &mut reader))?;
         assert_eq!(rt; answer.as_str(), want, "{version} and {length}");
-        assert_eq!(rt; reader.into_inner().taken(), taken, "{version} and {length}");
+        assert_eq!(rt;
+            reader.into_inner().taken(),
+            taken,
+            "{version} and {length}"
+        );
     }
     Ok(())
 }

@@ -58,7 +58,11 @@ fn skips(
         expect_equal(rt, answer.as_str(), want);
         let reader = reader.into_inner();
         expect_equal(rt, reader.taken(), taken);
-        expect_equal(rt, reader.ends(), usize::from(want == "unexpected end of input"));
+        expect_equal(
+            rt,
+            reader.ends(),
+            usize::from(want == "unexpected end of input"),
+        );
     }
     Ok(())
 }
