@@ -5,7 +5,8 @@ use rtr_wire::base::{Asn, KeyIdentifier, MaxLenPrefix, Prefix};
 use rtr_wire::payload::{Action, Afi, PayloadType, RouteOrigin, Timing};
 use rtr_wire::pdu::{
     CacheReset, CacheResponse, EndOfData, Error, ErrorCode, Fault, Header, KeyInfoError,
-    KeyInfoVecError, Payload, ProviderIterError, ResetQuery, SerialNotify, SerialQuery, SerialQueryPayload, SliceSource,
+    KeyInfoVecError, Payload, ProviderIterError, ResetQuery, SerialNotify, SerialQuery,
+    SerialQueryPayload, SliceSource,
 };
 use rtr_wire::state::{Serial, State};
 use std::alloc::Global;
@@ -31,9 +32,31 @@ fn plain_values(rt: HostRuntime) -> Result<(), Fail> {
     expect_shown(&rt, alloc, &(asn, prefix, longest, identifier))?;
     let state = State::from_parts(1, Serial(2));
     let code = ErrorCode::CORRUPT_DATA;
-    expect_shown(&rt, alloc, &(state, Timing::default(), Action::Announce, Afi::ipv4(), code))?;
-    expect_shown(&rt, alloc, &(PayloadType::Aspa, RouteOrigin::new(longest, asn)))?;
-    expect_shown(&rt, alloc, &(KeyInfoError, KeyInfoVecError::Memory, ProviderIterError::Memory))
+    expect_shown(
+        &rt,
+        alloc,
+        &(
+            state,
+            Timing::default(),
+            Action::Announce,
+            Afi::ipv4(),
+            code,
+        ),
+    )?;
+    expect_shown(
+        &rt,
+        alloc,
+        &(PayloadType::Aspa, RouteOrigin::new(longest, asn)),
+    )?;
+    expect_shown(
+        &rt,
+        alloc,
+        &(
+            KeyInfoError,
+            KeyInfoVecError::Memory,
+            ProviderIterError::Memory,
+        ),
+    )
 }
 
 #[test]
@@ -41,8 +64,16 @@ fn units_of_a_fixed_size(rt: HostRuntime) -> Result<(), Fail> {
     let alloc = rt.alloc();
     let state = State::from_parts(1, Serial(2));
     let queries = (SerialQuery::new(1, state), ResetQuery::new(1));
-    expect_shown(&rt, alloc, &(SerialNotify::new(1, state), CacheResponse::new(1, state)))?;
-    expect_shown(&rt, alloc, &(queries, CacheReset::new(1), Header::default()))?;
+    expect_shown(
+        &rt,
+        alloc,
+        &(SerialNotify::new(1, state), CacheResponse::new(1, state)),
+    )?;
+    expect_shown(
+        &rt,
+        alloc,
+        &(queries, CacheReset::new(1), Header::default()),
+    )?;
     expect_shown(&rt, alloc, &SerialQueryPayload::default())?;
     for version in [0, 1] {
         let end = EndOfData::new(version, state, Timing::default());
