@@ -1,7 +1,7 @@
 //! Calls that can answer that memory ran out: with ample memory they don't, whatever the size of what they are given.
 
 use crate::expect_equal;
-use crate::values::{aspa, long_key, made, made_if_supported, read_bytes, written};
+use crate::values::{aspa, long_key, read_bytes, written};
 use rtr_payload::payload;
 use rtr_payload::pdu::Payload;
 use std::alloc::Global;
@@ -17,17 +17,18 @@ const KEYS: &[(usize, usize)] = &[(0, 0), (4, 6), (65503, 87338)];
 /// Numbers of providers and flags: none, one and the most.
 const ASPAS: &[(u32, u8)] = &[(0, 0), (1, 1), (16380, 1)];
 
-/// Asserts that a payload, its clone and its units of a version are granted, and that the unit has this size.
+/// Asserts that a payload, its clone and its units of a version are granted, that the unit has this size, and that the
+/// version has such payloads from the first one on.
 fn expect_granted(
     rt: &impl Abort,
     alloc: Global,
-    version: u8,
+    [version, first]: [u8; 2],
     flags: u8,
     payload: &payload::Payload,
     size: usize,
 ) -> Result<(), Fail> {
     assert!(rt; payload.clone()? == *payload);
-    let unit = made(version, flags, payload)?;
+    let unit = Payload::new(version, flags, &payload.as_ref())?;
     assert!(rt; unit.clone()? == unit);
     let output = written(alloc, &unit)?;
     expect_equal(rt, output.len(), size);
@@ -39,10 +40,12 @@ fn expect_granted(
     let (_, given) = read.into_payload(alloc)?;
     assert!(rt; given == meaning);
     assert!(rt; Payload::from_payload(version, flags, given) == unit);
+    let supported = Payload::new_if_supported(version, flags, &payload.as_ref())?;
+    expect_equal(rt, supported.is_some(), version >= first);
     Ok(())
 }
 
-/// Asserts what `expect_granted` does in all versions, and which of them have the payload.
+/// Asserts what `expect_granted` does in all versions.
 fn expect_granted_in_versions(
     rt: &impl Abort,
     alloc: Global,
@@ -52,9 +55,7 @@ fn expect_granted_in_versions(
     size: usize,
 ) -> Result<(), Fail> {
     for version in VERSIONS {
-        expect_granted(rt, alloc, *version, flags, payload, size)?;
-        let unit = made_if_supported(*version, flags, payload)?;
-        expect_equal(rt, unit.is_some(), *version >= first);
+        expect_granted(rt, alloc, [*version, first], flags, payload, size)?;
     }
     Ok(())
 }

@@ -1,7 +1,7 @@
 //! Payload units of each kind, announced and withdrawn: what is read, made, lent and cloned.
 
 use crate::expect_equal;
-use crate::values::{aspa, key, made, made_if_supported, origin, read_unit, written};
+use crate::values::{aspa, key, origin, read_unit, written};
 use rtr_base::payload::Action;
 use rtr_payload::payload;
 use rtr_payload::pdu::Payload;
@@ -79,7 +79,7 @@ fn expect_row(rt: &impl Abort, alloc: Global, row: &Row) -> Result<(), Fail> {
     let (action, meaning) = unit.to_payload(alloc)?;
     expect_equal(rt, action, row.action);
     let flags = action.into_flags();
-    let lent = made(version, flags, &meaning)?;
+    let lent = Payload::new(version, flags, &meaning.as_ref())?;
     expect_unit(rt, alloc, &lent, row, flags, row.form)?;
     let (again, given) = unit.into_payload(alloc)?;
     expect_equal(rt, again, row.action);
@@ -156,12 +156,12 @@ fn expect_supported(
     rt: &impl Abort,
     alloc: Global,
     first: u8,
-    payload: &payload::Payload,
+    payload: payload::Payload,
     text: &str,
 ) -> Result<(), Fail> {
     for version in [0, 1, 2, 3, 255] {
         let want = bytes(alloc, &[text])?;
-        match made_if_supported(version, 1, payload)? {
+        match Payload::new_if_supported(version, 1, &payload.as_ref())? {
             Some(unit) => {
                 assert!(rt; version >= first, "{text} in {version}");
                 let output = written(alloc, &unit)?;
@@ -182,7 +182,7 @@ fn supported_payloads(rt: HostRuntime) -> Result<(), Fail> {
     let alloc = rt.alloc();
     let key = key(alloc, bytes(alloc, &["15 16 17 18"])?)?;
     let named = payload::Payload::from(aspa(alloc, 2)?);
-    expect_supported(&rt, alloc, 0, &origin()?, IPV4)?;
-    expect_supported(&rt, alloc, 1, &key, KEY)?;
-    expect_supported(&rt, alloc, 2, &named, ASPA)
+    expect_supported(&rt, alloc, 0, origin()?, IPV4)?;
+    expect_supported(&rt, alloc, 1, key, KEY)?;
+    expect_supported(&rt, alloc, 2, named, ASPA)
 }

@@ -4,6 +4,8 @@
 #[cfg(test)]
 mod ample;
 #[cfg(test)]
+mod ends;
+#[cfg(test)]
 mod keys;
 #[cfg(test)]
 mod kinds;

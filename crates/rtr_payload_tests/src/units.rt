@@ -261,35 +261,41 @@ fn aspa_clone(rt: HostRuntime) -> Result<(), Fail> {
 }
 
 #[test]
-fn router_key_behind_a_header(rt: HostRuntime) -> Result<(), Fail> {
+fn router_key_after_a_header(rt: HostRuntime) -> Result<(), Fail> {
     let alloc = rt.alloc();
     let rest = bytes(alloc, &[KEY_REST])?;
-    for (pdu, head) in [
-        (9, "01 09 01 00 00 00 00 24"),
-        (4, "01 04 01 00 00 00 00 24"),
-    ] {
+    for pdu in [9, 4] {
         let header = Header::new(1, pdu, 0x0100, 36);
         let unit = RouterKey::read_payload(alloc, header, &mut SliceSource::new(&rest))?;
-        let written = written_key(alloc, &unit)?;
-        let kept = bytes(alloc, &[head, KEY_REST])?;
-        expect_equal(&rt, written, kept);
+        let mut kept = bytes(alloc, &[KEY])?;
+        if let Some(byte) = kept.get_mut(1) {
+            *byte = pdu;
+        }
+        expect_equal(&rt, written_key(alloc, &unit)?, kept);
     }
     Ok(())
 }
 
+/// Headers of ASPA units by type and length, what follows them, and the header that is kept.
+#[rattlefmt::skip]
+const AFTER_HEADERS: &[(u8, u32, &str, &str)] = &[
+    (11, 20, ASPA_REST, "02 0b 01 00 00 00 00 14"),
+    (4, 20, ASPA_REST, "02 04 01 00 00 00 00 14"),
+    (4, 16, "00 01 00 0f 00 01 00 0d", "02 04 01 00 00 00 00 10"),
+];
+
 #[test]
-fn aspa_behind_a_header(rt: HostRuntime) -> Result<(), Fail> {
+fn aspa_after_a_header(rt: HostRuntime) -> Result<(), Fail> {
     let alloc = rt.alloc();
-    let rest = bytes(alloc, &[ASPA_REST])?;
-    for (pdu, head) in [
-        (11, "02 0b 01 00 00 00 00 14"),
-        (4, "02 04 01 00 00 00 00 14"),
-    ] {
-        let header = Header::new(2, pdu, 0x0100, 20);
-        let unit = Aspa::read_payload(alloc, header, &mut SliceSource::new(&rest))?;
-        let written = written_aspa(alloc, &unit)?;
-        let kept = bytes(alloc, &[head, ASPA_REST])?;
-        expect_equal(&rt, written, kept);
+    for (pdu, length, rest, head) in AFTER_HEADERS {
+        let header = Header::new(2, *pdu, 0x0100, *length);
+        let input = bytes(alloc, &[rest])?;
+        let unit = Aspa::read_payload(alloc, header, &mut SliceSource::new(&input))?;
+        expect_equal(
+            &rt,
+            written_aspa(alloc, &unit)?,
+            bytes(alloc, &[head, rest])?,
+        );
     }
     Ok(())
 }

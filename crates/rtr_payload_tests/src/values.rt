@@ -1,4 +1,4 @@
-//! Units and meanings for these tests. `Payload::new` and `Payload::new_if_supported` are called here alone.
+//! Units and meanings for these tests.
 
 use rtr_base::addr::{MaxLenPrefix, Prefix};
 use rtr_base::asn::Asn;
@@ -36,21 +36,6 @@ pub fn written(alloc: Global, unit: &Payload) -> Result<Vec<u8>, Fail> {
     let mut writer = Counted::new(Recorder::new(alloc, usize::MAX));
     unit.write(&mut writer)?;
     Ok(writer.into_inner().into_held())
-}
-
-/// The unit of this payload.
-pub fn made(version: u8, flags: u8, payload: &payload::Payload) -> Result<Payload, Fail> {
-    Ok(Payload::new(version, flags, &payload.as_ref())?)
-}
-
-/// The unit of this payload, or none where the version has no such payload.
-pub fn made_if_supported(
-    version: u8,
-    flags: u8,
-    payload: &payload::Payload,
-) -> Result<Option<Payload>, Fail> {
-    let unit = Payload::new_if_supported(version, flags, &payload.as_ref())?;
-    Ok(unit)
 }
 
 /// The origin that `IPV4` announces.

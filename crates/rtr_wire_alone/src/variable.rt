@@ -57,11 +57,6 @@ fn aspa_units(rt: HostRuntime) -> Result<(), Fail> {
     Ok(())
 }
 
-/// The unit of this payload. The one place of these tests where a unit is made of a payload that is lent.
-fn made(version: u8, flags: u8, payload: &payload::Payload) -> Result<Payload, Fail> {
-    Ok(Payload::new(version, flags, &payload.as_ref())?)
-}
-
 /// Asserts that the unit of the payload is written as these bytes, and that they are read as the payload.
 fn passes(
     rt: &impl Abort,
@@ -71,7 +66,7 @@ fn passes(
     payload: &payload::Payload,
     want: &[u8],
 ) -> Result<(), Fail> {
-    let unit = made(version, action.into_flags(), payload)?;
+    let unit = Payload::new(version, action.into_flags(), &payload.as_ref())?;
     let mut writer = Counted::new(Vec::new(alloc));
     unit.write(&mut writer)?;
     assert_eq!(rt; writer.into_inner().as_slice(), want);
