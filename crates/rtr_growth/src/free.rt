@@ -6,22 +6,16 @@ use rtr_support::{END_0, END_1, IPV4, IPV4_STRAY, IPV6, IPV6_STRAY, KEY};
 use std::io::Write;
 use std::test::Fail;
 
-/// Sequences of prefixes, and their forms.
-const ACCEPTED: &[(&[&str], u64, &[&str])] = &[
+/// A sequence of prefixes: how many there are, and their form.
+type Accepted = (&'static [&'static str], u64, &'static [&'static str]);
+
+/// Sequences of prefixes.
+#[rattlefmt::skip]
+const ACCEPTED: &[Accepted] = &[
     (&[END_0], 0, &[END_0]),
     (&[IPV4_STRAY, END_1], 1, &[IPV4, END_1]),
     (&[IPV4_STRAY, IPV4, END_0], 2, &[IPV4, IPV4, END_0]),
-    (
-        &[
-            "01 04 00 00 00 00 00 14 01 00 00 00 ff ff ff ff 00 01 00 0f",
-            END_1,
-        ],
-        1,
-        &[
-            "01 04 00 00 00 00 00 14 01 00 00 00 00 00 00 00 00 01 00 0f",
-            END_1,
-        ],
-    ),
+    (&["01 04 00 00 00 00 00 14 01 00 00 00 ff ff ff ff 00 01 00 0f", END_1], 1, &["01 04 00 00 00 00 00 14 01 00 00 00 00 00 00 00 00 01 00 0f", END_1]),
     (&[IPV6_STRAY, END_1], 1, &[IPV6, END_1]),
 ];
 
@@ -33,94 +27,34 @@ type Refused = (
     &'static [&'static str],
 );
 
+/// The fault of an input that is cut.
+const SHORT: &str = "unexpected end of input";
+
+/// The fault of a length that isn't the unit's.
+const LENGTH: &str = "invalid unit length";
+
+/// The fault of a length over the limit.
+const LONG: &str = "unit is longer than 65535 bytes";
+
 /// Inputs that are refused with no report.
+#[rattlefmt::skip]
 const REFUSED: &[Refused] = &[
-    (
-        &["01 09 01 00 00 00 00 1f", KEY],
-        "invalid unit length",
-        8,
-        &[],
-    ),
-    (
-        &["01 09 01 00 00 01 00 00", KEY],
-        "unit is longer than 65535 bytes",
-        8,
-        &[],
-    ),
-    (
-        &["01 09 01 00 ff ff ff ff", KEY],
-        "unit is longer than 65535 bytes",
-        8,
-        &[],
-    ),
-    (
-        &["02 0b 01 00 00 00 00 0c", KEY],
-        "ASPA unit has no providers",
-        8,
-        &[],
-    ),
-    (
-        &["02 0b 01 00 00 00 00 0b", KEY],
-        "invalid unit length",
-        8,
-        &[],
-    ),
-    (
-        &["02 0b 01 00 00 00 00 0e", KEY],
-        "invalid unit length",
-        8,
-        &[],
-    ),
-    (
-        &["02 0b 01 00 00 00 ff ff", KEY],
-        "invalid unit length",
-        8,
-        &[],
-    ),
-    (
-        &["02 0b 01 00 00 01 00 00", KEY],
-        "unit is longer than 65535 bytes",
-        8,
-        &[],
-    ),
-    (
-        &["03 07 12 34 00 00 00 18", KEY],
-        "version 3 is not supported here",
-        8,
-        &[],
-    ),
-    (
-        &["00 07 12 34 00 00 00 18", KEY],
-        "invalid unit length",
-        8,
-        &[],
-    ),
-    (
-        &["01 07 12 34 00 00 00 0c", KEY],
-        "invalid unit length",
-        8,
-        &[],
-    ),
-    (
-        &[IPV4, "01 0a 00 03 00 00 00 12"],
-        "unit type 10 is not allowed here",
-        28,
-        &[IPV4],
-    ),
-    (
-        &[IPV4, "01 05 00 03 00 00 00 12"],
-        "unit type 5 is not allowed here",
-        28,
-        &[IPV4],
-    ),
-    (
-        &[IPV4, "01 03 00 03 00 00 00 12"],
-        "unit type 3 is not allowed here",
-        28,
-        &[IPV4],
-    ),
-    (&[], "unexpected end of input", 0, &[]),
-    (&[IPV4_STRAY], "unexpected end of input", 20, &[IPV4]),
+    (&["01 09 01 00 00 00 00 1f", KEY], LENGTH, 8, &[]),
+    (&["01 09 01 00 00 01 00 00", KEY], LONG, 8, &[]),
+    (&["01 09 01 00 ff ff ff ff", KEY], LONG, 8, &[]),
+    (&["02 0b 01 00 00 00 00 0c", KEY], "ASPA unit has no providers", 8, &[]),
+    (&["02 0b 01 00 00 00 00 0b", KEY], LENGTH, 8, &[]),
+    (&["02 0b 01 00 00 00 00 0e", KEY], LENGTH, 8, &[]),
+    (&["02 0b 01 00 00 00 ff ff", KEY], LENGTH, 8, &[]),
+    (&["02 0b 01 00 00 01 00 00", KEY], LONG, 8, &[]),
+    (&["03 07 12 34 00 00 00 18", KEY], "version 3 is not supported here", 8, &[]),
+    (&["00 07 12 34 00 00 00 18", KEY], LENGTH, 8, &[]),
+    (&["01 07 12 34 00 00 00 0c", KEY], LENGTH, 8, &[]),
+    (&[IPV4, "01 0a 00 03 00 00 00 12"], "unit type 10 is not allowed here", 28, &[IPV4]),
+    (&[IPV4, "01 05 00 03 00 00 00 12"], "unit type 5 is not allowed here", 28, &[IPV4]),
+    (&[IPV4, "01 03 00 03 00 00 00 12"], "unit type 3 is not allowed here", 28, &[IPV4]),
+    (&[], SHORT, 0, &[]),
+    (&[IPV4_STRAY], SHORT, 20, &[IPV4]),
 ];
 
 #[test]

@@ -2,7 +2,7 @@
 
 use crate::expect_equal;
 use bytes::Bytes;
-use rtr_payload::pdu::{KeyInfoVecError, RouterKeyInfo};
+use rtr_payload::pdu::{KeyInfoError, KeyInfoVecError, RouterKeyInfo};
 use rtr_support::{bytes, hash_of};
 use std::alloc::Global;
 use std::cmp::Ordering;
@@ -36,6 +36,17 @@ fn key_info_debug(rt: HostRuntime) -> Result<(), Fail> {
     let info = key_info(alloc, INFO)?;
     let shown = format!(in alloc; "{info:?}")?;
     expect_equal(&rt, shown.as_str(), "RouterKeyInfo(FRYXGA)");
+    Ok(())
+}
+
+#[test]
+fn key_info_errors(rt: HostRuntime) -> Result<(), Fail> {
+    let alloc = rt.alloc();
+    let overflow = "router key size overflow";
+    let text = KeyInfoError.to_string(alloc)?;
+    expect_equal(&rt, text.as_str(), overflow);
+    let text = KeyInfoVecError::Size(KeyInfoError).to_string(alloc)?;
+    expect_equal(&rt, text.as_str(), overflow);
     let text = KeyInfoVecError::Memory.to_string(alloc)?;
     expect_equal(&rt, text.as_str(), "out of memory");
     Ok(())

@@ -2,13 +2,21 @@
 #![tactic(auto)]
 
 #[cfg(test)]
+mod ample;
+#[cfg(test)]
+mod ends;
+#[cfg(test)]
 mod keys;
+#[cfg(test)]
+mod kinds;
 #[cfg(test)]
 mod prefixes;
 #[cfg(test)]
 mod providers;
 #[cfg(test)]
 mod units;
+#[cfg(test)]
+mod values;
 
 #[cfg(test)]
 use std::fmt::Debug;

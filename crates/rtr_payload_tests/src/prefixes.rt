@@ -1,50 +1,20 @@
-//! Prefix units as payload units: their meaning and their form, lent and given away.
+//! Prefix units that break the rule on their lengths, and altered ones.
 
 use crate::expect_equal;
+use crate::values::{origin, read_unit, written};
+use rtr_base::asn::Asn;
 use rtr_base::payload::Action;
 use rtr_payload::payload;
 use rtr_payload::pdu::Payload;
-use rtr_support::{IPV4, IPV4_STRAY, IPV6, IPV6_STRAY, Recorder, bytes};
+use rtr_support::{IPV4, bytes};
 use rtr_units::fault::Fault;
-use rtr_units::source::{Counted, SliceSource};
+use rtr_units::fixed::Ipv4Prefix;
+use rtr_units::source::SliceSource;
+use rtr_units::unit::Unit;
 use std::alloc::Global;
+use std::net::Ipv4Addr;
 use std::process::Abort;
 use std::test::Fail;
-
-/// The payload unit that the text stands for.
-fn unit(rt: &impl Abort, alloc: Global, text: &str) -> Result<Payload, Fail> {
-    let input = bytes(alloc, &[text])?;
-    match Payload::read(alloc, &mut SliceSource::new(&input))? {
-        Ok(Some(unit)) => Ok(unit),
-        _ => panic!(rt; "no unit: {text}"),
-    }
-}
-
-/// Asserts that the unit is written as the text says.
-fn expect_written(rt: &impl Abort, alloc: Global, unit: &Payload, text: &str) -> Result<(), Fail> {
-    let mut writer = Counted::new(Recorder::new(alloc, usize::MAX));
-    unit.write(&mut writer)?;
-    let want = bytes(alloc, &[text])?;
-    expect_equal(rt, writer.into_inner().held(), want.as_slice());
-    Ok(())
-}
-
-#[test]
-fn forms_of_prefixes(rt: HostRuntime) -> Result<(), Fail> {
-    let alloc = rt.alloc();
-    for (text, form) in [(IPV4_STRAY, IPV4), (IPV6_STRAY, IPV6)] {
-        let unit = unit(&rt, alloc, text)?;
-        let version = unit.version();
-        let (action, meaning) = unit.to_payload(alloc)?;
-        let made = Payload::new(version, action.into_flags(), &meaning.as_ref())?;
-        expect_written(&rt, alloc, &made, form)?;
-        let (action, given) = unit.into_payload(alloc)?;
-        assert!(rt; given == meaning);
-        let made = Payload::from_payload(version, action.into_flags(), given);
-        expect_written(&rt, alloc, &made, form)?;
-    }
-    Ok(())
-}
 
 /// Asserts that the unit is refused with this report.
 fn expect_report(
@@ -59,31 +29,75 @@ fn expect_report(
     }
 }
 
-/// Prefix units that break the rule on their lengths, and what stands before and behind them in the report.
-const BROKEN: &[(&str, &str, &str, &[u8])] = &[
-    (
-        "01 04 00 00 00 00 00 14 01 21 21 00 c0 00 02 00 00 01 00 0f",
-        "01 0a 00 00 00 00 00 3b 00 00 00 14",
-        "00 00 00 17",
-        b"prefix length too large",
-    ),
-    (
-        "01 06 00 00 00 00 00 20 01 17 81 00 20 01 0c 00 00 00 00 00 00 00 00 00 00 00 00 00 00 01 00 0f",
-        "01 0a 00 00 00 00 00 44 00 00 00 20",
-        "00 00 00 14",
-        b"max-length too large",
-    ),
+/// A prefix unit that breaks the rule on its lengths, and its report: what stands before the unit, the length of the
+/// text, and the text.
+type Broken = (&'static str, &'static str, &'static str, &'static str);
+
+/// Prefix units that break the rule on their lengths.
+#[rattlefmt::skip]
+const BROKEN: &[Broken] = &[
+    ("01 04 00 00 00 00 00 14 01 21 21 00 c0 00 02 00 00 01 00 0f", "01 0a 00 00 00 00 00 3b 00 00 00 14", "00 00 00 17", "prefix length too large"),
+    ("00 04 00 00 00 00 00 14 01 17 21 00 c0 00 02 00 00 01 00 0f", "00 0a 00 00 00 00 00 38 00 00 00 14", "00 00 00 14", "max-length too large"),
+    ("03 04 00 00 00 00 00 14 01 17 16 00 c0 00 02 00 00 01 00 0f", "03 0a 00 00 00 00 00 49 00 00 00 14", "00 00 00 25", "max-length smaller than prefix length"),
+    ("01 06 00 00 00 00 00 20 01 81 81 00 20 01 0d b8 00 00 00 02 00 0a 00 00 de ad be ef 00 01 00 0f", "01 0a 00 00 00 00 00 47 00 00 00 20", "00 00 00 17", "prefix length too large"),
+    ("01 06 00 00 00 00 00 20 01 17 81 00 20 01 0c 00 00 00 00 00 00 00 00 00 00 00 00 00 00 01 00 0f", "01 0a 00 00 00 00 00 44 00 00 00 20", "00 00 00 14", "max-length too large"),
+    ("ff 06 00 00 00 00 00 20 01 17 16 00 20 01 0c 00 00 00 00 00 00 00 00 00 00 00 00 00 00 01 00 0f", "ff 0a 00 00 00 00 00 55 00 00 00 20", "00 00 00 25", "max-length smaller than prefix length"),
 ];
+
+/// Asserts that a unit is written as the row says and refused with the row's report.
+fn expect_broken(rt: &impl Abort, alloc: Global, unit: Payload, row: &Broken) -> Result<(), Fail> {
+    let (text, head, size, reason) = *row;
+    let want = bytes(alloc, &[text])?;
+    expect_equal(rt, written(alloc, &unit)?, want);
+    let mut report = bytes(alloc, &[head, text, size])?;
+    report.extend_from_slice(reason.as_bytes())?;
+    expect_report(rt, unit.to_payload(alloc), &report);
+    expect_report(rt, unit.into_payload(alloc), &report);
+    Ok(())
+}
 
 #[test]
 fn reports_on_prefixes(rt: HostRuntime) -> Result<(), Fail> {
-    let alloc = rt.alloc();
-    for (text, head, size, reason) in BROKEN {
-        let mut report = bytes(alloc, &[head, text, size])?;
-        report.extend_from_slice(reason)?;
-        let unit = unit(&rt, alloc, text)?;
-        expect_report(&rt, unit.to_payload(alloc), &report);
-        expect_report(&rt, unit.into_payload(alloc), &report);
+    for row in BROKEN {
+        let unit = read_unit(&rt, rt.alloc(), row.0)?;
+        expect_broken(&rt, rt.alloc(), unit, row)?;
     }
+    Ok(())
+}
+
+/// The IPv4 prefix unit of 192.0.2.10.
+fn ipv4_unit() -> Ipv4Prefix {
+    let address = Ipv4Addr::new(192, 0, 2, 10);
+    Ipv4Prefix::new(1, 1, 23, 26, address, Asn::from_u32(65551))
+}
+
+/// What an altered unit is refused with.
+#[rattlefmt::skip]
+const ALTERED: Broken = ("01 04 00 00 00 00 00 14 01 28 1a 00 c0 00 02 0a 00 01 00 0f", "01 0a 00 00 00 00 00 3b 00 00 00 14", "00 00 00 17", "prefix length too large");
+
+#[test]
+fn altered_prefix_length(rt: HostRuntime) -> Result<(), Fail> {
+    let mut unit = ipv4_unit();
+    unit.as_mut()[9] = 0x28;
+    expect_broken(&rt, rt.alloc(), Payload::V4(unit), &ALTERED)
+}
+
+/// The variant alone says what a unit means: neither its type nor its length counts.
+#[test]
+fn altered_type_and_length(rt: HostRuntime) -> Result<(), Fail> {
+    let alloc = rt.alloc();
+    let input = bytes(alloc, &[IPV4])?;
+    let mut unit = Ipv4Prefix::read(&mut SliceSource::new(&input))?;
+    unit.as_mut()[1] = 9;
+    unit.as_mut()[7] = 0;
+    let unit = Payload::V4(unit);
+    let altered = bytes(
+        alloc,
+        &["01 09 00 00 00 00 00 00 01 17 1a 00 c0 00 02 00 00 01 00 0f"],
+    )?;
+    expect_equal(&rt, written(alloc, &unit)?, altered);
+    let (action, meaning) = unit.to_payload(alloc)?;
+    expect_equal(&rt, action, Action::Announce);
+    assert!(rt; meaning == origin()?);
     Ok(())
 }

@@ -117,6 +117,18 @@ fn providers_in_their_order(rt: HostRuntime) -> Result<(), Fail> {
     Ok(())
 }
 
+/// The text is that of a list of the items.
+#[test]
+fn providers_debug(rt: HostRuntime) -> Result<(), Fail> {
+    let alloc = rt.alloc();
+    let named = providers(alloc, &[7, 5, 7])?;
+    let items = [Asn::from_u32(7), Asn::from_u32(5), Asn::from_u32(7)];
+    let shown = format!(in alloc; "{named:?}")?;
+    let wanted = format!(in alloc; "{:?}", items.as_slice())?;
+    expect_equal(&rt, shown, wanted);
+    Ok(())
+}
+
 #[test]
 fn provider_lists_ascend(rt: HostRuntime) -> Result<(), Fail> {
     let alloc = rt.alloc();

@@ -3,6 +3,7 @@
 use crate::expect_equal;
 use crate::keys::{INFO, key_info};
 use crate::providers::providers;
+use crate::values::IDENTIFIER;
 use rtr_base::asn::Asn;
 use rtr_payload::pdu::{Aspa, ProviderAsns, RouterKey, RouterKeyInfo};
 use rtr_support::{
@@ -13,15 +14,11 @@ use rtr_units::fault::Fault;
 use rtr_units::header::Header;
 use rtr_units::source::{Counted, SliceSource};
 use std::alloc::Global;
+use std::process::Abort;
 use std::test::Fail;
 
 /// The announcement that `ASPA_NAMED` would be.
 const ASPA: &str = "02 0b 01 00 00 00 00 14 00 01 00 0f 00 01 00 0d 00 01 00 0e";
-
-/// The key identifier of `KEY`.
-const IDENTIFIER: [u8; 20] = [
-    1, 2, 3, 4, 5, 6, 7, 8, 9, 10, 11, 12, 13, 14, 15, 16, 17, 18, 19, 20,
-];
 
 fn key(alloc: Global, flags: u8) -> Result<RouterKey, Fail> {
     let info = key_info(alloc, INFO)?;
@@ -46,15 +43,9 @@ fn written_aspa(alloc: Global, unit: &Aspa) -> Result<Vec<u8>, Fail> {
     Ok(writer.into_inner().into_held())
 }
 
-/// A unit's header, and how many bytes follow it; the answer of reading it, and how many bytes that took.
-#[derive(Clone, Copy)]
-struct Row {
-    head: &'static str,
-    length: u32,
-    count: usize,
-    answer: &'static str,
-    taken: usize,
-}
+/// A unit's header without its length, the length, and how many bytes follow; the answer of reading the unit, and how
+/// many bytes that takes.
+type Row = (&'static str, u32, usize, &'static str, usize);
 
 /// The unit is written as it came.
 const SAME: &str = "the same";
@@ -67,30 +58,13 @@ const SHORT: &str = "unexpected end of input";
 
 const EMPTY: &str = "ASPA unit has no providers";
 
-impl Row {
-    const fn new(
-        head: &'static str,
-        length: u32,
-        count: usize,
-        answer: &'static str,
-        taken: usize,
-    ) -> Row {
-        Row {
-            head,
-            length,
-            count,
-            answer,
-            taken,
-        }
-    }
-
-    fn input(&self, alloc: Global) -> Result<Vec<u8>, Fail> {
-        let mut all = bytes(alloc, &[self.head])?;
-        all.extend_from_slice(&self.length.to_be_bytes())?;
-        let rest = filler(alloc, self.count)?;
-        all.extend_from_slice(&rest)?;
-        Ok(all)
-    }
+/// A header of this length, and so many bytes.
+fn input(alloc: Global, head: &str, length: u32, count: usize) -> Result<Vec<u8>, Fail> {
+    let mut all = bytes(alloc, &[head])?;
+    all.extend_from_slice(&length.to_be_bytes())?;
+    let rest = filler(alloc, count)?;
+    all.extend_from_slice(&rest)?;
+    Ok(all)
 }
 
 /// What reading a router key answers: `SAME`, or the text of the fault.
@@ -126,68 +100,72 @@ fn answer(alloc: Global, input: &[u8], written: &[u8]) -> Result<String, Fail> {
     Ok(String::from_str(alloc, text)?)
 }
 
-#[test]
-fn key_lengths(rt: HostRuntime) -> Result<(), Fail> {
-    let alloc = rt.alloc();
-    let rows: &[Row] = &[
-        Row::new("01 09 01 05", 0, 24, LENGTH, 8),
-        Row::new("01 09 01 05", 31, 24, LENGTH, 8),
-        Row::new("01 09 01 05", 32, 24, SAME, 32),
-        Row::new("01 09 fe 05", 36, 40, SAME, 36),
-        Row::new("01 09 01 05", 65535, 65527, SAME, 65535),
-        Row::new("01 09 01 05", 65535, 65526, SHORT, 65534),
-        Row::new("01 09 01 05", 65535, 0, SHORT, 8),
-        Row::new("01 09 01 05", 65536, 65528, LONG, 8),
-        Row::new("01 09 01 05", 4294967295, 24, LONG, 8),
-        Row::new("01 0b 01 05", 36, 28, "unit type 11 is not allowed here", 8),
-    ];
-    for row in rows {
-        let input = row.input(alloc)?;
-        let mut reader = SliceSource::new(&input);
-        let answer = key_answer(alloc, &mut reader)?;
-        let left = reader.rest().len();
-        assert_eq!(rt; answer.as_str(), row.answer, "at {}", row.length);
-        assert_eq!(rt;
-            left.checked_add(row.taken),
-            Some(input.len()),
-            "at {}",
-            row.length
-        );
-    }
+/// Router keys of lengths around their bounds.
+#[rattlefmt::skip]
+const KEYS: &[Row] = &[
+    ("01 09 01 05", 0, 24, LENGTH, 8),
+    ("01 09 01 05", 8, 24, LENGTH, 8),
+    ("01 09 01 05", 31, 24, LENGTH, 8),
+    ("01 09 01 05", 32, 24, SAME, 32),
+    ("01 09 01 05", 33, 25, SAME, 33),
+    ("01 09 fe 05", 36, 40, SAME, 36),
+    ("01 09 01 05", 65535, 65527, SAME, 65535),
+    ("01 09 01 05", 65535, 65526, SHORT, 65534),
+    ("01 09 01 05", 65535, 0, SHORT, 8),
+    ("01 09 01 05", 65536, 65528, LONG, 8),
+    ("01 09 01 05", 4294967295, 24, LONG, 8),
+    ("01 0b 01 05", 36, 28, "unit type 11 is not allowed here", 8),
+];
+
+/// ASPA units of lengths around their bounds.
+#[rattlefmt::skip]
+const ASPAS: &[Row] = &[
+    ("02 0b 02 09", 0, 16, LENGTH, 8),
+    ("02 0b 02 09", 4, 16, LENGTH, 8),
+    ("02 0b 02 09", 8, 16, LENGTH, 8),
+    ("02 0b 03 09", 11, 16, LENGTH, 8),
+    ("02 0b 03 09", 12, 16, EMPTY, 8),
+    ("02 0b 02 09", 12, 16, SAME, 12),
+    ("02 0b 02 09", 12, 3, SHORT, 11),
+    ("02 0b 03 09", 13, 16, LENGTH, 8),
+    ("02 0b 03 09", 14, 16, LENGTH, 8),
+    ("02 0b 03 09", 16, 16, SAME, 16),
+    ("02 0b 03 09", 65532, 65524, SAME, 65532),
+    ("02 0b 03 09", 65535, 65527, LENGTH, 8),
+    ("02 0b 03 09", 65536, 65528, LONG, 8),
+    ("02 0b 03 09", 65537, 65529, LONG, 8),
+    ("02 09 01 00", 16, 16, "unit type 9 is not allowed here", 8),
+];
+
+/// Asserts what a row says of reading a router key or an ASPA unit.
+fn expect_row(rt: &impl Abort, alloc: Global, row: &Row, read: Reading) -> Result<(), Fail> {
+    let (head, length, count, want, taken) = *row;
+    let input = input(alloc, head, length, count)?;
+    let mut reader = SliceSource::new(&input);
+    let answer = match read {
+        Reading::Key => key_answer(alloc, &mut reader)?,
+        Reading::Aspa => aspa_answer(alloc, &mut reader)?,
+    };
+    let left = reader.rest().len();
+    assert_eq!(rt; answer.as_str(), want, "at {length}");
+    assert_eq!(rt; left.checked_add(taken), Some(input.len()), "at {length}");
     Ok(())
 }
 
+/// The units that are read.
+#[derive(Clone, Copy)]
+enum Reading {
+    Key,
+    Aspa,
+}
+
 #[test]
-fn aspa_lengths(rt: HostRuntime) -> Result<(), Fail> {
-    let alloc = rt.alloc();
-    let rows: &[Row] = &[
-        Row::new("02 0b 02 09", 0, 16, LENGTH, 8),
-        Row::new("02 0b 02 09", 8, 16, LENGTH, 8),
-        Row::new("02 0b 03 09", 11, 16, LENGTH, 8),
-        Row::new("02 0b 03 09", 12, 16, EMPTY, 8),
-        Row::new("02 0b 02 09", 12, 16, SAME, 12),
-        Row::new("02 0b 02 09", 12, 3, SHORT, 11),
-        Row::new("02 0b 03 09", 13, 16, LENGTH, 8),
-        Row::new("02 0b 03 09", 14, 16, LENGTH, 8),
-        Row::new("02 0b 03 09", 16, 16, SAME, 16),
-        Row::new("02 0b 03 09", 65532, 65524, SAME, 65532),
-        Row::new("02 0b 03 09", 65535, 65527, LENGTH, 8),
-        Row::new("02 0b 03 09", 65536, 65528, LONG, 8),
-        Row::new("02 0b 03 09", 65537, 65529, LONG, 8),
-        Row::new("02 09 01 00", 16, 16, "unit type 9 is not allowed here", 8),
-    ];
-    for row in rows {
-        let input = row.input(alloc)?;
-        let mut reader = SliceSource::new(&input);
-        let answer = aspa_answer(alloc, &mut reader)?;
-        let left = reader.rest().len();
-        assert_eq!(rt; answer.as_str(), row.answer, "at {}", row.length);
-        assert_eq!(rt;
-            left.checked_add(row.taken),
-            Some(input.len()),
-            "at {}",
-            row.length
-        );
+fn lengths(rt: HostRuntime) -> Result<(), Fail> {
+    for row in KEYS {
+        expect_row(&rt, rt.alloc(), row, Reading::Key)?;
+    }
+    for row in ASPAS {
+        expect_row(&rt, rt.alloc(), row, Reading::Aspa)?;
     }
     Ok(())
 }
@@ -283,35 +261,41 @@ fn aspa_clone(rt: HostRuntime) -> Result<(), Fail> {
 }
 
 #[test]
-fn router_key_behind_a_header(rt: HostRuntime) -> Result<(), Fail> {
+fn router_key_after_a_header(rt: HostRuntime) -> Result<(), Fail> {
     let alloc = rt.alloc();
     let rest = bytes(alloc, &[KEY_REST])?;
-    for (pdu, head) in [
-        (9, "01 09 01 00 00 00 00 24"),
-        (4, "01 04 01 00 00 00 00 24"),
-    ] {
+    for pdu in [9, 4] {
         let header = Header::new(1, pdu, 0x0100, 36);
         let unit = RouterKey::read_payload(alloc, header, &mut SliceSource::new(&rest))?;
-        let written = written_key(alloc, &unit)?;
-        let kept = bytes(alloc, &[head, KEY_REST])?;
-        expect_equal(&rt, written, kept);
+        let mut kept = bytes(alloc, &[KEY])?;
+        if let Some(byte) = kept.get_mut(1) {
+            *byte = pdu;
+        }
+        expect_equal(&rt, written_key(alloc, &unit)?, kept);
     }
     Ok(())
 }
 
+/// Headers of ASPA units by type and length, what follows them, and the header that is kept.
+#[rattlefmt::skip]
+const AFTER_HEADERS: &[(u8, u32, &str, &str)] = &[
+    (11, 20, ASPA_REST, "02 0b 01 00 00 00 00 14"),
+    (4, 20, ASPA_REST, "02 04 01 00 00 00 00 14"),
+    (4, 16, "00 01 00 0f 00 01 00 0d", "02 04 01 00 00 00 00 10"),
+];
+
 #[test]
-fn aspa_behind_a_header(rt: HostRuntime) -> Result<(), Fail> {
+fn aspa_after_a_header(rt: HostRuntime) -> Result<(), Fail> {
     let alloc = rt.alloc();
-    let rest = bytes(alloc, &[ASPA_REST])?;
-    for (pdu, head) in [
-        (11, "02 0b 01 00 00 00 00 14"),
-        (4, "02 04 01 00 00 00 00 14"),
-    ] {
-        let header = Header::new(2, pdu, 0x0100, 20);
-        let unit = Aspa::read_payload(alloc, header, &mut SliceSource::new(&rest))?;
-        let written = written_aspa(alloc, &unit)?;
-        let kept = bytes(alloc, &[head, ASPA_REST])?;
-        expect_equal(&rt, written, kept);
+    for (pdu, length, rest, head) in AFTER_HEADERS {
+        let header = Header::new(2, *pdu, 0x0100, *length);
+        let input = bytes(alloc, &[rest])?;
+        let unit = Aspa::read_payload(alloc, header, &mut SliceSource::new(&input))?;
+        expect_equal(
+            &rt,
+            written_aspa(alloc, &unit)?,
+            bytes(alloc, &[head, rest])?,
+        );
     }
     Ok(())
 }
@@ -399,7 +383,7 @@ fn each_write_fails(rt: HostRuntime) -> Result<(), Fail> {
 
 /// The key info of the longest router key that is read. The input and the reader end here.
 fn read_key_info(alloc: Global) -> Result<RouterKeyInfo, Fail> {
-    let input = Row::new("01 09 01 00", 65535, 65527, SAME, 65535).input(alloc)?;
+    let input = input(alloc, "01 09 01 00", 65535, 65527)?;
     let mut reader = SliceSource::new(&input);
     let unit = RouterKey::read(alloc, &mut reader)?;
     Ok(unit.into_key_info())

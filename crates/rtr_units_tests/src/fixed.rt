@@ -157,36 +157,45 @@ fn serial_alone(rt: HostRuntime) -> Result<(), Fail> {
     Ok(())
 }
 
-#[test]
-fn refused_units(rt: HostRuntime) -> Result<(), Fail> {
-    let alloc = rt.alloc();
-    let table = [
-        (
-            "01 01 12 34 00 00 00 00 ff",
-            "unit type 1 is not allowed here",
-            8,
-        ),
-        ("01 00 12 34 00 00 00 0d ff", "invalid unit length", 8),
-        (
-            "01 00 12 34 00 00 00 0c de ad be",
-            "unexpected end of input",
-            11,
-        ),
-        ("01 00 12 34 00 00 00", "unexpected end of input", 7),
-        ("", "unexpected end of input", 0),
-        (
-            "01 0a 12 34 00 00 00 0c ff",
-            "unit type 10 is not allowed here",
-            8,
-        ),
-    ];
-    for (text, want, taken) in table {
-        let input = bytes(alloc, &[text])?;
-        let mut reader = Counted::new(Pieces::new(&input, ONES));
+/// Inputs that are no serial notify: the fault, and how many bytes are taken.
+#[rattlefmt::skip]
+const REFUSED: &[(&str, &str, usize)] = &[
+    ("01 01 12 34 00 00 00 00 ff", "unit type 1 is not allowed here", 8),
+    ("01 0a 12 34 00 00 00 0c ff", "unit type 10 is not allowed here", 8),
+    ("01 00 12 34 00 00 00 00 ff", "invalid unit length", 8),
+    ("01 00 12 34 00 00 00 0b ff", "invalid unit length", 8),
+    ("01 00 12 34 00 00 00 0d ff", "invalid unit length", 8),
+    ("01 00 12 34 00 01 00 00 ff", "invalid unit length", 8),
+    ("01 00 12 34 ff ff ff ff ff", "invalid unit length", 8),
+    ("01 00 12 34 00 00 00 0c de ad be", SHORT, 11),
+    ("01 00 12 34 00 00 00 0c", SHORT, 8),
+    ("01 00 12 34 00 00 00", SHORT, 7),
+    ("", SHORT, 0),
+];
+
+/// The fault of an input that is cut.
+const SHORT: &str = "unexpected end of input";
+
+/// Asserts what a row of `REFUSED` says, by a reader that isn't asked again once it gave nothing.
+fn expect_refused(rt: &impl Abort, alloc: Global, row: &(&str, &str, usize)) -> Result<(), Fail> {
+    let (text, want, taken) = *row;
+    let input = bytes(alloc, &[text])?;
+    for sizes in [ONES, STEPS, WHOLE] {
+        let mut reader = Counted::new(Pieces::new(&input, sizes));
         let answer = said(alloc, SerialNotify::read(&mut reader))?;
         assert_eq!(rt; answer.as_str(), want, "{text}");
-        assert_eq!(rt; Source::failures(&reader), 0, "{text}");
-        assert_eq!(rt; reader.into_inner().taken(), taken, "{text}");
+        expect_equal(rt, Source::failures(&reader), 0);
+        let reader = reader.into_inner();
+        assert_eq!(rt; reader.taken(), taken, "{text}");
+        assert_eq!(rt; reader.ends(), usize::from(want == SHORT), "{text}");
+    }
+    Ok(())
+}
+
+#[test]
+fn refused_units(rt: HostRuntime) -> Result<(), Fail> {
+    for row in REFUSED {
+        expect_refused(&rt, rt.alloc(), row)?;
     }
     Ok(())
 }
@@ -206,7 +215,7 @@ fn each_read_of_a_unit_fails(rt: HostRuntime) -> Result<(), Fail> {
 }
 
 #[test]
-fn kept_as_they_are(rt: HostRuntime) -> Result<(), Fail> {
+fn zero_units(rt: HostRuntime) -> Result<(), Fail> {
     let alloc = rt.alloc();
     let mut writer = Counted::new(Recorder::new(alloc, 12));
     SerialNotify::default().write(&mut writer)?;
@@ -214,19 +223,25 @@ fn kept_as_they_are(rt: HostRuntime) -> Result<(), Fail> {
     expect_equal(&rt, zeros.as_slice(), [0; 12].as_slice());
     let answer = said(alloc, SerialNotify::read(&mut SliceSource::new(&zeros)))?;
     expect_equal(&rt, answer.as_str(), "invalid unit length");
+    Ok(())
+}
+
+#[test]
+fn kept_headers(rt: HostRuntime) -> Result<(), Fail> {
+    let alloc = rt.alloc();
     let serial = bytes(alloc, &["de ad be ef"])?;
     let header = Header::new(9, 4, 0x1234, 12);
     let unit = SerialNotify::read_payload(header, &mut SliceSource::new(&serial))?;
-    expect_equal(
-        &rt,
-        unit.as_ref(),
-        bytes(alloc, &["09 04 12 34 00 00 00 0c de ad be ef"])?.as_slice(),
-    );
+    let kept = bytes(alloc, &["09 04 12 34 00 00 00 0c de ad be ef"])?;
+    expect_equal(&rt, unit.as_ref(), kept.as_slice());
     expect_equal(&rt, (unit.version(), unit.session()), (9, 0x1234));
-    let stray = bytes(
-        alloc,
-        &["01 04 00 07 00 00 00 14 fe ff 00 09 ff ff ff ff 00 01 00 0f"],
-    )?;
+    Ok(())
+}
+
+#[test]
+fn stray_bytes(rt: HostRuntime) -> Result<(), Fail> {
+    let text = "01 04 00 07 00 00 00 14 fe ff 00 09 ff ff ff ff 00 01 00 0f";
+    let stray = bytes(rt.alloc(), &[text])?;
     let mut prefix = Ipv4Prefix::read(&mut SliceSource::new(&stray))?;
     expect_equal(&rt, prefix.as_ref(), stray.as_slice());
     prefix.as_mut()[9] = 0x28;

@@ -5,30 +5,46 @@ use rtr_support::{ONES, Pieces, Recorder, STEPS, WHOLE, front};
 use rtr_units::fault::Fault;
 use rtr_units::piece::{fill, put};
 use rtr_units::source::{Counted, Sink, Source};
+use std::process::Abort;
 use std::test::Fail;
 
-#[test]
-fn filled(rt: HostRuntime) -> Result<(), Fail> {
+/// The sizes of a reader over seven bytes, the size of a piece, and how many calls filling it takes.
+#[rattlefmt::skip]
+const FILLED: &[(&[usize], usize, usize)] = &[
+    (ONES, 5, 5),
+    (STEPS, 5, 3),
+    (WHOLE, 5, 1),
+    (ONES, 0, 0),
+    (ONES, 8, 8),
+    (WHOLE, 8, 2),
+];
+
+/// Asserts what a row of `FILLED` says.
+fn expect_filled(rt: &impl Abort, row: &(&[usize], usize, usize)) {
+    let (sizes, size, calls) = *row;
     let input = [1, 2, 3, 4, 5, 6, 7];
-    let table = [
-        (ONES, 5, 5),
-        (STEPS, 5, 3),
-        (WHOLE, 5, 1),
-        (ONES, 0, 0),
-        (ONES, 8, 8),
-        (WHOLE, 8, 2),
-    ];
-    for (sizes, size, calls) in table {
-        let mut piece = [0; 8];
-        let mut reader = Counted::new(Pieces::new(&input, sizes));
-        let answer = fill(&mut reader, &mut piece[..size]);
-        assert_eq!(rt; matches!(answer, Ok(())), size < 8, "{size}");
-        assert_eq!(rt; matches!(answer, Err(Fault::Short)), size == 8, "{size}");
-        let reader = reader.into_inner();
-        assert_eq!(rt; reader.calls(), calls, "{size}");
-        assert_eq!(rt; reader.taken(), size.min(7), "{size}");
-        expect_equal(&rt, front(&piece, size.min(7)), front(&input, size.min(7)));
+    let mut piece = [0; 8];
+    let mut reader = Counted::new(Pieces::new(&input, sizes));
+    let (asked, _) = piece.split_at_mut(size.min(8));
+    let answer = fill(&mut reader, asked);
+    assert_eq!(rt; matches!(answer, Ok(())), size < 8, "{size}");
+    assert_eq!(rt; matches!(answer, Err(Fault::Short)), size == 8, "{size}");
+    let reader = reader.into_inner();
+    assert_eq!(rt; reader.calls(), calls, "{size}");
+    assert_eq!(rt; reader.taken(), size.min(7), "{size}");
+    expect_equal(rt, front(&piece, size.min(7)), front(&input, size.min(7)));
+}
+
+#[test]
+fn filled(rt: HostRuntime) {
+    for row in FILLED {
+        expect_filled(&rt, row);
     }
+}
+
+#[test]
+fn filled_in_part(rt: HostRuntime) {
+    let input = [1, 2, 3, 4, 5, 6, 7];
     let mut piece = [0; 5];
     let mut reader = Counted::new(Pieces::failing(&input, STEPS, 3));
     let answer = fill(&mut reader, &mut piece);
@@ -36,7 +52,6 @@ fn filled(rt: HostRuntime) -> Result<(), Fail> {
     expect_equal(&rt, Source::failures(&reader), 1);
     let reader = reader.into_inner();
     expect_equal(&rt, (reader.calls(), reader.taken()), (3, 3));
-    Ok(())
 }
 
 #[test]

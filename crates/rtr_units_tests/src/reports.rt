@@ -30,12 +30,15 @@ fn reports_in_place_of_answers(rt: HostRuntime) -> Result<(), Fail> {
         }
     }
     assert!(rt; reader.rest().is_empty());
-    let input = bytes(alloc, &["01 02 00 00 00 00 00 08"])?;
+    Ok(())
+}
+
+#[test]
+fn other_types_in_place_of_answers(rt: HostRuntime) -> Result<(), Fail> {
+    let input = bytes(rt.alloc(), &["01 02 00 00 00 00 00 08"])?;
     let mut reader = SliceSource::new(&input);
-    match SerialQuery::try_read(&mut reader) {
-        Err(Fault::UnitType(t)) => expect_equal(&rt, t, 2),
-        _ => assert!(rt; false),
-    }
+    let answer = SerialQuery::try_read(&mut reader);
+    assert!(rt; matches!(answer, Err(Fault::UnitType(2))));
     assert!(rt; reader.rest().is_empty());
     Ok(())
 }
@@ -52,39 +55,88 @@ fn skips(
     for sizes in [ONES, STEPS, WHOLE] {
         let mut reader = Counted::new(Pieces::new(input, sizes));
         let answer = said(alloc, Error::skip_payload(header, &mut reader))?;
-        assert!(rt; answer.as_str() == want);
-        expect_equal(rt, reader.into_inner().taken(), taken);
+        expect_equal(rt, answer.as_str(), want);
+        let reader = reader.into_inner();
+        expect_equal(rt, reader.taken(), taken);
+        expect_equal(
+            rt,
+            reader.ends(),
+            usize::from(want == "unexpected end of input"),
+        );
     }
     Ok(())
 }
+
+/// Headers whose payload is skipped, by type and length, and how many bytes follow; the answer, and how many bytes are
+/// taken.
+#[rattlefmt::skip]
+const SKIPPED: &[(u8, u32, usize, &str, usize)] = &[
+    (10, 0, 9, "invalid unit length", 0),
+    (10, 7, 9, "invalid unit length", 0),
+    (10, 8, 9, "ok", 0),
+    (10, 65536, 9, "unit is longer than 65535 bytes", 0),
+    (10, 4294967295, 9, "unit is longer than 65535 bytes", 0),
+    (10, 18, 9, "unexpected end of input", 9),
+    (4, 20, 12, "ok", 12),
+    (10, 65535, 65528, "ok", 65527),
+];
 
 #[test]
 fn skipped(rt: HostRuntime) -> Result<(), Fail> {
     let alloc = rt.alloc();
     let many = filler(alloc, 65528)?;
-    let table = [
-        (Header::new(1, 10, 0, 7), 9, "invalid unit length", 0),
-        (Header::new(1, 10, 0, 8), 9, "ok", 0),
-        (
-            Header::new(1, 10, 0, 65536),
-            9,
-            "unit is longer than 65535 bytes",
-            0,
-        ),
-        (Header::new(1, 10, 0, 18), 9, "unexpected end of input", 9),
-        (Header::new(1, 4, 0, 20), 12, "ok", 12),
-        (Header::new(1, 10, 0, 65535), 65528, "ok", 65527),
-    ];
-    for (header, size, want, taken) in table {
-        skips(&rt, alloc, header, front(&many, size), want, taken)?;
+    for (pdu, length, size, want, taken) in SKIPPED {
+        let header = Header::new(1, *pdu, 0, *length);
+        skips(&rt, alloc, header, front(&many, *size), want, *taken)?;
     }
+    Ok(())
+}
+
+#[test]
+fn skipped_in_part(rt: HostRuntime) -> Result<(), Fail> {
+    let alloc = rt.alloc();
+    let many = filler(alloc, 10)?;
+    let header = Header::new(1, 10, 0, 18);
     let mut reader = Counted::new(Pieces::failing(&many, ONES, 3));
-    let answer = said(
-        alloc,
-        Error::skip_payload(Header::new(1, 10, 0, 18), &mut reader),
-    )?;
+    let answer = said(alloc, Error::skip_payload(header, &mut reader))?;
     expect_equal(&rt, answer.as_str(), "read failed");
     expect_equal(&rt, reader.into_inner().taken(), 2);
+    Ok(())
+}
+
+/// Reports by version, code, and the sizes of their unit and text: none, and large ones.
+#[rattlefmt::skip]
+const LARGE: &[(u8, u16, usize, usize, &str)] = &[
+    (0, 0, 0, 0, "00 0a 00 00 00 00 00 10 00 00 00 00"),
+    (2, 9, 32, 37, "02 0a 00 09 00 00 00 55 00 00 00 20"),
+    (3, 1, 0, 65536, "03 0a 00 01 00 01 00 10 00 00 00 00"),
+    (255, 65535, 65535, 65536, "ff 0a ff ff 00 02 00 0f 00 00 ff ff"),
+];
+
+/// Asserts that a report and its clone are granted, with this front.
+fn expect_large(
+    rt: &impl Abort,
+    alloc: Global,
+    row: &(u8, u16, usize, usize, &str),
+) -> Result<(), Fail> {
+    let (version, code, unit, text, head) = *row;
+    let many = filler(alloc, 65536)?;
+    let report = Error::new(alloc, version, code, front(&many, unit), front(&many, text))?;
+    let copy = report.clone()?;
+    assert!(rt; copy == report);
+    let head = bytes(alloc, &[head])?;
+    assert!(rt; report.as_ref().starts_with(&head));
+    assert!(rt; report.as_ref().ends_with(front(&many, text)));
+    let size = unit.saturating_add(text).saturating_add(16);
+    expect_equal(rt, report.as_ref().len(), size);
+    Ok(())
+}
+
+#[test]
+fn large_reports(rt: HostRuntime) -> Result<(), Fail> {
+    for row in LARGE {
+        expect_large(&rt, rt.alloc(), row)?;
+    }
     Ok(())
 }
 

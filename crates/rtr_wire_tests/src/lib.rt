@@ -4,6 +4,8 @@
 #[cfg(test)]
 mod compared;
 #[cfg(test)]
+mod debug;
+#[cfg(test)]
 mod normalised;
 #[cfg(test)]
 mod rows;

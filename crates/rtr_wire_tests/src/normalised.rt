@@ -247,7 +247,7 @@ fn expect_cut(
 }
 
 /// Asserts what a single unit and an end of data give where the input stops after each number of bytes: cut there, and
-/// by a reader of one byte that fails there.
+/// by a reader of one byte that fails there. A reader that would fail after the last byte isn't asked again.
 fn expect_stops(rt: &impl Abort, alloc: Global, row: &Single) -> Result<(), Fail> {
     let name = row.name;
     let input = bytes(alloc, row.input)?;
@@ -260,7 +260,9 @@ fn expect_stops(rt: &impl Abort, alloc: Global, row: &Single) -> Result<(), Fail
         expect(rt, alloc, name, &seen, Err("read failed"), kept, count)?;
         assert!(rt; seen.is_interrupted(), "{name}");
     }
-    Ok(())
+    let failing = Pieces::failing(&input, ONES, input.len().saturating_add(1));
+    let seen = normalise_pieces(alloc, failing, Recorder::new(alloc, usize::MAX), LIMIT);
+    expect(rt, alloc, name, &seen, Ok(1), &output, input.len())
 }
 
 #[test]
@@ -293,7 +295,9 @@ fn expect_full(rt: &impl Abort, alloc: Global, row: &Single) -> Result<(), Fail>
         let seen = normalise_pieces(alloc, Pieces::new(&input, WHOLE), stopping, LIMIT);
         expect(rt, alloc, name, &seen, Err("write failed"), kept, taken)?;
     }
-    Ok(())
+    let failing = Recorder::failing(alloc, 1, output.len().saturating_add(1));
+    let seen = normalise_pieces(alloc, Pieces::new(&input, WHOLE), failing, LIMIT);
+    expect(rt, alloc, name, &seen, Ok(1), &output, input.len())
 }
 
 #[test]
@@ -317,25 +321,38 @@ fn writers_that_fail(rt: HostRuntime) -> Result<(), Fail> {
     )
 }
 
+/// Limits on a unit and an end of data: the answer, and how many bytes are taken and written.
+#[rattlefmt::skip]
+const LIMITS: &[(u64, Result<u64, &str>, usize)] = &[
+    (0, Err("too many units"), 0),
+    (1, Err("too many units"), 20),
+    (2, Ok(1), 44),
+    (3, Ok(1), 44),
+    (u64::MAX, Ok(1), 44),
+];
+
 #[test]
 fn limits(rt: HostRuntime) -> Result<(), Fail> {
     let alloc = rt.alloc();
     let input = bytes(alloc, &[IPV4_STRAY, END_1])?;
     let output = bytes(alloc, &[IPV4, END_1])?;
-    let (unit, end) = output.split_at(20.min(output.len()));
-    let many: Result<u64, &str> = Err("too many units");
-    let rows = [(0, many, 0, 0), (1, many, 20, 20), (2, Ok(1), 44, 44)];
-    for (limit, answer, taken, held) in rows {
-        let held = front(&output, held);
-        let seen = normalise_pieces(
-            alloc,
-            Pieces::new(&input, WHOLE),
-            Recorder::new(alloc, 1),
-            limit,
-        );
-        expect(&rt, alloc, "a limit", &seen, answer, held, taken)?;
+    for (limit, answer, taken) in LIMITS {
+        for sizes in [ONES, STEPS, WHOLE] {
+            let reader = Pieces::new(&input, sizes);
+            let seen = normalise_pieces(alloc, reader, Recorder::new(alloc, 1), *limit);
+            let held = front(&output, *taken);
+            expect(&rt, alloc, "a limit", &seen, *answer, held, *taken)?;
+        }
     }
-    // A second call goes on where the first stopped.
+    Ok(())
+}
+
+/// A second call goes on where the first stopped.
+#[test]
+fn a_second_call(rt: HostRuntime) -> Result<(), Fail> {
+    let alloc = rt.alloc();
+    let input = bytes(alloc, &[IPV4_STRAY, END_1])?;
+    let (unit, end) = (bytes(alloc, &[IPV4])?, bytes(alloc, &[END_1])?);
     let mut reader = SliceSource::new(&input);
     let mut writer = Counted::new(Recorder::new(alloc, 1));
     let first = normalise(alloc, &mut reader, &mut writer, 1);
@@ -343,8 +360,8 @@ fn limits(rt: HostRuntime) -> Result<(), Fail> {
     let mut rest = Counted::new(Recorder::new(alloc, 1));
     let second = normalise(alloc, &mut reader, &mut rest, 1);
     assert!(rt; matches!(&second, Ok(0)));
-    expect_equal(&rt, writer.into_inner().held(), unit);
-    expect_equal(&rt, rest.into_inner().held(), end);
+    expect_equal(&rt, writer.into_inner().held(), unit.as_slice());
+    expect_equal(&rt, rest.into_inner().held(), end.as_slice());
     Ok(())
 }
 
