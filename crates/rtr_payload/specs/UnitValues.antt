@@ -15,7 +15,7 @@ use Rattle.rtr_units.specs.declared.fault.Fault.{Fault}
 use Rattle.rtr_payload.specs.Places.{prefix_fields, key_fields, aspa_fields}
 use Rattle.rtr_payload.specs.Reads.{StopsReadingUnit}
 use Rattle.rtr_payload.specs.Steps.{PrefixFault, rule_of, refusal_report}
-use Rattle.rtr_payload.specs.Units.{Fields, HasFields, LengthsAgree, meaning}
+use Rattle.rtr_payload.specs.Units.{Fields, HasFields, LengthsAgree, form, meaning, written}
 use Rattle.rtr_payload.specs.Values.{payload_of}
 use Rattle.rtr_payload.specs.declared.payload.Payload.{Payload as Value}
 use Rattle.rtr_payload.specs.declared.payload.Payload.TheVariants as values
@@ -37,6 +37,11 @@ unit_fields (units.V4 u) = prefix_fields v4 (ipv4_bytes u)
 unit_fields (units.V6 u) = prefix_fields v6 (ipv6_bytes u)
 unit_fields (units.RouterKey u) = key_fields u
 unit_fields (units.Aspa u) = aspa_fields u
+
+-- The unit u is the written form of the payload p with version v and flags f, in its bytes and in its fields.
+pub record IsWritten (v f : ℕ) (p : Meant) (u : Payload) : Type 0 where
+  pub bytes : unit_bytes u ≡ form v f p
+  pub fields : unit_fields u ≡ written v f p
 
 -- what reading one unit or end of data leaves
 abbrev pub ReadsPayload : Result (Result (Option Payload) EndOfData) Fault → Option (List ℕ) → Option (List ℕ) → Type 0

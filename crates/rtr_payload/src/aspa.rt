@@ -9,7 +9,7 @@ ghost use Rattle.rtr_units.specs.Header.{version_field, type_field};
 ghost use Rattle.rtr_units.specs.Stream.{PutsForm, count_after, is_reader_fault, is_writer_fault};
 ghost use Rattle.rtr_units.specs.Views.{header_bytes};
 ghost use Rattle.rtr_payload.specs.Frames.{fault_as, fault_of, ReadsVariable, ReadsBehind};
-ghost use Rattle.rtr_payload.specs.Payloads.{aspa};
+ghost use Rattle.rtr_payload.specs.Payloads.{aspa, IsPayload};
 ghost use Rattle.rtr_payload.specs.Places.{aspa_fields, words_of};
 ghost use Rattle.rtr_payload.specs.Units.{form, HasFields};
 
@@ -53,7 +53,8 @@ impl Aspa {
 
     /// The unit with these fields.
     pub fn new(version: u8, flags: u8, customer: Asn, providers: ProviderAsns) -> Self
-        ensures { result ≡ form version flags (aspa customer providers) }
+        ensures form { result ≡ form version flags (aspa customer providers) }
+        ensures valid { IsPayload (aspa customer providers) }
     {
         let size = FIXED + providers.len() as u32;
         let mut fixed = [0; 12];

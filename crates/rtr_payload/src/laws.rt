@@ -10,6 +10,13 @@ ghost use Rattle.rtr_payload.specs.Orders.{list_cmp, payload_cmp};
 ghost use Rattle.rtr_payload.specs.Places.{fields_like};
 ghost use Rattle.rtr_payload.specs.Payloads.{Payload, IsPayload, Meaning};
 ghost use Rattle.rtr_base.specs.Actions.{act};
+ghost use Rattle.rtr_base.specs.declared.payload.Action.{Action};
+ghost use Rattle.rtr_units.specs.Causes.{Cause, no_memory};
+ghost use Rattle.rtr_units.specs.Header.{version_field};
+ghost use Rattle.rtr_payload.specs.UnitValues.{IsWritten, unit_bytes, flags_in, MeansPayload, HasNoPayload, IsPrefixUnit};
+ghost use Rattle.rtr_payload.specs.Values.{payload_of};
+ghost use Rattle.rtr_payload.specs.declared.payload.Payload.{Payload as Value};
+ghost use Rattle.rtr_payload.specs.declared.pdu_payload.Payload.{Payload as Unit};
 ghost use Rattle.rtr_payload.specs.Units.{IsUnit, form, form_of, meaning, written, stripped};
 
 /// With one version and one pair of flags, payloads have one form exactly where they are equal.
@@ -18,6 +25,18 @@ pub fn payload_forms()
     ensures places { (v f : ℕ) (p : Payload) → IsPayload p → fields_like (written v f p) (form v f p) ≡ written v f p }
     ensures fields { (v f : ℕ) (p : Payload) → IsPayload p →
         meaning (written v f p) ≡ record { version = v; action = act f; payload = stripped (act f) p } }
+{}
+
+/// What `pdu::Payload::new` makes has the flags that were given, and `to_payload` gives back the version, the action of
+/// the flags and the payload: of an ASPA with even flags, without its providers. None is refused, and where memory is
+/// wanted, it is for a key or an ASPA.
+pub fn made_and_read()
+    ensures flags { (v f : ℕ) (p : Payload) (u : Unit) → IsWritten v f p u → flags_in u ≡ f }
+    ensures means { (v f : ℕ) (p : Payload) (u : Unit) (a : Action) (q : Value) →
+        IsPayload p → IsWritten v f p u → MeansPayload u a q →
+        (version_field (unit_bytes u) ≡ v) × (a ≡ act f) × (payload_of q ≡ stripped (act f) p) }
+    ensures kept { (v f : ℕ) (p : Payload) (u : Unit) (c : Cause) →
+        IsPayload p → IsWritten v f p u → HasNoPayload u c → (c ≡ no_memory) × (IsPrefixUnit u → ⊥) }
 {}
 
 /// No unit begins another, and one list has one meaning.

@@ -11,7 +11,7 @@ ghost use Rattle.rtr_units.specs.Header.{version_field, type_field};
 ghost use Rattle.rtr_units.specs.Stream.{PutsForm, count_after, is_reader_fault, is_writer_fault};
 ghost use Rattle.rtr_units.specs.Views.{header_bytes};
 ghost use Rattle.rtr_payload.specs.Frames.{fault_as, fault_of, ReadsVariable, ReadsBehind};
-ghost use Rattle.rtr_payload.specs.Payloads.{key};
+ghost use Rattle.rtr_payload.specs.Payloads.{key, IsPayload};
 ghost use Rattle.rtr_payload.specs.Places.{key_fields};
 ghost use Rattle.rtr_payload.specs.Units.{form, HasFields};
 
@@ -66,7 +66,8 @@ impl RouterKey {
         asn: Asn,
         key_info: RouterKeyInfo,
     ) -> Self
-        ensures { result ≡ form version flags (key key_identifier asn key_info) }
+        ensures form { result ≡ form version flags (key key_identifier asn key_info) }
+        ensures valid { IsPayload (key key_identifier asn key_info) }
     {
         let size = FIXED + key_info.len() as u32;
         let mut fixed = [0; 32];
