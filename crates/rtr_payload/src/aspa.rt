@@ -1,4 +1,4 @@
-//! The ASPA unit (the crate's own format).
+//! The ASPA unit (as in the Rust crate).
 
 ghost use Rattle.std.specs.Prelude.{◌≡◌, ◌≤◌, ◌+◌, ◌%◌, ◌++◌, length, take, drop, slice_index, nat_eq, IfOk, not};
 ghost use Rattle.std.specs.Cmp.{partial_equiv_from_equiv};
@@ -66,7 +66,8 @@ impl Aspa {
 
     /// Reads an ASPA unit.
     ///
-    /// Behind the header, `UnitType` is answered unless its type is 11, and then it goes on as `read_payload`.
+    /// Faults, in this order: `Short` or `Reader` inside the header; `UnitType` where its type isn't 11, with the header
+    /// taken; those of `read_payload`, `Memory` among them.
     pub fn read<R: Source>(alloc: Global, reader: &mut R) -> Result<Self, Fault>
         ensures bytes { ReadsVariable (fault_of 11) result (R.remaining reader.old) (R.remaining reader.new) }
         ensures fields { IfOk result (λ u. HasFields u (aspa_fields u)) }
@@ -83,12 +84,12 @@ impl Aspa {
         Aspa::read_payload(alloc, header, reader)
     }
 
-    /// Reads what follows the header, which is kept as it is. Its type is not judged.
+    /// Reads what follows the header, which is kept as it is. Its type is not checked.
     ///
-    /// `TooLong` is answered above length 65535, then `UnitLength` below 12 and for what is not a multiple of 4, and
-    /// then `EmptyProviders` where an announcement has length 12. Nothing was read then, and no memory asked for. The
-    /// rest is read into one frame, from which the providers are cut; where the frame can't be had, `Memory` is
-    /// answered, and nothing was read.
+    /// Faults, in this order: `TooLong` above length 65535, `UnitLength` below 12 and for what is not a multiple of 4,
+    /// and `EmptyProviders` where an announcement has length 12, with nothing read and no memory asked for; `Memory`,
+    /// with nothing read, where there is no room for the frame that the rest is read into; `Short` or `Reader` inside
+    /// the unit; `Memory`, with the whole unit read, where the frame can't be shared. The providers are cut from it.
     pub fn read_payload<R: Source>(
         alloc: Global,
         header: Header,
@@ -115,13 +116,13 @@ impl Aspa {
         }
     }
 
-    /// The unit of a header and the frame behind it.
+    /// The unit of a header and the frame that follows it.
     fn from_frame(head: &[u8], mut frame: Bytes) -> Self
         requires head { length head.now ≡ 8 }
         requires range { IsBytes frame }
         requires size { 4 ≤ length frame }
         requires even { length frame % 4 ≡ 0 }
-        requires fits { length frame ≤ 65524 }
+        requires fits { 8 + length frame ≤ MAX_SIZE }
         ensures { result ≡ head.now ++ frame }
     {
         let mut fixed = [0; 12];
@@ -173,14 +174,14 @@ impl Aspa {
         &self.providers
     }
 
-    /// The providers, given away.
+    /// The providers, by value.
     pub fn into_providers(self) -> ProviderAsns
         ensures { result ≡ words_of (drop 12 self) }
     {
         self.providers
     }
 
-    /// The same unit once more.
+    /// The same unit once more. The bytes of its providers are shared, which asks for memory.
     pub fn clone(&self) -> Result<Self, AllocError>
         ensures { IfOk result (λ u. u ≡ self.now) }
     {

@@ -19,6 +19,20 @@ ghost use Rattle.rtr_payload.specs.declared.payload.Payload.{Payload as Value};
 ghost use Rattle.rtr_payload.specs.declared.pdu_payload.Payload.{Payload as Unit};
 ghost use Rattle.rtr_payload.specs.Units.{IsUnit, form, form_of, meaning, written, stripped};
 
+use crate::aspa::Aspa;
+use crate::frame::MAX_SIZE;
+use crate::providers::ProviderAsns;
+use crate::router_key::RouterKey;
+
+/// The types of the units, and the limits on their sizes: the bytes of a unit that is read, and the providers of an ASPA.
+/// `pdu::RouterKey::max_key_info_size` says the bytes of key info.
+pub fn types_and_limits()
+    ensures router_key { RouterKey.PDU ≡ 9 }
+    ensures aspa { Aspa.PDU ≡ 11 }
+    ensures providers { ProviderAsns.MAX_COUNT ≡ 16380 }
+    ensures size { MAX_SIZE ≡ 65535 }
+{}
+
 /// With one version and one pair of flags, payloads have one form exactly where they are equal.
 pub fn payload_forms()
     ensures exact { (v f : ℕ) (p q : Payload) → IsPayload p → IsPayload q → (form v f p ≡ form v f q) ↔ (p ≡ q) }
