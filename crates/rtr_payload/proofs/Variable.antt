@@ -63,10 +63,14 @@ pub frame_stops : (k n : ℕ) (cause : Cause) (h t : List ℕ) (left : Option (L
 frame_stops k n by_reader h t left l e size s = λ _. (same_fault k h t l ∙ e, omega (arith, (same_header h t (omega arith)).size, length-append h t))
 frame_stops k n by_writer h t left l e size s = s
 frame_stops k n too_many h t left l e size s = s
-frame_stops k n no_memory h t left l e size s = (omega (arith, length-append h t), same_fault k h t l ∙ e, elim s [
-  | inl none ↦ inl (omega (arith, length-append h t, ap length none))
-  | inr all ↦ inr (omega (arith, (same_header h t (omega arith)).size, length-append h t, all))
-])
+frame_stops k n no_memory h t left l e size s = (
+  omega (arith, length-append h t),
+  same_fault k h t l ∙ e,
+  elim s [
+    | inl none ↦ inl (omega (arith, length-append h t, ap length none))
+    | inr all ↦ inr (omega (arith, (same_header h t (omega arith)).size, length-append h t, all))
+  ],
+)
 frame_stops k n (wrong short) h t left l e size s = (λ _. (same_fault k h t l ∙ e, omega (arith, (same_header h t (omega arith)).size, length-append h t)), s.1)
 frame_stops k n (wrong (unit_type x)) h t left l e size s = absurd s
 frame_stops k n (wrong (unit_version x)) h t left l e size s = absurd s

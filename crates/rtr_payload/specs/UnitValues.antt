@@ -50,7 +50,8 @@ ReadsPayload (Ok (Ok None)) old new = ⊥
 ReadsPayload (Ok (Err d)) old new = Consumes old new (end_bytes d) × End (end_bytes d) (end_meaning d)
 ReadsPayload (Err f) old new = Takes old new (λ h. StopsReadingUnit (cause_of f) h new)
 
--- what reading behind the header h leaves, told of all that was taken: of h, which was taken before, and of what follows it
+-- what reading on after the header h leaves, said of all that was taken: of h, which was taken before, and of what follows
+-- it
 abbrev pub ReadsAfter : List ℕ → Result (Result (Option Payload) EndOfData) Fault → Option (List ℕ) → Option (List ℕ) → Type 0
 ReadsAfter h r old new = AreBytes 8 h → (before : Option (List ℕ)) → Consumes before old h → ReadsPayload r before new
 
