@@ -8,13 +8,16 @@ use Rattle.rtr_base.specs.Actions.{act}
 use Rattle.rtr_base.specs.Bytes.{be, value, words, IsBytes}
 use Rattle.rtr_base.proofs.Numbers.{value-be, IsBytes-drop}
 use Rattle.rtr_base.proofs.Cuts.{cut_byte, cut_bytes, cut_number, cut_end, number_fits}
-use Rattle.rtr_base.specs.Addresses.{Family, v4, v6, width}
+use Rattle.rtr_base.specs.Addresses.{Family, v4, v6, width, IsMaxLenPrefix}
 use Rattle.rtr_units.specs.FixedUnits.{prefix_type, prefix_size, address_bytes, prefix_list}
 use Rattle.rtr_units.specs.Header.{version_field, type_field, session_field, length_field, header}
 use Rattle.rtr_units.proofs.Headers.{header_read, header_cells, session_fits}
-use Rattle.rtr_payload.proofs.Fields.{address_below}
+use Rattle.rtr_payload.proofs.Fields.{address_below, Fit-written}
 use Rattle.rtr_payload.specs.Places.{words_of, prefix_fields, key_fields, aspa_fields, fields_like}
-use Rattle.rtr_payload.specs.Units.{Fields, prefix, router_key, providers, unit_list, Fit, HasFields, HasProviders}
+use Rattle.rtr_payload.specs.declared.payload.RouteOrigin.{RouteOrigin}
+use Rattle.rtr_payload.specs.Values.{origin_of}
+use Rattle.rtr_payload.specs.Payloads.{Payload, IsPayload}
+use Rattle.rtr_payload.specs.Units.{Fields, prefix, router_key, providers, unit_list, Fit, HasFields, HasProviders, form, written}
 
 -- ---- the fields of a unit's list are those of the unit
 
@@ -45,6 +48,14 @@ fields_read (router_key v g z i n k) h =
 fields_read (providers v g z c ps) h =
     let ec = value-be c 4 h.0 in let ep = words_of-words ps h.1 in
     λ i. providers v g z (ec i) (ep i)
+
+-- bytes that are a form have the fields that were written
+pub form_fields : (u : List ℕ) (v f : ℕ) (p : Payload) → IsPayload p → u ≡ form v f p → fields_like (written v f p) u ≡ written v f p
+form_fields u v f p h e = ap (fields_like (written v f p)) e ∙ fields_read (written v f p) (Fit-written v f p h)
+
+-- the parts of an origin are in their ranges
+pub IsOrigin-of : (o : RouteOrigin) → IsMaxLenPrefix o.prefix → o.asn < 2 ^ 32 → IsPayload (origin_of o)
+IsOrigin-of o h n = record { len = h.lower; max_len = h.upper; address = h.prefix.address; host_bits = h.prefix.host_bits; asn = n }
 
 -- ---- bytes whose type and length field say so are a unit with the fields that are read off them
 

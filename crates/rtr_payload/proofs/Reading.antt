@@ -1,5 +1,5 @@
 -- Reading a unit behind its header.
-use Rattle.std.proofs.Common.{◌≡◌, ℕ, ◌+◌, ◌<◌, ◌≤◌, List, [], ◌++◌, length, Option, Some, None, Result, Ok, Err, refl, sym, ap, subst, ◌∙◌, append-nil, get_or, arith, ◌⊎◌}
+use Rattle.std.proofs.Common.{◌≡◌, ℕ, ◌+◌, ◌<◌, ◌≤◌, List, [], ◌++◌, length, Option, Some, None, Result, Ok, Err, refl, sym, ap, subst, ◌∙◌, append-nil, get_or, arith, ◌⊎◌, inr}
 use Rattle.std.proofs.lemmas.Bool.Decides.{nat_tests}
 use Rattle.std.proofs.lemmas.List.{length-append}
 use Rattle.std.specs.Io.KnownBytes.{Consumes}
@@ -153,7 +153,7 @@ module _ (k : ℕ) (u : List ℕ) (kind : type_field u ≡ k) (long : 8 ≤ leng
   variable_stops by_reader left some part = let p = part long in unit_short u long (step_is None p.0) p.1
   variable_stops by_writer left some s = absurd s
   variable_stops too_many left some s = absurd s
-  variable_stops no_memory left some (there, e, within) = record { whole_header = long; kind = rw kind some; in_order = step_is None e; within = within }
+  variable_stops no_memory left some (there, e, place) = record { whole_header = long; kind = rw kind some; in_order = step_is None e; place = place }
   variable_stops (wrong short) left some (part, end) = let p = part long in (unit_short u long (step_is None p.0) p.1, end)
   variable_stops (wrong (refused report)) left some (eight, e) = absurd (never_report (version_field u) k (get_or u 2 0) (length_field u) report e)
   variable_stops (wrong (unit_type t)) left some (eight, e) = header_refused u (unit_type t) eight (step_is (Some (unit_type t)) e)
@@ -178,7 +178,7 @@ type_refused h t is kind a b c d e = header_refused h (unit_type t) is.0 (rw kin
 pub shape_variable : (b : List ℕ) (u : Fields) → HasFields b u → (type_field b ≡ 9) ⊎ (type_field b ≡ 11) → IsVariable b
 shape_variable b u h kind =
     let w = shape_whole b u h in
-    record { whole_header = w.long; kind = kind; in_order = w.in_order; within = omega (arith, w.size) }
+    record { whole_header = w.long; kind = kind; in_order = w.in_order; place = inr (sym w.size) }
 
 -- ---- a prefix unit that breaks the rule on its lengths
 

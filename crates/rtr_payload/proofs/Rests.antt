@@ -51,7 +51,7 @@ rule_from : (w l x : ℕ) → broken_rule w l x ≡ None → (l ≤ x) × (x ≤
 unfolding broken_rule
 rule_from w l x h = grind (arith, nat_tests)
 
-agree_kept : (u : Fields) → LengthsAgree u → rule_of u ≡ None
+pub agree_kept : (u : Fields) → LengthsAgree u → rule_of u ≡ None
 agree_kept (prefix f v s g l x z a n) h = rule_kept (width f) l x h
 agree_kept (router_key v g z i n k) h = refl
 agree_kept (providers v g z c ps) h = refl

@@ -1,5 +1,5 @@
 -- Where reading a router key or an ASPA unit stops, and what was read.
-use Rattle.std.proofs.Common.{◌≡◌, ◌≢◌, ℕ, ◌+◌, ◌%◌, ◌<◌, ◌≤◌, cond, List, [], ◌++◌, length, get_or, Option, Some, None, sym, ap, ◌∙◌, append-nil, arith}
+use Rattle.std.proofs.Common.{◌≡◌, ◌≢◌, ℕ, ◌+◌, ◌%◌, ◌<◌, ◌≤◌, cond, List, [], ◌++◌, length, get_or, Option, Some, None, sym, ap, ◌∙◌, append-nil, arith, inl, inr}
 use Rattle.std.specs.Prelude.{Result, Ok, Err}
 use Rattle.std.specs.Io.KnownBytes.{Consumes}
 use Rattle.std.proofs.KnownBytes.{Consumes-trans}
@@ -63,7 +63,14 @@ pub frame_stops : (k n : ℕ) (cause : Cause) (h t : List ℕ) (left : Option (L
 frame_stops k n by_reader h t left l e size s = λ _. (same_fault k h t l ∙ e, omega (arith, (same_header h t (omega arith)).size, length-append h t))
 frame_stops k n by_writer h t left l e size s = s
 frame_stops k n too_many h t left l e size s = s
-frame_stops k n no_memory h t left l e size s = (omega (arith, length-append h t), same_fault k h t l ∙ e, omega (arith, (same_header h t (omega arith)).size, length-append h t))
+frame_stops k n no_memory h t left l e size s = (
+  omega (arith, length-append h t),
+  same_fault k h t l ∙ e,
+  elim s [
+    | inl none ↦ inl (omega (arith, length-append h t, ap length none))
+    | inr all ↦ inr (omega (arith, (same_header h t (omega arith)).size, length-append h t, all))
+  ],
+)
 frame_stops k n (wrong short) h t left l e size s = (λ _. (same_fault k h t l ∙ e, omega (arith, (same_header h t (omega arith)).size, length-append h t)), s.1)
 frame_stops k n (wrong (unit_type x)) h t left l e size s = absurd s
 frame_stops k n (wrong (unit_version x)) h t left l e size s = absurd s

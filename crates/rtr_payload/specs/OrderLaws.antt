@@ -1,54 +1,15 @@
--- The order of payloads is total, and equal payloads are one.
+-- Payloads that compare as equal are one. The law of hashing asks for it, and takes what it cites from `specs` alone.
 use Rattle.std.proofs.Common.{◌≡◌, ℕ, List, [], ◌∷◌, refl, sym, ap, ◌∙◌, ◌↔◌}
 use Rattle.std.specs.declared.cmp.Ordering.{Ordering}
 use Rattle.std.specs.declared.cmp.Ordering.TheVariants.{Less, Equal, Greater}
 use Rattle.std.specs.Bool.{Decides}
 use Rattle.std.specs.Ordering.{eq_by_cmp, ordering_then, ordering_reverse}
-use Rattle.std.specs.Cmp.{IsTotalOrder, Equal-is}
+use Rattle.std.specs.Cmp.{Equal-is}
 use Rattle.std.specs.Cmp.Lexicographic.{slice_cmp}
-use Rattle.std.proofs.lemmas.Cmp.{nat_list_cmp_total, lists_total}
 use Rattle.std.proofs.lemmas.Map.Lookups.{exact_bytes}
-use Rattle.rtr_base.specs.Addresses.{Family, v4, v6}
+use Rattle.rtr_base.specs.Addresses.{v4, v6}
 use Rattle.rtr_payload.specs.Payloads.{Payload, origin, key, aspa}
-use Rattle.rtr_payload.specs.Orders.{list_cmp, payload_cmp}
-
-abbrev family_place : Family → ℕ
-family_place v4 = 4
-family_place v6 = 6
-
--- a payload as the lists that are compared in turn
-abbrev parts : Payload → List (List ℕ)
-parts (origin f a l x n) = (0 ∷ []) ∷ (family_place f ∷ []) ∷ (a ∷ []) ∷ (l ∷ []) ∷ (x ∷ []) ∷ (n ∷ []) ∷ []
-parts (key i n k) = (1 ∷ []) ∷ i ∷ (n ∷ []) ∷ k ∷ []
-parts (aspa c ps) = (2 ∷ []) ∷ (c ∷ []) ∷ ps ∷ []
-
-then_equal : (o : Ordering) → ordering_then o Equal ≡ o
-then_equal Less = refl
-then_equal Equal = refl
-then_equal Greater = refl
-
-by_parts : (p q : Payload) → slice_cmp list_cmp (parts p) (parts q) ≡ payload_cmp p q
-by_parts (origin v4 a l x n) (origin v4 b m y k) = simp then_equal
-by_parts (origin v4 a l x n) (origin v6 b m y k) = refl
-by_parts (origin v6 a l x n) (origin v4 b m y k) = refl
-by_parts (origin v6 a l x n) (origin v6 b m y k) = simp then_equal
-by_parts (origin f a l x n) (key i m k) = refl
-by_parts (origin f a l x n) (aspa c ps) = refl
-by_parts (key i n k) (origin f a l x m) = refl
-by_parts (key i n k) (key j m h) = simp then_equal
-by_parts (key i n k) (aspa c ps) = refl
-by_parts (aspa c ps) (origin f a l x n) = refl
-by_parts (aspa c ps) (key i n k) = refl
-by_parts (aspa c ps) (aspa d qs) = simp then_equal
-
-pub payload_total : IsTotalOrder payload_cmp
-payload_total =
-    let t = lists_total nat_list_cmp_total in
-    record {
-      antisymm = λ p q. sym (by_parts p q) ∙ t.antisymm (parts p) (parts q) ∙ ap ordering_reverse (by_parts q p);
-      trans = λ p q r h g. sym (by_parts p r) ∙ t.trans (parts p) (parts q) (parts r) (by_parts p q ∙ h) (by_parts q r ∙ g);
-      congr = λ p q r h. sym (by_parts p r) ∙ t.congr (parts p) (parts q) (parts r) (by_parts p q ∙ h) ∙ by_parts q r;
-    }
+use Rattle.rtr_payload.specs.Orders.{list_cmp, parts, payload_cmp, payload_total}
 
 then_parts : (o p : Ordering) → ordering_then o p ≡ Equal → (o ≡ Equal) × (p ≡ Equal)
 then_parts Less p e = absurd cc
@@ -79,9 +40,8 @@ parts_same (aspa c ps) (origin f a l x n) e = absurd cc
 parts_same (aspa c ps) (key i n k) e = absurd cc
 parts_same (aspa c ps) (aspa d qs) e = cc
 
--- payloads that compare as equal are one
-pub payload_exact : (p q : Payload) → payload_cmp p q ≡ Equal → p ≡ q
-payload_exact p q e = parts_same p q (lists_exact (parts p) (parts q) (by_parts p q ∙ e))
+payload_exact : (p q : Payload) → payload_cmp p q ≡ Equal → p ≡ q
+payload_exact p q e = parts_same p q (lists_exact (parts p) (parts q) e)
 
 refl_equal : (p : Payload) → payload_cmp p p ≡ Equal
 refl_equal p = reflexive (payload_cmp p p) (payload_total.antisymm p p)

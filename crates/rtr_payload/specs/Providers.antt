@@ -1,4 +1,4 @@
--- The providers of an ASPA (the crate's own).
+-- The providers of an ASPA (as in the Rust crate).
 use Rattle.std.specs.Prelude.{◌≡◌, ℕ, ◌^◌, ◌<◌, ◌≤◌, List, length, Option}
 use Rattle.std.specs.Iterator.{Yields}
 use Rattle.std.specs.List.{AllByRecursion}
@@ -7,18 +7,19 @@ use Rattle.rtr_payload.specs.Places.{words_of}
 use Rattle.rtr_payload.specs.declared.providers.ProviderIterError.{ProviderIterError}
 use Rattle.rtr_payload.specs.declared.providers.ProviderIterError.TheVariants.{Count, Memory}
 
--- as many numbers as an ASPA may name, each of four bytes
+-- as many numbers as an ASPA may name, each of four bytes (as in the Rust crate)
 pub record AreProviders (ps : List ℕ) : Type 0 where
   pub count : length ps ≤ 16380
   pub each : AllByRecursion (λ p. p < 2 ^ 32) ps
 
--- bytes are those of providers, four to each
+-- bytes are those of providers, four to each (as in the Rust crate)
 pub record AreProviderBytes (bytes : List ℕ) : Type 0 where
   pub providers : AreProviders (words_of bytes)
   pub again : words (words_of bytes) ≡ bytes
 
 -- Why no providers were made of the items of an iterator in the state s: one more came than an ASPA may name, or memory
--- was wanted.
+-- was refused (this library's own). Of a refusal nothing is said: it comes before or after any item, the allocator alone
+-- decides, and the iterator was taken by value, so that a caller never sees how far it went.
 abbrev pub StopsTaking : {S : Type 0} → (S → Option ℕ → S → Type 0) → S → ProviderIterError → Type 0
 StopsTaking {S} steps s (Count e) = (xs : List ℕ) × (t : S) × Yields steps s xs t × (length xs ≡ 16381)
-StopsTaking {S} steps s Memory = (xs : List ℕ) × (t : S) × Yields steps s xs t × (length xs ≤ 16380)
+StopsTaking {S} steps s Memory = Unit {0}

@@ -1,4 +1,4 @@
--- Why a list of bytes begins with neither a unit nor an end of data (the Rust crate's own order). The first of these steps
+-- Why a list of bytes begins with neither a unit nor an end of data (this library's own order). The first of these steps
 -- that holds names the fault:
 --   1  there are fewer than the 8 bytes of a header
 --   2  the type is none of those read here
@@ -17,8 +17,8 @@ use Rattle.rtr_units.specs.Causes.{Refusal, short, unit_type, unit_version, too_
 use Rattle.rtr_payload.specs.Payloads.{Meaning}
 use Rattle.rtr_payload.specs.Units.{Fields, prefix, router_key, providers, IsUnit, Shape}
 
--- how the lengths of a prefix break their rule: the prefix length is above that of an address, or the max length is, or it is below the
--- prefix length
+-- how the lengths of a prefix break their rule: the prefix length is above that of an address, or the max length is, or it
+-- is below the prefix length
 pub data PrefixFault : Type 0 where
   len_overflow : PrefixFault
   max_overflow : PrefixFault
@@ -46,7 +46,7 @@ header_fault v t g n =
     else if (t == 11) && ((n == 12) && (g % 2 == 1)) then Some empty_providers
     else None
 
--- the text of the report
+-- the text of the report (this library's own)
 abbrev pub text_of : PrefixFault → List ℕ
 text_of len_overflow = codes "prefix length too large"
 text_of max_overflow = codes "max-length too large"
@@ -95,7 +95,8 @@ frame_fault r = if nat_lt (length r) 8 then Some short else first_of (header_ste
 abbrev pub first_fault : List ℕ → Option Refusal
 first_fault r = first_of (frame_fault r) (lengths_fault (type_field r) (first_unit r))
 
--- the bytes that are taken: all, where they end too early; the header, where it is refused; the unit, where its prefix lengths are
+-- the bytes that are taken: all, where they end too early; the header, where it is refused; the unit, where its prefix
+-- lengths are
 abbrev pub taken : Refusal → List ℕ → List ℕ
 taken short r = r
 taken (unit_type t) r = take 8 r

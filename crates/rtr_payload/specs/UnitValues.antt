@@ -15,7 +15,7 @@ use Rattle.rtr_units.specs.declared.fault.Fault.{Fault}
 use Rattle.rtr_payload.specs.Places.{prefix_fields, key_fields, aspa_fields}
 use Rattle.rtr_payload.specs.Reads.{StopsReadingUnit}
 use Rattle.rtr_payload.specs.Steps.{PrefixFault, rule_of, refusal_report}
-use Rattle.rtr_payload.specs.Units.{Fields, HasFields, LengthsAgree, meaning}
+use Rattle.rtr_payload.specs.Units.{Fields, HasFields, LengthsAgree, form, meaning, written}
 use Rattle.rtr_payload.specs.Values.{payload_of}
 use Rattle.rtr_payload.specs.declared.payload.Payload.{Payload as Value}
 use Rattle.rtr_payload.specs.declared.payload.Payload.TheVariants as values
@@ -38,6 +38,11 @@ unit_fields (units.V6 u) = prefix_fields v6 (ipv6_bytes u)
 unit_fields (units.RouterKey u) = key_fields u
 unit_fields (units.Aspa u) = aspa_fields u
 
+-- The unit u is the written form of the payload p with version v and flags f, in its bytes and in its fields.
+pub record IsWritten (v f : ℕ) (p : Meant) (u : Payload) : Type 0 where
+  pub bytes : unit_bytes u ≡ form v f p
+  pub fields : unit_fields u ≡ written v f p
+
 -- what reading one unit or end of data leaves
 abbrev pub ReadsPayload : Result (Result (Option Payload) EndOfData) Fault → Option (List ℕ) → Option (List ℕ) → Type 0
 ReadsPayload (Ok (Ok (Some u))) old new = Consumes old new (unit_bytes u) × HasFields (unit_bytes u) (unit_fields u)
@@ -45,7 +50,8 @@ ReadsPayload (Ok (Ok None)) old new = ⊥
 ReadsPayload (Ok (Err d)) old new = Consumes old new (end_bytes d) × End (end_bytes d) (end_meaning d)
 ReadsPayload (Err f) old new = Takes old new (λ h. StopsReadingUnit (cause_of f) h new)
 
--- what reading behind the header h leaves, told of all that was taken: of h, which was taken before, and of what follows it
+-- what reading on after the header h leaves, said of all that was taken: of h, which was taken before, and of what follows
+-- it
 abbrev pub ReadsAfter : List ℕ → Result (Result (Option Payload) EndOfData) Fault → Option (List ℕ) → Option (List ℕ) → Type 0
 ReadsAfter h r old new = AreBytes 8 h → (before : Option (List ℕ)) → Consumes before old h → ReadsPayload r before new
 

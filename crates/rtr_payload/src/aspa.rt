@@ -1,4 +1,4 @@
-//! The ASPA unit (the crate's own format).
+//! The ASPA unit (as in the Rust crate).
 
 ghost use Rattle.std.specs.Prelude.{◌≡◌, ◌≤◌, ◌+◌, ◌%◌, ◌++◌, length, take, drop, slice_index, nat_eq, IfOk, not};
 ghost use Rattle.std.specs.Cmp.{partial_equiv_from_equiv};
@@ -9,7 +9,7 @@ ghost use Rattle.rtr_units.specs.Header.{version_field, type_field};
 ghost use Rattle.rtr_units.specs.Stream.{PutsForm, count_after, is_reader_fault, is_writer_fault};
 ghost use Rattle.rtr_units.specs.Views.{header_bytes};
 ghost use Rattle.rtr_payload.specs.Frames.{fault_as, fault_of, ReadsVariable, ReadsBehind};
-ghost use Rattle.rtr_payload.specs.Payloads.{aspa};
+ghost use Rattle.rtr_payload.specs.Payloads.{aspa, IsPayload};
 ghost use Rattle.rtr_payload.specs.Places.{aspa_fields, words_of};
 ghost use Rattle.rtr_payload.specs.Units.{form, HasFields};
 
@@ -53,7 +53,8 @@ impl Aspa {
 
     /// The unit with these fields.
     pub fn new(version: u8, flags: u8, customer: Asn, providers: ProviderAsns) -> Self
-        ensures { result ≡ form version flags (aspa customer providers) }
+        ensures form { result ≡ form version flags (aspa customer providers) }
+        ensures valid { IsPayload (aspa customer providers) }
     {
         let size = FIXED + providers.len() as u32;
         let mut fixed = [0; 12];
@@ -65,7 +66,8 @@ impl Aspa {
 
     /// Reads an ASPA unit.
     ///
-    /// Behind the header, `UnitType` is answered unless its type is 11, and then it goes on as `read_payload`.
+    /// Faults, in this order: `Short` or `Reader` inside the header; `UnitType` where its type isn't 11, with the header
+    /// taken; those of `read_payload`, `Memory` among them.
     pub fn read<R: Source>(alloc: Global, reader: &mut R) -> Result<Self, Fault>
         ensures bytes { ReadsVariable (fault_of 11) result (R.remaining reader.old) (R.remaining reader.new) }
         ensures fields { IfOk result (λ u. HasFields u (aspa_fields u)) }
@@ -82,12 +84,12 @@ impl Aspa {
         Aspa::read_payload(alloc, header, reader)
     }
 
-    /// Reads what follows the header, which is kept as it is. Its type is not judged.
+    /// Reads what follows the header, which is kept as it is. Its type is not checked.
     ///
-    /// `TooLong` is answered above length 65535, then `UnitLength` below 12 and for what is not a multiple of 4, and
-    /// then `EmptyProviders` where an announcement has length 12. Nothing was read then, and no memory asked for. The
-    /// rest is read into one frame, from which the providers are cut; where the frame can't be had, `Memory` is
-    /// answered, and nothing was read.
+    /// Faults, in this order: `TooLong` above length 65535, `UnitLength` below 12 and for what is not a multiple of 4,
+    /// and `EmptyProviders` where an announcement has length 12, with nothing read and no memory asked for; `Memory`,
+    /// with nothing read, where there is no room for the frame that the rest is read into; `Short` or `Reader` inside
+    /// the unit; `Memory`, with the whole unit read, where the frame can't be shared. The providers are cut from it.
     pub fn read_payload<R: Source>(
         alloc: Global,
         header: Header,
@@ -114,13 +116,13 @@ impl Aspa {
         }
     }
 
-    /// The unit of a header and the frame behind it.
+    /// The unit of a header and the frame that follows it.
     fn from_frame(head: &[u8], mut frame: Bytes) -> Self
         requires head { length head.now ≡ 8 }
         requires range { IsBytes frame }
         requires size { 4 ≤ length frame }
         requires even { length frame % 4 ≡ 0 }
-        requires fits { length frame ≤ 65524 }
+        requires fits { 8 + length frame ≤ MAX_SIZE }
         ensures { result ≡ head.now ++ frame }
     {
         let mut fixed = [0; 12];
@@ -172,14 +174,14 @@ impl Aspa {
         &self.providers
     }
 
-    /// The providers, given away.
+    /// The providers, by value.
     pub fn into_providers(self) -> ProviderAsns
         ensures { result ≡ words_of (drop 12 self) }
     {
         self.providers
     }
 
-    /// The same unit once more.
+    /// The same unit once more. The bytes of its providers are shared, which asks for memory.
     pub fn clone(&self) -> Result<Self, AllocError>
         ensures { IfOk result (λ u. u ≡ self.now) }
     {

@@ -1,4 +1,4 @@
-//! Frames: what follows the header of a variable unit, in one piece.
+//! Frames: what follows the header of a router key or an ASPA unit, in one piece.
 
 ghost use Rattle.std.specs.Prelude.{◌≡◌, ◌+◌, ◌≤◌, length, take, drop, IfOk, not};
 ghost use Rattle.rtr_base.specs.Bytes.{IsBytes, value};
@@ -15,7 +15,10 @@ use std::alloc::Global;
 /// The most bytes that a variable unit that is read has, header included.
 pub const MAX_SIZE: u32 = 65535;
 
-/// Reads the next `size` bytes. The frame is asked for before any of them is read.
+/// Reads the next `size` bytes.
+///
+/// Faults, in this order: `Memory`, with nothing read, where there is no room for the frame; `Short` or `Reader` inside
+/// it; `Memory`, with all of it read, where it can't be shared.
 pub fn read_frame<R: Source>(alloc: Global, size: usize, reader: &mut R) -> Result<Bytes, Fault>
     ensures bytes { ReadsFrame size result (R.remaining reader.old) (R.remaining reader.new) }
     ensures range { IfOk result IsBytes }

@@ -20,7 +20,7 @@ use std::hash::{Hash, Hasher};
 use std::marker::Model;
 
 /// The most bytes of key info: a router key that holds them has the greatest length that its length field can say.
-const MAX_LEN: usize = 4294967263;
+pub(crate) const MAX_LEN: usize = 4294967263;
 
 /// The key info of a router key: at most 4294967263 bytes.
 ///
@@ -36,7 +36,9 @@ impl Model for RouterKeyInfo {
 
     ghost view = { λ a. a.0 };
 
-    ghost invariant = { λ a. length a.0 ≤ 4294967263 };
+    ghost use Rattle.rtr_payload.specs.declared.key_info.TheConstants.{MAX_LEN as MOST};
+
+    ghost invariant = { λ a. length a.0 ≤ MOST };
 }
 
 /// Key info was longer than 4294967263 bytes.
@@ -61,7 +63,7 @@ impl RouterKeyInfo {
     /// The key info that these bytes are. Too many are refused.
     pub fn new(bytes: Bytes) -> Result<Self, KeyInfoError>
         ensures ok { IfOk result (λ k. k ≡ bytes) }
-        ensures exact { IsOk result ↔ (length bytes ≤ 4294967263) }
+        ensures exact { IsOk result ↔ (length bytes ≤ MAX_LEN) }
     {
         if bytes.len() > MAX_LEN {
             return Err(KeyInfoError);
@@ -72,7 +74,7 @@ impl RouterKeyInfo {
     /// The key info that these bytes are, which are not too many.
     #[inline(always)]
     pub(crate) fn within_limit(bytes: Bytes) -> Self
-        requires { length bytes ≤ 4294967263 }
+        requires { length bytes ≤ MAX_LEN }
         ensures { result ≡ bytes }
     {
         RouterKeyInfo(bytes)
@@ -82,8 +84,8 @@ impl RouterKeyInfo {
     /// refuse.
     pub fn from_vec(_alloc: Global, bytes: Vec<u8>) -> Result<Self, KeyInfoVecError>
         ensures ok { IfOk result (λ k. k ≡ bytes.items) }
-        ensures size { 4294967263 < length bytes.items → IsErrAnd result IsSize }
-        ensures memory { length bytes.items ≤ 4294967263 → IsOkUnless result KeyInfoVecError.Memory }
+        ensures size { MAX_LEN < length bytes.items → IsErrAnd result IsSize }
+        ensures memory { length bytes.items ≤ MAX_LEN → IsOkUnless result KeyInfoVecError.Memory }
     {
         if bytes.len() > MAX_LEN {
             return Err(KeyInfoVecError::Size(KeyInfoError));
@@ -98,7 +100,7 @@ impl RouterKeyInfo {
     #[inline(always)]
     pub fn as_slice(&self) -> &[u8]
         ensures bytes { result.now ≡ self.now }
-        ensures fits { length self.now ≤ 4294967263 }
+        ensures fits { length self.now ≤ MAX_LEN }
     {
         self.0.as_slice()
     }
@@ -107,20 +109,20 @@ impl RouterKeyInfo {
     #[inline(always)]
     pub fn len(&self) -> usize
         ensures value { result ≡ length self.now }
-        ensures fits { result ≤ 4294967263 }
+        ensures fits { result ≤ MAX_LEN }
     {
         self.0.len()
     }
 
-    /// The bytes, given away.
+    /// The bytes, by value.
     pub fn into_bytes(self) -> Bytes
         ensures bytes { result ≡ self }
-        ensures fits { length self ≤ 4294967263 }
+        ensures fits { length self ≤ MAX_LEN }
     {
         self.0
     }
 
-    /// The same key info once more.
+    /// The same key info once more. Its bytes are shared, which asks for memory.
     pub fn clone(&self) -> Result<Self, AllocError>
         ensures { IfOk result (λ k. k ≡ self.now) }
     {

@@ -10,7 +10,28 @@ ghost use Rattle.rtr_payload.specs.Orders.{list_cmp, payload_cmp};
 ghost use Rattle.rtr_payload.specs.Places.{fields_like};
 ghost use Rattle.rtr_payload.specs.Payloads.{Payload, IsPayload, Meaning};
 ghost use Rattle.rtr_base.specs.Actions.{act};
+ghost use Rattle.rtr_base.specs.declared.payload.Action.{Action};
+ghost use Rattle.rtr_units.specs.Causes.{Cause, no_memory};
+ghost use Rattle.rtr_units.specs.Header.{version_field};
+ghost use Rattle.rtr_payload.specs.UnitValues.{IsWritten, unit_bytes, flags_in, MeansPayload, HasNoPayload, IsPrefixUnit};
+ghost use Rattle.rtr_payload.specs.Values.{payload_of};
+ghost use Rattle.rtr_payload.specs.declared.payload.Payload.{Payload as Value};
+ghost use Rattle.rtr_payload.specs.declared.pdu_payload.Payload.{Payload as Unit};
 ghost use Rattle.rtr_payload.specs.Units.{IsUnit, form, form_of, meaning, written, stripped};
+
+use crate::aspa::Aspa;
+use crate::frame::MAX_SIZE;
+use crate::providers::ProviderAsns;
+use crate::router_key::RouterKey;
+
+/// The types of the units, and the limits on their sizes: the bytes of a unit that is read, and the providers of an ASPA.
+/// `pdu::RouterKey::max_key_info_size` says the bytes of key info.
+pub fn types_and_limits()
+    ensures router_key { RouterKey.PDU ≡ 9 }
+    ensures aspa { Aspa.PDU ≡ 11 }
+    ensures providers { ProviderAsns.MAX_COUNT ≡ 16380 }
+    ensures size { MAX_SIZE ≡ 65535 }
+{}
 
 /// With one version and one pair of flags, payloads have one form exactly where they are equal.
 pub fn payload_forms()
@@ -18,6 +39,18 @@ pub fn payload_forms()
     ensures places { (v f : ℕ) (p : Payload) → IsPayload p → fields_like (written v f p) (form v f p) ≡ written v f p }
     ensures fields { (v f : ℕ) (p : Payload) → IsPayload p →
         meaning (written v f p) ≡ record { version = v; action = act f; payload = stripped (act f) p } }
+{}
+
+/// What `pdu::Payload::new` makes has the flags that were given, and `to_payload` gives back the version, the action of
+/// the flags and the payload: of an ASPA with even flags, without its providers. None is refused, and where memory is
+/// wanted, it is for a key or an ASPA.
+pub fn made_and_read()
+    ensures flags { (v f : ℕ) (p : Payload) (u : Unit) → IsWritten v f p u → flags_in u ≡ f }
+    ensures means { (v f : ℕ) (p : Payload) (u : Unit) (a : Action) (q : Value) →
+        IsPayload p → IsWritten v f p u → MeansPayload u a q →
+        (version_field (unit_bytes u) ≡ v) × (a ≡ act f) × (payload_of q ≡ stripped (act f) p) }
+    ensures kept { (v f : ℕ) (p : Payload) (u : Unit) (c : Cause) →
+        IsPayload p → IsWritten v f p u → HasNoPayload u c → (c ≡ no_memory) × (IsPrefixUnit u → ⊥) }
 {}
 
 /// No unit begins another, and one list has one meaning.

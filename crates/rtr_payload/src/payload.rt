@@ -69,7 +69,7 @@ impl RouterKey {
         }
     }
 
-    /// The same key once more.
+    /// The same key once more. The bytes of its info are shared, which asks for memory.
     pub fn clone(&self) -> Result<Self, AllocError>
         ensures { IfOk result (λ k. k ≡ self.now) }
     {
@@ -78,7 +78,10 @@ impl RouterKey {
     }
 }
 
-/// An ASPA: a customer and its providers, whose order counts.
+/// An ASPA: a customer and its providers, whose order counts (as in the Rust crate).
+///
+/// A withdrawal of it is made of what `withdraw` answers: `pdu::Payload::new(2, 0, aspa.withdraw(alloc)?)`. A unit that
+/// is made of the ASPA itself holds all its providers, with even flags too, though they mean nothing there.
 #[derive(Debug, Drop)]
 pub struct Aspa {
     /// The customer.
@@ -105,15 +108,17 @@ impl Aspa {
         self.customer
     }
 
-    /// The ASPA as it is withdrawn: the same customer, and no providers.
+    /// The ASPA as it is withdrawn: the same customer, and no providers. No memory is asked for: it never answers
+    /// `AllocError`.
     pub fn withdraw(&self, alloc: Global) -> Result<Self, AllocError>
-        ensures { IfOk result (λ a. a ≡ record { customer = self.now.customer; providers = [] }) }
+        ensures withdrawn { IfOk result (λ a. a ≡ record { customer = self.now.customer; providers = [] }) }
+        ensures granted { IsOk result }
     {
         let providers = ProviderAsns::empty(alloc)?;
         Ok(Aspa::new(self.customer, providers))
     }
 
-    /// The same ASPA once more.
+    /// The same ASPA once more. The bytes of its providers are shared, which asks for memory.
     pub fn clone(&self) -> Result<Self, AllocError>
         ensures { IfOk result (λ a. a ≡ self.now) }
     {

@@ -1,6 +1,6 @@
-//! The providers of an ASPA (the crate's own format).
+//! The providers of an ASPA (as in the Rust crate).
 
-ghost use Rattle.std.specs.Prelude.{◌≡◌, ◌==◌, ◌*◌, List, [], Some, length, refl, nat_eq, IfOk, MatchResult, OnSome};
+ghost use Rattle.std.specs.Prelude.{◌≡◌, ◌==◌, ◌*◌, List, [], Some, length, refl, nat_eq, IfOk, IsOk, MatchResult, OnSome};
 ghost use Rattle.std.proofs.Common.{rules};
 ghost use Rattle.std.specs.Cmp.{partial_equiv_from_equiv};
 ghost use Rattle.std.specs.Cmp.Lexicographic.{nat_list_cmp_total, nat_list_eq_equiv, pointwise, slice_cmp, texts_po, texts_ties};
@@ -59,9 +59,10 @@ impl ProviderAsns {
     /// The most providers that an ASPA names: with them its length is 65532 bytes.
     pub const MAX_COUNT: usize = 16380;
 
-    /// No providers.
+    /// No providers, for which no memory is asked: it never answers `AllocError`.
     pub fn empty(_alloc: Global) -> Result<Self, AllocError>
-        ensures { IfOk result (λ p. p ≡ []) }
+        ensures none { IfOk result (λ p. p ≡ []) }
+        ensures granted { IsOk result }
     {
         Ok(ProviderAsns::none())
     }
@@ -73,7 +74,10 @@ impl ProviderAsns {
         ProviderAsns(Bytes::new())
     }
 
-    /// The items of the iterator, in their order. No more than 16381 are asked for, and its size hint isn't.
+    /// The items of the iterator, in their order. At most 16381 are asked for, and its size hint isn't.
+    ///
+    /// `Count` is answered where a 16381st item came. `Memory` is answered where a growth is refused: at an item, or after
+    /// the last one, where the bytes are shared. How many items came before that isn't said, as no caller can see it.
     pub fn try_from_iter<I: Iterator<Item = Asn> + Drop>(
         alloc: Global,
         mut iter: I,
@@ -162,7 +166,7 @@ impl ProviderAsns {
         self.0.as_slice()
     }
 
-    /// The same providers once more.
+    /// The same providers once more. Their bytes are shared, which asks for memory.
     pub fn clone(&self) -> Result<Self, AllocError>
         ensures { IfOk result (λ p. p ≡ self.now) }
     {
@@ -247,6 +251,15 @@ impl<'a> Model for ProviderIter<'a> {
     ghost Value = { List ℕ };
 
     ghost view = { λ a. words_of a.rest.now };
+}
+
+/// Writes the ASNs that are left, as a list.
+impl<'a> fmt::Debug for ProviderIter<'a> {
+    fn fmt<W: fmt::Write>(&self, f: &mut fmt::Formatter<W>) -> fmt::Result {
+        f.debug_list()
+            .entries(ProviderIter { rest: self.rest })
+            .finish()
+    }
 }
 
 impl<'a> Iterator for ProviderIter<'a> {

@@ -11,12 +11,12 @@ ghost use Rattle.rtr_units.specs.Header.{version_field, type_field};
 ghost use Rattle.rtr_units.specs.Stream.{PutsForm, count_after, is_reader_fault, is_writer_fault};
 ghost use Rattle.rtr_units.specs.Views.{header_bytes};
 ghost use Rattle.rtr_payload.specs.Frames.{fault_as, fault_of, ReadsVariable, ReadsBehind};
-ghost use Rattle.rtr_payload.specs.Payloads.{key};
+ghost use Rattle.rtr_payload.specs.Payloads.{key, IsPayload};
 ghost use Rattle.rtr_payload.specs.Places.{key_fields};
 ghost use Rattle.rtr_payload.specs.Units.{form, HasFields};
 
 use crate::frame::{MAX_SIZE, asn_at, read_frame};
-use crate::key_info::RouterKeyInfo;
+use crate::key_info::{MAX_LEN, RouterKeyInfo};
 use bytes::Bytes;
 use rtr_base::asn::Asn;
 use rtr_units::fault::Fault;
@@ -51,11 +51,12 @@ impl RouterKey {
     /// The type of a router key.
     pub const PDU: u8 = 9;
 
-    /// The most bytes of key info that a router key holds. One that is read has at most 65503.
+    /// The most bytes of key info that a router key holds: its length field says no more. One that is read has at most
+    /// 65503.
     pub const fn max_key_info_size() -> usize
         ensures { result ≡ 4294967263 }
     {
-        4294967263
+        MAX_LEN
     }
 
     /// The unit with these fields.
@@ -66,7 +67,8 @@ impl RouterKey {
         asn: Asn,
         key_info: RouterKeyInfo,
     ) -> Self
-        ensures { result ≡ form version flags (key key_identifier asn key_info) }
+        ensures form { result ≡ form version flags (key key_identifier asn key_info) }
+        ensures valid { IsPayload (key key_identifier asn key_info) }
     {
         let size = FIXED + key_info.len() as u32;
         let mut fixed = [0; 32];
@@ -79,7 +81,8 @@ impl RouterKey {
 
     /// Reads a router key.
     ///
-    /// Behind the header, `UnitType` is answered unless its type is 9, and then it goes on as `read_payload`.
+    /// Faults, in this order: `Short` or `Reader` inside the header; `UnitType` where its type isn't 9, with the header
+    /// taken; those of `read_payload`, `Memory` among them.
     pub fn read<R: Source>(alloc: Global, reader: &mut R) -> Result<Self, Fault>
         ensures bytes { ReadsVariable (fault_of 9) result (R.remaining reader.old) (R.remaining reader.new) }
         ensures fields { IfOk result (λ u. HasFields u (key_fields u)) }
@@ -96,11 +99,12 @@ impl RouterKey {
         RouterKey::read_payload(alloc, header, reader)
     }
 
-    /// Reads what follows the header, which is kept as it is. Its type is not judged.
+    /// Reads what follows the header, which is kept as it is. Its type is not checked.
     ///
-    /// `TooLong` is answered above length 65535, and then `UnitLength` below 32. Nothing was read then, and no memory
-    /// asked for. The rest is read into one frame, from which the key info is cut; where the frame can't be had,
-    /// `Memory` is answered, and nothing was read.
+    /// Faults, in this order: `TooLong` above length 65535 and `UnitLength` below 32, with nothing read and no memory
+    /// asked for; `Memory`, with nothing read, where there is no room for the frame that the rest is read into; `Short`
+    /// or `Reader` inside the unit; `Memory`, with the whole unit read, where the frame can't be shared. The key info is
+    /// cut from it.
     pub fn read_payload<R: Source>(
         alloc: Global,
         header: Header,
@@ -124,11 +128,11 @@ impl RouterKey {
         }
     }
 
-    /// The unit of a header and the frame behind it.
+    /// The unit of a header and the frame that follows it.
     fn from_frame(head: &[u8], mut frame: Bytes) -> Self
         requires head { length head.now ≡ 8 }
         requires size { 24 ≤ length frame }
-        requires fits { length frame ≤ 65535 }
+        requires fits { 8 + length frame ≤ MAX_SIZE }
         ensures { result ≡ head.now ++ frame }
     {
         let mut fixed = [0; 32];
@@ -190,14 +194,14 @@ impl RouterKey {
         &self.key_info
     }
 
-    /// The key info, given away.
+    /// The key info, by value.
     pub fn into_key_info(self) -> RouterKeyInfo
         ensures { result ≡ drop 32 self }
     {
         self.key_info
     }
 
-    /// The same unit once more.
+    /// The same unit once more. The bytes of its key info are shared, which asks for memory.
     pub fn clone(&self) -> Result<Self, AllocError>
         ensures { IfOk result (λ u. u ≡ self.now) }
     {

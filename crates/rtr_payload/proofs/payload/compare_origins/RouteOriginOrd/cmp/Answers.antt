@@ -1,10 +1,11 @@
-use Rattle.std.proofs.Common.{◌≡◌, ℕ, refl}
+use Rattle.std.proofs.Common.{◌≡◌, ℕ, refl, sym, ◌∙◌}
 use Rattle.std.specs.declared.cmp.Ordering.{Ordering}
 use Rattle.std.specs.declared.cmp.Ordering.TheVariants.{Less, Equal, Greater}
 use Rattle.std.specs.Ordering.{nat_cmp, ordering_then}
 use Rattle.rtr_base.specs.Addresses.{MaxLenParts, family_cmp, prefix_cmp, resolved_len}
 use Rattle.rtr_payload.specs.Orders.{payload_cmp}
 use Rattle.rtr_payload.specs.Values.{origin_of}
+use Rattle.rtr_payload.proofs.Orders.{origin_chain}
 use Rattle.rtr_payload.proofs.payload.compare_origins.RouteOriginOrd.cmp.Goals as goal
 
 -- five orders that decide in turn
@@ -20,7 +21,10 @@ regrouped Greater a l x n = refl
 by_prefix : (p q : MaxLenParts) (m n : ℕ) → ordering_then (ordering_then (prefix_cmp p.prefix q.prefix) (nat_cmp (resolved_len p) (resolved_len q))) (nat_cmp m n)
     ≡ payload_cmp (origin_of (record { prefix = p; asn = m })) (origin_of (record { prefix = q; asn = n }))
 by_prefix p q m n =
-    regrouped (family_cmp p.prefix.family q.prefix.family) (nat_cmp p.prefix.address q.prefix.address) (nat_cmp p.prefix.len q.prefix.len) (nat_cmp (resolved_len p) (resolved_len q)) (nat_cmp m n)
+    let l = p.prefix in
+    let r = q.prefix in
+    regrouped (family_cmp l.family r.family) (nat_cmp l.address r.address) (nat_cmp l.len r.len) (nat_cmp (resolved_len p) (resolved_len q)) (nat_cmp m n)
+    ∙ sym (origin_chain l.family r.family l.address r.address l.len r.len (resolved_len p) (resolved_len q) m n)
 
 pub returns : goal.returns
 returns c =

@@ -1,0 +1,75 @@
+-- What a written form means when it is read again.
+use Rattle.std.proofs.Common.{◌≡◌, ℕ, Option, Some, None, refl, sym, ap, subst, ◌∙◌}
+use Rattle.std.specs.Prelude.{IsSome}
+use Rattle.rtr_base.specs.Actions.{act}
+use Rattle.rtr_base.specs.declared.payload.Action.{Action}
+use Rattle.rtr_units.specs.Causes.{Refusal, short, unit_type, unit_version, too_long, unit_length, empty_providers, refused, Cause, by_reader, by_writer, too_many, no_memory, wrong}
+use Rattle.rtr_units.specs.Header.{version_field}
+use Rattle.rtr_units.specs.Units.{ipv4_bytes, ipv6_bytes}
+use Rattle.rtr_payload.specs.Payloads.{Payload, origin, key, aspa, Meaning, IsPayload}
+use Rattle.rtr_payload.specs.Steps.{rule_of}
+use Rattle.rtr_payload.specs.Units.{Fields, prefix, router_key, providers, LengthsAgree, meaning, written, stripped}
+use Rattle.rtr_payload.specs.UnitValues.{IsWritten, unit_bytes, unit_fields, flags_in, MeansPayload, NeedsMemory, HasNoPayload, IsPrefixUnit}
+use Rattle.rtr_payload.specs.Values.{payload_of}
+use Rattle.rtr_payload.specs.declared.payload.Payload.{Payload as Value}
+use Rattle.rtr_payload.specs.declared.pdu_payload.Payload.{Payload as Unit}
+use Rattle.rtr_payload.specs.declared.pdu_payload.Payload.TheVariants.{V4, V6, RouterKey, Aspa}
+use Rattle.rtr_payload.proofs.Fields.{meaning-written}
+use Rattle.rtr_payload.proofs.Rests.{agree_kept}
+
+-- the flags that stand among the fields
+abbrev flags_among : Fields → ℕ
+flags_among (prefix f v s g l x z a n) = g
+flags_among (router_key v g z i n k) = g
+flags_among (providers v g z c ps) = g
+
+flags_read : (u : Unit) → flags_in u ≡ flags_among (unit_fields u)
+flags_read (V4 u) = refl
+flags_read (V6 u) = refl
+flags_read (RouterKey u) = refl
+flags_read (Aspa u) = refl
+
+flags_there : (v f : ℕ) (p : Payload) → flags_among (written v f p) ≡ f
+flags_there v f (origin fam a l x n) = refl
+flags_there v f (key i n k) = refl
+flags_there v f (aspa c ps) = refl
+
+pub made_flags : (v f : ℕ) (p : Payload) (u : Unit) → IsWritten v f p u → flags_in u ≡ f
+made_flags v f p u h = flags_read u ∙ ap flags_among h.fields ∙ flags_there v f p
+
+pub made_means : (v f : ℕ) (p : Payload) (u : Unit) (a : Action) (q : Value) → IsPayload p → IsWritten v f p u → MeansPayload u a q → (version_field (unit_bytes u) ≡ v) × (a ≡ act f) × (payload_of q ≡ stripped (act f) p)
+made_means v f p u a q valid h m =
+    let same = m.means ∙ ap meaning h.fields ∙ meaning-written v f p valid in
+    (ap (λ (m : Meaning). m.version) same, ap (λ (m : Meaning). m.action) same, ap (λ (m : Meaning). m.payload) same)
+
+-- a form keeps the rule on the lengths of a prefix
+lengths_kept : (v f : ℕ) (p : Payload) → IsPayload p → LengthsAgree (written v f p)
+lengths_kept v f (origin fam a l x n) h = (h.len, h.max_len)
+lengths_kept v f (key i n k) h = tt
+lengths_kept v f (aspa c ps) h = tt
+
+no_rule : (v f : ℕ) (p : Payload) (u : Unit) → IsPayload p → IsWritten v f p u → rule_of (unit_fields u) ≡ None
+no_rule v f p u valid h = ap rule_of h.fields ∙ agree_kept (written v f p) (lengths_kept v f p valid)
+
+not_some : {A : Type 0} (o : Option A) → o ≡ None → IsSome o → ⊥
+not_some None e h = absurd cc
+not_some (Some x) e h = absurd cc
+
+no_report : (u : Unit) → rule_of (unit_fields u) ≡ None → IsPrefixUnit u → NeedsMemory u → ⊥
+no_report (V4 u) e k h = not_some _ e h
+no_report (V6 u) e k h = not_some _ e h
+no_report (RouterKey u) e k h = k
+no_report (Aspa u) e k h = k
+
+pub made_kept : (v f : ℕ) (p : Payload) (u : Unit) (c : Cause) → IsPayload p → IsWritten v f p u → HasNoPayload u c → (c ≡ no_memory) × (IsPrefixUnit u → ⊥)
+made_kept v f p u (wrong (refused r)) valid h (rule, broken, is) = absurd (let none = no_rule v f p u valid h in let both : Some rule ≡ None = sym broken ∙ none in cc)
+made_kept v f p u no_memory valid h s = (refl, λ k. no_report u (no_rule v f p u valid h) k s)
+made_kept v f p u by_reader valid h s = absurd s
+made_kept v f p u by_writer valid h s = absurd s
+made_kept v f p u too_many valid h s = absurd s
+made_kept v f p u (wrong short) valid h s = absurd s
+made_kept v f p u (wrong (unit_type t)) valid h s = absurd s
+made_kept v f p u (wrong (unit_version t)) valid h s = absurd s
+made_kept v f p u (wrong too_long) valid h s = absurd s
+made_kept v f p u (wrong unit_length) valid h s = absurd s
+made_kept v f p u (wrong empty_providers) valid h s = absurd s
