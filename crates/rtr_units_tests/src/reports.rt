@@ -121,14 +121,16 @@ fn expect_large(
 ) -> Result<(), Fail> {
     let (version, code, unit, text, head) = *row;
     let many = filler(alloc, 65536)?;
-    let report = Error::new(alloc, version, code, front(&many, unit), front(&many, text))?;
+    let (unit, text) = (front(&many, unit), front(&many, text));
+    assert!(rt; unit.len() <= 65536);
+    assert!(rt; text.len() <= 65536);
+    let report = Error::new(alloc, version, code, unit, text)?;
     let copy = report.clone()?;
     assert!(rt; copy == report);
     let head = bytes(alloc, &[head])?;
     assert!(rt; report.as_ref().starts_with(&head));
-    assert!(rt; report.as_ref().ends_with(front(&many, text)));
-    let size = unit.saturating_add(text).saturating_add(16);
-    expect_equal(rt, report.as_ref().len(), size);
+    assert!(rt; report.as_ref().ends_with(text));
+    expect_equal(rt, report.as_ref().len(), unit.len() + text.len() + 16);
     Ok(())
 }
 
