@@ -1,13 +1,14 @@
-use Rattle.std.proofs.Common.{◌≡◌, sym, ap, ◌∙◌}
+use Rattle.std.proofs.Common.{ap, sym, ◌∙◌}
 use Rattle.rtr_units.specs.Header.{version_field}
-use Rattle.rtr_payload.specs.UnitValues.{unit_bytes}
-use Rattle.rtr_wire.proofs.Units.{form_is, form_put}
+use Rattle.rtr_payload.specs.declared.payload.Payload.TheVariants.{Origin}
+use Rattle.rtr_wire.proofs.Units.{form_not_put}
 use Rattle.rtr_wire.proofs.run.write_origin.Goals as goal
 
-pub returns-clause-bytes : goal.returns-clause-bytes
-returns-clause-bytes g c =
-    let u = g.P.PrefixUnit.unit c.args.unit.now in
-    let same = g.met.P.PrefixUnit.told c.args.unit.now in
-    let version : c.version.result ≡ version_field (unit_bytes u) = c.version.ensures ∙ ap version_field (sym same.0) in
-    let is = form_is u _ _ _ c.version.result c.into_flags.result c.in-Ok.ensures.ok version c.into_flags.ensures.flags c.from_origin.ensures.form in
-    form_put u _ c.write.result _ _ c.in-Ok.ensures.ok.lengths is c.write.ensures.bytes
+pub returns-in-Err-write-clause-bytes : goal.returns-in-Err-write-clause-bytes
+returns-in-Err-write-clause-bytes g c =
+    let s = c.args.writing in
+    let u = c.args.unit.now in
+    let version = c.version-version.ensures ∙ ap (g.S.Writing.version_for s) (c.version.ensures ∙ ap version_field (sym (g.met.P.PrefixUnit.told u).0)) in
+    form_not_put (g.S.Writing.what s) (g.S.Writing.has s) (g.S.Writing.version_for s) (g.met.S.Writing.one s) (g.P.PrefixUnit.unit u) c.in-Ok.meaning.0 (Origin c.in-Ok.meaning.1) c.in-Ok.ensures.ok
+    (g.P.Unit.bytes c.from_origin.result) c.version-version.result c.into_flags.result (g.met.S.Writing.origins s) version c.into_flags.ensures.flags c.from_origin.ensures.form
+    c.in-Err-write.e _ _ c.in-Err-write.ensures.bytes
