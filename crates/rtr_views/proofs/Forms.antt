@@ -46,7 +46,7 @@ announced_form u h e =
     let ps = words_of (drop 12 u) in
     let c = value (take 4 (drop 8 u)) in
     let size : length u ≡ 12 + 4 * length ps =
-        omega (arith, ap length has.bytes, length-words ps) in
+    omega (arith, ap length has.bytes, length-words ps) in
     let tail : take 4 (drop 8 u) ++ drop 12 u ≡ be c 4 ++ words ps = ap (λ (l : List ℕ). take 4 (drop 8 u) ++ l) (sym (drop-drop 4 8 u)) ∙ take-append-drop 4 (drop 8 u) ∙ ap (drop 8) has.bytes in
     ap (λ (n : ℕ). ((version_field u ∷ 11 ∷ 1 ∷ 0 ∷ be n 4) ++ take 4 (drop 8 u)) ++ drop 12 u) size
     ∙ append_assoc (version_field u ∷ 11 ∷ 1 ∷ 0 ∷ be (12 + 4 * length ps) 4) (take 4 (drop 8 u)) (drop 12 u)
