@@ -38,7 +38,7 @@ one_fields : (b : List ℕ) (u w : Fields) → HasFields b u → HasFields b w �
 one_fields b u w h j = lists_same u w h.fits j.fits (sym h.bytes ∙ j.bytes)
 
 origin_means : (f : Family) (v : OriginView) (b : List ℕ) → IsOriginOf f v b → origin_meaning v ≡ meaning (prefix_fields f b)
-origin_means f v b h = λ i. record { version = h.shows.0 i; action = act (h.shows.1 i); payload = origin_of (h.shows.2 i) }
+origin_means f v b h = λ i. record { version = h.shows.0 i; action = act (h.shows.1 i); payload = origin_of (record { prefix = record { prefix = h.shows.2 i; max_len = h.shows.3 i }; asn = h.shows.4 i }) }
 
 -- the fields that a view shows
 record Shown (v : UnitView) (b : List ℕ) : Type 0 where

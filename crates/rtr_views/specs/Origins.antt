@@ -9,13 +9,16 @@ use Rattle.rtr_payload.specs.Values.{origin_of}
 use Rattle.rtr_views.specs.declared.origin.OriginView.{OriginView}
 
 abbrev pub origin_meaning : OriginView → Meaning
-origin_meaning v = record { version = v.version; action = act v.flags; payload = origin_of v.origin }
+origin_meaning v =
+    record { version = v.version; action = act v.flags; payload = origin_of v.origin }
 
--- the view shows the version, the flags and the origin of these fields: the address cleared, the max length given
+-- the view shows the version, the flags and the origin of these fields: the address cleared, the
+-- max length given
 abbrev pub ShowsOrigin : OriginView → Fields → Type 0
 ShowsOrigin v (prefix f w s g l x z a n) =
     (v.version ≡ w) × (v.flags ≡ g)
-    × (v.origin ≡ record { prefix = record { prefix = record { family = f; address = cleared (width f) l a; len = l }; max_len = Some x }; asn = n })
+    × (v.origin.prefix.prefix ≡ record { family = f; address = cleared (width f) l a; len = l })
+    × (v.origin.prefix.max_len ≡ Some x) × (v.origin.asn ≡ n)
 ShowsOrigin v (router_key w g z i n k) = ⊥
 ShowsOrigin v (providers w g z c ps) = ⊥
 

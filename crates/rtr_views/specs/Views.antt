@@ -10,8 +10,8 @@ use Rattle.rtr_views.specs.Origins.{IsOriginOf, origin_meaning}
 use Rattle.rtr_views.specs.declared.view.UnitView.{UnitView}
 use Rattle.rtr_views.specs.declared.view.UnitView.TheVariants as views
 
--- A view of these bytes, which are a payload unit or an end of data. A view of a router key or an ASPA unit is its bytes, as
--- they stand in the input, and shows the fields at their places.
+-- A view of these bytes, which are a payload unit or an end of data. A view of a router key or an
+-- ASPA unit is its bytes, as they stand in the input, and shows the fields at their places.
 abbrev pub IsViewOf : UnitView → List ℕ → Type 0
 IsViewOf (views.Origin v) b = (f : Family) × IsOriginOf f v b
 IsViewOf (views.RouterKey v) b = (v.unit.now ≡ b) × HasFields b (key_fields b)
@@ -25,7 +25,8 @@ ViewMeans (views.RouterKey v) m = m ≡ meaning (key_fields v.unit.now)
 ViewMeans (views.Aspa v) m = m ≡ meaning (aspa_fields v.unit.now)
 ViewMeans (views.End e) m = ⊥
 
--- the written form of what is viewed: of a payload unit that of its meaning, and of an end of data its bytes
+-- the written form of what is viewed: of a payload unit that of its meaning, and of an end of data
+-- its bytes
 abbrev pub view_form : UnitView → List ℕ
 view_form (views.Origin v) = form_of (origin_meaning v)
 view_form (views.RouterKey v) = form_of (meaning (key_fields v.unit.now))

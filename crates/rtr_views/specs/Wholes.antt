@@ -1,4 +1,5 @@
--- Lists of bytes that are a router key or an ASPA unit, by their type, their length and their length field.
+-- Lists of bytes that are a router key or an ASPA unit, by their type, their length and their
+-- length field.
 use Rattle.std.specs.Prelude.{◌≡◌, ◌≢◌, ◌%◌, ◌≤◌, ℕ, List, length, slice_index}
 use Rattle.rtr_base.specs.Bytes.{IsBytes}
 use Rattle.rtr_units.specs.Header.{version_field, type_field, length_field}

@@ -1,6 +1,7 @@
 //! Views of ASPA units (as in the Rust crate).
 
-ghost use Rattle.std.specs.Prelude.{◌≡◌, ◌≤◌, ◌∷◌, ◌++◌, length, take, drop, slice_index, IfOk, IfErr, not};
+ghost use Rattle.std.specs.Prelude.{◌≡◌, ◌≤◌, ◌∷◌, ◌++◌, length, take, drop, slice_index};
+ghost use Rattle.std.specs.Prelude.{IfOk, IfErr, not};
 ghost use Rattle.rtr_base.specs.Bytes.{be, value};
 ghost use Rattle.rtr_units.specs.Header.{version_field, type_field};
 ghost use Rattle.rtr_units.specs.Stream.{count_after};
@@ -98,7 +99,8 @@ impl<'a> AspaView<'a> {
     /// The first twelve bytes of the form of a unit of this size and these flags.
     #[inline(always)]
     fn form_front(&self, flags: u8, size: u32) -> [u8; 12]
-        ensures { result ≡ (version_field self.now.unit.now ∷ 11 ∷ flags ∷ 0 ∷ be size 4) ++ take 4 (drop 8 self.now.unit.now) }
+        ensures { result ≡ (version_field self.now.unit.now ∷ 11 ∷ flags ∷ 0 ∷ be size 4)
+            ++ take 4 (drop 8 self.now.unit.now) }
     {
         let mut front = [0; 12];
         front[..4].copy_from_slice(&[self.version(), Aspa::PDU, flags, 0]);
@@ -110,8 +112,10 @@ impl<'a> AspaView<'a> {
     /// Writes the form of what the unit means: of a withdrawal without its providers.
     #[inline(always)]
     pub(crate) fn write_form<W: Sink>(&self, writer: &mut W) -> Result<(), ViewFault>
-        ensures bytes { PutsPiece result (W.contents writer.old) (W.contents writer.new) (form_of (meaning (aspa_fields self.now.unit.now))) }
-        ensures count { W.failures writer.new ≡ count_after (W.failures writer.old) (not (is_view_writer_fault result)) }
+        ensures bytes { PutsPiece result (W.contents writer.old) (W.contents writer.new)
+            (form_of (meaning (aspa_fields self.now.unit.now))) }
+        ensures count { W.failures writer.new
+            ≡ count_after (W.failures writer.old) (not (is_view_writer_fault result)) }
     {
         match Action::from_flags(self.flags()) {
             Action::Announce => {

@@ -13,7 +13,8 @@ use rtr_units::source::Sink;
 #[inline(always)]
 pub fn put_piece<W: Sink>(writer: &mut W, piece: &[u8]) -> Result<(), ViewFault>
     ensures bytes { PutsPiece result (W.contents writer.old) (W.contents writer.new) piece.now }
-    ensures count { W.failures writer.new ≡ count_after (W.failures writer.old) (not (is_view_writer_fault result)) }
+    ensures count { W.failures writer.new
+        ≡ count_after (W.failures writer.old) (not (is_view_writer_fault result)) }
 {
     match put(writer, piece) {
         Ok(()) => Ok(()),

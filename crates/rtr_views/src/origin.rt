@@ -140,8 +140,10 @@ impl OriginView {
     /// Writes the form of what the unit means.
     #[inline(always)]
     pub(crate) fn write_form<W: Sink>(&self, writer: &mut W) -> Result<(), ViewFault>
-        ensures bytes { PutsPiece result (W.contents writer.old) (W.contents writer.new) (form_of (origin_meaning self.now)) }
-        ensures count { W.failures writer.new ≡ count_after (W.failures writer.old) (not (is_view_writer_fault result)) }
+        ensures bytes { PutsPiece result (W.contents writer.old) (W.contents writer.new)
+            (form_of (origin_meaning self.now)) }
+        ensures count { W.failures writer.new
+            ≡ count_after (W.failures writer.old) (not (is_view_writer_fault result)) }
     {
         let flags = Action::from_flags(self.flags).into_flags();
         let prefix = self.origin.prefix.prefix();

@@ -1,6 +1,7 @@
 //! Views of router keys (RFC 8210 section 5.10).
 
-ghost use Rattle.std.specs.Prelude.{◌≡◌, ◌≤◌, ◌++◌, length, take, drop, slice_index, IfOk, IfErr, not};
+ghost use Rattle.std.specs.Prelude.{◌≡◌, ◌≤◌, ◌++◌, length, take, drop, slice_index};
+ghost use Rattle.std.specs.Prelude.{IfOk, IfErr, not};
 ghost use Rattle.rtr_base.specs.Bytes.{value};
 ghost use Rattle.rtr_units.specs.Header.{version_field, type_field};
 ghost use Rattle.rtr_units.specs.Stream.{count_after};
@@ -105,7 +106,8 @@ impl<'a> RouterKeyView<'a> {
     /// What the form of the unit's meaning has before the key info.
     #[inline(always)]
     fn form_front(&self) -> [u8; 32]
-        ensures { result ++ drop 32 self.now.unit.now ≡ form_of (meaning (key_fields self.now.unit.now)) }
+        ensures { result ++ drop 32 self.now.unit.now
+            ≡ form_of (meaning (key_fields self.now.unit.now)) }
     {
         let flags = Action::from_flags(self.flags()).into_flags();
         let mut front = [0; 32];
@@ -117,8 +119,10 @@ impl<'a> RouterKeyView<'a> {
     /// Writes the form of what the unit means.
     #[inline(always)]
     pub(crate) fn write_form<W: Sink>(&self, writer: &mut W) -> Result<(), ViewFault>
-        ensures bytes { PutsPiece result (W.contents writer.old) (W.contents writer.new) (form_of (meaning (key_fields self.now.unit.now))) }
-        ensures count { W.failures writer.new ≡ count_after (W.failures writer.old) (not (is_view_writer_fault result)) }
+        ensures bytes { PutsPiece result (W.contents writer.old) (W.contents writer.new)
+            (form_of (meaning (key_fields self.now.unit.now))) }
+        ensures count { W.failures writer.new
+            ≡ count_after (W.failures writer.old) (not (is_view_writer_fault result)) }
     {
         match put_piece(writer, &self.form_front()) {
             Ok(()) => put_piece(writer, self.key_info()),

@@ -31,12 +31,13 @@ pub enum UnitView<'a> {
 }
 
 impl<'a> UnitView<'a> {
-    /// The view of the payload unit or the end of data that the input begins with, and its length in bytes. It asks for
-    /// no memory.
+    /// The view of the payload unit or the end of data that the input begins with, and its length
+    /// in bytes. It asks for no memory.
     ///
-    /// Faults, in this order: `Short` inside the header; `UnitType`; `UnitVersion` for an end of data of a version above
-    /// 2; `TooLong` for a key or an ASPA unit of more than 65535 bytes; `UnitLength`; `EmptyProviders` for an ASPA that
-    /// is announced without providers; `Short` inside the unit; `Prefix` where the lengths of a prefix break their rule.
+    /// Faults, in this order: `Short` inside the header; `UnitType`; `UnitVersion` for an end of
+    /// data of a version above 2; `TooLong` for a key or an ASPA unit of more than 65535 bytes;
+    /// `UnitLength`; `EmptyProviders` for an ASPA that is announced without providers; `Short`
+    /// inside the unit; `Prefix` where the lengths of a prefix break their rule.
     #[inline(always)]
     pub fn first(input: &'a [u8]) -> Result<(UnitView<'a>, usize), ViewFault>
         ensures view { IfOk result (λ p. IsViewOf p.0 (take p.1 input.now)) }
@@ -71,14 +72,17 @@ impl<'a> UnitView<'a> {
         }
     }
 
-    /// Writes the written form of what the unit means: all free bytes are zero, and a withdrawn ASPA has no providers.
-    /// Of an end of data it writes the bytes. It asks for no memory and doesn't flush.
+    /// Writes the written form of what the unit means: all free bytes are zero, and a withdrawn
+    /// ASPA has no providers. Of an end of data it writes the bytes. It asks for no memory and
+    /// doesn't flush.
     ///
     /// `Writer` alone; a part of the form was written then.
     #[inline(always)]
     pub fn write_form<W: Sink>(&self, writer: &mut W) -> Result<(), ViewFault>
-        ensures bytes { PutsPiece result (W.contents writer.old) (W.contents writer.new) (view_form self.now) }
-        ensures count { W.failures writer.new ≡ count_after (W.failures writer.old) (not (is_view_writer_fault result)) }
+        ensures bytes { PutsPiece result (W.contents writer.old) (W.contents writer.new)
+            (view_form self.now) }
+        ensures count { W.failures writer.new
+            ≡ count_after (W.failures writer.old) (not (is_view_writer_fault result)) }
     {
         match self {
             UnitView::Origin(view) => view.write_form(writer),
