@@ -6,7 +6,10 @@ ghost use Rattle.rtr_views.specs.Faults.{is_view_writer_fault};
 ghost use Rattle.rtr_wire.specs.Outcome.{Steps};
 ghost use Rattle.rtr_wire.specs.SliceRun.{NormalisesSlice, StopsStep, is_payload_unit};
 
+use rtr_payload::pdu::{Aspa, RouterKey};
+use rtr_units::fixed::{Ipv4Prefix, Ipv6Prefix};
 use rtr_units::source::Sink;
+use rtr_units::unit::Unit;
 use rtr_views::fault::ViewFault;
 use rtr_views::view::UnitView;
 
@@ -41,10 +44,39 @@ pub fn normalise_slice<W: Sink>(
     Err(ViewFault::TooMany)
 }
 
-/// Views one unit, and writes its form. Answers whether it was a payload unit, and no end of data,
-/// and what follows it.
+/// Views one unit, and writes its form. Answers whether it was a payload unit, and no end of data, and
+/// what follows it.
+///
+/// Each type goes its own way, on which the compiler knows the kind of the view at each step. The answer
+/// of the rare ones is wrapped again, so that the others' need not lie in memory.
 #[inline(always)]
 fn step<'a, W: Sink>(rest: &'a [u8], writer: &mut W) -> Result<(bool, &'a [u8]), ViewFault>
+    ensures unit { IfOk result (λ p. Steps (Ok p.0) (Some rest.now) (Some p.1.now)
+        (W.contents writer.old) (W.contents writer.new)) }
+    ensures fault { IfErr result (λ e. StopsStep e rest.now
+        (W.contents writer.old) (W.contents writer.new)) }
+    ensures count { W.failures writer.new
+        ≡ count_after (W.failures writer.old) (not (is_view_writer_fault result)) }
+{
+    let unit_type = if rest.len() < 8 { 0 } else { rest[1] };
+    match unit_type {
+        Ipv4Prefix::PDU => view_step::<4, W>(rest, writer),
+        Ipv6Prefix::PDU => view_step::<6, W>(rest, writer),
+        RouterKey::PDU => view_step::<9, W>(rest, writer),
+        Aspa::PDU => view_step::<11, W>(rest, writer),
+        _ => match view_step::<0, W>(rest, writer) {
+            Ok(step) => Ok(step),
+            Err(e) => Err(e),
+        },
+    }
+}
+
+/// The step for units of one type, or of any other: the type is named so that each has code of its own.
+#[inline(always)]
+fn view_step<'a, const TYPE: u8, W: Sink>(
+    rest: &'a [u8],
+    writer: &mut W,
+) -> Result<(bool, &'a [u8]), ViewFault>
     ensures unit { IfOk result (λ p. Steps (Ok p.0) (Some rest.now) (Some p.1.now)
         (W.contents writer.old) (W.contents writer.new)) }
     ensures fault { IfErr result (λ e. StopsStep e rest.now

@@ -2,7 +2,7 @@ use Rattle.std.proofs.Common.{List, ℕ, Bool, ◌++◌, take, drop, Some, Ok, s
 use Rattle.std.proofs.lemmas.List.{take-append-drop}
 use Rattle.rtr_wire.specs.Outcome.{Steps}
 use Rattle.rtr_wire.proofs.Slices.{view_step, not_written, not_viewed}
-use Rattle.rtr_wire.proofs.slice.step.Goals as goal
+use Rattle.rtr_wire.proofs.slice.view_step.Goals as goal
 
 pub returns-in-Err-clause-fault : goal.returns-in-Err-clause-fault
 returns-in-Err-clause-fault g c = not_viewed c.in-Err.e c.args.rest.now _ (λ i. omega (arith, c.type_inv.rest i)) c.in-Err.ensures.fault
