@@ -1,5 +1,7 @@
 //! Inputs for which `normalise` asks for no growth: sequences of prefixes, and faults that come before a body.
 
+mod slices;
+
 use crate::expect_equal;
 use crate::support::{Page, normalised};
 use rtr_support::{END_0, END_1, IPV4, IPV4_STRAY, IPV6, IPV6_STRAY, KEY};

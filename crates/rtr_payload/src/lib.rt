@@ -7,7 +7,7 @@ mod key_info;
 pub mod laws;
 pub mod payload;
 mod pdu_payload;
-mod prefix_rule;
+pub mod prefix_rule;
 mod prefix_unit;
 mod providers;
 mod router_key;

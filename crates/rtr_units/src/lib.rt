@@ -9,7 +9,7 @@ pub mod fault;
 pub mod fixed;
 pub mod header;
 pub mod laws;
-mod numbers;
+pub mod numbers;
 pub mod piece;
 pub mod session;
 pub mod source;

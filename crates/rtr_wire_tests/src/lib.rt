@@ -11,6 +11,8 @@ mod normalised;
 mod rows;
 #[cfg(test)]
 mod shown;
+#[cfg(test)]
+mod slices;
 
 #[cfg(test)]
 use std::fmt::Debug;

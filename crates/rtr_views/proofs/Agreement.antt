@@ -1,0 +1,97 @@
+-- Views and units of the same bytes mean the same.
+use Rattle.std.proofs.Common.{◌≡◌, ◌≢◌, ℕ, List, Option, Some, None, arith, refl, sym, ap, subst, ◌∙◌}
+use Rattle.rtr_base.specs.Actions.{act}
+use Rattle.rtr_base.specs.Addresses.{Family, v4, v6}
+use Rattle.rtr_base.specs.declared.payload.Timing.{Timing}
+use Rattle.rtr_units.specs.End.{EndMeaning, End, timed_list}
+use Rattle.rtr_units.specs.Header.{type_field}
+use Rattle.rtr_units.specs.Ends.{end_bytes, end_meaning}
+use Rattle.rtr_payload.specs.Payloads.{Meaning}
+use Rattle.rtr_payload.specs.Places.{prefix_fields, key_fields, aspa_fields}
+use Rattle.rtr_payload.specs.Units.{Fields, prefix, router_key, providers, HasFields, IsUnit, LengthsAgree, meaning, form_of, unit_list}
+use Rattle.rtr_payload.specs.UnitValues.{unit_bytes, unit_fields}
+use Rattle.rtr_payload.specs.Values.{origin_of}
+use Rattle.rtr_payload.specs.declared.pdu_payload.Payload.{Payload}
+use Rattle.rtr_payload.proofs.Fields.{lists_same}
+use Rattle.rtr_views.specs.Origins.{IsOriginOf, origin_meaning}
+use Rattle.rtr_views.specs.Views.{IsViewOf, ViewMeans, view_form}
+use Rattle.rtr_views.specs.declared.origin.OriginView.{OriginView}
+use Rattle.rtr_views.specs.declared.view.UnitView.{UnitView}
+use Rattle.rtr_views.specs.declared.view.UnitView.TheVariants as views
+
+-- no list has both the shape of a unit and that of an end of data
+fields_type : (u : Fields) → type_field (unit_list u) ≢ 7
+fields_type (prefix v4 v s g l x z a n) h = omega arith
+fields_type (prefix v6 v s g l x z a n) h = omega arith
+fields_type (router_key v g z i n k) h = omega arith
+fields_type (providers v g z c ps) h = omega arith
+
+timed_type : (v s q : ℕ) (t : Option Timing) → type_field (timed_list v s q t) ≡ 7
+timed_type v s q None = refl
+timed_type v s q (Some t) = refl
+
+shape_or_end : (b : List ℕ) (u : Fields) (e : EndMeaning) → HasFields b u → End b e → ⊥
+shape_or_end b u e h end = fields_type u (ap type_field (sym h.bytes ∙ end.bytes) ∙ timed_type e.version e.session e.serial e.timing)
+
+-- the fields of a list of bytes are one
+one_fields : (b : List ℕ) (u w : Fields) → HasFields b u → HasFields b w → u ≡ w
+one_fields b u w h j = lists_same u w h.fits j.fits (sym h.bytes ∙ j.bytes)
+
+origin_means : (f : Family) (v : OriginView) (b : List ℕ) → IsOriginOf f v b → origin_meaning v ≡ meaning (prefix_fields f b)
+origin_means f v b h = λ i. record { version = h.shows.0 i; action = act (h.shows.1 i); payload = origin_of (record { prefix = record { prefix = h.shows.2 i; max_len = h.shows.3 i }; asn = h.shows.4 i }) }
+
+-- the fields that a view shows
+record Shown (v : UnitView) (b : List ℕ) : Type 0 where
+  fields : Fields
+  shape : HasFields b fields
+  lengths : LengthsAgree fields
+  means : (m : Meaning) → ViewMeans v m → m ≡ meaning fields
+  meant : ViewMeans v (meaning fields)
+
+of_origin : (f : Family) (v : OriginView) (b : List ℕ) → IsOriginOf f v b → Shown (views.Origin v) b
+of_origin f v b h = record { fields = prefix_fields f b; shape = h.shape; lengths = h.lengths; means = λ m is. is ∙ origin_means f v b h; meant = sym (origin_means f v b h) }
+
+no_end : (v : UnitView) (b : List ℕ) (u : Fields) → HasFields b u → IsViewOf v b → Shown v b
+no_end (views.Origin v) b u h (f, is) = of_origin f v b is
+no_end (views.RouterKey v) b u h (is, shape) = record {
+  fields = key_fields b;
+  shape = shape;
+  lengths = tt;
+  means = λ m e. e ∙ ap (λ l. meaning (key_fields l)) is;
+  meant = ap (λ l. meaning (key_fields l)) (sym is);
+}
+no_end (views.Aspa v) b u h (is, shape) = record {
+  fields = aspa_fields b;
+  shape = shape;
+  lengths = tt;
+  means = λ m e. e ∙ ap (λ l. meaning (aspa_fields l)) is;
+  meant = ap (λ l. meaning (aspa_fields l)) (sym is);
+}
+no_end (views.End e) b u h (is, end) = absurd (shape_or_end b u (end_meaning e) h end)
+
+pub view_means : (v : UnitView) (b : List ℕ) (m : Meaning) → IsViewOf v b → ViewMeans v m → IsUnit b m
+view_means (views.Origin v) b m (f, is) e = record { fields = prefix_fields f b; shape = is.shape; lengths = is.lengths; means = e ∙ origin_means f v b is }
+view_means (views.RouterKey v) b m (is, shape) e = record { fields = key_fields b; shape = shape; lengths = tt; means = e ∙ ap (λ l. meaning (key_fields l)) is }
+view_means (views.Aspa v) b m (is, shape) e = record { fields = aspa_fields b; shape = shape; lengths = tt; means = e ∙ ap (λ l. meaning (aspa_fields l)) is }
+view_means (views.End d) b m is e = absurd e
+
+pub view_and_fields : (v : UnitView) (b : List ℕ) (u : Fields) → IsViewOf v b → HasFields b u → LengthsAgree u × ViewMeans v (meaning u)
+view_and_fields v b u is h =
+    let s = no_end v b u h is in
+    let same = one_fields b s.fields u s.shape h in
+    (subst LengthsAgree same s.lengths, subst (λ w. ViewMeans v (meaning w)) same s.meant)
+
+pub view_meant : (v : UnitView) (b : List ℕ) (m : Meaning) → IsViewOf v b → IsUnit b m → ViewMeans v m
+view_meant v b m is h = subst (ViewMeans v) (sym h.means) (view_and_fields v b h.fields is h.shape).1
+
+pub form_meant : (v : UnitView) (m : Meaning) → ViewMeans v m → view_form v ≡ form_of m
+form_meant (views.Origin v) m e = ap form_of (sym e)
+form_meant (views.RouterKey v) m e = ap form_of (sym e)
+form_meant (views.Aspa v) m e = ap form_of (sym e)
+form_meant (views.End d) m e = absurd e
+
+pub form_end : (v : UnitView) (b : List ℕ) (e : EndMeaning) → IsViewOf v b → End b e → view_form v ≡ b
+form_end (views.Origin v) b e (f, is) end = absurd (shape_or_end b (prefix_fields f b) e is.shape end)
+form_end (views.RouterKey v) b e (is, shape) end = absurd (shape_or_end b (key_fields b) e shape end)
+form_end (views.Aspa v) b e (is, shape) end = absurd (shape_or_end b (aspa_fields b) e shape end)
+form_end (views.End d) b e (is, end') end = is

@@ -1,0 +1,136 @@
+-- The unit at the front of a list, and the faults that its header shows.
+use Rattle.std.proofs.Common.{◌≡◌, ◌≢◌, ◌%◌, ◌⊎◌, inl, inr, ℕ, ◌≤◌, ◌<◌, List, ◌++◌, length, take, drop, get_or, Some, None, sym, ap, subst, ◌∙◌, arith}
+use Rattle.std.proofs.lemmas.Bool.Decides.{nat_tests}
+use Rattle.std.proofs.lemmas.List.{take-append-drop, length-take-le}
+use Rattle.rtr_base.specs.Addresses.{Family, v4, v6}
+use Rattle.rtr_base.specs.Bytes.{IsBytes}
+use Rattle.rtr_base.proofs.Numbers.{IsBytes-take}
+use Rattle.rtr_units.specs.Causes.{Refusal, unit_type, unit_version, unit_length, empty_providers, refused}
+use Rattle.rtr_units.specs.FixedUnits.{prefix_type, prefix_size}
+use Rattle.rtr_units.specs.Header.{version_field, type_field, length_field}
+use Rattle.rtr_units.specs.End.{End, untimed_meaning, timed_meaning}
+use Rattle.rtr_units.proofs.EndUnits.{end_with_timing}
+use Rattle.rtr_units.proofs.EndsRead.{untimed_has}
+use Rattle.rtr_units.proofs.Headers.{same_header}
+use Rattle.rtr_payload.specs.Places.{prefix_fields, key_fields, aspa_fields}
+use Rattle.rtr_payload.specs.Steps.{PrefixFault, first_fault, first_of, first_unit, header_fault, header_step, length_step, lengths_fault, rule_of, refusal_report}
+use Rattle.rtr_payload.specs.Units.{HasFields}
+use Rattle.rtr_payload.proofs.FieldsRead.{prefix_has}
+use Rattle.rtr_payload.proofs.Frames.{behind_header, eleven_in_order}
+use Rattle.rtr_payload.proofs.Variable.{aspa_short, aspa_uneven, aspa_empty}
+use Rattle.rtr_payload.proofs.Refusals.{prefix_refused}
+use Rattle.rtr_views.specs.Wholes.{IsFirstUnit, IsWholeKey, IsWholeAspa}
+use Rattle.rtr_views.proofs.Forms.{whole_key, whole_aspa}
+
+-- a fault of the header comes first
+pub header_shows : (r : List ℕ) (f : Refusal) → 8 ≤ length r → header_step r ≡ Some f → first_fault r ≡ Some f
+header_shows r f l e =
+    ap (λ o. first_of o (lengths_fault (type_field r) (first_unit r))) (behind_header r l ∙ ap (λ o. first_of o (length_step r)) e)
+
+-- the unit at the front is cut
+pub cut_first : (r : List ℕ) → 8 ≤ length r → 8 ≤ length_field r → length_field r ≤ length r → IsFirstUnit r (first_unit r)
+cut_first r long some within =
+    let front = first_unit r in
+    let len : length front ≡ length_field r = length-take-le (length_field r) r within in
+    let all : front ++ drop (length_field r) r ≡ r = take-append-drop (length_field r) r in
+    let same = same_header front (drop (length_field r) r) (omega arith) in
+    record {
+      cut = λ i. front;
+      size = len;
+      version = sym same.version ∙ ap version_field all;
+      kind = sym same.kind ∙ ap type_field all;
+      flags = sym same.flags ∙ ap (λ b. get_or b 2 0) all;
+      field = sym same.size ∙ ap length_field all;
+    }
+
+-- a header in order names at least its own bytes
+pub least_size : (v t g n : ℕ) → header_fault v t g n ≡ None → 8 ≤ n
+unfolding header_fault
+least_size v t g n e = grind (arith, nat_tests)
+
+-- ---- prefixes
+
+pub prefix_length : (f : Family) (v g n : ℕ) → n ≢ prefix_size f → header_fault v (prefix_type f) g n ≡ Some unit_length
+unfolding header_fault
+prefix_length v4 v g n h = grind (arith, nat_tests)
+prefix_length v6 v g n h = grind (arith, nat_tests)
+
+pub prefix_in_order : (f : Family) (v g n : ℕ) → n ≡ prefix_size f → header_fault v (prefix_type f) g n ≡ None
+unfolding header_fault
+prefix_in_order v4 v g n h = grind (arith, nat_tests)
+prefix_in_order v6 v g n h = grind (arith, nat_tests)
+
+pub prefix_front : (f : Family) (r u : List ℕ) → IsBytes r → type_field r ≡ prefix_type f → length_field r ≡ prefix_size f → IsFirstUnit r u → HasFields u (prefix_fields f u)
+prefix_front f r u h kind field is =
+    prefix_has f u (rw is.cut (IsBytes-take (length_field r) r h)) (is.size ∙ field) (is.kind ∙ kind) (is.field ∙ field)
+
+-- the prefix at the front breaks its rule
+pub prefix_broken : (f : Family) (r u : List ℕ) (fault : PrefixFault) → HasFields u (prefix_fields f u) → IsFirstUnit r u → rule_of (prefix_fields f u) ≡ Some fault → first_fault r ≡ Some (refused (refusal_report (first_unit r) fault))
+prefix_broken f r u fault shape is broken =
+    let all : u ++ drop (length_field r) r ≡ r = ap (λ l. l ++ drop (length_field r) r) is.cut ∙ take-append-drop (length_field r) r in
+    sym (ap first_fault all) ∙ (prefix_refused u (prefix_fields f u) fault shape broken (drop (length_field r) r)).0 ∙ ap (λ l. Some (refused (refusal_report l fault))) is.cut
+
+-- ---- ends of data
+
+pub end_version : (v g n : ℕ) → 2 < v → header_fault v 7 g n ≡ Some (unit_version v)
+unfolding header_fault
+end_version v g n h = grind (arith, nat_tests)
+
+pub end_length_0 : (v g n : ℕ) → v ≡ 0 → n ≢ 12 → header_fault v 7 g n ≡ Some unit_length
+unfolding header_fault
+end_length_0 v g n h l = grind (arith, nat_tests)
+
+pub end_length_1 : (v g n : ℕ) → v ≤ 2 → v ≢ 0 → n ≢ 24 → header_fault v 7 g n ≡ Some unit_length
+unfolding header_fault
+end_length_1 v g n h k l = grind (arith, nat_tests)
+
+pub end_in_order_0 : (v g n : ℕ) → v ≡ 0 → n ≡ 12 → header_fault v 7 g n ≡ None
+unfolding header_fault
+end_in_order_0 v g n h l = grind (arith, nat_tests)
+
+pub end_in_order_1 : (v g n : ℕ) → v ≤ 2 → v ≢ 0 → n ≡ 24 → header_fault v 7 g n ≡ None
+unfolding header_fault
+end_in_order_1 v g n h k l = grind (arith, nat_tests)
+
+-- ---- other types
+
+pub other_type : (v t g n : ℕ) → t ≢ 4 → t ≢ 6 → t ≢ 7 → t ≢ 9 → t ≢ 11 → header_fault v t g n ≡ Some (unit_type t)
+unfolding header_fault
+other_type v t g n a b c d e = grind (arith, nat_tests)
+
+-- a fault of the header, by its type
+pub typed_shows : (r : List ℕ) (t : ℕ) (f : Refusal) → 8 ≤ length r → type_field r ≡ t → header_fault (version_field r) t (get_or r 2 0) (length_field r) ≡ Some f → first_fault r ≡ Some f
+typed_shows r t f l kind e = header_shows r f l (ap (λ k. header_fault (version_field r) k (get_or r 2 0) (length_field r)) kind ∙ e)
+
+pub typed_in_order : (r : List ℕ) (t : ℕ) → type_field r ≡ t → header_fault (version_field r) t (get_or r 2 0) (length_field r) ≡ None → header_step r ≡ None
+typed_in_order r t kind e = ap (λ k. header_fault (version_field r) k (get_or r 2 0) (length_field r)) kind ∙ e
+
+pub end_front_0 : (r u : List ℕ) → IsBytes r → type_field r ≡ 7 → version_field r ≡ 0 → length_field r ≡ 12 → IsFirstUnit r u → End u (untimed_meaning u)
+end_front_0 r u h kind version field is =
+    untimed_has u (rw is.cut (IsBytes-take (length_field r) r h)) (is.version ∙ version) (is.kind ∙ kind) (is.size ∙ field) (is.field ∙ field)
+
+pub end_front_1 : (r u : List ℕ) → IsBytes r → type_field r ≡ 7 → version_field r ≤ 2 → version_field r ≢ 0 → length_field r ≡ 24 → IsFirstUnit r u → End u (timed_meaning u)
+end_front_1 r u h kind small later field is =
+    end_with_timing u (rw is.cut (IsBytes-take (length_field r) r h)) (is.size ∙ field) (omega (arith, is.version)) (λ e. later (sym is.version ∙ e)) (is.kind ∙ kind) (is.field ∙ field)
+
+-- ---- what is viewed, by its length
+
+unit_at : (r u w : List ℕ) → IsFirstUnit r u → w ≡ u → u ≡ take (length w) r
+unit_at r u w is same = is.cut ∙ ap (λ (n : ℕ). take n r) (sym is.size ∙ ap length (sym same))
+
+pub key_viewed : (r u w : List ℕ) → IsFirstUnit r u → IsWholeKey u → w ≡ u → (u ≡ take (length w) r) × HasFields (take (length w) r) (key_fields (take (length w) r))
+key_viewed r u w is whole same = let e = unit_at r u w is same in (e, subst (λ l. HasFields l (key_fields l)) e (whole_key u whole))
+
+pub aspa_viewed : (r u w : List ℕ) → IsFirstUnit r u → IsWholeAspa u → w ≡ u → (u ≡ take (length w) r) × HasFields (take (length w) r) (aspa_fields (take (length w) r))
+aspa_viewed r u w is whole same = let e = unit_at r u w is same in (e, subst (λ l. HasFields l (aspa_fields l)) e (whole_aspa u whole))
+
+-- ---- ASPA units
+
+pub aspa_length : (v g n : ℕ) → n ≤ 65535 → (n < 12) ⊎ (n % 4 ≢ 0) → header_fault v 11 g n ≡ Some unit_length
+aspa_length v g n h k = elim k [ inl less ↦ aspa_short v g n less | inr uneven ↦ aspa_uneven v g n h uneven ]
+
+pub aspa_no_providers : (v g n : ℕ) → n ≡ 12 → g % 2 ≡ 1 → header_fault v 11 g n ≡ Some empty_providers
+aspa_no_providers v g n h odd = ap (header_fault v 11 g) h ∙ aspa_empty v g odd
+
+pub aspa_in_order : (v g n : ℕ) → 12 ≤ n → n ≤ 65535 → n % 4 ≡ 0 → (n ≢ 12) ⊎ (g % 2 ≢ 1) → header_fault v 11 g n ≡ None
+aspa_in_order v g n low high fours k = eleven_in_order v g n low high fours (λ e odd. elim k [ inl more ↦ more e | inr even ↦ even odd ])

@@ -1,0 +1,43 @@
+-- What a fault of a call on views says.
+use Rattle.std.specs.Prelude.{◌≡◌, ℕ, ◌<◌, Bool, true, false, List, ◌++◌, length, Option, Some, Result, Ok, Err, MatchResult, ⊤}
+use Rattle.std.specs.Io.KnownBytes.{Appends}
+use Rattle.rtr_units.specs.Causes.{short, unit_type, unit_version, too_long, unit_length, empty_providers, refused}
+use Rattle.rtr_payload.specs.PrefixRules.{fault_of}
+use Rattle.rtr_payload.specs.Steps.{first_fault, first_unit, refusal_report}
+use Rattle.rtr_views.specs.declared.fault.ViewFault.{ViewFault}
+use Rattle.rtr_views.specs.declared.fault.ViewFault.TheVariants.{Writer, Short, UnitType, UnitLength, TooLong, EmptyProviders, UnitVersion, Prefix, TooMany}
+
+-- The fault names the first fault of the list r. Of a prefix that breaks its rule it names the part
+-- that is broken, and of the report that part is told alone.
+abbrev pub IsFirstFault : List ℕ → ViewFault → Type 0
+IsFirstFault r (Writer e) = ⊥
+IsFirstFault r Short = first_fault r ≡ Some short
+IsFirstFault r (UnitType t) = first_fault r ≡ Some (unit_type t)
+IsFirstFault r UnitLength = first_fault r ≡ Some unit_length
+IsFirstFault r TooLong = first_fault r ≡ Some too_long
+IsFirstFault r EmptyProviders = first_fault r ≡ Some empty_providers
+IsFirstFault r (UnitVersion v) = first_fault r ≡ Some (unit_version v)
+IsFirstFault r (Prefix rule) =
+    first_fault r ≡ Some (refused (refusal_report (first_unit r) (fault_of rule)))
+IsFirstFault r TooMany = ⊥
+
+-- whether the writer gave the fault
+abbrev pub is_view_writer_fault : {T : Type 0} → Result T ViewFault → Bool
+is_view_writer_fault (Err (Writer e)) = true
+is_view_writer_fault _ = false
+
+abbrev pub IsWriterFault : ViewFault → Type 0
+IsWriterFault (Writer e) = ⊤
+IsWriterFault _ = ⊥
+
+-- a piece was to be written: a proper prefix of it was, and then the writer failed
+abbrev pub WritesPiecePart : ViewFault → Option (List ℕ) → Option (List ℕ) → List ℕ → Type 0
+WritesPiecePart fault old new piece =
+    (t others : List ℕ) × Appends old new t × (piece ≡ t ++ others) × (0 < length others)
+    × IsWriterFault fault
+
+-- what a call that writes this piece leaves
+abbrev pub PutsPiece :
+    {T : Type 0} → Result T ViewFault → Option (List ℕ) → Option (List ℕ) → List ℕ → Type 0
+PutsPiece r old new piece =
+    MatchResult r (λ _. Appends old new piece) (λ e. WritesPiecePart e old new piece)

@@ -1,0 +1,4 @@
+pub mod Wholes
+pub mod Faults
+pub mod Origins
+pub mod Views

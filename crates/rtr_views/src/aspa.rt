@@ -1,0 +1,131 @@
+//! Views of ASPA units (as in the Rust crate).
+
+ghost use Rattle.std.specs.Prelude.{◌≡◌, ◌≤◌, ◌∷◌, ◌++◌, length, take, drop, slice_index};
+ghost use Rattle.std.specs.Prelude.{IfOk, IfErr, not};
+ghost use Rattle.rtr_base.specs.Bytes.{be, value};
+ghost use Rattle.rtr_units.specs.Header.{version_field, type_field};
+ghost use Rattle.rtr_units.specs.Stream.{count_after};
+ghost use Rattle.rtr_payload.specs.Places.{aspa_fields};
+ghost use Rattle.rtr_payload.specs.Units.{meaning, form_of};
+ghost use Rattle.rtr_views.specs.Wholes.{IsFirstUnit, IsWholeAspa};
+ghost use Rattle.rtr_views.specs.Faults.{IsFirstFault, PutsPiece, is_view_writer_fault};
+
+use crate::cut::{MAX_SIZE, first_unit};
+use crate::fault::ViewFault;
+use crate::form::put_piece;
+use rtr_base::asn::Asn;
+use rtr_base::payload::Action;
+use rtr_payload::pdu::Aspa;
+use rtr_units::numbers::u32_at;
+use rtr_units::source::Sink;
+
+/// The bytes of an ASPA unit before its providers.
+const FIXED: u32 = 12;
+
+/// An ASPA unit that lies in a slice.
+#[derive(Clone, Copy, Debug)]
+pub struct AspaView<'a> {
+    unit: &'a [u8],
+    ghost whole: { IsWholeAspa unit.now },
+}
+
+impl<'a> AspaView<'a> {
+    /// The version of the protocol.
+    #[inline(always)]
+    pub fn version(&self) -> u8
+        ensures { result ≡ version_field self.now.unit.now }
+    {
+        self.unit[0]
+    }
+
+    /// The flags, of which the lowest bit says whether the ASPA is announced.
+    #[inline(always)]
+    pub fn flags(&self) -> u8
+        ensures { result ≡ slice_index self.now.unit.now 2 }
+    {
+        self.unit[2]
+    }
+
+    /// The customer: the autonomous system whose providers these are.
+    #[inline(always)]
+    pub fn customer(&self) -> Asn
+        ensures { result ≡ value (take 4 (drop 8 self.now.unit.now)) }
+    {
+        Asn::from_u32(u32_at(self.unit, 8))
+    }
+
+    /// The providers, as they stand in the input: four bytes each, on a withdrawal too.
+    #[inline(always)]
+    pub fn providers(&self) -> &'a [u8]
+        ensures { result.now ≡ drop 12 self.now.unit.now }
+    {
+        let (_, providers) = self.unit.split_at(12);
+        providers
+    }
+
+    /// The bytes of the whole unit, as they stand in the input.
+    #[inline(always)]
+    pub(crate) fn unit(&self) -> &'a [u8]
+        ensures { result.now ≡ self.now.unit.now }
+    {
+        self.unit
+    }
+
+    /// The view of the ASPA unit at the front of the input.
+    #[inline(always)]
+    pub(crate) fn first(input: &'a [u8]) -> Result<Self, ViewFault>
+        requires header { 8 ≤ length input.now }
+        requires kind { type_field input.now ≡ 11 }
+        ensures view { IfOk result (λ v. IsFirstUnit input.now v.unit.now) }
+        ensures within { IfOk result (λ v. length v.unit.now ≤ length input.now) }
+        ensures fault { IfErr result (λ e. IsFirstFault input.now e) }
+    {
+        let size = u32_at(input, 4);
+        if size > MAX_SIZE {
+            return Err(ViewFault::TooLong);
+        }
+        if size < FIXED || size % 4 != 0 {
+            return Err(ViewFault::UnitLength);
+        }
+        if size == FIXED && input[2] % 2 == 1 {
+            return Err(ViewFault::EmptyProviders);
+        }
+        match first_unit(input, size as usize) {
+            Ok(unit) => Ok(AspaView { unit }),
+            Err(e) => Err(e),
+        }
+    }
+
+    /// The first twelve bytes of the form of a unit of this size and these flags.
+    #[inline(always)]
+    fn form_front(&self, flags: u8, size: u32) -> [u8; 12]
+        ensures { result ≡ (version_field self.now.unit.now ∷ 11 ∷ flags ∷ 0 ∷ be size 4)
+            ++ take 4 (drop 8 self.now.unit.now) }
+    {
+        let mut front = [0; 12];
+        front[..4].copy_from_slice(&[self.version(), Aspa::PDU, flags, 0]);
+        front[4..8].copy_from_slice(&size.to_be_bytes());
+        front[8..].copy_from_slice(&self.unit[8..12]);
+        front
+    }
+
+    /// Writes the form of what the unit means: of a withdrawal without its providers.
+    #[inline(always)]
+    pub(crate) fn write_form<W: Sink>(&self, writer: &mut W) -> Result<(), ViewFault>
+        ensures bytes { PutsPiece result (W.contents writer.old) (W.contents writer.new)
+            (form_of (meaning (aspa_fields self.now.unit.now))) }
+        ensures count { W.failures writer.new
+            ≡ count_after (W.failures writer.old) (not (is_view_writer_fault result)) }
+    {
+        match Action::from_flags(self.flags()) {
+            Action::Announce => {
+                let size = self.unit.len() as u32;
+                match put_piece(writer, &self.form_front(1, size)) {
+                    Ok(()) => put_piece(writer, self.providers()),
+                    Err(e) => Err(e),
+                }
+            }
+            Action::Withdraw => put_piece(writer, &self.form_front(0, FIXED)),
+        }
+    }
+}

@@ -1,0 +1,58 @@
+//! The end of data at the front of a slice (RFC 6810 and RFC 8210 section 5.8).
+
+ghost use Rattle.std.specs.Prelude.{◌≡◌, ◌≤◌, length, IfOk, IfErr};
+ghost use Rattle.rtr_units.specs.End.{End};
+ghost use Rattle.rtr_units.specs.Ends.{end_bytes, end_meaning};
+ghost use Rattle.rtr_units.specs.Header.{type_field};
+ghost use Rattle.rtr_views.specs.Faults.{IsFirstFault};
+ghost use Rattle.rtr_views.specs.Wholes.{IsFirstUnit};
+
+use crate::cut::first_unit;
+use crate::fault::ViewFault;
+use rtr_units::end::EndOfData;
+use rtr_units::fixed::{EndOfDataV0, EndOfDataV1};
+use rtr_units::numbers::u32_at;
+use rtr_units::unit::Unit;
+
+/// The end of data at the front of the input.
+pub fn first_end(input: &[u8]) -> Result<EndOfData, ViewFault>
+    requires header { 8 ≤ length input.now }
+    requires kind { type_field input.now ≡ 7 }
+    ensures unit { IfOk result (λ e. IsFirstUnit input.now (end_bytes e)) }
+    ensures within { IfOk result (λ e. length (end_bytes e) ≤ length input.now) }
+    ensures end { IfOk result (λ e. End (end_bytes e) (end_meaning e)) }
+    ensures fault { IfErr result (λ e. IsFirstFault input.now e) }
+{
+    let version = input[0];
+    let size = u32_at(input, 4);
+    if version > 2 {
+        return Err(ViewFault::UnitVersion(version));
+    }
+    if version == 0 {
+        if size != 12 {
+            return Err(ViewFault::UnitLength);
+        }
+        match first_unit(input, 12) {
+            Ok(unit) => Ok(EndOfData::V0(unit_of::<EndOfDataV0>(unit))),
+            Err(e) => Err(e),
+        }
+    } else {
+        if size != 24 {
+            return Err(ViewFault::UnitLength);
+        }
+        match first_unit(input, 24) {
+            Ok(unit) => Ok(EndOfData::V1(unit_of::<EndOfDataV1>(unit))),
+            Err(e) => Err(e),
+        }
+    }
+}
+
+/// The unit of these bytes.
+fn unit_of<U: Unit>(bytes: &[u8]) -> U
+    requires { length bytes.now ≡ U.LENGTH }
+    ensures { U.bytes result ≡ bytes.now }
+{
+    let mut unit = U::zero();
+    unit.as_mut().copy_from_slice(bytes);
+    unit
+}

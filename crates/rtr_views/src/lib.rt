@@ -1,0 +1,12 @@
+//! Views of payload units that lie in a slice: what they say and mean, read without memory.
+#![tactic(auto)]
+
+pub mod aspa;
+mod cut;
+mod end;
+pub mod fault;
+mod form;
+pub mod laws;
+pub mod origin;
+pub mod router_key;
+pub mod view;

@@ -1,0 +1,158 @@
+//! Views of prefix units (RFC 8210 sections 5.6 and 5.7).
+
+ghost use Rattle.std.specs.Prelude.{◌≡◌, ◌≤◌, Some, length, IfOk, IfErr, not};
+ghost use Rattle.rtr_base.specs.Addresses.{v4, v6};
+ghost use Rattle.rtr_units.specs.Header.{type_field, length_field};
+ghost use Rattle.rtr_units.specs.Stream.{count_after};
+ghost use Rattle.rtr_payload.specs.Places.{prefix_fields};
+ghost use Rattle.rtr_payload.specs.PrefixRules.{fault_of};
+ghost use Rattle.rtr_payload.specs.Steps.{first_unit, rule_of};
+ghost use Rattle.rtr_payload.specs.Units.{LengthsAgree, form_of};
+ghost use Rattle.rtr_views.specs.Faults.{IsFirstFault, PutsPiece, is_view_writer_fault};
+ghost use Rattle.rtr_views.specs.Origins.{IsOriginOf, ShowsOrigin, origin_meaning};
+
+use crate::cut::first_unit;
+use crate::fault::ViewFault;
+use crate::form::put_piece;
+use rtr_base::asn::Asn;
+use rtr_base::payload::Action;
+use rtr_payload::payload::RouteOrigin;
+use rtr_payload::pdu::PrefixUnit;
+use rtr_payload::prefix_rule::{PrefixRule, ipv4_prefix, ipv6_prefix};
+use rtr_units::fixed::{Ipv4Prefix, Ipv6Prefix};
+use rtr_units::numbers::{u32_at, u128_at};
+use rtr_units::source::Sink;
+use rtr_units::unit::Unit;
+
+/// What a prefix unit says of a route origin.
+#[derive(Clone, Copy, Debug)]
+pub struct OriginView {
+    version: u8,
+    flags: u8,
+    origin: RouteOrigin,
+}
+
+impl OriginView {
+    /// The version of the protocol.
+    #[inline(always)]
+    pub fn version(&self) -> u8
+        ensures { result ≡ self.now.version }
+    {
+        self.version
+    }
+
+    /// The flags, of which the lowest bit says whether the origin is announced.
+    #[inline(always)]
+    pub fn flags(&self) -> u8
+        ensures { result ≡ self.now.flags }
+    {
+        self.flags
+    }
+
+    /// The origin. Host bits of its address are cleared, and its max length is given.
+    #[inline(always)]
+    pub fn origin(&self) -> RouteOrigin
+        ensures { result ≡ self.now.origin }
+    {
+        self.origin
+    }
+
+    /// The view of the IPv4 prefix unit at the front of the input.
+    #[inline(always)]
+    pub(crate) fn first_ipv4(input: &[u8]) -> Result<Self, ViewFault>
+        requires header { 8 ≤ length input.now }
+        requires kind { type_field input.now ≡ 4 }
+        ensures size { IfOk result (λ _. length_field input.now ≡ 20) }
+        ensures within { IfOk result (λ _. 20 ≤ length input.now) }
+        ensures view { IfOk result (λ v. IsOriginOf v4 v (first_unit input.now)) }
+        ensures fault { IfErr result (λ e. IsFirstFault input.now e) }
+    {
+        if u32_at(input, 4) != 20 {
+            return Err(ViewFault::UnitLength);
+        }
+        match first_unit(input, 20) {
+            Ok(unit) => match OriginView::of_ipv4(unit) {
+                Ok(view) => Ok(view),
+                Err(rule) => Err(ViewFault::Prefix(rule)),
+            },
+            Err(e) => Err(e),
+        }
+    }
+
+    /// The view of the IPv6 prefix unit at the front of the input.
+    #[inline(always)]
+    pub(crate) fn first_ipv6(input: &[u8]) -> Result<Self, ViewFault>
+        requires header { 8 ≤ length input.now }
+        requires kind { type_field input.now ≡ 6 }
+        ensures size { IfOk result (λ _. length_field input.now ≡ 32) }
+        ensures within { IfOk result (λ _. 32 ≤ length input.now) }
+        ensures view { IfOk result (λ v. IsOriginOf v6 v (first_unit input.now)) }
+        ensures fault { IfErr result (λ e. IsFirstFault input.now e) }
+    {
+        if u32_at(input, 4) != 32 {
+            return Err(ViewFault::UnitLength);
+        }
+        match first_unit(input, 32) {
+            Ok(unit) => match OriginView::of_ipv6(unit) {
+                Ok(view) => Ok(view),
+                Err(rule) => Err(ViewFault::Prefix(rule)),
+            },
+            Err(e) => Err(e),
+        }
+    }
+
+    /// The view of an IPv4 prefix unit.
+    #[inline(always)]
+    fn of_ipv4(unit: &[u8]) -> Result<Self, PrefixRule>
+        requires { length unit.now ≡ 20 }
+        ensures view { IfOk result (λ v. ShowsOrigin v (prefix_fields v4 unit.now)) }
+        ensures lengths { IfOk result (λ _. LengthsAgree (prefix_fields v4 unit.now)) }
+        ensures rule { IfErr result (λ r. rule_of (prefix_fields v4 unit.now) ≡ Some (fault_of r)) }
+    {
+        match ipv4_prefix(u32_at(unit, 12), unit[9], unit[10]) {
+            Ok(prefix) => Ok(OriginView {
+                version: unit[0],
+                flags: unit[8],
+                origin: RouteOrigin::new(prefix, Asn::from_u32(u32_at(unit, 16))),
+            }),
+            Err(rule) => Err(rule),
+        }
+    }
+
+    /// The view of an IPv6 prefix unit.
+    #[inline(always)]
+    fn of_ipv6(unit: &[u8]) -> Result<Self, PrefixRule>
+        requires { length unit.now ≡ 32 }
+        ensures view { IfOk result (λ v. ShowsOrigin v (prefix_fields v6 unit.now)) }
+        ensures lengths { IfOk result (λ _. LengthsAgree (prefix_fields v6 unit.now)) }
+        ensures rule { IfErr result (λ r. rule_of (prefix_fields v6 unit.now) ≡ Some (fault_of r)) }
+    {
+        match ipv6_prefix(u128_at(unit, 12), unit[9], unit[10]) {
+            Ok(prefix) => Ok(OriginView {
+                version: unit[0],
+                flags: unit[8],
+                origin: RouteOrigin::new(prefix, Asn::from_u32(u32_at(unit, 28))),
+            }),
+            Err(rule) => Err(rule),
+        }
+    }
+
+    /// Writes the form of what the unit means.
+    #[inline(always)]
+    pub(crate) fn write_form<W: Sink>(&self, writer: &mut W) -> Result<(), ViewFault>
+        ensures bytes { PutsPiece result (W.contents writer.old) (W.contents writer.new)
+            (form_of (origin_meaning self.now)) }
+        ensures count { W.failures writer.new
+            ≡ count_after (W.failures writer.old) (not (is_view_writer_fault result)) }
+    {
+        let flags = Action::from_flags(self.flags).into_flags();
+        let prefix = self.origin.prefix.prefix();
+        if prefix.is_v4() {
+            let unit = Ipv4Prefix::from_origin(self.version, flags, self.origin);
+            put_piece(writer, unit.as_ref())
+        } else {
+            let unit = Ipv6Prefix::from_origin(self.version, flags, self.origin);
+            put_piece(writer, unit.as_ref())
+        }
+    }
+}

@@ -1,0 +1,132 @@
+//! Views of router keys (RFC 8210 section 5.10).
+
+ghost use Rattle.std.specs.Prelude.{◌≡◌, ◌≤◌, ◌++◌, length, take, drop, slice_index};
+ghost use Rattle.std.specs.Prelude.{IfOk, IfErr, not};
+ghost use Rattle.rtr_base.specs.Bytes.{value};
+ghost use Rattle.rtr_units.specs.Header.{version_field, type_field};
+ghost use Rattle.rtr_units.specs.Stream.{count_after};
+ghost use Rattle.rtr_payload.specs.Places.{key_fields};
+ghost use Rattle.rtr_payload.specs.Units.{meaning, form_of};
+ghost use Rattle.rtr_views.specs.Wholes.{IsFirstUnit, IsWholeKey};
+ghost use Rattle.rtr_views.specs.Faults.{IsFirstFault, PutsPiece, is_view_writer_fault};
+
+use crate::cut::{MAX_SIZE, first_unit};
+use crate::fault::ViewFault;
+use crate::form::put_piece;
+use rtr_base::asn::Asn;
+use rtr_base::payload::Action;
+use rtr_payload::pdu::RouterKey;
+use rtr_units::numbers::u32_at;
+use rtr_units::source::Sink;
+
+/// The bytes of a router key before its key info.
+const FIXED: u32 = 32;
+
+/// A router key that lies in a slice.
+#[derive(Clone, Copy, Debug)]
+pub struct RouterKeyView<'a> {
+    unit: &'a [u8],
+    ghost whole: { IsWholeKey unit.now },
+}
+
+impl<'a> RouterKeyView<'a> {
+    /// The version of the protocol.
+    #[inline(always)]
+    pub fn version(&self) -> u8
+        ensures { result ≡ version_field self.now.unit.now }
+    {
+        self.unit[0]
+    }
+
+    /// The flags, of which the lowest bit says whether the key is announced.
+    #[inline(always)]
+    pub fn flags(&self) -> u8
+        ensures { result ≡ slice_index self.now.unit.now 2 }
+    {
+        self.unit[2]
+    }
+
+    /// The subject key identifier.
+    #[inline(always)]
+    pub fn key_identifier(&self) -> [u8; 20]
+        ensures { result ≡ take 20 (drop 8 self.now.unit.now) }
+    {
+        let mut identifier = [0; 20];
+        identifier.copy_from_slice(&self.unit[8..28]);
+        identifier
+    }
+
+    /// The autonomous system that the key belongs to.
+    #[inline(always)]
+    pub fn asn(&self) -> Asn
+        ensures { result ≡ value (take 4 (drop 28 self.now.unit.now)) }
+    {
+        Asn::from_u32(u32_at(self.unit, 28))
+    }
+
+    /// The key info, as it stands in the input.
+    #[inline(always)]
+    pub fn key_info(&self) -> &'a [u8]
+        ensures { result.now ≡ drop 32 self.now.unit.now }
+    {
+        let (_, key_info) = self.unit.split_at(32);
+        key_info
+    }
+
+    /// The bytes of the whole unit, as they stand in the input.
+    #[inline(always)]
+    pub(crate) fn unit(&self) -> &'a [u8]
+        ensures { result.now ≡ self.now.unit.now }
+    {
+        self.unit
+    }
+
+    /// The view of the router key at the front of the input.
+    #[inline(always)]
+    pub(crate) fn first(input: &'a [u8]) -> Result<Self, ViewFault>
+        requires header { 8 ≤ length input.now }
+        requires kind { type_field input.now ≡ 9 }
+        ensures view { IfOk result (λ v. IsFirstUnit input.now v.unit.now) }
+        ensures within { IfOk result (λ v. length v.unit.now ≤ length input.now) }
+        ensures fault { IfErr result (λ e. IsFirstFault input.now e) }
+    {
+        let size = u32_at(input, 4);
+        if size > MAX_SIZE {
+            return Err(ViewFault::TooLong);
+        }
+        if size < FIXED {
+            return Err(ViewFault::UnitLength);
+        }
+        match first_unit(input, size as usize) {
+            Ok(unit) => Ok(RouterKeyView { unit }),
+            Err(e) => Err(e),
+        }
+    }
+
+    /// What the form of the unit's meaning has before the key info.
+    #[inline(always)]
+    fn form_front(&self) -> [u8; 32]
+        ensures { result ++ drop 32 self.now.unit.now
+            ≡ form_of (meaning (key_fields self.now.unit.now)) }
+    {
+        let flags = Action::from_flags(self.flags()).into_flags();
+        let mut front = [0; 32];
+        front[4..].copy_from_slice(&self.unit[4..32]);
+        front[..4].copy_from_slice(&[self.version(), RouterKey::PDU, flags, 0]);
+        front
+    }
+
+    /// Writes the form of what the unit means.
+    #[inline(always)]
+    pub(crate) fn write_form<W: Sink>(&self, writer: &mut W) -> Result<(), ViewFault>
+        ensures bytes { PutsPiece result (W.contents writer.old) (W.contents writer.new)
+            (form_of (meaning (key_fields self.now.unit.now))) }
+        ensures count { W.failures writer.new
+            ≡ count_after (W.failures writer.old) (not (is_view_writer_fault result)) }
+    {
+        match put_piece(writer, &self.form_front()) {
+            Ok(()) => put_piece(writer, self.key_info()),
+            Err(e) => Err(e),
+        }
+    }
+}

@@ -1,0 +1,86 @@
+-- What a run of `normalise_slice` reads, writes and answers: a run as one of `normalise`, over
+-- bytes that are known, for which neither a reader nor memory can fail.
+use Rattle.std.specs.Prelude.{◌≡◌, ℕ, Bool, true, false, not, List, ◌++◌, length, Option, Some, Result, Ok, Err, IfOk, IsOk}
+use Rattle.std.specs.Io.KnownBytes.{Appends}
+use Rattle.rtr_units.specs.Causes.{short, unit_type, unit_version, too_long, unit_length, empty_providers, refused, Cause, by_writer, too_many, wrong}
+use Rattle.rtr_units.specs.Stream.{count_after}
+use Rattle.rtr_payload.specs.PrefixRules.{fault_of}
+use Rattle.rtr_payload.specs.Steps.{refusal_report}
+use Rattle.rtr_views.specs.Faults.{is_view_writer_fault}
+use Rattle.rtr_views.specs.declared.fault.ViewFault.{ViewFault}
+use Rattle.rtr_views.specs.declared.fault.ViewFault.TheVariants.{Writer, Short, UnitType, UnitLength, TooLong, EmptyProviders, UnitVersion, Prefix, TooMany}
+use Rattle.rtr_views.specs.declared.view.UnitView.{UnitView}
+use Rattle.rtr_views.specs.declared.view.UnitView.TheVariants as views
+use Rattle.rtr_wire.specs.Outcome.{StepTells}
+use Rattle.rtr_wire.specs.Run.{HasRun, Run, BlamesNobody}
+use Rattle.rtr_wire.specs.Sequences.{everything}
+use Rattle.rtr_wire.specs.declared.run.Passed.{Passed}
+use Rattle.rtr_wire.specs.declared.run.Passed.TheVariants as passes
+
+-- the cause that a fault names; a part of the rule on prefix lengths names the report on the unit u
+-- that breaks it
+abbrev pub view_cause : List ℕ → ViewFault → Cause
+view_cause u (Writer e) = by_writer
+view_cause u Short = wrong short
+view_cause u (UnitType t) = wrong (unit_type t)
+view_cause u UnitLength = wrong unit_length
+view_cause u TooLong = wrong too_long
+view_cause u EmptyProviders = wrong empty_providers
+view_cause u (UnitVersion v) = wrong (unit_version v)
+view_cause u (Prefix rule) = wrong (refused (refusal_report u (fault_of rule)))
+view_cause u TooMany = too_many
+
+-- the answer as one of `normalise`, with each fault by its cause: the number of units alone
+abbrev pub slice_answer : List ℕ → Result (ℕ × ℕ) ViewFault → Result ℕ Cause
+slice_answer u (Ok (n, k)) = Ok n
+slice_answer u (Err e) = Err (view_cause u e)
+
+-- what a call finds or leaves at its writer: the bytes that it holds, where they are known, and how
+-- often it has failed
+pub record Side : Type 0 where
+  pub held : Option (List ℕ)
+  pub failed : ℕ
+
+-- the whole promise of normalise_slice, with its limit, its result and its input
+pub record NormalisesSlice (limit : ℕ) (result : Result (ℕ × ℕ) ViewFault) (input : List ℕ)
+    (old new : Side) : Type 0 where
+  -- the call took these bytes from the front of the input, left these, and added these to what the
+  -- writer holds
+  pub taken : List ℕ
+  pub left : List ℕ
+  pub written : List ℕ
+  pub parts : input ≡ taken ++ left
+  pub writes : Appends old.held new.held written
+  -- That was a run. The last bytes that it took are the unit that a broken rule is told of.
+  pub last : List ℕ
+  pub run : Run everything limit (slice_answer last result) taken left written
+  pub last_is : last ≡ run.last
+  -- a number comes with that of the bytes taken
+  pub bytes : IfOk result (λ p. p.1 ≡ length taken)
+  -- an input over which some run succeeds is answered by numbers, unless the writer failed
+  pub succeeds :
+      (number : ℕ) → HasRun everything limit (Ok number) input →
+      BlamesNobody (slice_answer last result) → IsOk result
+  -- the writer is blamed exactly where its count of failures rose
+  pub writer_failures : new.failed ≡ count_after old.failed (not (is_view_writer_fault result))
+
+-- ---- one step
+
+-- what a step passed, by whether it was a payload unit, and no end of data
+abbrev pub passed : Bool → Passed
+passed true = passes.Written
+passed false = passes.End
+
+-- whether the view is one of a payload unit
+abbrev pub is_payload_unit : UnitView → Bool
+is_payload_unit (views.Origin v) = true
+is_payload_unit (views.RouterKey v) = true
+is_payload_unit (views.Aspa v) = true
+is_payload_unit (views.End e) = false
+
+-- why a step stopped at the front of the rest: some last bytes were taken, and perhaps a part of
+-- their form written
+abbrev pub StopsStep : ViewFault → List ℕ → Option (List ℕ) → Option (List ℕ) → Type 0
+StopsStep e rest held holds =
+    (last left w : List ℕ) × (rest ≡ last ++ left) × Appends held holds w
+    × StepTells everything (Err (view_cause last e)) last w (Some left)

@@ -1,0 +1,110 @@
+//! Runs over sequences that lie in a slice.
+
+ghost use Rattle.std.specs.Prelude.{◌≡◌, Ok, Some, IfOk, IfErr, not};
+ghost use Rattle.rtr_units.specs.Stream.{count_after};
+ghost use Rattle.rtr_views.specs.Faults.{is_view_writer_fault};
+ghost use Rattle.rtr_wire.specs.Outcome.{Steps};
+ghost use Rattle.rtr_wire.specs.Sequences.{everything};
+ghost use Rattle.rtr_wire.specs.SliceRun.{NormalisesSlice, StopsStep, is_payload_unit, passed};
+
+use rtr_payload::pdu::{Aspa, RouterKey};
+use rtr_units::fixed::{Ipv4Prefix, Ipv6Prefix};
+use rtr_units::source::Sink;
+use rtr_units::unit::Unit;
+use rtr_views::fault::ViewFault;
+use rtr_views::view::UnitView;
+
+/// As `normalise`, of an input that lies in a slice, and without any memory. Answers the number of
+/// payload units and that of the bytes taken, which the end of data closes; what follows it doesn't
+/// count.
+///
+/// At most `limit` units are viewed, the end of data included: `TooMany` comes before the next one.
+/// Other faults are those of `UnitView::first` and `UnitView::write_form`; the units before are
+/// written by then. It doesn't flush.
+pub fn normalise_slice<W: Sink>(
+    input: &[u8],
+    writer: &mut W,
+    limit: u64,
+) -> Result<(u64, usize), ViewFault>
+    ensures { NormalisesSlice limit result input.now
+        (record { held = W.contents writer.old; failed = W.failures writer.old })
+        (record { held = W.contents writer.new; failed = W.failures writer.new }) }
+{
+    let mut rest = input;
+    for count in 0..limit {
+        match step(rest, writer) {
+            Ok((is_unit, left)) => {
+                rest = left;
+                if !is_unit {
+                    return Ok((count, input.len() - rest.len()));
+                }
+            }
+            Err(e) => return Err(e),
+        }
+    }
+    Err(ViewFault::TooMany)
+}
+
+/// Views one unit, and writes its form. Answers whether it was a payload unit, and no end of data, and
+/// what follows it.
+///
+/// Each type goes its own way, on which the compiler knows the kind of the view at each step. The answer
+/// of the rare ones is wrapped again, so that the others' need not lie in memory.
+#[inline(always)]
+fn step<'a, W: Sink>(rest: &'a [u8], writer: &mut W) -> Result<(bool, &'a [u8]), ViewFault>
+    ensures unit { IfOk result (λ p. Steps everything (Ok (passed p.0)) (Some rest.now) (Some p.1.now)
+        (W.contents writer.old) (W.contents writer.new)) }
+    ensures fault { IfErr result (λ e. StopsStep e rest.now
+        (W.contents writer.old) (W.contents writer.new)) }
+    ensures count { W.failures writer.new
+        ≡ count_after (W.failures writer.old) (not (is_view_writer_fault result)) }
+{
+    let unit_type = if rest.len() < 8 { 0 } else { rest[1] };
+    match unit_type {
+        Ipv4Prefix::PDU => view_step::<4, W>(rest, writer),
+        Ipv6Prefix::PDU => view_step::<6, W>(rest, writer),
+        RouterKey::PDU => view_step::<9, W>(rest, writer),
+        Aspa::PDU => view_step::<11, W>(rest, writer),
+        _ => match view_step::<0, W>(rest, writer) {
+            Ok(step) => Ok(step),
+            Err(e) => Err(e),
+        },
+    }
+}
+
+/// The step for units of one type, or of any other: the type is named so that each has code of its own.
+#[inline(always)]
+fn view_step<'a, const TYPE: u8, W: Sink>(
+    rest: &'a [u8],
+    writer: &mut W,
+) -> Result<(bool, &'a [u8]), ViewFault>
+    ensures unit { IfOk result (λ p. Steps everything (Ok (passed p.0)) (Some rest.now) (Some p.1.now)
+        (W.contents writer.old) (W.contents writer.new)) }
+    ensures fault { IfErr result (λ e. StopsStep e rest.now
+        (W.contents writer.old) (W.contents writer.new)) }
+    ensures count { W.failures writer.new
+        ≡ count_after (W.failures writer.old) (not (is_view_writer_fault result)) }
+{
+    let (view, size) = match UnitView::first(rest) {
+        Ok(first) => first,
+        Err(e) => return Err(e),
+    };
+    match view.write_form(writer) {
+        Ok(()) => {
+            let (_, left) = rest.split_at(size);
+            Ok((is_unit(&view), left))
+        }
+        Err(e) => Err(e),
+    }
+}
+
+/// Whether the view is one of a payload unit.
+#[inline(always)]
+fn is_unit(view: &UnitView<'_>) -> bool
+    ensures { result ≡ is_payload_unit view.now }
+{
+    match view {
+        UnitView::End(_) => false,
+        _ => true,
+    }
+}
