@@ -4,14 +4,15 @@
 use crate::expect_equal;
 use crate::rows::{ACCEPTED, Accepted, REFUSED, REPORTED, Refused, Reported, SINGLES, Single};
 use rtr_support::{
-    ASPA_BARE, ASPA_NAMED, END_0, END_1, IPV4, IPV4_STRAY, IPV6, IPV6_STRAY, KEY, KEY_REST, Recorder,
-    bytes, filler, front,
+    ASPA_BARE, ASPA_NAMED, END_0, END_1, IPV4, IPV4_STRAY, IPV6, IPV6_STRAY, KEY, KEY_REST,
+    Recorder, bytes, filler, front,
 };
 use rtr_wire::base::{Asn, MaxLenPrefix, Prefix};
 use rtr_wire::normalise_slice;
 use rtr_wire::payload::RouteOrigin;
-use rtr_wire::pdu::{AspaView, Counted, EndOfData, OriginView, PrefixRule};
-use rtr_wire::pdu::{RouterKeyView, UnitView, ViewFault};
+use rtr_wire::pdu::{
+    AspaView, Counted, EndOfData, OriginView, PrefixRule, RouterKeyView, UnitView, ViewFault,
+};
 use rtr_wire::state::{Serial, State};
 use std::alloc::Global;
 use std::io;
@@ -179,7 +180,10 @@ fn limits_of_slices(rt: HostRuntime) -> Result<(), Fail> {
 #[test]
 fn units_of_every_length(rt: HostRuntime) -> Result<(), Fail> {
     let alloc = rt.alloc();
-    for (head, rest) in [("01 09 01 00 00 00 ff ff", 65527), ("02 0b 01 00 00 00 ff fc", 65524)] {
+    for (head, rest) in [
+        ("01 09 01 00 00 00 ff ff", 65527),
+        ("02 0b 01 00 00 00 ff fc", 65524),
+    ] {
         let mut input = bytes(alloc, &[head])?;
         input.extend_from_slice(&filler(alloc, rest)?)?;
         input.extend_from_slice(&bytes(alloc, &[END_1])?)?;
@@ -203,7 +207,14 @@ fn a_writer_that_fails_over_a_slice(rt: HostRuntime) -> Result<(), Fail> {
         _ => panic!(&rt; "another fault"),
     }
     let seen = normalise_bytes(&input, Recorder::stopping(alloc, 7, 2), LIMIT);
-    expect(&rt, alloc, "nothing taken", &seen, Err("write failed"), &part)
+    expect(
+        &rt,
+        alloc,
+        "nothing taken",
+        &seen,
+        Err("write failed"),
+        &part,
+    )
 }
 
 /// The first view, with its length.
@@ -314,7 +325,9 @@ fn expect_form(rt: &impl Abort, alloc: Global, unit: &str, form: &str) -> Result
 
 #[test]
 fn forms_of_views(rt: HostRuntime) -> Result<(), Fail> {
-    let units = [IPV4_STRAY, IPV6_STRAY, KEY, ASPA_NAMED, ASPA_BARE, END_0, END_1];
+    let units = [
+        IPV4_STRAY, IPV6_STRAY, KEY, ASPA_NAMED, ASPA_BARE, END_0, END_1,
+    ];
     let forms = [IPV4, IPV6, KEY, ASPA_BARE, ASPA_BARE, END_0, END_1];
     for (unit, form) in units.iter().zip(forms.iter()) {
         expect_form(&rt, rt.alloc(), unit, form)?;

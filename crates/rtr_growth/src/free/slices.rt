@@ -46,10 +46,7 @@ const REFUSED: &[(&str, &str)] = &[
         "01 04 00 00 00 00 00 14 01 17 16 00 c0 00 02 00 00 01 00 0f",
         "prefix fields are not allowed",
     ),
-    (
-        "01 09 01 00 00 01 00 00",
-        "unit is longer than 65535 bytes",
-    ),
+    ("01 09 01 00 00 01 00 00", "unit is longer than 65535 bytes"),
     ("01 09 01 00 00 00 00 24 01", "unexpected end of input"),
     ("02 0b 01 00 00 00 00 0c", "ASPA unit has no providers"),
     ("02 0b 01 00 00 00 00 10 00", "unexpected end of input"),
