@@ -124,11 +124,14 @@ normalises_slice limit r input took left wrote last old new parts writes run is 
   writer_failures = failed;
 }
 
+none_less : (n : ℕ) → n - 0 ≡ n
+none_less n = omega arith
+
 -- at an end of data
 pub slice_ends : (limit count : ℕ) (input rest left : List ℕ) (mid : Option (List ℕ)) (old new : Side) → count < limit → SoFar everything count 0 (Some input) (Some rest) old.held mid → Steps everything (Ok passes.End) (Some rest) (Some left) mid new.held
     → new.failed ≡ old.failed → NormalisesSlice limit (Ok (count, length input - length left)) input old new
 slice_ends limit count input rest left mid old new lt behind step failed =
-    let ran = finishes everything limit count 0 (Some input) (Some rest) (Some left) old.held mid new.held lt behind step in
+    let ran = subst (λ n. Ran everything limit (Ok n) (Some input) (Some left) old.held new.held) (none_less count) (finishes everything limit count 0 (Some input) (Some rest) (Some left) old.held mid new.held lt behind step) in
     let size : length input - length left ≡ length ran.taken = omega (arith, ap length ran.takes, length-append ran.taken left) in
     normalises_slice limit (Ok (count, length input - length left)) input ran.taken left ran.written ran.run.last old new ran.takes ran.appends ran.run refl size failed
 
@@ -173,6 +176,6 @@ pub both_ways : (limit : ℕ) (input : List ℕ) (first : Result ℕ Fault) (sec
     → old.left ≡ Some input → BlamesNobody (by_cause first) → BlamesNobody (slice_answer q.last second)
     → (by_cause first ≡ slice_answer q.last second) × (p.taken ≡ q.taken) × (new.left ≡ Some q.left) × (p.written ≡ q.written)
 both_ways limit input first second old new before after p q is well fine =
-    let o = over limit (by_cause first) input p.taken p.written old new is p.takes p.writes p.run in
+    let o = over everything limit (by_cause first) input p.taken p.written old new is p.takes p.writes p.run in
     let one = one_run everything limit (by_cause first) (slice_answer q.last second) p.taken o.left p.written q.taken q.left q.written o.run q.run (sym o.parts ∙ q.parts) well fine in
     (one.0, one.1, o.at ∙ ap Some one.2, one.3)
