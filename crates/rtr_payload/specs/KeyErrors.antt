@@ -1,4 +1,4 @@
--- Why key info could not be made.
+-- Why key info could not be made (want of memory beside the Rust crate's limit).
 use Rattle.rtr_payload.specs.declared.key_info.KeyInfoVecError.{KeyInfoVecError}
 use Rattle.rtr_payload.specs.declared.key_info.KeyInfoVecError.TheVariants.{Size, Memory}
 

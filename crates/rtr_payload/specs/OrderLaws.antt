@@ -1,4 +1,5 @@
--- Payloads that compare as equal are one. The law of hashing asks for it, and takes what it cites from `specs` alone.
+-- Payloads that compare as equal are one. The law of hashing asks for it, and takes what it cites
+-- from `specs` alone.
 use Rattle.std.proofs.Common.{◌≡◌, ℕ, List, [], ◌∷◌, refl, sym, ap, ◌∙◌, ◌↔◌}
 use Rattle.std.specs.declared.cmp.Ordering.{Ordering}
 use Rattle.std.specs.declared.cmp.Ordering.TheVariants.{Less, Equal, Greater}
@@ -56,4 +57,7 @@ payload_same p q = (payload_exact p q, λ e. ap (payload_cmp p) (sym e) ∙ refl
 
 -- the test by the order finds out whether payloads are one
 pub payload_decides : (p q : Payload) → Decides (eq_by_cmp payload_cmp p q) (p ≡ q)
-payload_decides p q = (λ h. payload_exact p q ((Equal-is (payload_cmp p q)).0 h), λ e. (Equal-is (payload_cmp p q)).1 ((payload_same p q).1 e))
+payload_decides p q = (
+  λ h. payload_exact p q ((Equal-is (payload_cmp p q)).0 h),
+  λ e. (Equal-is (payload_cmp p q)).1 ((payload_same p q).1 e),
+)

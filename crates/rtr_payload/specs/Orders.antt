@@ -1,5 +1,5 @@
--- The order of payloads (this library's own): payloads are compared as lists of lists, so that it is total by std's law on
--- lists.
+-- The order of payloads (this library's own): payloads are compared as lists of lists, so that it
+-- is total by std's law on lists.
 use Rattle.std.specs.Prelude.{ℕ, List, [], ◌∷◌}
 use Rattle.std.specs.declared.cmp.Ordering.{Ordering}
 use Rattle.std.specs.Ordering.{nat_cmp}
@@ -12,8 +12,8 @@ use Rattle.rtr_payload.specs.Payloads.{Payload, origin, key, aspa}
 abbrev pub list_cmp : List ℕ → List ℕ → Ordering
 list_cmp xs ys = slice_cmp nat_cmp xs ys
 
--- what of a payload is compared in turn: origins, then keys, then ASPAs; the parts of an origin (IPv4 before IPv6), of a key
--- and of an ASPA as they stand
+-- what of a payload is compared in turn: origins, then keys, then ASPAs; the parts of an origin
+-- (IPv4 before IPv6), of a key and of an ASPA as they stand
 abbrev pub parts : Payload → List (List ℕ)
 parts (origin f a l x n) =
     (0 ∷ []) ∷ (prefix_type f ∷ []) ∷ (a ∷ []) ∷ (l ∷ []) ∷ (x ∷ []) ∷ (n ∷ []) ∷ []

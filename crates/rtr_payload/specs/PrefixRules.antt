@@ -1,4 +1,4 @@
--- The rule that a value names.
+-- The rule that a value names (RFC 8210 sections 5.6 and 5.7).
 use Rattle.rtr_payload.specs.Steps.{PrefixFault, len_overflow, max_overflow, max_underflow}
 use Rattle.rtr_payload.specs.declared.prefix_rule.PrefixRule.{PrefixRule}
 use Rattle.rtr_payload.specs.declared.prefix_rule.PrefixRule.TheVariants as rules_of

@@ -17,9 +17,11 @@ pub record AreProviderBytes (bytes : List ℕ) : Type 0 where
   pub providers : AreProviders (words_of bytes)
   pub again : words (words_of bytes) ≡ bytes
 
--- Why no providers were made of the items of an iterator in the state s: one more came than an ASPA may name, or memory
--- was refused (this library's own). Of a refusal nothing is said: it comes before or after any item, the allocator alone
--- decides, and the iterator was taken by value, so that a caller never sees how far it went.
+-- Why no providers were made of the items of an iterator in the state s: one more came than an ASPA
+-- may name, or memory was refused (this library's own). Of a refusal nothing is said: it comes
+-- before or after any item, the allocator alone decides, and the iterator was taken by value, so
+-- that a caller never sees how far it went.
 abbrev pub StopsTaking : {S : Type 0} → (S → Option ℕ → S → Type 0) → S → ProviderIterError → Type 0
-StopsTaking {S} steps s (Count e) = (xs : List ℕ) × (t : S) × Yields steps s xs t × (length xs ≡ 16381)
+StopsTaking {S} steps s (Count e) = (xs : List ℕ) × (t : S) × Yields steps s xs t ×
+    (length xs ≡ 16381)
 StopsTaking {S} steps s Memory = Unit {0}

@@ -1,4 +1,5 @@
--- Where reading a unit stops, by the bytes that were taken (the order of refusals is this library's own).
+-- Where reading a unit stops, by the bytes that were taken (the order of refusals is this library's
+-- own).
 use Rattle.std.specs.Prelude.{◌≡◌, ◌⊎◌, ℕ, ◌≤◌, List, ◌++◌, length, slice_index, Option, Some, None}
 use Rattle.std.specs.Io.KnownBytes.{IsAtEnd}
 use Rattle.rtr_units.specs.Header.{version_field, type_field, length_field}
@@ -14,16 +15,17 @@ IsPartial h = first_fault h ≡ Some short
 abbrev pub IsRefused : List ℕ → Refusal → Type 0
 IsRefused h f = (r : List ℕ) → (first_fault (h ++ r) ≡ Some f) × (taken f (h ++ r) ≡ h)
 
--- h is the header of a router key or an ASPA unit, in order, or the whole of that unit: memory is asked for before what
--- follows the header is read, and again after it
+-- h is the header of a router key or an ASPA unit, in order, or the whole of that unit: memory is
+-- asked for before what follows the header is read, and again after it
 pub record IsVariable (h : List ℕ) : Type 0 where
   pub whole_header : 8 ≤ length h
   pub kind : (type_field h ≡ 9) ⊎ (type_field h ≡ 11)
-  pub in_order : header_fault (version_field h) (type_field h) (slice_index h 2) (length_field h) ≡ None
+  pub in_order : header_fault (version_field h) (type_field h) (slice_index h 2) (length_field h) ≡
+      None
   pub place : (length h ≡ 8) ⊎ (length h ≡ length_field h)
 
--- Why reading one unit stopped where it had taken the bytes h; `left` is what the reader then has. A refused prefix is
--- none of these: its unit is read, and has no meaning.
+-- Why reading one unit stopped where it had taken the bytes h; `left` is what the reader then has.
+-- A refused prefix is none of these: its unit is read, and has no meaning.
 abbrev pub StopsReadingUnit : Cause → List ℕ → Option (List ℕ) → Type 0
 StopsReadingUnit by_reader h left = IsPartial h
 StopsReadingUnit by_writer h left = ⊥

@@ -1,5 +1,5 @@
--- Why a list of bytes begins with neither a unit nor an end of data (this library's own order). The first of these steps
--- that holds names the fault:
+-- Why a list of bytes begins with neither a unit nor an end of data (this library's own order). The
+-- first of these steps that holds names the fault:
 --   1  there are fewer than the 8 bytes of a header
 --   2  the type is none of those read here
 --   3  an end of data has a version above 2
@@ -8,17 +8,19 @@
 --   6  an ASPA is announced and its length leaves no room for a provider
 --   7  there are fewer bytes than the length field says
 --   8  the lengths of a prefix break their rule
-use Rattle.std.specs.Prelude.{codes, ◌≡◌, ℕ, ◌%◌, Bool, not, ◌&&◌, ◌||◌, List, ◌++◌, length, take, slice_index, Option, Some, None, nat_lt, nat_le, ◌==◌, if◌then◌else◌}
+use Rattle.std.specs.Prelude.{codes, ◌≡◌, ℕ, ◌%◌, Bool, not, ◌&&◌, ◌||◌, List, ◌++◌, length, take}
+use Rattle.std.specs.Prelude.{slice_index, Option, Some, None, nat_lt, nat_le, ◌==◌, if◌then◌else◌}
 use Rattle.rtr_base.specs.Addresses.{width}
 use Rattle.rtr_units.specs.Header.{version_field, type_field, length_field}
 use Rattle.rtr_units.specs.End.{EndMeaning, End}
 use Rattle.rtr_units.specs.Report.{report}
-use Rattle.rtr_units.specs.Causes.{Refusal, short, unit_type, unit_version, too_long, unit_length, empty_providers, refused}
+use Rattle.rtr_units.specs.Causes.{Refusal, short, unit_type, unit_version, too_long, unit_length}
+use Rattle.rtr_units.specs.Causes.{empty_providers, refused}
 use Rattle.rtr_payload.specs.Payloads.{Meaning}
 use Rattle.rtr_payload.specs.Units.{Fields, prefix, router_key, providers, IsUnit, Shape}
 
--- how the lengths of a prefix break their rule: the prefix length is above that of an address, or the max length is, or it
--- is below the prefix length
+-- how the lengths of a prefix break their rule: the prefix length is above that of an address, or
+-- the max length is, or it is below the prefix length
 pub data PrefixFault : Type 0 where
   len_overflow : PrefixFault
   max_overflow : PrefixFault
@@ -28,13 +30,21 @@ pub data PrefixFault : Type 0 where
 abbrev pub is_known : ℕ → Bool
 is_known t = (t == 4) || (t == 6) || (t == 7) || (t == 9) || (t == 11)
 
--- the length field n suits the type t and the version v: the sizes of RFC 8210 sections 5.6 to 5.8 and 5.10, and four bytes for each provider
+-- the length field n suits the type t and the version v: the sizes of RFC 8210 sections 5.6 to 5.8
+-- and 5.10, and four bytes for each provider
 abbrev pub suits : ℕ → ℕ → ℕ → Bool
-suits t v n = if t == 4 then n == 20 else if t == 6 then n == 32 else if t == 7 then (if v == 0 then n == 12 else n == 24) else if t == 9 then nat_le 32 n else nat_le 12 n && (n % 4 == 0)
+suits t v n = if t == 4 then n == 20
+    else if t == 6 then n == 32
+    else if t == 7 then (if v == 0 then n == 12 else n == 24)
+    else if t == 9 then nat_le 32 n
+    else nat_le 12 n && (n % 4 == 0)
 
 -- how lengths l and x break the rule, for an address of w bits
 unfoldable pub broken_rule : ℕ → ℕ → ℕ → Option PrefixFault
-broken_rule w l x = if nat_lt w l then Some len_overflow else if nat_lt w x then Some max_overflow else if nat_lt x l then Some max_underflow else None
+broken_rule w l x = if nat_lt w l then Some len_overflow
+    else if nat_lt w x then Some max_overflow
+    else if nat_lt x l then Some max_underflow
+    else None
 
 -- steps 2 to 6, by the version v, the type t, byte 2 and the length field n
 unfoldable pub header_fault : ℕ → ℕ → ℕ → ℕ → Option Refusal
@@ -52,7 +62,8 @@ text_of len_overflow = codes "prefix length too large"
 text_of max_overflow = codes "max-length too large"
 text_of max_underflow = codes "max-length smaller than prefix length"
 
--- the report on the unit u, in its version and with error code 0, corrupt data (RFC 8210 section 12)
+-- the report on the unit u, in its version and with error code 0, corrupt data (RFC 8210 section
+-- 12)
 abbrev pub refusal_report : List ℕ → PrefixFault → List ℕ
 refusal_report u f = report (version_field u) 0 u (text_of f)
 
@@ -66,7 +77,9 @@ refuse u (Some f) = Some (refused (refusal_report u f))
 
 -- step 8, for a unit u of type t
 abbrev pub lengths_fault : ℕ → List ℕ → Option Refusal
-lengths_fault t u = if t == 4 then refuse u (broken_rule 32 (slice_index u 9) (slice_index u 10)) else if t == 6 then refuse u (broken_rule 128 (slice_index u 9) (slice_index u 10)) else None
+lengths_fault t u = if t == 4 then refuse u (broken_rule 32 (slice_index u 9) (slice_index u 10))
+    else if t == 6 then refuse u (broken_rule 128 (slice_index u 9) (slice_index u 10))
+    else None
 
 -- how the fields of a unit break the rule
 abbrev pub rule_of : Fields → Option PrefixFault
@@ -95,8 +108,8 @@ frame_fault r = if nat_lt (length r) 8 then Some short else first_of (header_ste
 abbrev pub first_fault : List ℕ → Option Refusal
 first_fault r = first_of (frame_fault r) (lengths_fault (type_field r) (first_unit r))
 
--- the bytes that are taken: all, where they end too early; the header, where it is refused; the unit, where its prefix
--- lengths are
+-- the bytes that are taken: all, where they end too early; the header, where it is refused; the
+-- unit, where its prefix lengths are
 abbrev pub taken : Refusal → List ℕ → List ℕ
 taken short r = r
 taken (unit_type t) r = take 8 r

@@ -1,5 +1,6 @@
 -- What the values of payload units are: their bytes, and the fields that stand in them.
-use Rattle.std.specs.Prelude.{◌≡◌, ◌≤◌, slice_index, List, ℕ, Option, Some, None, Result, Ok, Err, IsSome}
+use Rattle.std.specs.Prelude.{◌≡◌, ◌≤◌, slice_index, List, ℕ, Option, Some, None, Result, Ok, Err}
+use Rattle.std.specs.Prelude.{IsSome}
 use Rattle.std.specs.Io.KnownBytes.{Consumes}
 use Rattle.rtr_base.specs.Addresses.{v4, v6}
 use Rattle.rtr_base.specs.declared.payload.Action.{Action}
@@ -38,22 +39,28 @@ unit_fields (units.V6 u) = prefix_fields v6 (ipv6_bytes u)
 unit_fields (units.RouterKey u) = key_fields u
 unit_fields (units.Aspa u) = aspa_fields u
 
--- The unit u is the written form of the payload p with version v and flags f, in its bytes and in its fields.
+-- The unit u is the written form of the payload p with version v and flags f, in its bytes and in
+-- its fields.
 pub record IsWritten (v f : ℕ) (p : Meant) (u : Payload) : Type 0 where
   pub bytes : unit_bytes u ≡ form v f p
   pub fields : unit_fields u ≡ written v f p
 
 -- what reading one unit or end of data leaves
-abbrev pub ReadsPayload : Result (Result (Option Payload) EndOfData) Fault → Option (List ℕ) → Option (List ℕ) → Type 0
-ReadsPayload (Ok (Ok (Some u))) old new = Consumes old new (unit_bytes u) × HasFields (unit_bytes u) (unit_fields u)
+abbrev pub ReadsPayload : Result (Result (Option Payload) EndOfData) Fault → Option (List ℕ) →
+    Option (List ℕ) → Type 0
+ReadsPayload (Ok (Ok (Some u))) old new = Consumes old new (unit_bytes u) ×
+    HasFields (unit_bytes u) (unit_fields u)
 ReadsPayload (Ok (Ok None)) old new = ⊥
-ReadsPayload (Ok (Err d)) old new = Consumes old new (end_bytes d) × End (end_bytes d) (end_meaning d)
+ReadsPayload (Ok (Err d)) old new = Consumes old new (end_bytes d) ×
+    End (end_bytes d) (end_meaning d)
 ReadsPayload (Err f) old new = Takes old new (λ h. StopsReadingUnit (cause_of f) h new)
 
--- what reading on after the header h leaves, said of all that was taken: of h, which was taken before, and of what follows
--- it
-abbrev pub ReadsAfter : List ℕ → Result (Result (Option Payload) EndOfData) Fault → Option (List ℕ) → Option (List ℕ) → Type 0
-ReadsAfter h r old new = AreBytes 8 h → (before : Option (List ℕ)) → Consumes before old h → ReadsPayload r before new
+-- what reading on after the header h leaves, said of all that was taken: of h, which was taken
+-- before, and of what follows it
+abbrev pub ReadsAfter : List ℕ → Result (Result (Option Payload) EndOfData) Fault →
+    Option (List ℕ) → Option (List ℕ) → Type 0
+ReadsAfter h r old new = AreBytes 8 h → (before : Option (List ℕ)) → Consumes before old h →
+    ReadsPayload r before new
 
 -- an origin whose max length was given
 abbrev pub HasMaxLen : Value → Type 0
@@ -64,20 +71,26 @@ HasMaxLen (values.Aspa a) = Unit {0}
 -- The unit means this payload with this action. An origin's max length is given.
 pub record MeansPayload (u : Payload) (action : Action) (p : Value) : Type 0 where
   pub lengths : LengthsAgree (unit_fields u)
-  pub means : record { version = version_field (unit_bytes u); action = action; payload = payload_of p } ≡ meaning (unit_fields u)
+  pub means : record {
+    version = version_field (unit_bytes u);
+    action = action;
+    payload = payload_of p;
+  } ≡ meaning (unit_fields u)
   pub max_len : HasMaxLen p
 
--- the units whose payload asks for memory: the bytes of keys and providers are shared, and a report is made of a prefix
--- that breaks its rule
+-- the units whose payload asks for memory: the bytes of keys and providers are shared, and a report
+-- is made of a prefix that breaks its rule (this library's own)
 abbrev pub NeedsMemory : Payload → Type 0
 NeedsMemory (units.V4 u) = IsSome (rule_of (prefix_fields v4 (ipv4_bytes u)))
 NeedsMemory (units.V6 u) = IsSome (rule_of (prefix_fields v6 (ipv6_bytes u)))
 NeedsMemory (units.RouterKey u) = Unit {0}
 NeedsMemory (units.Aspa u) = Unit {0}
 
--- why the unit has no payload: its prefix breaks a rule, of which the report tells, or memory was refused
+-- Why the unit has no payload: its prefix breaks a rule (RFC 8210 section 5.6), of which the report
+-- tells, or memory was refused (this library's own).
 abbrev pub HasNoPayload : Payload → Cause → Type 0
-HasNoPayload u (wrong (refused report)) = (f : PrefixFault) × (rule_of (unit_fields u) ≡ Some f) × (report ≡ refusal_report (unit_bytes u) f)
+HasNoPayload u (wrong (refused report)) = (f : PrefixFault) × (rule_of (unit_fields u) ≡ Some f) ×
+    (report ≡ refusal_report (unit_bytes u) f)
 HasNoPayload u no_memory = NeedsMemory u
 HasNoPayload u c = ⊥
 
@@ -89,13 +102,15 @@ IsPrefixUnit (units.V6 u) = Unit {0}
 IsPrefixUnit (units.RouterKey u) = ⊥
 IsPrefixUnit (units.Aspa u) = ⊥
 
--- how long the part of a fixed size is
+-- how long the part of a fixed size is (RFC 8210 sections 5.6, 5.7 and 5.10; ASPA units as in the
+-- Rust crate)
 abbrev pub partial_len : Payload → ℕ
 partial_len (units.V4 u) = 20
 partial_len (units.V6 u) = 32
 partial_len (units.RouterKey u) = 32
 partial_len (units.Aspa u) = 12
 
+-- where the flags stand (RFC 8210 sections 5.6, 5.7 and 5.10; ASPA units as in the Rust crate)
 abbrev pub flags_in : Payload → ℕ
 flags_in (units.V4 u) = slice_index (ipv4_bytes u) 8
 flags_in (units.V6 u) = slice_index (ipv6_bytes u) 8
@@ -107,6 +122,7 @@ IsOriginRef (lent.Origin o) = Unit {0}
 IsOriginRef (lent.RouterKey k) = ⊥
 IsOriginRef (lent.Aspa a) = ⊥
 
--- the protocol versions that have this payload
+-- the protocol versions that have this payload (origins RFC 6810, router keys RFC 8210; ASPAs as in
+-- the Rust crate)
 abbrev pub IsSupported : ℕ → Meant → Type 0
 IsSupported version p = smallest_version p ≤ version

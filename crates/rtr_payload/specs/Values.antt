@@ -1,4 +1,4 @@
--- What the values of module `payload` mean, and what their parts are.
+-- What the values of module `payload` mean, and what their parts are (values as in the Rust crate).
 use Rattle.std.specs.Prelude.{Option, Some, None}
 use Rattle.rtr_base.specs.Addresses.{resolved_len}
 use Rattle.rtr_payload.specs.Payloads.{origin, key, aspa, Payload as Meant}
@@ -14,7 +14,8 @@ use Rattle.rtr_payload.specs.declared.payload.PayloadRef.TheVariants as lent
 
 -- an origin without a max length means the same as one whose max length is its prefix length
 abbrev pub origin_of : RouteOrigin → Meant
-origin_of o = origin o.prefix.prefix.family o.prefix.prefix.address o.prefix.prefix.len (resolved_len o.prefix) o.asn
+origin_of o = origin o.prefix.prefix.family o.prefix.prefix.address o.prefix.prefix.len
+    (resolved_len o.prefix) o.asn
 
 abbrev pub key_of : RouterKey → Meant
 key_of k = key k.key_identifier k.asn k.key_info

@@ -1,6 +1,7 @@
 //! The ASPA unit (as in the Rust crate).
 
-ghost use Rattle.std.specs.Prelude.{◌≡◌, ◌≤◌, ◌+◌, ◌%◌, ◌++◌, length, take, drop, slice_index, nat_eq, IfOk, not};
+ghost use Rattle.std.specs.Prelude.{◌≡◌, ◌≤◌, ◌+◌, ◌%◌, ◌++◌, length, take, drop, slice_index};
+ghost use Rattle.std.specs.Prelude.{nat_eq, IfOk, not};
 ghost use Rattle.std.specs.Cmp.{partial_equiv_from_equiv};
 ghost use Rattle.std.specs.Cmp.Lexicographic.{bytes_decides, nat_list_eq_equiv, pointwise};
 ghost use Rattle.std.specs.Hash as fed;
@@ -66,12 +67,14 @@ impl Aspa {
 
     /// Reads an ASPA unit.
     ///
-    /// Faults, in this order: `Short` or `Reader` inside the header; `UnitType` where its type isn't 11, with the header
-    /// taken; those of `read_payload`, `Memory` among them.
+    /// Faults, in this order: `Short` or `Reader` inside the header; `UnitType` where its type
+    /// isn't 11, with the header taken; those of `read_payload`, `Memory` among them.
     pub fn read<R: Source>(alloc: Global, reader: &mut R) -> Result<Self, Fault>
-        ensures bytes { ReadsVariable (fault_of 11) result (R.remaining reader.old) (R.remaining reader.new) }
+        ensures bytes { ReadsVariable (fault_of 11) result (R.remaining reader.old)
+            (R.remaining reader.new) }
         ensures fields { IfOk result (λ u. HasFields u (aspa_fields u)) }
-        ensures count { R.failures reader.new ≡ count_after (R.failures reader.old) (not (is_reader_fault result)) }
+        ensures count { R.failures reader.new ≡
+            count_after (R.failures reader.old) (not (is_reader_fault result)) }
     {
         let header = match Header::read(reader) {
             Ok(header) => header,
@@ -86,18 +89,22 @@ impl Aspa {
 
     /// Reads what follows the header, which is kept as it is. Its type is not checked.
     ///
-    /// Faults, in this order: `TooLong` above length 65535, `UnitLength` below 12 and for what is not a multiple of 4,
-    /// and `EmptyProviders` where an announcement has length 12, with nothing read and no memory asked for; `Memory`,
-    /// with nothing read, where there is no room for the frame that the rest is read into; `Short` or `Reader` inside
-    /// the unit; `Memory`, with the whole unit read, where the frame can't be shared. The providers are cut from it.
+    /// Faults, in this order: `TooLong` above length 65535, `UnitLength` below 12 and for what is
+    /// not a multiple of 4, and `EmptyProviders` where an announcement has length 12, with nothing
+    /// read and no memory asked for; `Memory`, with nothing read, where there is no room for the
+    /// frame that the rest is read into; `Short` or `Reader` inside the unit; `Memory`, with the
+    /// whole unit read, where the frame can't be shared. The providers are cut from it.
     pub fn read_payload<R: Source>(
         alloc: Global,
         header: Header,
         reader: &mut R,
     ) -> Result<Self, Fault>
-        ensures bytes { ReadsBehind (fault_as 11) (header_bytes header) result (R.remaining reader.old) (R.remaining reader.new) }
-        ensures fields { IfOk result (λ u. type_field (header_bytes header) ≡ 11 → HasFields u (aspa_fields u)) }
-        ensures count { R.failures reader.new ≡ count_after (R.failures reader.old) (not (is_reader_fault result)) }
+        ensures bytes { ReadsBehind (fault_as 11) (header_bytes header) result
+            (R.remaining reader.old) (R.remaining reader.new) }
+        ensures fields { IfOk result
+            (λ u. type_field (header_bytes header) ≡ 11 → HasFields u (aspa_fields u)) }
+        ensures count { R.failures reader.new ≡
+            count_after (R.failures reader.old) (not (is_reader_fault result)) }
     {
         let head = header.as_ref();
         let size = header.length();
@@ -203,7 +210,8 @@ impl Aspa {
     #[inline(always)]
     pub fn write<W: Sink>(&self, writer: &mut W) -> Result<(), Fault>
         ensures bytes { PutsForm result (W.contents writer.old) (W.contents writer.new) self.now }
-        ensures count { W.failures writer.new ≡ count_after (W.failures writer.old) (not (is_writer_fault result)) }
+        ensures count { W.failures writer.new ≡
+            count_after (W.failures writer.old) (not (is_writer_fault result)) }
     {
         match put(writer, &self.fixed) {
             Ok(()) => put(writer, self.providers.as_slice()),

@@ -17,12 +17,13 @@ pub const MAX_SIZE: u32 = 65535;
 
 /// Reads the next `size` bytes.
 ///
-/// Faults, in this order: `Memory`, with nothing read, where there is no room for the frame; `Short` or `Reader` inside
-/// it; `Memory`, with all of it read, where it can't be shared.
+/// Faults, in this order: `Memory`, with nothing read, where there is no room for the frame;
+/// `Short` or `Reader` inside it; `Memory`, with all of it read, where it can't be shared.
 pub fn read_frame<R: Source>(alloc: Global, size: usize, reader: &mut R) -> Result<Bytes, Fault>
     ensures bytes { ReadsFrame size result (R.remaining reader.old) (R.remaining reader.new) }
     ensures range { IfOk result IsBytes }
-    ensures count { R.failures reader.new ≡ count_after (R.failures reader.old) (not (is_reader_fault result)) }
+    ensures count { R.failures reader.new ≡
+        count_after (R.failures reader.old) (not (is_reader_fault result)) }
 {
     let mut frame = Vec::new(alloc);
     if frame.resize(size, 0).is_err() {

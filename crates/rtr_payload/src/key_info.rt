@@ -1,9 +1,11 @@
 //! The key info of a router key (RFC 8210 section 5.10).
 
-ghost use Rattle.std.specs.Prelude.{◌≡◌, ◌≤◌, ◌<◌, ◌↔◌, Some, length, refl, nat_eq, string_bytes, IfOk, IsOk, IsErr, IsErrAnd, IsOkUnless};
+ghost use Rattle.std.specs.Prelude.{◌≡◌, ◌≤◌, ◌<◌, ◌↔◌, Some, length, refl, nat_eq, string_bytes};
+ghost use Rattle.std.specs.Prelude.{IfOk, IsOk, IsErr, IsErrAnd, IsOkUnless};
 ghost use Rattle.std.proofs.Common.{rules};
 ghost use Rattle.std.specs.Cmp.{partial_equiv_from_equiv};
-ghost use Rattle.std.specs.Cmp.Lexicographic.{nat_list_cmp_total, nat_list_eq_equiv, pointwise, slice_cmp, texts_po, texts_ties};
+ghost use Rattle.std.specs.Cmp.Lexicographic.{nat_list_cmp_total, nat_list_eq_equiv, pointwise};
+ghost use Rattle.std.specs.Cmp.Lexicographic.{slice_cmp, texts_po, texts_ties};
 ghost use Rattle.std.specs.Cmp.Rules.{hashing};
 ghost use Rattle.std.specs.Hash as fed;
 ghost use Rattle.std.specs.Ordering.{nat_cmp};
@@ -19,13 +21,14 @@ use std::fmt;
 use std::hash::{Hash, Hasher};
 use std::marker::Model;
 
-/// The most bytes of key info: a router key that holds them has the greatest length that its length field can say.
+/// The most bytes of key info: a router key that holds them has the greatest length that its length
+/// field can say.
 pub(crate) const MAX_LEN: usize = 4294967263;
 
 /// The key info of a router key: at most 4294967263 bytes.
 ///
-/// It is the DER encoding of a public key, which isn't looked into. It prints as its base64 text, unpadded and of the
-/// alphabet that is safe in URLs.
+/// It is the DER encoding of a public key, which isn't looked into. It prints as its base64 text,
+/// unpadded and of the alphabet that is safe in URLs.
 #[derive(Drop)]
 pub struct RouterKeyInfo(Bytes);
 
@@ -80,8 +83,8 @@ impl RouterKeyInfo {
         RouterKeyInfo(bytes)
     }
 
-    /// The key info that the bytes of the vector are. No byte is copied. Too many are refused; else memory alone can
-    /// refuse.
+    /// The key info that the bytes of the vector are. No byte is copied. Too many are refused; else
+    /// memory alone can refuse.
     pub fn from_vec(_alloc: Global, bytes: Vec<u8>) -> Result<Self, KeyInfoVecError>
         ensures ok { IfOk result (λ k. k ≡ bytes.items) }
         ensures size { MAX_LEN < length bytes.items → IsErrAnd result IsSize }

@@ -2,7 +2,8 @@
 
 ghost use Rattle.std.specs.Prelude.{◌≡◌, ◌++◌, ◌↔◌, ◌<◌, ◌^◌, ◌⊎◌, ℕ, List, None, IsSome};
 ghost use Rattle.rtr_base.specs.Bytes.{IsBytes, words};
-ghost use Rattle.rtr_payload.specs.Steps.{BeginsShape, BeginsUnit, BeginsEnd, frame_fault, first_fault};
+ghost use Rattle.rtr_payload.specs.Steps.{BeginsShape, BeginsUnit, BeginsEnd, frame_fault};
+ghost use Rattle.rtr_payload.specs.Steps.{first_fault};
 ghost use Rattle.std.specs.Cmp.{IsTotalOrder};
 ghost use Rattle.std.specs.List.{AllByRecursion};
 ghost use Rattle.std.specs.declared.cmp.Ordering.TheVariants.{Equal};
@@ -13,7 +14,8 @@ ghost use Rattle.rtr_base.specs.Actions.{act};
 ghost use Rattle.rtr_base.specs.declared.payload.Action.{Action};
 ghost use Rattle.rtr_units.specs.Causes.{Cause, no_memory};
 ghost use Rattle.rtr_units.specs.Header.{version_field};
-ghost use Rattle.rtr_payload.specs.UnitValues.{IsWritten, unit_bytes, flags_in, MeansPayload, HasNoPayload, IsPrefixUnit};
+ghost use Rattle.rtr_payload.specs.UnitValues.{IsWritten, unit_bytes, flags_in, MeansPayload};
+ghost use Rattle.rtr_payload.specs.UnitValues.{HasNoPayload, IsPrefixUnit};
 ghost use Rattle.rtr_payload.specs.Values.{payload_of};
 ghost use Rattle.rtr_payload.specs.declared.payload.Payload.{Payload as Value};
 ghost use Rattle.rtr_payload.specs.declared.pdu_payload.Payload.{Payload as Unit};
@@ -24,8 +26,8 @@ use crate::frame::MAX_SIZE;
 use crate::providers::ProviderAsns;
 use crate::router_key::RouterKey;
 
-/// The types of the units, and the limits on their sizes: the bytes of a unit that is read, and the providers of an ASPA.
-/// `pdu::RouterKey::max_key_info_size` says the bytes of key info.
+/// The types of the units, and the limits on their sizes: the bytes of a unit that is read, and the
+/// providers of an ASPA. `pdu::RouterKey::max_key_info_size` says the bytes of key info.
 pub fn types_and_limits()
     ensures router_key { RouterKey.PDU ≡ 9 }
     ensures aspa { Aspa.PDU ≡ 11 }
@@ -35,32 +37,38 @@ pub fn types_and_limits()
 
 /// With one version and one pair of flags, payloads have one form exactly where they are equal.
 pub fn payload_forms()
-    ensures exact { (v f : ℕ) (p q : Payload) → IsPayload p → IsPayload q → (form v f p ≡ form v f q) ↔ (p ≡ q) }
-    ensures places { (v f : ℕ) (p : Payload) → IsPayload p → fields_like (written v f p) (form v f p) ≡ written v f p }
+    ensures exact { (v f : ℕ) (p q : Payload) → IsPayload p → IsPayload q →
+        (form v f p ≡ form v f q) ↔ (p ≡ q) }
+    ensures places { (v f : ℕ) (p : Payload) → IsPayload p →
+        fields_like (written v f p) (form v f p) ≡ written v f p }
     ensures fields { (v f : ℕ) (p : Payload) → IsPayload p →
-        meaning (written v f p) ≡ record { version = v; action = act f; payload = stripped (act f) p } }
+        meaning (written v f p) ≡
+        record { version = v; action = act f; payload = stripped (act f) p } }
 {}
 
-/// What `pdu::Payload::new` makes has the flags that were given, and `to_payload` gives back the version, the action of
-/// the flags and the payload: of an ASPA with even flags, without its providers. None is refused, and where memory is
-/// wanted, it is for a key or an ASPA.
+/// What `pdu::Payload::new` makes has the flags that were given, and `to_payload` gives back the
+/// version, the action of the flags and the payload: of an ASPA with even flags, without its
+/// providers. None is refused, and where memory is wanted, it is for a key or an ASPA.
 pub fn made_and_read()
     ensures flags { (v f : ℕ) (p : Payload) (u : Unit) → IsWritten v f p u → flags_in u ≡ f }
     ensures means { (v f : ℕ) (p : Payload) (u : Unit) (a : Action) (q : Value) →
         IsPayload p → IsWritten v f p u → MeansPayload u a q →
         (version_field (unit_bytes u) ≡ v) × (a ≡ act f) × (payload_of q ≡ stripped (act f) p) }
     ensures kept { (v f : ℕ) (p : Payload) (u : Unit) (c : Cause) →
-        IsPayload p → IsWritten v f p u → HasNoPayload u c → (c ≡ no_memory) × (IsPrefixUnit u → ⊥) }
+        IsPayload p → IsWritten v f p u → HasNoPayload u c →
+        (c ≡ no_memory) × (IsPrefixUnit u → ⊥) }
 {}
 
 /// No unit begins another, and one list has one meaning.
 pub fn unit_self_delimiting()
-    ensures units { (a b r s : List ℕ) (m n : Meaning) → IsUnit a m → IsUnit b n → a ++ r ≡ b ++ s → (a ≡ b) × (m ≡ n) × (r ≡ s) }
-    ensures forms { (m n : Meaning) (r s : List ℕ) → IsPayload m.payload → IsPayload n.payload → form_of m ++ r ≡ form_of n ++ s → (m ≡ n) × (r ≡ s) }
+    ensures units { (a b r s : List ℕ) (m n : Meaning) → IsUnit a m → IsUnit b n → a ++ r ≡ b ++ s →
+        (a ≡ b) × (m ≡ n) × (r ≡ s) }
+    ensures forms { (m n : Meaning) (r s : List ℕ) → IsPayload m.payload → IsPayload n.payload →
+        form_of m ++ r ≡ form_of n ++ s → (m ≡ n) × (r ≡ s) }
 {}
 
-/// For each list of bytes exactly one holds: a front of it is a unit, a front of it is an end of data, or a step
-/// names a fault.
+/// For each list of bytes exactly one holds: a front of it is a unit, a front of it is an end of
+/// data, or a step names a fault.
 pub fn exactly_one()
     ensures one { (r : List ℕ) → IsBytes r → BeginsUnit r ⊎ (BeginsEnd r ⊎ IsSome (first_fault r)) }
     ensures frame { (r : List ℕ) → IsBytes r → frame_fault r ≡ None → BeginsShape r ⊎ BeginsEnd r }
@@ -75,9 +83,10 @@ pub fn payload_order()
     ensures exact { (p q : Payload) → (payload_cmp p q ≡ Equal) ↔ (p ≡ q) }
 {}
 
-/// Providers in their bytes, compared byte by byte, stand as the lists of their numbers do: the first differing number
-/// decides, and a proper prefix is less.
+/// Providers in their bytes, compared byte by byte, stand as the lists of their numbers do: the
+/// first differing number decides, and a proper prefix is less.
 pub fn provider_order()
-    ensures { (ps qs : List ℕ) → AllByRecursion (λ p. p < 2 ^ 32) ps → AllByRecursion (λ q. q < 2 ^ 32) qs →
+    ensures { (ps qs : List ℕ) → AllByRecursion (λ p. p < 2 ^ 32) ps →
+        AllByRecursion (λ q. q < 2 ^ 32) qs →
         list_cmp (words ps) (words qs) ≡ list_cmp ps qs }
 {}

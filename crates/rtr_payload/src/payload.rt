@@ -18,7 +18,8 @@ use rtr_base::asn::Asn;
 use rtr_base::keys::KeyIdentifier;
 use std::alloc::{AllocError, Global};
 
-/// A route origin: an autonomous system and the prefixes that it may announce (RFC 8210 sections 5.6 and 5.7).
+/// A route origin: an autonomous system and the prefixes that it may announce (RFC 8210 sections
+/// 5.6 and 5.7).
 ///
 /// An origin without a max length is equal to one whose max length is its prefix length.
 #[derive(Clone, Copy, Debug)]
@@ -60,7 +61,8 @@ pub struct RouterKey {
 impl RouterKey {
     /// The key of these parts.
     pub fn new(key_identifier: KeyIdentifier, asn: Asn, key_info: RouterKeyInfo) -> Self
-        ensures { result ≡ record { key_identifier = key_identifier; asn = asn; key_info = key_info } }
+        ensures { result ≡
+            record { key_identifier = key_identifier; asn = asn; key_info = key_info } }
     {
         RouterKey {
             key_identifier,
@@ -80,8 +82,9 @@ impl RouterKey {
 
 /// An ASPA: a customer and its providers, whose order counts (as in the Rust crate).
 ///
-/// A withdrawal of it is made of what `withdraw` answers: `pdu::Payload::new(2, 0, aspa.withdraw(alloc)?)`. A unit that
-/// is made of the ASPA itself holds all its providers, with even flags too, though they mean nothing there.
+/// A withdrawal of it is made of what `withdraw` answers: `pdu::Payload::new(2, 0,
+/// aspa.withdraw(alloc)?)`. A unit that is made of the ASPA itself holds all its providers, with
+/// even flags too, though they mean nothing there.
 #[derive(Debug, Drop)]
 pub struct Aspa {
     /// The customer.
@@ -108,10 +111,11 @@ impl Aspa {
         self.customer
     }
 
-    /// The ASPA as it is withdrawn: the same customer, and no providers. No memory is asked for: it never answers
-    /// `AllocError`.
+    /// The ASPA as it is withdrawn: the same customer, and no providers. No memory is asked for: it
+    /// never answers `AllocError`.
     pub fn withdraw(&self, alloc: Global) -> Result<Self, AllocError>
-        ensures withdrawn { IfOk result (λ a. a ≡ record { customer = self.now.customer; providers = [] }) }
+        ensures withdrawn { IfOk result
+            (λ a. a ≡ record { customer = self.now.customer; providers = [] }) }
         ensures granted { IsOk result }
     {
         let providers = ProviderAsns::empty(alloc)?;
@@ -156,7 +160,8 @@ impl Payload {
 
     /// The router key of these parts.
     pub fn router_key(key_identifier: KeyIdentifier, asn: Asn, key_info: RouterKeyInfo) -> Self
-        ensures { result ≡ Payload.RouterKey (record { key_identifier = key_identifier; asn = asn; key_info = key_info }) }
+        ensures { result ≡ Payload.RouterKey
+            (record { key_identifier = key_identifier; asn = asn; key_info = key_info }) }
     {
         Payload::RouterKey(RouterKey::new(key_identifier, asn, key_info))
     }

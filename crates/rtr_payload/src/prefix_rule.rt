@@ -35,7 +35,11 @@ impl PrefixRule {
 #[inline(always)]
 #[tactic(auto, unfolding(crate::specs::Steps::broken_rule))]
 pub fn ipv4_prefix(bits: u32, len: u8, max_len: u8) -> Result<MaxLenPrefix, PrefixRule>
-    ensures ok { IfOk result (λ p. p ≡ record { prefix = record { family = v4; address = cleared 32 len bits; len = len }; max_len = Some max_len }) }
+    ensures ok { IfOk result (λ p. p ≡
+        record {
+          prefix = record { family = v4; address = cleared 32 len bits; len = len };
+          max_len = Some max_len;
+        }) }
     ensures kept { IfOk result (λ _. broken_rule 32 len max_len ≡ None) }
     ensures broken { IfErr result (λ r. broken_rule 32 len max_len ≡ Some (fault_of r)) }
 {
@@ -49,7 +53,11 @@ pub fn ipv4_prefix(bits: u32, len: u8, max_len: u8) -> Result<MaxLenPrefix, Pref
 #[inline(always)]
 #[tactic(auto, unfolding(crate::specs::Steps::broken_rule))]
 pub fn ipv6_prefix(bits: u128, len: u8, max_len: u8) -> Result<MaxLenPrefix, PrefixRule>
-    ensures ok { IfOk result (λ p. p ≡ record { prefix = record { family = v6; address = cleared 128 len bits; len = len }; max_len = Some max_len }) }
+    ensures ok { IfOk result (λ p. p ≡
+        record {
+          prefix = record { family = v6; address = cleared 128 len bits; len = len };
+          max_len = Some max_len;
+        }) }
     ensures kept { IfOk result (λ _. broken_rule 128 len max_len ≡ None) }
     ensures broken { IfErr result (λ r. broken_rule 128 len max_len ≡ Some (fault_of r)) }
 {
@@ -66,7 +74,8 @@ fn with_max_len(prefix: Prefix, max_len: u8) -> Result<MaxLenPrefix, PrefixRule>
     requires { prefix.len ≤ width prefix.family }
     ensures ok { IfOk result (λ p. p ≡ record { prefix = prefix; max_len = Some max_len }) }
     ensures kept { IfOk result (λ _. broken_rule (width prefix.family) prefix.len max_len ≡ None) }
-    ensures broken { IfErr result (λ r. broken_rule (width prefix.family) prefix.len max_len ≡ Some (fault_of r)) }
+    ensures broken { IfErr result
+        (λ r. broken_rule (width prefix.family) prefix.len max_len ≡ Some (fault_of r)) }
 {
     match MaxLenPrefix::new(prefix, Some(max_len)) {
         Ok(prefix) => Ok(prefix),

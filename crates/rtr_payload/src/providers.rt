@@ -1,9 +1,11 @@
 //! The providers of an ASPA (as in the Rust crate).
 
-ghost use Rattle.std.specs.Prelude.{◌≡◌, ◌==◌, ◌*◌, List, [], Some, length, refl, nat_eq, IfOk, IsOk, MatchResult, OnSome};
+ghost use Rattle.std.specs.Prelude.{◌≡◌, ◌==◌, ◌*◌, List, [], Some, length, refl, nat_eq, IfOk};
+ghost use Rattle.std.specs.Prelude.{IsOk, MatchResult, OnSome};
 ghost use Rattle.std.proofs.Common.{rules};
 ghost use Rattle.std.specs.Cmp.{partial_equiv_from_equiv};
-ghost use Rattle.std.specs.Cmp.Lexicographic.{nat_list_cmp_total, nat_list_eq_equiv, pointwise, slice_cmp, texts_po, texts_ties};
+ghost use Rattle.std.specs.Cmp.Lexicographic.{nat_list_cmp_total, nat_list_eq_equiv, pointwise};
+ghost use Rattle.std.specs.Cmp.Lexicographic.{slice_cmp, texts_po, texts_ties};
 ghost use Rattle.std.specs.Cmp.Rules.{hashing};
 ghost use Rattle.std.specs.Hash as fed;
 ghost use Rattle.std.specs.Iterator.{Drains, YieldsFirst, item_count};
@@ -74,16 +76,19 @@ impl ProviderAsns {
         ProviderAsns(Bytes::new())
     }
 
-    /// The items of the iterator, in their order. At most 16381 are asked for, and its size hint isn't.
+    /// The items of the iterator, in their order. At most 16381 are asked for, and its size hint
+    /// isn't.
     ///
-    /// `Count` is answered where a 16381st item came. `Memory` is answered where a growth is refused: at an item, or after
-    /// the last one, where the bytes are shared. How many items came before that isn't said, as no caller can see it.
+    /// `Count` is answered where a 16381st item came. `Memory` is answered where a growth is
+    /// refused: at an item, or after the last one, where the bytes are shared. How many items came
+    /// before that isn't said, as no caller can see it.
     pub fn try_from_iter<I: Iterator<Item = Asn> + Drop>(
         alloc: Global,
         mut iter: I,
     ) -> Result<Self, ProviderIterError>
         requires { I.can_next iter }
-        ensures items { MatchResult result (λ p. Drains I.next_gives iter p) (StopsTaking I.next_gives iter) }
+        ensures items { MatchResult result (λ p. Drains I.next_gives iter p)
+            (StopsTaking I.next_gives iter) }
         ensures fits { IfOk result AreProviders }
     {
         let mut bytes = BytesMut::new(alloc);
@@ -105,7 +110,8 @@ impl ProviderAsns {
     /// The providers whose bytes were written one by one.
     fn from_written(bytes: BytesMut) -> Result<Self, ProviderIterError>
         requires { AreProviderBytes bytes.items }
-        ensures { MatchResult result (λ p. p ≡ words_of bytes.items) (λ e. e ≡ ProviderIterError.Memory) }
+        ensures { MatchResult result (λ p. p ≡ words_of bytes.items)
+            (λ e. e ≡ ProviderIterError.Memory) }
     {
         match bytes.freeze() {
             Ok(bytes) => Ok(ProviderAsns(bytes)),

@@ -1,6 +1,7 @@
 //! The router key (RFC 8210 section 5.10).
 
-ghost use Rattle.std.specs.Prelude.{◌≡◌, ◌≤◌, ◌+◌, ◌++◌, length, take, drop, slice_index, nat_eq, IfOk, not};
+ghost use Rattle.std.specs.Prelude.{◌≡◌, ◌≤◌, ◌+◌, ◌++◌, length, take, drop, slice_index, nat_eq};
+ghost use Rattle.std.specs.Prelude.{IfOk, not};
 ghost use Rattle.std.proofs.Common.{rules};
 ghost use Rattle.std.specs.Cmp.{partial_equiv_from_equiv};
 ghost use Rattle.std.specs.Cmp.Lexicographic.{bytes_decides, nat_list_eq_equiv, pointwise};
@@ -51,8 +52,8 @@ impl RouterKey {
     /// The type of a router key.
     pub const PDU: u8 = 9;
 
-    /// The most bytes of key info that a router key holds: its length field says no more. One that is read has at most
-    /// 65503.
+    /// The most bytes of key info that a router key holds: its length field says no more. One that
+    /// is read has at most 65503.
     pub const fn max_key_info_size() -> usize
         ensures { result ≡ 4294967263 }
     {
@@ -81,12 +82,14 @@ impl RouterKey {
 
     /// Reads a router key.
     ///
-    /// Faults, in this order: `Short` or `Reader` inside the header; `UnitType` where its type isn't 9, with the header
-    /// taken; those of `read_payload`, `Memory` among them.
+    /// Faults, in this order: `Short` or `Reader` inside the header; `UnitType` where its type
+    /// isn't 9, with the header taken; those of `read_payload`, `Memory` among them.
     pub fn read<R: Source>(alloc: Global, reader: &mut R) -> Result<Self, Fault>
-        ensures bytes { ReadsVariable (fault_of 9) result (R.remaining reader.old) (R.remaining reader.new) }
+        ensures bytes { ReadsVariable (fault_of 9) result (R.remaining reader.old)
+            (R.remaining reader.new) }
         ensures fields { IfOk result (λ u. HasFields u (key_fields u)) }
-        ensures count { R.failures reader.new ≡ count_after (R.failures reader.old) (not (is_reader_fault result)) }
+        ensures count { R.failures reader.new ≡
+            count_after (R.failures reader.old) (not (is_reader_fault result)) }
     {
         let header = match Header::read(reader) {
             Ok(header) => header,
@@ -101,18 +104,21 @@ impl RouterKey {
 
     /// Reads what follows the header, which is kept as it is. Its type is not checked.
     ///
-    /// Faults, in this order: `TooLong` above length 65535 and `UnitLength` below 32, with nothing read and no memory
-    /// asked for; `Memory`, with nothing read, where there is no room for the frame that the rest is read into; `Short`
-    /// or `Reader` inside the unit; `Memory`, with the whole unit read, where the frame can't be shared. The key info is
-    /// cut from it.
+    /// Faults, in this order: `TooLong` above length 65535 and `UnitLength` below 32, with nothing
+    /// read and no memory asked for; `Memory`, with nothing read, where there is no room for the
+    /// frame that the rest is read into; `Short` or `Reader` inside the unit; `Memory`, with the
+    /// whole unit read, where the frame can't be shared. The key info is cut from it.
     pub fn read_payload<R: Source>(
         alloc: Global,
         header: Header,
         reader: &mut R,
     ) -> Result<Self, Fault>
-        ensures bytes { ReadsBehind (fault_as 9) (header_bytes header) result (R.remaining reader.old) (R.remaining reader.new) }
-        ensures fields { IfOk result (λ u. type_field (header_bytes header) ≡ 9 → HasFields u (key_fields u)) }
-        ensures count { R.failures reader.new ≡ count_after (R.failures reader.old) (not (is_reader_fault result)) }
+        ensures bytes { ReadsBehind (fault_as 9) (header_bytes header) result
+            (R.remaining reader.old) (R.remaining reader.new) }
+        ensures fields { IfOk result
+            (λ u. type_field (header_bytes header) ≡ 9 → HasFields u (key_fields u)) }
+        ensures count { R.failures reader.new ≡
+            count_after (R.failures reader.old) (not (is_reader_fault result)) }
     {
         let head = header.as_ref();
         let size = header.length();
@@ -223,7 +229,8 @@ impl RouterKey {
     #[inline(always)]
     pub fn write<W: Sink>(&self, writer: &mut W) -> Result<(), Fault>
         ensures bytes { PutsForm result (W.contents writer.old) (W.contents writer.new) self.now }
-        ensures count { W.failures writer.new ≡ count_after (W.failures writer.old) (not (is_writer_fault result)) }
+        ensures count { W.failures writer.new ≡
+            count_after (W.failures writer.old) (not (is_writer_fault result)) }
     {
         match put(writer, &self.fixed) {
             Ok(()) => put(writer, self.key_info.as_slice()),

@@ -1,7 +1,8 @@
 //! Equality, order and hash of router keys, ASPAs and payloads: those of what they mean.
 
 ghost use Rattle.std.specs.Prelude.{refl};
-ghost use Rattle.std.specs.Cmp.{eq_by_cmp_equiv, on_equiv, on_po, on_total, partial_equiv_from_equiv, partial_order_from_total};
+ghost use Rattle.std.specs.Cmp.{eq_by_cmp_equiv, on_equiv, on_po, on_total};
+ghost use Rattle.std.specs.Cmp.{partial_equiv_from_equiv, partial_order_from_total};
 ghost use Rattle.std.specs.Hash.{on_Alike, same_Alike};
 ghost use Rattle.std.specs.Ordering.{as_partial_cmp, eq_by_cmp, on};
 ghost use Rattle.rtr_payload.specs.OrderLaws.{payload_decides};
@@ -171,7 +172,8 @@ impl Hash for Payload {
 impl<'a> PartialEq for PayloadRef<'a> {
     ghost eq = { on payload_of_ref (eq_by_cmp payload_cmp) };
 
-    ghost laws = { partial_equiv_from_equiv (on_equiv payload_of_ref (eq_by_cmp_equiv payload_total)) };
+    ghost laws = { partial_equiv_from_equiv
+        (on_equiv payload_of_ref (eq_by_cmp_equiv payload_total)) };
 
     fn eq(&self, other: &Self) -> bool {
         self.cmp(other).is_eq()
@@ -218,7 +220,8 @@ impl<'a> Ord for PayloadRef<'a> {
 impl<'a> Hash for PayloadRef<'a> {
     ghost hash_input = { λ value. payload_writes (payload_of_ref value) };
 
-    ghost respects_eq = { (on_Alike payload_of_ref (same_Alike payload_writes payload_decides)).fed };
+    ghost respects_eq = { (on_Alike payload_of_ref
+        (same_Alike payload_writes payload_decides)).fed };
 
     fn hash<H: Hasher>(&self, state: &mut H) {
         match self {

@@ -1,8 +1,9 @@
-//! Equality, order and hash of route origins: those of what they mean, so that an origin without a max length is as one
-//! whose max length is its prefix length.
+//! Equality, order and hash of route origins: those of what they mean, so that an origin without a
+//! max length is as one whose max length is its prefix length.
 
 ghost use Rattle.std.specs.Prelude.{refl};
-ghost use Rattle.std.specs.Cmp.{eq_by_cmp_equiv, on_equiv, on_po, on_total, partial_equiv_from_equiv, partial_order_from_total};
+ghost use Rattle.std.specs.Cmp.{eq_by_cmp_equiv, on_equiv, on_po, on_total};
+ghost use Rattle.std.specs.Cmp.{partial_equiv_from_equiv, partial_order_from_total};
 ghost use Rattle.std.specs.Hash.{on_Alike, same_Alike};
 ghost use Rattle.std.specs.Ordering.{as_partial_cmp, eq_by_cmp, on};
 ghost use Rattle.rtr_payload.specs.OrderLaws.{payload_decides};

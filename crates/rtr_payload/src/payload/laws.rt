@@ -14,11 +14,15 @@ use super::{Aspa, Payload, PayloadRef, RouteOrigin, RouterKey};
 #[tactic(auto, using(crate::specs::OrderLaws::payload_decides))]
 /// Values are equal exactly where they mean the same payload.
 pub fn equal_values()
-    ensures origins { (a b : RouteOrigin) → IsTrue (⟦<RouteOrigin as PartialEq>⟧.eq a b) ↔ (origin_of a ≡ origin_of b) }
-    ensures keys { (a b : RouterKey) → IsTrue (⟦<RouterKey as PartialEq>⟧.eq a b) ↔ (key_of a ≡ key_of b) }
+    ensures origins { (a b : RouteOrigin) → IsTrue (⟦<RouteOrigin as PartialEq>⟧.eq a b) ↔
+        (origin_of a ≡ origin_of b) }
+    ensures keys { (a b : RouterKey) → IsTrue (⟦<RouterKey as PartialEq>⟧.eq a b) ↔
+        (key_of a ≡ key_of b) }
     ensures aspas { (a b : Aspa) → IsTrue (⟦<Aspa as PartialEq>⟧.eq a b) ↔ (aspa_of a ≡ aspa_of b) }
-    ensures payloads { (a b : Payload) → IsTrue (⟦<Payload as PartialEq>⟧.eq a b) ↔ (payload_of a ≡ payload_of b) }
-    ensures lent { (a b : PayloadRef) → IsTrue (⟦<PayloadRef<'static> as PartialEq>⟧.eq a b) ↔ (payload_of_ref a ≡ payload_of_ref b) }
+    ensures payloads { (a b : Payload) → IsTrue (⟦<Payload as PartialEq>⟧.eq a b) ↔
+        (payload_of a ≡ payload_of b) }
+    ensures lent { (a b : PayloadRef) → IsTrue (⟦<PayloadRef<'static> as PartialEq>⟧.eq a b) ↔
+        (payload_of_ref a ≡ payload_of_ref b) }
 {}
 
 /// The parts of a payload are in their ranges, as the type of each part keeps them.
