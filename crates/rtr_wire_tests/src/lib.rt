@@ -1,4 +1,5 @@
-//! Tests of `rtr_wire`: whole sequences, and what the crate shows.
+//! Tests of `rtr_wire`: whole sequences, and what the crate shows. No other library of the repository is used but
+//! `rtr_support`, so that a user of `rtr_wire` needs none.
 #![tactic(auto)]
 
 #[cfg(test)]
@@ -6,11 +7,15 @@ mod compared;
 #[cfg(test)]
 mod debug;
 #[cfg(test)]
+mod fixed;
+#[cfg(test)]
 mod normalised;
 #[cfg(test)]
 mod rows;
 #[cfg(test)]
 mod shown;
+#[cfg(test)]
+mod variable;
 
 #[cfg(test)]
 use std::fmt::Debug;
