@@ -1,8 +1,8 @@
-//! Units that ask for one frame behind their header.
+//! Units that ask for one frame after their header.
 
 use crate::expect_equal;
 use crate::support::{Page, normalised};
-use rtr_support::{ASPA_BARE, ASPA_NAMED, END_1, IPV4, IPV4_STRAY, KEY};
+use rtr_support::{ASPA_BARE, ASPA_NAMED, END_1, IPV4, KEY};
 use rtr_wire::pdu::{Aspa, Counted, Fault, RouterKey, SliceSource};
 use std::alloc::Global;
 use std::process::Abort;
@@ -59,8 +59,8 @@ fn aspa(rt: HostRuntime) -> Result<(), Fail> {
     Ok(())
 }
 
-/// Asserts that units, one more behind them and an end of data have their form, or that memory ran out in that last
-/// unit behind the form of the others. Answers the word.
+/// Asserts that units, one more after them and an end of data have their form, or that memory ran out in that last
+/// unit after the form of the others. Answers the word.
 fn sequence(
     rt: &impl Abort,
     alloc: Global,
@@ -97,9 +97,34 @@ fn normalised_key(rt: HostRuntime) -> Result<(), Fail> {
     Ok(())
 }
 
+/// `KEY` with a byte in its zero field.
+const STRAY: &str =
+    "01 09 01 05 00 00 00 24 01 02 03 04 05 06 07 08 09 0a 0b 0c 0d 0e 0f 10 11 12 13 14 00 01 00 0f 15 16 17 18";
+
 #[test]
-fn normalised_key_behind_prefix(rt: HostRuntime) -> Result<(), Fail> {
-    let word = sequence(&rt, rt.alloc(), [IPV4_STRAY, KEY], [IPV4, KEY])?;
+fn normalised_key_with_a_stray_byte(rt: HostRuntime) -> Result<(), Fail> {
+    let word = sequence(&rt, rt.alloc(), ["", STRAY], ["", KEY])?;
+    println!(rt; "{word}")?;
+    Ok(())
+}
+
+/// `KEY` withdrawn with stray flags, and its form.
+const WITHDRAWN: [&str; 2] = [
+    "01 09 fe 00 00 00 00 24 01 02 03 04 05 06 07 08 09 0a 0b 0c 0d 0e 0f 10 11 12 13 14 00 01 00 0f 15 16 17 18",
+    "01 09 00 00 00 00 00 24 01 02 03 04 05 06 07 08 09 0a 0b 0c 0d 0e 0f 10 11 12 13 14 00 01 00 0f 15 16 17 18",
+];
+
+#[test]
+fn normalised_key_withdrawn(rt: HostRuntime) -> Result<(), Fail> {
+    let [unit, form] = WITHDRAWN;
+    let word = sequence(&rt, rt.alloc(), ["", unit], ["", form])?;
+    println!(rt; "{word}")?;
+    Ok(())
+}
+
+#[test]
+fn normalised_key_after_prefix(rt: HostRuntime) -> Result<(), Fail> {
+    let word = sequence(&rt, rt.alloc(), [IPV4, KEY], [IPV4, KEY])?;
     println!(rt; "{word}")?;
     Ok(())
 }

@@ -11,7 +11,7 @@ use std::test::Fail;
 /// A sequence of prefixes: how many there are, and their form.
 type Accepted = (&'static [&'static str], u64, &'static [&'static str]);
 
-/// Sequences of prefixes.
+/// Sequences of prefixes. Each is followed by five bytes that are not read.
 #[rattlefmt::skip]
 const ACCEPTED: &[Accepted] = &[
     (&[END_0], 0, &[END_0]),
@@ -62,7 +62,9 @@ const REFUSED: &[Refused] = &[
 #[test]
 fn accepted_prefixes(rt: HostRuntime) -> Result<(), Fail> {
     for (input, units, output) in ACCEPTED {
-        let input = Page::spelled(input)?;
+        let mut input = Page::spelled(input)?;
+        let taken = input.bytes().len();
+        input.write_all(&[1, 4, 0, 0, 0])?;
         let seen = normalised(rt.alloc(), input.bytes());
         match &seen.answer {
             Ok(count) => expect_equal(&rt, *count, *units),
@@ -70,7 +72,7 @@ fn accepted_prefixes(rt: HostRuntime) -> Result<(), Fail> {
         }
         let output = Page::spelled(output)?;
         expect_equal(&rt, seen.output.bytes(), output.bytes());
-        expect_equal(&rt, seen.taken, input.bytes().len());
+        expect_equal(&rt, seen.taken, taken);
     }
     println!(rt; "whole")?;
     Ok(())

@@ -1,6 +1,7 @@
 //! Calls that may ask for memory, and what they leave of what they were lent.
 
 use crate::expect_equal;
+use crate::payloads::read_payload;
 use crate::support::{Page, granted, tell};
 use rtr_support::{END_1, IPV4, IPV4_STRAY};
 use rtr_wire::pdu::{Error, Fault, ProviderAsns};
@@ -40,4 +41,12 @@ fn copied(rt: &impl Abort, alloc: Global) -> Result<(), Fault> {
 #[test]
 fn nothing_copied(rt: HostRuntime) -> Result<(), Fail> {
     tell(&rt, copied(&rt, rt.alloc()))
+}
+
+#[test]
+fn prefix_payload(rt: HostRuntime) -> Result<(), Fail> {
+    let unit = Page::spelled(&[IPV4_STRAY])?;
+    let form = Page::spelled(&[IPV4])?;
+    let seen = read_payload(&rt, rt.alloc(), unit.bytes(), form.bytes(), 20);
+    tell(&rt, seen)
 }

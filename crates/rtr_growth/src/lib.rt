@@ -1,6 +1,6 @@
 //! Tests of what a refused growth leaves. Each takes the whole answer or want of memory, checks either in full, and
 //! prints one word that says which. `.ci/growth` runs them with each growth refused in turn and compares the words:
-//! - tests of `framed` ask for their unit's frame first, so that the first refusal leaves all behind the header unread,
+//! - tests of `framed` ask for their unit's frame first, so that the first refusal leaves all after the header unread,
 //!   and they print `header`; a later one leaves the unit taken, and they print `unit`;
 //! - tests of `refused` print `memory` where a growth was refused, the first among them;
 //! - tests of `lent` print `memory` where a growth was refused, if they ask for any;
@@ -13,6 +13,8 @@ mod framed;
 mod free;
 #[cfg(test)]
 mod lent;
+#[cfg(test)]
+mod payloads;
 #[cfg(test)]
 mod refused;
 #[cfg(test)]

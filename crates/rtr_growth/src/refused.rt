@@ -1,12 +1,13 @@
 //! Calls that ask for memory, and what they leave of what they were lent.
 
 use crate::expect_equal;
+use crate::payloads::{read_payload, supported};
 use crate::support::{Page, granted, normalised, tell};
-use rtr_support::{ASPA_BARE, ASPA_NAMED, END_1, IPV4, IPV4_STRAY, KEY};
+use rtr_support::{ASPA_BARE, ASPA_NAMED, END_1, IPV4, KEY};
 use rtr_wire::base::{Asn, KeyIdentifier};
 use rtr_wire::pdu::{
-    Aspa, Counted, Error, Fault, Header, KeyInfoVecError, Payload, ProviderAsns, ProviderIterError,
-    RouterKey, RouterKeyInfo, SliceSource,
+    Aspa, Error, Fault, Header, KeyInfoVecError, ProviderAsns, ProviderIterError, RouterKey,
+    RouterKeyInfo, SliceSource,
 };
 use rtr_wire::{payload, same_meaning};
 use std::alloc::Global;
@@ -14,7 +15,10 @@ use std::io::Write;
 use std::process::Abort;
 use std::test::Fail;
 
-/// Asserts that a broken prefix behind these units is refused with this report, or that memory ran out.
+/// An ASPA unit that announces two providers.
+const ANNOUNCED: &str = "02 0b 01 00 00 00 00 14 00 01 00 0f 00 01 00 0d 00 01 00 0e";
+
+/// Asserts that a broken prefix after these units is refused with this report, or that memory ran out.
 fn broken(
     rt: &impl Abort,
     alloc: Global,
@@ -59,11 +63,11 @@ fn broken_prefix(rt: HostRuntime) -> Result<(), Fail> {
 }
 
 #[test]
-fn broken_prefix_behind_prefix(rt: HostRuntime) -> Result<(), Fail> {
+fn broken_prefix_after_prefix(rt: HostRuntime) -> Result<(), Fail> {
     let seen = broken(
         &rt,
         rt.alloc(),
-        [IPV4_STRAY, IPV4],
+        [IPV4, IPV4],
         "01 04 00 00 00 00 00 14 01 17 16 00 c0 00 02 00 00 01 00 0f",
         ["01 0a 00 00 00 00 00 49 00 00 00 14", "00 00 00 25"],
         "max-length smaller than prefix length",
@@ -154,71 +158,43 @@ fn providers(rt: HostRuntime) -> Result<(), Fail> {
     tell(&rt, provided(&rt, rt.alloc()))
 }
 
-/// A unit that was read, its clone and its meaning, lent and given away.
-fn read_payload(rt: &impl Abort, alloc: Global, bytes: &[u8], form: &[u8]) -> Result<(), Fault> {
-    let mut reader = SliceSource::new(bytes);
-    let unit = match Payload::read(alloc, &mut reader)? {
-        Ok(Some(unit)) => unit,
-        Ok(None) => panic!(rt; "no unit"),
-        Err(_) => panic!(rt; "an end of data"),
-    };
-    let copy = unit.clone();
-    expect_written(rt, &unit, bytes)?;
-    expect_written(rt, &granted(copy)?, bytes)?;
-    let meaning = unit.to_payload(alloc);
-    expect_written(rt, &unit, bytes)?;
-    let (action, meaning) = meaning?;
-    expect_form(rt, unit.version(), action, &meaning, form)?;
-    let version = unit.version();
-    let Ok((action, given)) = unit.into_payload(alloc) else {
-        panic!(rt; "a growth for a unit that is given away");
-    };
-    assert!(rt; given == meaning);
-    let made = Payload::from_payload(version, action.into_flags(), given);
-    expect_written(rt, &made, form)
-}
-
-/// Asserts that the unit of a meaning is written as this form, and that the meaning is its clone.
-fn expect_form(
-    rt: &impl Abort,
-    version: u8,
-    action: payload::Action,
-    meaning: &payload::Payload,
-    form: &[u8],
-) -> Result<(), Fault> {
-    let made = Payload::new(version, action.into_flags(), &meaning.as_ref());
-    let copy = meaning.clone();
-    expect_written(rt, &granted(made)?, form)?;
-    let copy = granted(copy)?;
-    assert!(rt; copy == *meaning);
-    Ok(())
-}
-
-/// Asserts that the unit is written as these bytes.
-fn expect_written(rt: &impl Abort, unit: &Payload, bytes: &[u8]) -> Result<(), Fault> {
-    let mut writer = Counted::new(Page::new());
-    unit.write(&mut writer)?;
-    expect_equal(rt, writer.into_inner().bytes(), bytes);
-    Ok(())
-}
-
 #[test]
 fn key_payload(rt: HostRuntime) -> Result<(), Fail> {
     let key = Page::spelled(&[KEY])?;
-    tell(&rt, read_payload(&rt, rt.alloc(), key.bytes(), key.bytes()))
+    tell(
+        &rt,
+        read_payload(&rt, rt.alloc(), key.bytes(), key.bytes(), 32),
+    )
 }
 
 #[test]
 fn aspa_payload(rt: HostRuntime) -> Result<(), Fail> {
     let unit = Page::spelled(&[ASPA_NAMED])?;
     let form = Page::spelled(&[ASPA_BARE])?;
-    tell(
-        &rt,
-        read_payload(&rt, rt.alloc(), unit.bytes(), form.bytes()),
-    )
+    let seen = read_payload(&rt, rt.alloc(), unit.bytes(), form.bytes(), 12);
+    tell(&rt, seen)
 }
 
-/// A router key unit read behind its header, and its clone.
+#[test]
+fn announced_aspa_payload(rt: HostRuntime) -> Result<(), Fail> {
+    let unit = Page::spelled(&[ANNOUNCED])?;
+    let seen = read_payload(&rt, rt.alloc(), unit.bytes(), unit.bytes(), 12);
+    tell(&rt, seen)
+}
+
+#[test]
+fn key_payload_of_a_version(rt: HostRuntime) -> Result<(), Fail> {
+    let key = Page::spelled(&[KEY])?;
+    tell(&rt, supported(&rt, rt.alloc(), key.bytes()))
+}
+
+#[test]
+fn aspa_payload_of_a_version(rt: HostRuntime) -> Result<(), Fail> {
+    let unit = Page::spelled(&[ANNOUNCED])?;
+    tell(&rt, supported(&rt, rt.alloc(), unit.bytes()))
+}
+
+/// A router key unit read after its header, and its clone.
 fn read_key(rt: &impl Abort, alloc: Global, bytes: &[u8]) -> Result<(), Fault> {
     let mut reader = SliceSource::new(bytes);
     let header = Header::read(&mut reader)?;
@@ -235,7 +211,7 @@ fn key_unit(rt: HostRuntime) -> Result<(), Fail> {
     tell(&rt, read_key(&rt, rt.alloc(), key.bytes()))
 }
 
-/// An ASPA unit read behind its header, and its clone.
+/// An ASPA unit read after its header, and its clone.
 fn read_aspa(rt: &impl Abort, alloc: Global, bytes: &[u8]) -> Result<(), Fault> {
     let mut reader = SliceSource::new(bytes);
     let header = Header::read(&mut reader)?;

@@ -1,4 +1,5 @@
-//! Tests of the units of `rtr_payload` and what they hold: whether the clauses say what is meant, and what no clause says.
+//! Tests of the units of `rtr_payload`, what they hold and what they mean: whether the clauses say what is
+//! meant, and what no clause says; and that equal meanings are one member of std's sets.
 #![tactic(auto)]
 
 #[cfg(test)]
@@ -10,9 +11,17 @@ mod keys;
 #[cfg(test)]
 mod kinds;
 #[cfg(test)]
+mod made;
+#[cfg(test)]
+mod order;
+#[cfg(test)]
+mod parts;
+#[cfg(test)]
 mod prefixes;
 #[cfg(test)]
 mod providers;
+#[cfg(test)]
+mod sets;
 #[cfg(test)]
 mod units;
 #[cfg(test)]

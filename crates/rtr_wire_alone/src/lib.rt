@@ -1,10 +1,6 @@
-//! Tests of `rtr_wire` as its users see it: with no other library beside std, each unit is made, written and read,
-//! a cache response and a sequence are taken from one reader, and a report is made.
+//! A use of `rtr_wire` with no other library beside std: a cache response and a sequence are taken from one reader, and
+//! two sequences are compared.
 #![tactic(auto)]
 
 #[cfg(test)]
-mod fixed;
-#[cfg(test)]
 mod sequences;
-#[cfg(test)]
-mod variable;

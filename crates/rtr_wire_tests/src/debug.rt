@@ -4,9 +4,9 @@ use rtr_support::{ASPA_NAMED, IPV4, IPV6, KEY, bytes};
 use rtr_wire::base::{Asn, KeyIdentifier, MaxLenPrefix, Prefix};
 use rtr_wire::payload::{Action, Afi, PayloadType, RouteOrigin, Timing};
 use rtr_wire::pdu::{
-    CacheReset, CacheResponse, EndOfData, Error, ErrorCode, Fault, Header, KeyInfoError,
-    KeyInfoVecError, Payload, ProviderIterError, ResetQuery, SerialNotify, SerialQuery,
-    SerialQueryPayload, SliceSource,
+    CacheReset, CacheResponse, Counted, EndOfData, Error, ErrorCode, Fault, Header, KeyInfoError,
+    KeyInfoVecError, Payload, ProviderAsns, ProviderIterError, ResetQuery, SerialNotify,
+    SerialQuery, SerialQueryPayload, SliceSource,
 };
 use rtr_wire::state::{Serial, State};
 use std::alloc::Global;
@@ -96,4 +96,10 @@ fn payload_units_and_their_meanings(rt: HostRuntime) -> Result<(), Fail> {
     Ok(())
 }
 
-// Place for `Counted`, `SliceSource` and `ProviderIter`, whose debug texts come with their derives.
+#[test]
+fn readers_and_iterators(rt: HostRuntime) -> Result<(), Fail> {
+    let alloc = rt.alloc();
+    expect_shown(&rt, alloc, &Counted::new(SliceSource::new(&[1, 2])))?;
+    let providers = ProviderAsns::empty(alloc)?;
+    expect_shown(&rt, alloc, &providers.iter())
+}

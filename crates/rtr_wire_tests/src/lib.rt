@@ -1,10 +1,13 @@
-//! Tests of `rtr_wire`: whole sequences, and what the crate shows.
+//! Tests of `rtr_wire`: whole sequences, and what the crate shows. No other library of the repository is used but
+//! `rtr_support`, so that a user of `rtr_wire` needs none.
 #![tactic(auto)]
 
 #[cfg(test)]
 mod compared;
 #[cfg(test)]
 mod debug;
+#[cfg(test)]
+mod fixed;
 #[cfg(test)]
 mod normalised;
 #[cfg(test)]
@@ -13,6 +16,8 @@ mod rows;
 mod shown;
 #[cfg(test)]
 mod slices;
+#[cfg(test)]
+mod variable;
 
 #[cfg(test)]
 use std::fmt::Debug;

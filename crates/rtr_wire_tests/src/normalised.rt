@@ -98,7 +98,7 @@ fn expect_form(
     expect(rt, alloc, row.name, &seen, Ok(row.units), &output, taken)
 }
 
-/// Asserts what an accepted row says of its input, with bytes behind it that are not to be read, and of its form.
+/// Asserts what an accepted row says of its input, with bytes after it that are not to be read, and of its form.
 fn expect_accepted(
     rt: &impl Abort,
     alloc: Global,

@@ -82,7 +82,7 @@ pub const REFUSED: &[Refused] = &[
     Refused { name: "a router key of length 31", input: &["01 09 01 00 00 00 00 1f", KEY_REST], fault: LENGTH, taken: 8, output: &[] },
     Refused { name: "a router key of length 65536", input: &["01 09 01 00 00 01 00 00", KEY_REST], fault: LONG, taken: 8, output: &[] },
     Refused { name: "a router key of length 4294967295", input: &["01 09 01 00 ff ff ff ff", KEY_REST], fault: LONG, taken: 8, output: &[] },
-    Refused { name: "a router key of length 65535 with nothing behind its header", input: &["01 09 01 00 00 00 ff ff"], fault: SHORT, taken: 8, output: &[] },
+    Refused { name: "a router key of length 65535 with nothing after its header", input: &["01 09 01 00 00 00 ff ff"], fault: SHORT, taken: 8, output: &[] },
     Refused { name: "an ASPA unit of length 0", input: &["02 0b 01 00 00 00 00 00", ASPA_REST], fault: LENGTH, taken: 8, output: &[] },
     Refused { name: "an ASPA unit of length 4", input: &["02 0b 01 00 00 00 00 04", ASPA_REST], fault: LENGTH, taken: 8, output: &[] },
     Refused { name: "an ASPA unit of length 8", input: &["02 0b 01 00 00 00 00 08", ASPA_REST], fault: LENGTH, taken: 8, output: &[] },

@@ -1,0 +1,134 @@
+//! Router keys, ASPA units and payload units of any kind, made, written and read with what the crate shows.
+
+use crate::expect_equal;
+use rtr_support::{ASPA_BARE, IPV4, KEY, bytes};
+use rtr_wire::base::{Asn, KeyIdentifier, MaxLenPrefix, Prefix};
+use rtr_wire::pdu::{Counted, Payload, ProviderAsns, RouterKeyInfo, SliceSource};
+use rtr_wire::{payload, pdu};
+use std::alloc::Global;
+use std::net::Ipv4Addr;
+use std::process::Abort;
+use std::test::Fail;
+
+/// The key identifier of `KEY`.
+#[rattlefmt::skip]
+const IDENTIFIER: [u8; 20] = [1, 2, 3, 4, 5, 6, 7, 8, 9, 10, 11, 12, 13, 14, 15, 16, 17, 18, 19, 20];
+
+/// An ASPA unit that announces two providers.
+const ASPA: &str = "02 0b 01 00 00 00 00 14 00 01 00 0f 00 01 00 0d 00 01 00 0e";
+
+/// The key info of `KEY`.
+fn info(alloc: Global) -> Result<RouterKeyInfo, Fail> {
+    let info = bytes(alloc, &["15 16 17 18"])?;
+    Ok(RouterKeyInfo::from_vec(alloc, info)?)
+}
+
+/// The providers of `ASPA`.
+fn providers(alloc: Global) -> Result<ProviderAsns, Fail> {
+    let asns = (65549..65551).map(|asn| Asn::from_u32(asn));
+    Ok(ProviderAsns::try_from_iter(alloc, asns)?)
+}
+
+#[test]
+fn a_key_identifier(rt: HostRuntime) {
+    let identifier = KeyIdentifier::from(IDENTIFIER);
+    expect_equal(&rt, identifier.as_slice(), IDENTIFIER.as_slice());
+    expect_equal(&rt, identifier.into_bytes(), IDENTIFIER);
+}
+
+#[test]
+fn router_key_units(rt: HostRuntime) -> Result<(), Fail> {
+    let alloc = rt.alloc();
+    let want = bytes(alloc, &[KEY])?;
+    let unit = pdu::RouterKey::new(1, 1, IDENTIFIER, Asn::from_u32(65551), info(alloc)?);
+    let mut writer = Counted::new(Vec::new(alloc));
+    unit.write(&mut writer)?;
+    expect_equal(&rt, writer.into_inner().as_slice(), want.as_slice());
+    let mut reader = SliceSource::new(&want);
+    assert!(rt; pdu::RouterKey::read(alloc, &mut reader)? == unit);
+    Ok(())
+}
+
+#[test]
+fn aspa_units(rt: HostRuntime) -> Result<(), Fail> {
+    let alloc = rt.alloc();
+    let want = bytes(alloc, &[ASPA])?;
+    let unit = pdu::Aspa::new(2, 1, Asn::from_u32(65551), providers(alloc)?);
+    let mut writer = Counted::new(Vec::new(alloc));
+    unit.write(&mut writer)?;
+    expect_equal(&rt, writer.into_inner().as_slice(), want.as_slice());
+    let mut reader = SliceSource::new(&want);
+    assert!(rt; pdu::Aspa::read(alloc, &mut reader)? == unit);
+    Ok(())
+}
+
+/// Asserts that these bytes are read as the unit of this action and payload.
+fn reads(
+    rt: &impl Abort,
+    alloc: Global,
+    unit: &Payload,
+    action: payload::Action,
+    payload: &payload::Payload,
+    input: &[u8],
+) -> Result<(), Fail> {
+    match Payload::read(alloc, &mut SliceSource::new(input))? {
+        Ok(Some(read)) => {
+            assert!(rt; read == *unit);
+            expect_equal(rt, read.action(), action);
+            let (_, meaning) = read.to_payload(alloc)?;
+            assert!(rt; meaning == *payload);
+        }
+        Ok(None) => panic!(rt; "no unit"),
+        Err(_) => panic!(rt; "an end of data"),
+    }
+    Ok(())
+}
+
+/// Asserts that the unit of the payload is written as these bytes, and that they are read as the payload.
+fn passes(
+    rt: &impl Abort,
+    alloc: Global,
+    version: u8,
+    action: payload::Action,
+    payload: &payload::Payload,
+    text: &str,
+) -> Result<(), Fail> {
+    let want = bytes(alloc, &[text])?;
+    let unit = Payload::new(version, action.into_flags(), &payload.as_ref())?;
+    let mut writer = Counted::new(Vec::new(alloc));
+    unit.write(&mut writer)?;
+    expect_equal(rt, writer.into_inner().as_slice(), want.as_slice());
+    reads(rt, alloc, &unit, action, payload, &want)
+}
+
+#[test]
+fn payload_units_of_origins(rt: HostRuntime) -> Result<(), Fail> {
+    let prefix = Prefix::new_v4(Ipv4Addr::new(192, 0, 2, 0), 23)?;
+    let prefix = MaxLenPrefix::new(prefix, Some(26))?;
+    let origin = payload::Payload::origin(prefix, Asn::from_u32(65551));
+    passes(&rt, rt.alloc(), 1, payload::Action::Announce, &origin, IPV4)
+}
+
+#[test]
+fn payload_units_of_keys(rt: HostRuntime) -> Result<(), Fail> {
+    let alloc = rt.alloc();
+    let identifier = KeyIdentifier::from(IDENTIFIER);
+    let key = payload::Payload::router_key(identifier, Asn::from_u32(65551), info(alloc)?);
+    passes(&rt, alloc, 1, payload::Action::Announce, &key, KEY)
+}
+
+#[test]
+fn payload_units_of_aspas(rt: HostRuntime) -> Result<(), Fail> {
+    let alloc = rt.alloc();
+    let aspa = payload::Payload::aspa(Asn::from_u32(65551), providers(alloc)?);
+    passes(&rt, alloc, 2, payload::Action::Announce, &aspa, ASPA)
+}
+
+#[test]
+fn withdrawal_of_an_aspa(rt: HostRuntime) -> Result<(), Fail> {
+    let alloc = rt.alloc();
+    let aspa = payload::Aspa::new(Asn::from_u32(65551), providers(alloc)?);
+    let withdrawn = payload::Payload::from(aspa.withdraw(alloc)?);
+    let withdraw = payload::Action::Withdraw;
+    passes(&rt, alloc, 2, withdraw, &withdrawn, ASPA_BARE)
+}
