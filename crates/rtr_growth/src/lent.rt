@@ -1,7 +1,7 @@
 //! Calls that may ask for memory, and what they leave of what they were lent.
 
 use crate::expect_equal;
-use crate::payloads::read_payload;
+use crate::payloads::{read_payload, supported};
 use crate::support::{Page, granted, tell};
 use rtr_support::{END_1, IPV4, IPV4_STRAY};
 use rtr_wire::pdu::{Error, Fault, ProviderAsns};
@@ -49,4 +49,10 @@ fn prefix_payload(rt: HostRuntime) -> Result<(), Fail> {
     let form = Page::spelled(&[IPV4])?;
     let seen = read_payload(&rt, rt.alloc(), unit.bytes(), form.bytes(), 20);
     tell(&rt, seen)
+}
+
+#[test]
+fn prefix_payload_of_a_version(rt: HostRuntime) -> Result<(), Fail> {
+    let unit = Page::spelled(&[IPV4])?;
+    tell(&rt, supported(&rt, rt.alloc(), unit.bytes(), true))
 }

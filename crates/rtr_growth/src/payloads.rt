@@ -67,13 +67,13 @@ fn expect_written(rt: &impl Abort, unit: &Payload, bytes: &[u8]) -> Result<(), F
     Ok(())
 }
 
-/// The unit of a meaning, where the version of a unit of these bytes has it; the version before has none.
-pub fn supported(rt: &impl Abort, alloc: Global, bytes: &[u8]) -> Result<(), Fault> {
+/// The unit of a meaning in the version of a unit of these bytes, and in the version before, which has it or not.
+pub fn supported(rt: &impl Abort, alloc: Global, bytes: &[u8], before: bool) -> Result<(), Fault> {
     let unit = read(rt, alloc, bytes)?;
     let version = unit.version();
     let (_, meaning) = unit.into_payload(alloc)?;
-    let before = Payload::new_if_supported(version.saturating_sub(1), 1, &meaning.as_ref());
-    assert!(rt; matches!(before, Ok(None)));
+    let earlier = Payload::new_if_supported(version.saturating_sub(1), 1, &meaning.as_ref());
+    expect_equal(rt, granted(earlier)?.is_some(), before);
     let made = Payload::new_if_supported(version, 1, &meaning.as_ref());
     match granted(made)? {
         Some(made) => expect_written(rt, &made, bytes),

@@ -185,13 +185,13 @@ fn announced_aspa_payload(rt: HostRuntime) -> Result<(), Fail> {
 #[test]
 fn key_payload_of_a_version(rt: HostRuntime) -> Result<(), Fail> {
     let key = Page::spelled(&[KEY])?;
-    tell(&rt, supported(&rt, rt.alloc(), key.bytes()))
+    tell(&rt, supported(&rt, rt.alloc(), key.bytes(), false))
 }
 
 #[test]
 fn aspa_payload_of_a_version(rt: HostRuntime) -> Result<(), Fail> {
     let unit = Page::spelled(&[ANNOUNCED])?;
-    tell(&rt, supported(&rt, rt.alloc(), unit.bytes()))
+    tell(&rt, supported(&rt, rt.alloc(), unit.bytes(), false))
 }
 
 /// A router key unit read after its header, and its clone.

@@ -1,7 +1,10 @@
 //! Whole sequences: what `normalise` answers to rows of inputs, by readers and writers of all kinds.
 
 use crate::expect_equal;
-use crate::rows::{ACCEPTED, Accepted, REFUSED, REPORTED, Refused, Reported, SINGLES, Single};
+use crate::rows::{
+    ACCEPTED, Accepted, REFUSED, REFUSED_ASPAS, REFUSED_ENDS, REFUSED_KEYS, REFUSED_LATER_ENDS,
+    REFUSED_PREFIXES, REPORTED, Refused, Reported, SINGLES, Single,
+};
 use rtr_support::{
     END_1, IPV4, IPV4_STRAY, ONES, Pieces, Recorder, STEPS, WHOLE, bytes, filler, front,
 };
@@ -163,6 +166,46 @@ fn expect_refused(rt: &impl Abort, alloc: Global, row: &Refused) -> Result<(), F
 #[test]
 fn refused_inputs(rt: HostRuntime) -> Result<(), Fail> {
     for row in REFUSED {
+        expect_refused(&rt, rt.alloc(), row)?;
+    }
+    Ok(())
+}
+
+#[test]
+fn refused_lengths_of_prefixes(rt: HostRuntime) -> Result<(), Fail> {
+    for row in REFUSED_PREFIXES {
+        expect_refused(&rt, rt.alloc(), row)?;
+    }
+    Ok(())
+}
+
+#[test]
+fn refused_keys(rt: HostRuntime) -> Result<(), Fail> {
+    for row in REFUSED_KEYS {
+        expect_refused(&rt, rt.alloc(), row)?;
+    }
+    Ok(())
+}
+
+#[test]
+fn refused_aspas(rt: HostRuntime) -> Result<(), Fail> {
+    for row in REFUSED_ASPAS {
+        expect_refused(&rt, rt.alloc(), row)?;
+    }
+    Ok(())
+}
+
+#[test]
+fn refused_ends(rt: HostRuntime) -> Result<(), Fail> {
+    for row in REFUSED_ENDS {
+        expect_refused(&rt, rt.alloc(), row)?;
+    }
+    Ok(())
+}
+
+#[test]
+fn refused_later_ends(rt: HostRuntime) -> Result<(), Fail> {
+    for row in REFUSED_LATER_ENDS {
         expect_refused(&rt, rt.alloc(), row)?;
     }
     Ok(())

@@ -59,17 +59,18 @@ const LONG: &str = "unit is longer than 65535 bytes";
 /// The fault of an announcement without providers.
 const EMPTY: &str = "ASPA unit has no providers";
 
-/// The inputs that are refused, with no report.
+/// Inputs with no unit that is allowed.
 #[rattlefmt::skip]
 pub const REFUSED: &[Refused] = &[
     Refused { name: "no bytes", input: &[], fault: SHORT, taken: 0, output: &[] },
     Refused { name: "an error report", input: &[IPV4, "01 0a 00 03 00 00 00 12"], fault: "unit type 10 is not allowed here", taken: 28, output: &[IPV4] },
     Refused { name: "a type that is not known", input: &[IPV4, "01 05 00 03 00 00 00 12"], fault: "unit type 5 is not allowed here", taken: 28, output: &[IPV4] },
     Refused { name: "a cache response", input: &[IPV4, "01 03 00 03 00 00 00 12"], fault: "unit type 3 is not allowed here", taken: 28, output: &[IPV4] },
-    Refused { name: "an end of data of version 3", input: &["03", END_REST], fault: "version 3 is not supported here", taken: 8, output: &[] },
-    Refused { name: "an end of data of version 255 and a wrong length", input: &["ff 07 12 34 00 00 00 00"], fault: "version 255 is not supported here", taken: 8, output: &[] },
-    Refused { name: "an end of data of version 0 with timings", input: &["00", END_REST], fault: LENGTH, taken: 8, output: &[] },
-    Refused { name: "an end of data of version 1 without timings", input: &["01 07 12 34 00 00 00 0c de ad be ef"], fault: LENGTH, taken: 8, output: &[] },
+];
+
+/// Prefix units of a wrong length.
+#[rattlefmt::skip]
+pub const REFUSED_PREFIXES: &[Refused] = &[
     Refused { name: "an IPv4 prefix of length 0", input: &["01 04 00 00 00 00 00 00", IPV4], fault: LENGTH, taken: 8, output: &[] },
     Refused { name: "an IPv4 prefix of length 19", input: &["01 04 00 00 00 00 00 13", IPV4], fault: LENGTH, taken: 8, output: &[] },
     Refused { name: "an IPv4 prefix of length 21", input: &["01 04 00 00 00 00 00 15", IPV4], fault: LENGTH, taken: 8, output: &[] },
@@ -78,11 +79,27 @@ pub const REFUSED: &[Refused] = &[
     Refused { name: "an IPv6 prefix of length 20", input: &["01 06 00 00 00 00 00 14", IPV6], fault: LENGTH, taken: 8, output: &[] },
     Refused { name: "an IPv6 prefix of length 31", input: &["01 06 00 00 00 00 00 1f", IPV6], fault: LENGTH, taken: 8, output: &[] },
     Refused { name: "an IPv6 prefix of length 33", input: &["01 06 00 00 00 00 00 21", IPV6], fault: LENGTH, taken: 8, output: &[] },
+    Refused { name: "an IPv6 prefix of length 0", input: &["01 06 00 00 00 00 00 00", IPV6], fault: LENGTH, taken: 8, output: &[] },
+    Refused { name: "an IPv6 prefix of length 65536", input: &["01 06 00 00 00 01 00 00", IPV6], fault: LENGTH, taken: 8, output: &[] },
+    Refused { name: "an IPv6 prefix of length 4294967295", input: &["01 06 00 00 ff ff ff ff", IPV6], fault: LENGTH, taken: 8, output: &[] },
+    Refused { name: "an IPv4 prefix of length 32", input: &["01 04 00 00 00 00 00 20", IPV6], fault: LENGTH, taken: 8, output: &[] },
+];
+
+/// Router keys of a wrong length.
+#[rattlefmt::skip]
+pub const REFUSED_KEYS: &[Refused] = &[
     Refused { name: "a router key of length 0", input: &["01 09 01 00 00 00 00 00", KEY_REST], fault: LENGTH, taken: 8, output: &[] },
     Refused { name: "a router key of length 31", input: &["01 09 01 00 00 00 00 1f", KEY_REST], fault: LENGTH, taken: 8, output: &[] },
     Refused { name: "a router key of length 65536", input: &["01 09 01 00 00 01 00 00", KEY_REST], fault: LONG, taken: 8, output: &[] },
     Refused { name: "a router key of length 4294967295", input: &["01 09 01 00 ff ff ff ff", KEY_REST], fault: LONG, taken: 8, output: &[] },
     Refused { name: "a router key of length 65535 with nothing after its header", input: &["01 09 01 00 00 00 ff ff"], fault: SHORT, taken: 8, output: &[] },
+    Refused { name: "a router key of length 8", input: &["01 09 01 00 00 00 00 08", KEY_REST], fault: LENGTH, taken: 8, output: &[] },
+    Refused { name: "a router key of length 65537", input: &["01 09 01 00 00 01 00 01", KEY_REST], fault: LONG, taken: 8, output: &[] },
+];
+
+/// ASPA units of a wrong length, or without providers.
+#[rattlefmt::skip]
+pub const REFUSED_ASPAS: &[Refused] = &[
     Refused { name: "an ASPA unit of length 0", input: &["02 0b 01 00 00 00 00 00", ASPA_REST], fault: LENGTH, taken: 8, output: &[] },
     Refused { name: "an ASPA unit of length 4", input: &["02 0b 01 00 00 00 00 04", ASPA_REST], fault: LENGTH, taken: 8, output: &[] },
     Refused { name: "an ASPA unit of length 8", input: &["02 0b 01 00 00 00 00 08", ASPA_REST], fault: LENGTH, taken: 8, output: &[] },
@@ -94,10 +111,16 @@ pub const REFUSED: &[Refused] = &[
     Refused { name: "an ASPA unit of length 65537", input: &["02 0b 01 00 00 01 00 01", ASPA_REST], fault: LONG, taken: 8, output: &[] },
     Refused { name: "an ASPA unit that announces no providers", input: &["02 0b 01 00 00 00 00 0c", ASPA_REST], fault: EMPTY, taken: 8, output: &[] },
     Refused { name: "an ASPA unit that announces no providers with a stray flag", input: &["02 0b 03 00 00 00 00 0c", ASPA_REST], fault: EMPTY, taken: 8, output: &[] },
-    Refused { name: "an IPv6 prefix of length 0", input: &["01 06 00 00 00 00 00 00", IPV6], fault: LENGTH, taken: 8, output: &[] },
-    Refused { name: "an IPv6 prefix of length 65536", input: &["01 06 00 00 00 01 00 00", IPV6], fault: LENGTH, taken: 8, output: &[] },
-    Refused { name: "an IPv6 prefix of length 4294967295", input: &["01 06 00 00 ff ff ff ff", IPV6], fault: LENGTH, taken: 8, output: &[] },
-    Refused { name: "an IPv4 prefix of length 32", input: &["01 04 00 00 00 00 00 20", IPV6], fault: LENGTH, taken: 8, output: &[] },
+    Refused { name: "an ASPA unit of length 15", input: &["02 0b 01 00 00 00 00 0f", ASPA_REST], fault: LENGTH, taken: 8, output: &[] },
+    Refused { name: "an ASPA unit of length 4294967292", input: &["02 0b 01 00 ff ff ff fc", ASPA_REST], fault: LONG, taken: 8, output: &[] },
+    Refused { name: "an ASPA unit of length 4294967295", input: &["02 0b 01 00 ff ff ff ff", ASPA_REST], fault: LONG, taken: 8, output: &[] },
+    Refused { name: "an ASPA unit that withdraws, of length 13", input: &["02 0b 00 00 00 00 00 0d", ASPA_REST], fault: LENGTH, taken: 8, output: &[] },
+];
+
+/// Ends of data of version 0 and a wrong length.
+#[rattlefmt::skip]
+pub const REFUSED_ENDS: &[Refused] = &[
+    Refused { name: "an end of data of version 0 with timings", input: &["00", END_REST], fault: LENGTH, taken: 8, output: &[] },
     Refused { name: "an end of data of version 0 and length 0", input: &["00 07 12 34 00 00 00 00"], fault: LENGTH, taken: 8, output: &[] },
     Refused { name: "an end of data of version 0 and length 11", input: &["00 07 12 34 00 00 00 0b"], fault: LENGTH, taken: 8, output: &[] },
     Refused { name: "an end of data of version 0 and length 13", input: &["00 07 12 34 00 00 00 0d"], fault: LENGTH, taken: 8, output: &[] },
@@ -105,6 +128,14 @@ pub const REFUSED: &[Refused] = &[
     Refused { name: "an end of data of version 0 and length 25", input: &["00 07 12 34 00 00 00 19"], fault: LENGTH, taken: 8, output: &[] },
     Refused { name: "an end of data of version 0 and length 65536", input: &["00 07 12 34 00 01 00 00"], fault: LENGTH, taken: 8, output: &[] },
     Refused { name: "an end of data of version 0 and length 4294967295", input: &["00 07 12 34 ff ff ff ff"], fault: LENGTH, taken: 8, output: &[] },
+];
+
+/// Ends of data of later versions and a wrong length, and of versions that have none.
+#[rattlefmt::skip]
+pub const REFUSED_LATER_ENDS: &[Refused] = &[
+    Refused { name: "an end of data of version 3", input: &["03", END_REST], fault: "version 3 is not supported here", taken: 8, output: &[] },
+    Refused { name: "an end of data of version 255 and a wrong length", input: &["ff 07 12 34 00 00 00 00"], fault: "version 255 is not supported here", taken: 8, output: &[] },
+    Refused { name: "an end of data of version 1 without timings", input: &["01 07 12 34 00 00 00 0c de ad be ef"], fault: LENGTH, taken: 8, output: &[] },
     Refused { name: "an end of data of version 1 and length 0", input: &["01 07 12 34 00 00 00 00"], fault: LENGTH, taken: 8, output: &[] },
     Refused { name: "an end of data of version 1 and length 11", input: &["01 07 12 34 00 00 00 0b"], fault: LENGTH, taken: 8, output: &[] },
     Refused { name: "an end of data of version 1 and length 13", input: &["01 07 12 34 00 00 00 0d"], fault: LENGTH, taken: 8, output: &[] },
@@ -120,12 +151,6 @@ pub const REFUSED: &[Refused] = &[
     Refused { name: "an end of data of version 2 and length 65536", input: &["02 07 12 34 00 01 00 00"], fault: LENGTH, taken: 8, output: &[] },
     Refused { name: "an end of data of version 2 and length 4294967295", input: &["02 07 12 34 ff ff ff ff"], fault: LENGTH, taken: 8, output: &[] },
     Refused { name: "an end of data of version 2 without timings", input: &["02 07 12 34 00 00 00 0c de ad be ef"], fault: LENGTH, taken: 8, output: &[] },
-    Refused { name: "a router key of length 8", input: &["01 09 01 00 00 00 00 08", KEY_REST], fault: LENGTH, taken: 8, output: &[] },
-    Refused { name: "a router key of length 65537", input: &["01 09 01 00 00 01 00 01", KEY_REST], fault: LONG, taken: 8, output: &[] },
-    Refused { name: "an ASPA unit of length 15", input: &["02 0b 01 00 00 00 00 0f", ASPA_REST], fault: LENGTH, taken: 8, output: &[] },
-    Refused { name: "an ASPA unit of length 4294967292", input: &["02 0b 01 00 ff ff ff fc", ASPA_REST], fault: LONG, taken: 8, output: &[] },
-    Refused { name: "an ASPA unit of length 4294967295", input: &["02 0b 01 00 ff ff ff ff", ASPA_REST], fault: LONG, taken: 8, output: &[] },
-    Refused { name: "an ASPA unit that withdraws, of length 13", input: &["02 0b 00 00 00 00 00 0d", ASPA_REST], fault: LENGTH, taken: 8, output: &[] },
 ];
 
 /// A prefix unit that is refused with a report.
