@@ -1,0 +1,36 @@
+-- What the program is asked for by the words after its name: this program's own.
+use Rattle.std.specs.Prelude.{ℕ, ◌≤◌, Option, Some, None, List, [], ◌∷◌, map}
+use Rattle.std.specs.Prelude.{codes, bytes_eq, if◌then◌else◌}
+use Rattle.std.specs.Prelude.{String, string_bytes}
+use Rattle.rtr_wire.specs.Sequences.{Written, everything, for_version}
+use Rattle.rtr_normalise.specs.declared.run.Wanted.{Wanted}
+use Rattle.rtr_normalise.specs.declared.run.Wanted.TheVariants as wants
+
+-- what the version has that this text is the number of, or nothing where it is no number of one
+abbrev pub asked_version : List ℕ → Option Written
+asked_version text =
+    if bytes_eq text (codes "0") then Some (for_version 0) else
+    if bytes_eq text (codes "1") then Some (for_version 1) else
+    if bytes_eq text (codes "2") then Some (for_version 2) else None
+
+-- what is to be written, by the texts of the words: without words everything, with `--version` and
+-- a version what that version has, and with all other words nothing is asked for
+abbrev pub asked_texts : List (List ℕ) → Option Written
+asked_texts [] = Some everything
+asked_texts (flag ∷ text ∷ []) =
+    if bytes_eq flag (codes "--version") then asked_version text else None
+asked_texts others = None
+
+-- the same by the words
+abbrev pub asked : {Z : Type 0} → List (String Z) → Option Written
+asked words = asked_texts (map string_bytes words)
+
+-- what is written of the input, as the program holds what it is asked for
+abbrev pub written : Wanted → Written
+written wants.Everything = everything
+written (wants.Version v) = for_version v
+
+-- the version is one that there is
+abbrev pub IsKnown : Wanted → Type 0
+IsKnown wants.Everything = Unit {0}
+IsKnown (wants.Version v) = v ≤ 2
