@@ -13,6 +13,8 @@ mod rows;
 mod shown;
 #[cfg(test)]
 mod slices;
+#[cfg(test)]
+mod versions;
 
 #[cfg(test)]
 use std::fmt::Debug;
