@@ -18,6 +18,8 @@ mod shown;
 mod slices;
 #[cfg(test)]
 mod variable;
+#[cfg(test)]
+mod versions;
 
 #[cfg(test)]
 use std::fmt::Debug;
