@@ -6,15 +6,15 @@ use Rattle.rtr_wire.specs.Sequences.{Written, everything, for_version}
 use Rattle.rtr_normalise.specs.declared.run.Wanted.{Wanted}
 use Rattle.rtr_normalise.specs.declared.run.Wanted.TheVariants as wants
 
--- what the version has that this text is the number of, or nothing where it is no number of one
+-- the number of a version asks for what that version has, and any other text for nothing
 abbrev pub asked_version : List ℕ → Option Written
 asked_version text =
     if bytes_eq text (codes "0") then Some (for_version 0) else
     if bytes_eq text (codes "1") then Some (for_version 1) else
     if bytes_eq text (codes "2") then Some (for_version 2) else None
 
--- what is to be written, by the texts of the words: without words everything, with `--version` and
--- a version what that version has, and with all other words nothing is asked for
+-- What is to be written, by the texts of the words: everything without words, what a version has
+-- with `--version` and its number. All other words ask for nothing.
 abbrev pub asked_texts : List (List ℕ) → Option Written
 asked_texts [] = Some everything
 asked_texts (flag ∷ text ∷ []) =
