@@ -25,8 +25,8 @@ pub fn put_piece<W: Sink>(writer: &mut W, piece: &[u8]) -> Result<(), ViewFault>
     }
 }
 
-/// Writes the bytes of the end of data. Only one comes in a sequence: out of line, what writes units
-/// stays small enough to be inlined.
+/// Writes the bytes of the end of data. It is out of line, so that what writes units stays small
+/// enough to be inlined: only one end comes in a sequence.
 pub fn put_end<W: Sink>(writer: &mut W, end: &EndOfData) -> Result<(), ViewFault>
     ensures bytes { PutsPiece result (W.contents writer.old) (W.contents writer.new)
         (end_bytes end.now) }

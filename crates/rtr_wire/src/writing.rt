@@ -1,7 +1,7 @@
 //! What a run writes for what it reads.
 
-ghost use Rattle.std.specs.Prelude.{◌≡◌, refl, ℕ, Bool, true, List, [], ◌∷◌, ◌++◌, length, nat_le};
-ghost use Rattle.std.specs.Prelude.{◌≤◌, if◌then◌else◌};
+ghost use Rattle.std.specs.Prelude.{◌≡◌, refl, ℕ, Bool, true, List, [], ◌∷◌, ◌++◌, nat_le};
+ghost use Rattle.std.specs.Prelude.{if◌then◌else◌};
 ghost use Rattle.rtr_payload.specs.Payloads.{Meaning, smallest_version};
 ghost use Rattle.rtr_units.specs.End.{End, end_list};
 ghost use Rattle.rtr_units.specs.Ends.{end_bytes, end_meaning};
@@ -25,12 +25,6 @@ pub(crate) trait Writing: Copy {
     /// origins, 1 for router keys, 2 for ASPAs.
     fn writes(self, smallest: u8) -> bool
         ensures { result ≡ has self smallest };
-
-    /// By how much a unit that is left out is counted: 1, or 0 where none is ever left out, so that
-    /// no count is kept.
-    fn number_left_out(self) -> u64
-        ensures counted { (m : Meaning) → length ((what self).units (m ∷ [])) ≡ 0 → result ≡ 1 }
-        ensures small { result ≤ 1 };
 
     /// The version in which a unit of this version is written.
     fn version(self, version: u8) -> u8
@@ -70,11 +64,6 @@ impl Writing for Everything {
     }
 
     #[inline(always)]
-    fn number_left_out(self) -> u64 {
-        0
-    }
-
-    #[inline(always)]
     fn version(self, version: u8) -> u8 {
         version
     }
@@ -107,11 +96,6 @@ impl Writing for ForVersion {
     #[inline(always)]
     fn writes(self, smallest: u8) -> bool {
         smallest <= self.version
-    }
-
-    #[inline(always)]
-    fn number_left_out(self) -> u64 {
-        1
     }
 
     #[inline(always)]

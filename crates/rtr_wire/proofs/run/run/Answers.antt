@@ -16,7 +16,7 @@ loop-count-preserved g c =
     record {
       so_far = elim c.match-branch-2.branch [
         | in-Written w ↦ rw w.left_out-is (goes_on what c.loop-count.count c.loop-count.left_out _ _ _ _ _ _ joins so_far (rw w.in-Written.is at c.in_ok-step.ensures.bytes))
-        | in-LeftOut w ↦ rw w.left_out-is (leaves_out what c.loop-count.count c.loop-count.left_out w.number_left_out-left_out.result _ _ _ _ _ _ joins w.number_left_out-left_out.ensures.counted so_far (rw w.in-LeftOut.is at c.in_ok-step.ensures.bytes))
+        | in-LeftOut w ↦ rw w.left_out-is (leaves_out what c.loop-count.count c.loop-count.left_out _ _ _ _ _ _ joins so_far (rw w.in-LeftOut.is at c.in_ok-step.ensures.bytes))
       ];
       reads = search rules;
       writes = search rules;
