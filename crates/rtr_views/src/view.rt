@@ -8,7 +8,7 @@ ghost use Rattle.rtr_views.specs.Views.{IsViewOf, view_form};
 use crate::aspa::AspaView;
 use crate::end::first_end;
 use crate::fault::ViewFault;
-use crate::form::put_piece;
+use crate::form::put_end;
 use crate::origin::OriginView;
 use crate::router_key::RouterKeyView;
 use rtr_payload::pdu::{Aspa, RouterKey};
@@ -88,7 +88,7 @@ impl<'a> UnitView<'a> {
             UnitView::Origin(view) => view.write_form(writer),
             UnitView::RouterKey(view) => view.write_form(writer),
             UnitView::Aspa(view) => view.write_form(writer),
-            UnitView::End(end) => put_piece(writer, end.as_ref()),
+            UnitView::End(end) => put_end(writer, end),
         }
     }
 }
