@@ -227,32 +227,36 @@ fn first<'a>(rt: &impl Abort, input: &'a [u8]) -> (UnitView<'a>, usize) {
 
 /// The view of a prefix that comes first.
 fn first_origin(rt: &impl Abort, input: &[u8]) -> (OriginView, usize) {
-    match first(rt, input) {
-        (UnitView::Origin(view), size) => (view, size),
+    let (unit, size) = first(rt, input);
+    match unit {
+        UnitView::Origin(view) => (view, size),
         _ => panic!(rt; "another unit"),
     }
 }
 
 /// The view of a router key that comes first.
 fn first_key<'a>(rt: &impl Abort, input: &'a [u8]) -> (RouterKeyView<'a>, usize) {
-    match first(rt, input) {
-        (UnitView::RouterKey(view), size) => (view, size),
+    let (unit, size) = first(rt, input);
+    match unit {
+        UnitView::RouterKey(view) => (view, size),
         _ => panic!(rt; "another unit"),
     }
 }
 
 /// The view of an ASPA unit that comes first.
 fn first_aspa<'a>(rt: &impl Abort, input: &'a [u8]) -> (AspaView<'a>, usize) {
-    match first(rt, input) {
-        (UnitView::Aspa(view), size) => (view, size),
+    let (unit, size) = first(rt, input);
+    match unit {
+        UnitView::Aspa(view) => (view, size),
         _ => panic!(rt; "another unit"),
     }
 }
 
 /// The end of data that comes first.
 fn first_end(rt: &impl Abort, input: &[u8]) -> (EndOfData, usize) {
-    match first(rt, input) {
-        (UnitView::End(end), size) => (end, size),
+    let (unit, size) = first(rt, input);
+    match unit {
+        UnitView::End(end) => (end, size),
         _ => panic!(rt; "another unit"),
     }
 }
