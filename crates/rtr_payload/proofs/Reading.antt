@@ -9,7 +9,7 @@ use Rattle.rtr_units.specs.Causes.{Refusal, short, unit_type, unit_version, too_
 use Rattle.rtr_units.specs.declared.end.EndOfData.{EndOfData}
 use Rattle.rtr_units.specs.End.{End}
 use Rattle.rtr_units.specs.Ends.{end_bytes, end_meaning, end_length, HasEndHeader, ReadsEnd, StopsEnd}
-use Rattle.rtr_units.specs.FixedUnits.{prefix_type, prefix_size}
+use Rattle.rtr_units.specs.PrefixUnits.{prefix_type, prefix_size}
 use Rattle.rtr_units.specs.Header.{version_field, type_field, length_field}
 use Rattle.rtr_units.specs.Reads.{Takes, ReadsRest, StopsRest}
 use Rattle.rtr_units.specs.Stream.{FallsShort}
@@ -18,13 +18,15 @@ use Rattle.rtr_units.specs.declared.fault.Fault.TheVariants.{Reader, Short}
 use Rattle.rtr_units.specs.Views.{AreBytes}
 use Rattle.rtr_units.proofs.Headers.{same_header}
 use Rattle.rtr_payload.specs.Frames.{fault_as, StopsInUnit}
-use Rattle.rtr_payload.specs.Places.{prefix_fields}
+use Rattle.rtr_units.specs.PrefixUnits.{prefix_at}
+use Rattle.rtr_payload.specs.declared.prefix_rule.PrefixRule.{PrefixRule}
+use Rattle.rtr_payload.specs.Units.{prefix_unit}
 use Rattle.rtr_payload.specs.Reads.{IsPartial, IsRefused, IsVariable, StopsReadingUnit, IsReport}
 use Rattle.rtr_payload.specs.UnitValues.{unit_bytes, unit_fields, ReadsAfter, NeedsMemory, HasNoPayload}
 use Rattle.rtr_payload.specs.declared.pdu_payload.Payload.{Payload}
 use Rattle.rtr_payload.specs.declared.pdu_payload.Payload.TheVariants.{V4, V6, RouterKey, Aspa}
 use Rattle.std.specs.Prelude.{IsSome, MatchResult}
-use Rattle.rtr_payload.specs.Steps.{PrefixFault, header_fault, header_step, rule_of, refusal_report}
+use Rattle.rtr_payload.specs.Steps.{header_fault, header_step, rule_of, refusal_report}
 use Rattle.rtr_payload.specs.Units.{Fields, HasFields}
 use Rattle.rtr_payload.proofs.Frames.{Whole, shape_whole}
 use Rattle.rtr_payload.proofs.Refusals.{header_short, unit_short, body_short, header_refused}
@@ -83,7 +85,7 @@ module _ (f : Family) (h : List ℕ) (is : AreBytes 8 h) (kind : type_field h �
   prefix_stops (wrong empty_providers) t left s = absurd s
   prefix_stops (wrong (refused r)) t left s = absurd s
 
-  pub prefix_reads : (u : List ℕ) (a b c : Option (List ℕ)) → Consumes a b h → ReadsRest (prefix_size f) h u b c → Consumes a c u × HasFields u (prefix_fields f u)
+  pub prefix_reads : (u : List ℕ) (a b c : Option (List ℕ)) → Consumes a b h → ReadsRest (prefix_size f) h u b c → Consumes a c u × HasFields u (prefix_unit (prefix_at f u))
   prefix_reads u a b c took (n, head, all, (t, taken, e)) =
       let size : 8 + length t ≡ length_field h = omega (arith, n, all.0, ap length e, length-append h t, is.0) in
       let whole : Whole u = subst Whole (sym e) (body_whole h t is.0 (in_order n) size) in
@@ -91,7 +93,7 @@ module _ (f : Family) (h : List ℕ) (is : AreBytes 8 h) (kind : type_field h �
       (subst (Consumes a c) (sym e) (Consumes-trans a b c h t took taken), prefix_whole f u all.1 whole (ap type_field e ∙ same.kind ∙ kind))
 
 -- the unit u of the family f, whose rest was read behind the header h, or reading stopped
-module _ (f : Family) (u : Payload) (bytes : List ℕ) (n : ℕ) (same : unit_bytes u ≡ bytes) (fields : unit_fields u ≡ prefix_fields f bytes) (size : n ≡ prefix_size f) where
+module _ (f : Family) (u : Payload) (bytes : List ℕ) (n : ℕ) (same : unit_bytes u ≡ bytes) (fields : unit_fields u ≡ prefix_unit (prefix_at f bytes)) (size : n ≡ prefix_size f) where
   pub prefix_after : {T : Type 0} (h : List ℕ) → type_field h ≡ prefix_type f → (r : Result T Fault) (a b : Option (List ℕ)) → MatchResult r (λ x. ReadsRest n h bytes a b) (λ e. Takes a b (λ t. StopsRest n h (cause_of e) t b)) → MatchResult r (λ x. ReadsAfter h (Ok (Ok (Some u))) a b) (λ e. ReadsAfter h (Err e) a b)
   prefix_after h kind (Ok x) a b reads = λ is before took. rw (same, fields) (prefix_reads f h is kind bytes before a b took (subst (λ n. ReadsRest n h bytes a b) size reads))
   prefix_after h kind (Err e) a b stops = λ is before took. behind h _ _ before a b took stops (λ t s. prefix_stops f h is kind (cause_of e) t b (subst (λ n. StopsRest n h (cause_of e) t b) size s))
@@ -185,13 +187,13 @@ shape_variable b u h kind =
 some_of : {A : Type 0} (o : Option A) (x : A) → o ≡ Some x → IsSome o
 some_of o x e = subst IsSome (sym e) refl
 
-needs_report : (u : Payload) (f : PrefixFault) → rule_of (unit_fields u) ≡ Some f → NeedsMemory u
+needs_report : (u : Payload) (f : PrefixRule) → rule_of (unit_fields u) ≡ Some f → NeedsMemory u
 needs_report (V4 u) f e = some_of _ f e
 needs_report (V6 u) f e = some_of _ f e
 needs_report (RouterKey u) f e = tt
 needs_report (Aspa u) f e = tt
 
-pub no_payload : (u : Payload) (f : PrefixFault) (c : Cause) → rule_of (unit_fields u) ≡ Some f → IsReport c (refusal_report (unit_bytes u) f) → HasNoPayload u c
+pub no_payload : (u : Payload) (f : PrefixRule) (c : Cause) → rule_of (unit_fields u) ≡ Some f → IsReport c (refusal_report (unit_bytes u) f) → HasNoPayload u c
 no_payload u f (wrong (refused report)) e r = (f, e, r)
 no_payload u f no_memory e r = needs_report u f e
 no_payload u f by_reader e r = absurd r

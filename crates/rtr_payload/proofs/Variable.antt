@@ -14,7 +14,9 @@ use Rattle.rtr_units.specs.Header.{type_field, length_field}
 use Rattle.rtr_units.specs.Views.{AreBytes}
 use Rattle.rtr_units.proofs.Headers.{same_header}
 use Rattle.rtr_payload.specs.Frames.{fault_as, fault_of, IsWhole, IsPart, StopsInUnit, StopsInFrame, ReadsVariable, ReadsBehind}
-use Rattle.rtr_payload.specs.Places.{key_fields, aspa_fields}
+use Rattle.rtr_payload.specs.KeyUnits.{key_at}
+use Rattle.rtr_payload.specs.Units.{key_unit, aspa_unit}
+use Rattle.rtr_payload.specs.AspaUnits.{aspa_at}
 use Rattle.rtr_payload.specs.Steps.{header_fault}
 use Rattle.rtr_payload.specs.Units.{HasFields}
 use Rattle.rtr_payload.proofs.FieldsRead.{key_has, aspa_has}
@@ -92,14 +94,14 @@ is_read k h t (l, hb) tb e size =
     }
 
 pub key_read : (h t : List ℕ) → AreBytes 8 h → IsBytes t → 32 ≤ length_field h → length_field h ≤ 65535 → length_field h ≡ 8 + length t
-    → IsWhole (fault_as 9) (h ++ t) × (type_field h ≡ 9 → HasFields (h ++ t) (key_fields (h ++ t)))
+    → IsWhole (fault_as 9) (h ++ t) × (type_field h ≡ 9 → HasFields (h ++ t) (key_unit (key_at (h ++ t))))
 key_read h t hb tb low high size =
     let r = is_read 9 h t hb tb (nine_in_order _ _ _ low high) size in
     let same = same_header h t (omega arith) in
     (r.whole, λ kind. key_has (h ++ t) r.range (omega (arith, r.whole.1, same.size)) (omega (arith, r.whole.1, same.size)) (same.kind ∙ kind) (sym r.whole.1))
 
 pub aspa_read : (h t : List ℕ) → AreBytes 8 h → IsBytes t → 12 ≤ length_field h → length_field h ≤ 65535 → length_field h % 4 ≡ 0 → (length_field h ≡ 12 → get_or h 2 0 % 2 ≢ 1) → length_field h ≡ 8 + length t
-    → IsWhole (fault_as 11) (h ++ t) × (type_field h ≡ 11 → HasFields (h ++ t) (aspa_fields (h ++ t)))
+    → IsWhole (fault_as 11) (h ++ t) × (type_field h ≡ 11 → HasFields (h ++ t) (aspa_unit (aspa_at (h ++ t))))
 aspa_read h t hb tb low high by_four named size =
     let r = is_read 11 h t hb tb (eleven_in_order _ _ _ low high by_four named) size in
     let same = same_header h t (omega arith) in

@@ -1,18 +1,18 @@
 //! The ASPA unit (as in the Rust crate).
 
-ghost use Rattle.std.specs.Prelude.{◌≡◌, ◌≤◌, ◌+◌, ◌%◌, ◌++◌, length, take, drop, slice_index};
+ghost use Rattle.std.specs.Prelude.{◌≡◌, ◌≤◌, ◌+◌, ◌%◌, ◌++◌, length, take, drop};
 ghost use Rattle.std.specs.Prelude.{nat_eq, IfOk, not};
 ghost use Rattle.std.specs.Cmp.{partial_equiv_from_equiv};
 ghost use Rattle.std.specs.Cmp.Lexicographic.{bytes_decides, nat_list_eq_equiv, pointwise};
 ghost use Rattle.std.specs.Hash as fed;
-ghost use Rattle.rtr_base.specs.Bytes.{IsBytes, value};
+ghost use Rattle.rtr_base.specs.Bytes.{IsBytes};
 ghost use Rattle.rtr_units.specs.Header.{version_field, type_field};
 ghost use Rattle.rtr_units.specs.Stream.{PutsForm, count_after, is_reader_fault, is_writer_fault};
 ghost use Rattle.rtr_units.specs.Views.{header_bytes};
 ghost use Rattle.rtr_payload.specs.Frames.{fault_as, fault_of, ReadsVariable, ReadsBehind};
-ghost use Rattle.rtr_payload.specs.Payloads.{aspa, IsPayload};
-ghost use Rattle.rtr_payload.specs.Places.{aspa_fields, words_of};
-ghost use Rattle.rtr_payload.specs.Units.{form, HasFields};
+ghost use Rattle.rtr_payload.specs.Payloads.{aspa};
+ghost use Rattle.rtr_payload.specs.AspaUnits.{aspa_at, IsAspa};
+ghost use Rattle.rtr_payload.specs.Units.{aspa_unit, form, HasFields};
 
 use crate::frame::{MAX_SIZE, asn_at, read_frame};
 use crate::providers::ProviderAsns;
@@ -54,8 +54,9 @@ impl Aspa {
 
     /// The unit with these fields.
     pub fn new(version: u8, flags: u8, customer: Asn, providers: ProviderAsns) -> Self
-        ensures form { result ≡ form version flags (aspa customer providers) }
-        ensures valid { IsPayload (aspa customer providers) }
+        ensures form { result ≡ form version flags
+            (aspa (record { customer = customer; providers = providers })) }
+        ensures valid { IsAspa (record { customer = customer; providers = providers }) }
     {
         let size = FIXED + providers.len() as u32;
         let mut fixed = [0; 12];
@@ -72,7 +73,7 @@ impl Aspa {
     pub fn read<R: Source>(alloc: Global, reader: &mut R) -> Result<Self, Fault>
         ensures bytes { ReadsVariable (fault_of 11) result (R.remaining reader.old)
             (R.remaining reader.new) }
-        ensures fields { IfOk result (λ u. HasFields u (aspa_fields u)) }
+        ensures fields { IfOk result (λ u. HasFields u (aspa_unit (aspa_at u))) }
         ensures count { R.failures reader.new ≡
             count_after (R.failures reader.old) (not (is_reader_fault result)) }
     {
@@ -102,7 +103,7 @@ impl Aspa {
         ensures bytes { ReadsBehind (fault_as 11) (header_bytes header) result
             (R.remaining reader.old) (R.remaining reader.new) }
         ensures fields { IfOk result
-            (λ u. type_field (header_bytes header) ≡ 11 → HasFields u (aspa_fields u)) }
+            (λ u. type_field (header_bytes header) ≡ 11 → HasFields u (aspa_unit (aspa_at u))) }
         ensures count { R.failures reader.new ≡
             count_after (R.failures reader.old) (not (is_reader_fault result)) }
     {
@@ -161,14 +162,14 @@ impl Aspa {
     /// The flags, of which the lowest bit says whether the ASPA is announced.
     #[inline(always)]
     pub fn flags(&self) -> u8
-        ensures { result ≡ slice_index self.now 2 }
+        ensures { result ≡ (aspa_at self.now).flags }
     {
         self.fixed[2]
     }
 
     /// The customer: the autonomous system whose providers these are.
     pub fn customer(&self) -> Asn
-        ensures { result ≡ value (take 4 (drop 8 self.now)) }
+        ensures { result ≡ (aspa_at self.now).aspa.customer }
     {
         asn_at(&self.fixed, 8)
     }
@@ -176,14 +177,14 @@ impl Aspa {
     /// The providers.
     #[inline(always)]
     pub fn providers(&self) -> &ProviderAsns
-        ensures { result.now ≡ words_of (drop 12 self.now) }
+        ensures { result.now ≡ (aspa_at self.now).aspa.providers }
     {
         &self.providers
     }
 
     /// The providers, by value.
     pub fn into_providers(self) -> ProviderAsns
-        ensures { result ≡ words_of (drop 12 self) }
+        ensures { result ≡ (aspa_at self).aspa.providers }
     {
         self.providers
     }

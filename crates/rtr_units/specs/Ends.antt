@@ -6,9 +6,9 @@ use Rattle.std.specs.Prelude.{Option, ◌==◌, if◌then◌else◌}
 use Rattle.std.specs.Io.KnownBytes.{IsAtEnd}
 use Rattle.rtr_units.specs.Causes.{short, unit_version, unit_length, Cause, by_reader, wrong}
 use Rattle.rtr_units.specs.End.{EndMeaning, End, untimed_meaning, timed_meaning}
+use Rattle.rtr_units.specs.End.{end_v0_bytes, end_v1_bytes}
 use Rattle.rtr_units.specs.Header.{version_field, type_field, length_field}
 use Rattle.rtr_units.specs.Reads.{Takes}
-use Rattle.rtr_units.specs.Units.{end_v0_bytes, end_v1_bytes}
 use Rattle.rtr_units.specs.declared.end.EndOfData.{EndOfData}
 use Rattle.rtr_units.specs.declared.end.EndOfData.TheVariants.{V0, V1}
 

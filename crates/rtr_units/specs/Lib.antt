@@ -1,15 +1,15 @@
 pub mod Causes
 pub mod End
 pub mod Ends
-pub mod FixedUnits
 pub mod Header
 pub mod Lending
 pub mod LendingEnd
 pub mod LendingError
 pub mod LendingUnits
+pub mod PrefixUnits
+pub mod Queries
 pub mod Reads
 pub mod Report
 pub mod Stream
 pub mod Tallies
-pub mod Units
 pub mod Views

@@ -6,7 +6,7 @@ ghost use Rattle.rtr_base.specs.Bytes.{IsBytes};
 ghost use Rattle.rtr_units.specs.Causes.{cause_of};
 ghost use Rattle.rtr_units.specs.End.{timed_list};
 ghost use Rattle.rtr_units.specs.Ends.{end_bytes, end_meaning, is_timed, ReadsEnd, StopsEnd};
-ghost use Rattle.rtr_units.specs.FixedUnits.{serial_list};
+ghost use Rattle.rtr_units.specs.Queries.{serial_list};
 ghost use Rattle.rtr_units.specs.Header.{version_field};
 ghost use Rattle.rtr_units.specs.Reads.{Takes};
 ghost use Rattle.rtr_units.specs.Stream.{PutsForm, count_after, is_reader_fault, is_writer_fault};

@@ -7,18 +7,21 @@ use Rattle.rtr_base.specs.Actions.{act, flags_of}
 use Rattle.rtr_base.specs.Bytes.{be, value, words}
 use Rattle.rtr_base.proofs.Numbers.{be-value, length-words, IsBytes-take, IsBytes-drop}
 use Rattle.rtr_units.specs.Header.{version_field}
-use Rattle.rtr_payload.specs.Places.{key_fields, aspa_fields, words_of}
-use Rattle.rtr_payload.specs.Units.{providers, HasFields, unit_list, named, meaning, form, form_of}
+use Rattle.rtr_payload.specs.KeyUnits.{key_at}
+use Rattle.rtr_payload.specs.Units.{key_unit, aspa_unit}
+use Rattle.rtr_payload.specs.AspaUnits.{AspaFields, aspa_list, aspa_at, meant_aspa}
+use Rattle.rtr_payload.specs.Providers.{words_of}
+use Rattle.rtr_payload.specs.Units.{HasFields, meaning, form, form_of}
 use Rattle.rtr_payload.specs.Values.{origin_of}
 use Rattle.rtr_payload.proofs.FieldsRead.{key_has, aspa_has}
 use Rattle.rtr_views.specs.Origins.{origin_meaning}
 use Rattle.rtr_views.specs.Wholes.{IsWholeKey, IsWholeAspa}
 use Rattle.rtr_views.specs.declared.origin.OriginView.{OriginView}
 
-pub whole_key : (u : List ℕ) → IsWholeKey u → HasFields u (key_fields u)
+pub whole_key : (u : List ℕ) → IsWholeKey u → HasFields u (key_unit (key_at u))
 whole_key u h = key_has u h.are_bytes h.least h.most h.kind h.field
 
-pub whole_aspa : (u : List ℕ) → IsWholeAspa u → HasFields u (aspa_fields u)
+pub whole_aspa : (u : List ℕ) → IsWholeAspa u → HasFields u (aspa_unit (aspa_at u))
 whole_aspa u h = aspa_has u h.are_bytes h.least h.most h.fours h.named h.kind h.field
 
 -- what follows the first four bytes, in two parts
@@ -27,7 +30,7 @@ parts u n = ap (λ (l : List ℕ). take n (drop 4 u) ++ l) (sym (drop-drop n 4 u
 
 -- the form of a key, by the first four bytes and the others
 pub key_form : (u a b : List ℕ) (v g f : ℕ) (action : Action) → IsWholeKey u → v ≡ version_field u → g ≡ get_or u 2 0 → action ≡ act g → f ≡ flags_of action
-    → a ≡ v ∷ 9 ∷ f ∷ 0 ∷ [] → b ≡ take 28 (drop 4 u) → (a ++ (b ++ [])) ++ drop 32 u ≡ form_of (meaning (key_fields u))
+    → a ≡ v ∷ 9 ∷ f ∷ 0 ∷ [] → b ≡ take 28 (drop 4 u) → (a ++ (b ++ [])) ++ drop 32 u ≡ form_of (meaning (key_unit (key_at u)))
 key_form u a b v g f action h ev eg ea ef front back =
     let has = whole_key u h in
     let flags : f ≡ flags_of (act (get_or u 2 0)) = ef ∙ ap flags_of (ea ∙ ap act eg) in
@@ -37,10 +40,10 @@ key_form u a b v g f action h ev eg ea ef front back =
 -- ---- ASPA units
 
 -- the providers count by the action
-by_action : (u : List ℕ) (a : Action) → act (get_or u 2 0) ≡ a → form_of (meaning (aspa_fields u)) ≡ unit_list (providers (version_field u) (flags_of a) 0 (value (take 4 (drop 8 u))) (named a (words_of (drop 12 u))))
-by_action u a e = ap (λ b. unit_list (providers (version_field u) (flags_of b) 0 (value (take 4 (drop 8 u))) (named b (words_of (drop 12 u))))) e
+by_action : (u : List ℕ) (a : Action) → act (get_or u 2 0) ≡ a → form_of (meaning (aspa_unit (aspa_at u))) ≡ aspa_list (record { version = version_field u; flags = flags_of a; free = 0; aspa = meant_aspa a (aspa_at u).aspa })
+by_action u a e = ap (λ b. let written : AspaFields = record { version = version_field u; flags = flags_of b; free = 0; aspa = meant_aspa b (aspa_at u).aspa } in aspa_list written) e
 
-pub announced_form : (u : List ℕ) → IsWholeAspa u → act (get_or u 2 0) ≡ Announce → ((version_field u ∷ 11 ∷ 1 ∷ 0 ∷ be (length u) 4) ++ take 4 (drop 8 u)) ++ drop 12 u ≡ form_of (meaning (aspa_fields u))
+pub announced_form : (u : List ℕ) → IsWholeAspa u → act (get_or u 2 0) ≡ Announce → ((version_field u ∷ 11 ∷ 1 ∷ 0 ∷ be (length u) 4) ++ take 4 (drop 8 u)) ++ drop 12 u ≡ form_of (meaning (aspa_unit (aspa_at u)))
 announced_form u h e =
     let has = whole_aspa u h in
     let ps = words_of (drop 12 u) in
@@ -53,7 +56,7 @@ announced_form u h e =
     ∙ ap (λ (l : List ℕ). (version_field u ∷ 11 ∷ 1 ∷ 0 ∷ be (12 + 4 * length ps) 4) ++ l) tail
     ∙ sym (by_action u Announce e)
 
-pub withdrawn_form : (u : List ℕ) → IsWholeAspa u → act (get_or u 2 0) ≡ Withdraw → (version_field u ∷ 11 ∷ 0 ∷ 0 ∷ be 12 4) ++ take 4 (drop 8 u) ≡ form_of (meaning (aspa_fields u))
+pub withdrawn_form : (u : List ℕ) → IsWholeAspa u → act (get_or u 2 0) ≡ Withdraw → (version_field u ∷ 11 ∷ 0 ∷ 0 ∷ be 12 4) ++ take 4 (drop 8 u) ≡ form_of (meaning (aspa_unit (aspa_at u)))
 withdrawn_form u h e =
     let whole : length (take 4 (drop 8 u)) ≡ 4 = length-take-le 4 (drop 8 u) (omega (arith, length-drop 8 u, h.least)) in
     let customer : be (value (take 4 (drop 8 u))) 4 ≡ take 4 (drop 8 u) = be-value (take 4 (drop 8 u)) 4 (IsBytes-take 4 (drop 8 u) (IsBytes-drop 8 u h.are_bytes)) whole in
