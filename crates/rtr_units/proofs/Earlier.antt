@@ -1,5 +1,5 @@
 -- The words in which reading was told before, each of which follows from what is said now.
-use Rattle.std.proofs.Common.{◌≡◌, ◌≢◌, ℕ, ◌+◌, ◌<◌, ◌≤◌, eqb, ltb, cond, List, [], ◌∷◌, ◌++◌, length, Option, Some, None, Result, Ok, Err, refl, sym, ap, subst, ◌∙◌, arith, append-nil}
+use Rattle.std.proofs.Common.{◌≡◌, ◌≢◌, ℕ, ◌+◌, ◌<◌, ◌≤◌, eqb, ltb, cond, List, [], ◌∷◌, ◌++◌, length, Option, Some, None, Ok, refl, sym, ap, subst, ◌∙◌, arith, append-nil}
 use Rattle.std.specs.Prelude.{⊤}
 use Rattle.std.proofs.lemmas.Bool.Decides.{nat_tests}
 use Rattle.std.proofs.lemmas.List.{length-append}
@@ -9,7 +9,7 @@ use Rattle.rtr_units.specs.Causes.{Cause, by_reader, by_writer, too_many, no_mem
 use Rattle.rtr_units.specs.End.{End}
 use Rattle.rtr_units.specs.Ends.{end_length, end_unit, end_bytes, end_meaning}
 use Rattle.rtr_units.specs.Header.{version_field, type_field, length_field}
-use Rattle.rtr_units.specs.Reading.{Kind, of_size, of_type, any_unit, IsWhole, IsPart, Stops, Takes, Reads, ReadsAfter}
+use Rattle.rtr_units.specs.Reading.{Kind, of_size, of_type, any_unit, IsPart, Stops, Takes, Reads, ReadsAfter}
 use Rattle.rtr_units.specs.Stream.{FallsShort}
 use Rattle.rtr_units.specs.Views.{AreBytes}
 use Rattle.rtr_units.specs.declared.end.EndOfData.{EndOfData}

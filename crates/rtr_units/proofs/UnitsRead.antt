@@ -1,18 +1,18 @@
 -- Kinds of units, and how calls that read parts of a unit make up a call that reads it.
-use Rattle.std.proofs.Common.{◌≡◌, ℕ, ◌+◌, ◌<◌, ◌≤◌, Bool, true, ltb, eqb, cond, List, [], ◌++◌, length, Option, Some, None, Result, Ok, Err, refl, sym, ap, subst, ◌∙◌, arith, inl, inr, append-nil, ◌⊎◌}
+use Rattle.std.proofs.Common.{◌≡◌, ℕ, ◌+◌, ◌<◌, ◌≤◌, ltb, eqb, cond, List, [], ◌++◌, length, Option, Some, None, Result, Ok, Err, refl, sym, ap, subst, ◌∙◌, arith, append-nil}
 use Rattle.std.proofs.lemmas.Bool.{cond-false, cond-true, eq-eqb, ne_eqb, lt-ltb, le-ltb}
 use Rattle.std.proofs.lemmas.Bool.Decides.{nat_tests}
 use Rattle.std.proofs.lemmas.List.{length-append}
 use Rattle.std.specs.Io.KnownBytes.{Consumes}
-use Rattle.std.proofs.KnownBytes.{Consumes-trans, Consumes-nil}
+use Rattle.std.proofs.KnownBytes.{Consumes-trans}
 use Rattle.rtr_base.specs.Bytes.{IsBytes}
 use Rattle.rtr_units.specs.Causes.{Refusal, short, unit_type, unit_version, too_long, unit_length, empty_providers, refused}
 use Rattle.rtr_units.specs.Causes.{Cause, by_reader, by_writer, too_many, no_memory, wrong, cause_of}
 use Rattle.rtr_units.specs.declared.fault.Fault.{Fault}
-use Rattle.std.specs.Prelude.{MatchResult}
+use Rattle.std.specs.Prelude.{MatchResult, IsTrue}
 use Rattle.rtr_units.specs.Ends.{end_length, end_unit}
 use Rattle.rtr_units.specs.Header.{version_field, type_field, length_field}
-use Rattle.rtr_units.specs.Reading.{Kind, of_size, of_type, any_unit, IsWhole, IsPart, AsksAfter, Stops, Takes, Reads, ReadsAfter, by_bytes}
+use Rattle.rtr_units.specs.Reading.{Kind, of_size, of_type, any_unit, IsWhole, IsPart, Stops, Takes, Reads, ReadsAfter, by_bytes}
 use Rattle.rtr_units.specs.Stream.{FallsShort}
 use Rattle.rtr_units.specs.Views.{AreBytes}
 use Rattle.rtr_units.proofs.Headers.{same_header}
@@ -134,38 +134,50 @@ pub read_on : (kind : Kind) (h : List ℕ) (r : Result (List ℕ) Cause) (a b c 
 read_on kind h (Ok u) a b c took ((t, taken, is), whole) = ((u, subst (Consumes a c) (sym is) (Consumes-trans a b c h t took taken), refl), whole)
 read_on kind h (Err cause) a b c took (t, taken, stops) = (h ++ t, Consumes-trans a b c h t took taken, stops)
 
--- a list of type p that is of a kind
-module _ (p : ℕ) (kind : Kind) (u : List ℕ) (is_type : type_field u ≡ p) where
-  typed_order : (o : Option Refusal) → kind.fault u ≡ o → (of_type p kind).fault u ≡ o
-  typed_order o e = typed_is p kind u is_type ∙ e
+-- where two kinds say the same of u, and memory that is asked for by one is by the other, u is read
+-- alike
+module _ (kind other : Kind) (u : List ℕ) (same : kind.fault u ≡ other.fault u) (asks : IsTrue (kind.asks u) → IsTrue (other.asks u)) where
+  alike_order : (o : Option Refusal) → kind.fault u ≡ o → other.fault u ≡ o
+  alike_order o e = sym same ∙ e
 
-  typed_part : IsPart kind u → IsPart (of_type p kind) u
-  typed_part is l = (typed_order None (is l).0, (is l).1)
+  alike_part : IsPart kind u → IsPart other u
+  alike_part is l = (alike_order None (is l).0, (is l).1)
 
-  pub typed_stops : (cause : Cause) (left : Option (List ℕ)) → Stops kind cause u left → Stops (of_type p kind) cause u left
-  typed_stops by_reader left s = typed_part s
-  typed_stops by_writer left s = s
-  typed_stops too_many left s = s
-  typed_stops no_memory left s = record { header = s.header; asks = s.asks; in_order = typed_order None s.in_order; place = s.place }
-  typed_stops (wrong short) left s = (typed_part s.0, s.1)
-  typed_stops (wrong (unit_type x)) left s = (s.0, typed_order _ s.1)
-  typed_stops (wrong (unit_version x)) left s = (s.0, typed_order _ s.1)
-  typed_stops (wrong too_long) left s = (s.0, typed_order _ s.1)
-  typed_stops (wrong unit_length) left s = (s.0, typed_order _ s.1)
-  typed_stops (wrong empty_providers) left s = (s.0, typed_order _ s.1)
-  typed_stops (wrong (refused x)) left s = (s.0, typed_order _ s.1)
+  pub alike_stops : (cause : Cause) (left : Option (List ℕ)) → Stops kind cause u left → Stops other cause u left
+  alike_stops by_reader left s = alike_part s
+  alike_stops by_writer left s = s
+  alike_stops too_many left s = s
+  alike_stops no_memory left s = record { header = s.header; asks = asks s.asks; in_order = alike_order None s.in_order; place = s.place }
+  alike_stops (wrong short) left s = (alike_part s.0, s.1)
+  alike_stops (wrong (unit_type x)) left s = (s.0, alike_order _ s.1)
+  alike_stops (wrong (unit_version x)) left s = (s.0, alike_order _ s.1)
+  alike_stops (wrong too_long) left s = (s.0, alike_order _ s.1)
+  alike_stops (wrong unit_length) left s = (s.0, alike_order _ s.1)
+  alike_stops (wrong empty_providers) left s = (s.0, alike_order _ s.1)
+  alike_stops (wrong (refused x)) left s = (s.0, alike_order _ s.1)
 
-  pub typed_whole : IsWhole kind u → IsWhole (of_type p kind) u
-  typed_whole w = record { header = w.header; in_order = typed_order None w.in_order; size = w.size; are_bytes = w.are_bytes }
+  pub alike_whole : IsWhole kind u → IsWhole other u
+  alike_whole w = record { header = w.header; in_order = alike_order None w.in_order; size = w.size; are_bytes = w.are_bytes }
 
-pub read_typed : (p : ℕ) (kind : Kind) (h : List ℕ) (r : Result (List ℕ) Cause) (a b : Option (List ℕ)) → type_field h ≡ p → 8 ≤ length h → Reads kind h r a b → Reads (of_type p kind) h r a b
-read_typed p kind h (Ok u) a b is_type l ((t, taken, is), whole) =
-    ((t, taken, is), typed_whole p kind u (ap type_field is ∙ (same_header h t l).kind ∙ is_type) whole)
-read_typed p kind h (Err cause) a b is_type l (t, taken, stops) = (t, taken, typed_stops p kind (h ++ t) ((same_header h t l).kind ∙ is_type) cause b stops)
+-- the same of all that begins with the header h
+pub record AlikeAfter (kind other : Kind) (h : List ℕ) : Type 0 where
+  pub fault : (t : List ℕ) → kind.fault (h ++ t) ≡ other.fault (h ++ t)
+  pub asks : (t : List ℕ) → IsTrue (kind.asks (h ++ t)) → IsTrue (other.asks (h ++ t))
+
+pub read_alike : (kind other : Kind) (h : List ℕ) (r : Result (List ℕ) Cause) (a b : Option (List ℕ)) → AlikeAfter kind other h → Reads kind h r a b → Reads other h r a b
+read_alike kind other h (Ok u) a b alike ((t, took, is), whole) =
+    ((t, took, is), subst (IsWhole other) (sym is) (alike_whole kind other (h ++ t) (alike.fault t) (alike.asks t) (subst (IsWhole kind) is whole)))
+read_alike kind other h (Err cause) a b alike (t, took, stops) = (t, took, alike_stops kind other (h ++ t) (alike.fault t) (alike.asks t) cause b stops)
+
+pub alike_typed : (p : ℕ) (kind : Kind) (h : List ℕ) → 8 ≤ length h → type_field h ≡ p → AlikeAfter kind (of_type p kind) h
+alike_typed p kind h l is_type = record {
+  fault = λ t. sym (typed_is p kind (h ++ t) ((same_header h t l).kind ∙ is_type));
+  asks = λ t asks. asks;
+}
 
 -- a header of type p was taken, and then the rest was read or was not
 pub read_both : (p : ℕ) (kind : Kind) (h : List ℕ) (r : Result (List ℕ) Cause) (a b c : Option (List ℕ)) → AreBytes 8 h → type_field h ≡ p → Consumes a b h → ReadsAfter kind h r b c → Reads (of_type p kind) [] r a c
-read_both p kind h r a b c is is_type took (eight, reads) = read_on (of_type p kind) h r a b c took (read_typed p kind h r b c is_type (omega (arith, is.0)) reads)
+read_both p kind h r a b c is is_type took (eight, reads) = read_on (of_type p kind) h r a b c took (read_alike kind (of_type p kind) h r b c (alike_typed p kind h (omega (arith, is.0)) is_type) reads)
 
 -- a header h in order was there, and of what follows it this piece was filled or was not
 module _ (kind : Kind) (by : ByHeader kind) (n : ℕ) (h : List ℕ) (eight : length h ≡ 8) (order : kind.fault h ≡ None) (size : length_field h ≡ 8 + n) where

@@ -1,5 +1,4 @@
-use Rattle.std.proofs.Common.{◌≡◌, ◌∙◌, ◌+◌, ◌-◌, ◌++◌, length, length-drop, arith, rules, None, sym, ap}
-use Rattle.rtr_base.specs.Bytes.{IsBytes}
+use Rattle.std.proofs.Common.{◌≡◌, ◌∙◌, ◌+◌, ◌-◌, ◌++◌, length, arith, rules, None, ap}
 use Rattle.rtr_base.proofs.Numbers.{IsBytes-append}
 use Rattle.rtr_units.specs.Header.{length_field}
 use Rattle.rtr_units.specs.Reading.{of_size}

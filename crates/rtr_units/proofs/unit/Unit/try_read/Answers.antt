@@ -2,10 +2,10 @@ use Rattle.std.proofs.Common.{◌≡◌, ◌∙◌, arith, sym, ◌++◌}
 use Rattle.std.proofs.KnownBytes.{Consumes-trans}
 use Rattle.rtr_units.specs.Causes.{cause_of}
 use Rattle.rtr_units.specs.Header.{type_field}
-use Rattle.rtr_units.specs.Reading.{of_size}
+use Rattle.rtr_units.specs.Reading.{of_size, of_type}
 use Rattle.rtr_units.specs.Views.{header_bytes}
 use Rattle.rtr_units.proofs.Headers.{same_header}
-use Rattle.rtr_units.proofs.UnitsRead.{typed_stops}
+use Rattle.rtr_units.proofs.UnitsRead.{alike_stops, typed_is}
 use Rattle.rtr_units.proofs.unit.Unit.try_read.Goals as goal
 
 pub returns-in-Err-clause-bytes : goal.returns-in-Err-clause-bytes
@@ -15,4 +15,4 @@ returns-in-Err-clause-bytes g c =
     let (eight, (t, taken, stops)) = c.in-Err.ensures.bytes in
     let is_type : type_field h ≡ g.Self.Unit.PDU = cc in
     let same : type_field (h ++ t) ≡ type_field h = (same_header h t (omega (arith, size))).kind in
-    (h ++ t, Consumes-trans _ _ _ _ _ read taken, (typed_stops g.Self.Unit.PDU (of_size g.Self.Unit.LENGTH) (h ++ t) (same ∙ is_type) (cause_of c.in-Err.e) _ stops, λ _ ten. c.if-pdu-eq-PDU.false (c.pdu.ensures.value ∙ sym same ∙ ten)))
+    (h ++ t, Consumes-trans _ _ _ _ _ read taken, (alike_stops (of_size g.Self.Unit.LENGTH) (of_type g.Self.Unit.PDU (of_size g.Self.Unit.LENGTH)) (h ++ t) (sym (typed_is g.Self.Unit.PDU (of_size g.Self.Unit.LENGTH) (h ++ t) (same ∙ is_type))) (λ asks. asks) (cause_of c.in-Err.e) _ stops, λ _ ten. c.if-pdu-eq-PDU.false (c.pdu.ensures.value ∙ sym same ∙ ten)))
