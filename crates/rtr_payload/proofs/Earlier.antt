@@ -1,9 +1,7 @@
 -- The words in which reading was told before, each of which follows from what is said now.
-use Rattle.std.proofs.Common.{◌≡◌, ℕ, ◌<◌, ◌≤◌, ◌⊎◌, Bool, true, cond, eqb, List, [], ◌++◌, length, get_or, Option, Some, None, Result, Ok, Err, refl, sym, ap, subst, ◌∙◌, arith}
-use Rattle.std.specs.Prelude.{IsTrue, IfOk}
-use Rattle.std.proofs.lemmas.Bool.Decides.{nat_tests}
+use Rattle.std.proofs.Common.{◌≡◌, ℕ, ◌<◌, ◌≤◌, ◌⊎◌, cond, eqb, List, [], ◌++◌, length, get_or, Option, Some, None, Result, Ok, Err, sym, subst}
+use Rattle.std.specs.Prelude.{IfOk}
 use Rattle.std.specs.Io.KnownBytes.{Consumes, IsAtEnd}
-use Rattle.std.proofs.KnownBytes.{Consumes-trans}
 use Rattle.rtr_units.specs.Causes.{Refusal, short, unit_type, unit_version, too_long, unit_length, empty_providers, refused}
 use Rattle.rtr_units.specs.Causes.{Cause, by_reader, by_writer, too_many, no_memory, wrong, cause_of}
 use Rattle.rtr_units.specs.End.{End}

@@ -1,12 +1,11 @@
 -- Reading a unit after its header.
-use Rattle.std.proofs.Common.{◌≡◌, ℕ, ◌+◌, ◌<◌, ◌≤◌, List, [], ◌++◌, length, Option, Some, None, Result, Ok, Err, refl, sym, ap, subst, ◌∙◌, append-nil, get_or, arith, ◌⊎◌, inr}
+use Rattle.std.proofs.Common.{◌≡◌, ℕ, ◌≤◌, List, [], ◌++◌, length, Option, Some, None, Result, Ok, Err, refl, sym, ap, subst, ◌∙◌, get_or, arith, ◌⊎◌, inr}
 use Rattle.std.proofs.lemmas.Bool.Decides.{nat_tests}
-use Rattle.std.proofs.lemmas.List.{length-append}
 use Rattle.std.proofs.KnownBytes.{Consumes-nil}
 use Rattle.std.proofs.lemmas.Bool.{cases_lt}
 use Rattle.std.proofs.Common.{cond, eqb, ltb, inl}
 use Rattle.rtr_base.specs.Addresses.{Family, v4, v6}
-use Rattle.rtr_units.specs.Causes.{Refusal, short, unit_type, unit_version, too_long, unit_length, empty_providers, refused, Cause, by_reader, by_writer, too_many, no_memory, wrong, cause_of}
+use Rattle.rtr_units.specs.Causes.{Refusal, short, unit_type, unit_version, too_long, unit_length, empty_providers, refused, Cause, by_reader, by_writer, too_many, no_memory, wrong}
 use Rattle.rtr_units.specs.Ends.{end_unit}
 use Rattle.rtr_units.specs.FixedUnits.{prefix_type, prefix_size}
 use Rattle.rtr_units.specs.Header.{version_field, type_field, length_field}
@@ -25,7 +24,7 @@ use Rattle.rtr_payload.specs.declared.pdu_payload.Payload.TheVariants.{V4, V6, R
 use Rattle.std.specs.Prelude.{IsSome, IfOk, IsTrue}
 use Rattle.rtr_payload.specs.Steps.{PrefixFault, header_fault, header_step, rule_of, refusal_report}
 use Rattle.rtr_payload.specs.Units.{Fields, HasFields}
-use Rattle.rtr_payload.proofs.Frames.{Whole, shape_whole}
+use Rattle.rtr_payload.proofs.Frames.{shape_whole}
 use Rattle.rtr_payload.proofs.Refusals.{header_short, unit_short, header_refused}
 use Rattle.rtr_payload.proofs.Wholes.{prefix_whole}
 

@@ -1,15 +1,10 @@
 -- Where reading a router key or an ASPA unit stops, and what was read.
-use Rattle.std.proofs.Common.{◌≡◌, ◌≢◌, ℕ, ◌+◌, ◌%◌, ◌<◌, ◌≤◌, cond, List, [], ◌++◌, length, get_or, Option, Some, None, refl, ◌⊎◌, sym, ap, ◌∙◌, append-nil, arith, inl, inr}
-use Rattle.std.specs.Prelude.{Result, Ok, Err}
-use Rattle.std.specs.Io.KnownBytes.{Consumes}
-use Rattle.std.proofs.KnownBytes.{Consumes-trans}
-use Rattle.std.proofs.lemmas.Bool.{eq-eqb}
+use Rattle.std.proofs.Common.{◌≡◌, ◌≢◌, ℕ, ◌+◌, ◌%◌, ◌<◌, ◌≤◌, List, [], ◌++◌, length, get_or, Option, Some, None, refl, ◌⊎◌, sym, ap, ◌∙◌, arith, inl, inr}
 use Rattle.std.proofs.lemmas.Bool.Decides.{nat_tests}
 use Rattle.std.proofs.lemmas.List.{length-append}
 use Rattle.rtr_base.specs.Bytes.{IsBytes}
 use Rattle.rtr_base.proofs.Numbers.{IsBytes-append}
-use Rattle.rtr_units.specs.Causes.{Refusal, short, unit_type, unit_version, too_long, unit_length, empty_providers, refused, Cause, by_reader, by_writer, too_many, no_memory, wrong, cause_of}
-use Rattle.rtr_units.specs.declared.fault.Fault.{Fault}
+use Rattle.rtr_units.specs.Causes.{too_long, unit_length, empty_providers, Cause, by_reader, by_writer, too_many, no_memory, wrong}
 use Rattle.rtr_units.specs.Header.{type_field, length_field}
 use Rattle.rtr_units.specs.Views.{AreBytes}
 use Rattle.rtr_units.proofs.Headers.{same_header}

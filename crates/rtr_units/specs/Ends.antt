@@ -31,7 +31,7 @@ end_length v = if v == 0 then 12 else 24
 abbrev pub end_unit : Kind
 end_unit = record {
   fault = λ u.
-    if nat_lt 2 (version_field u) then Some (unit_version (version_field u))
-    else (of_size (end_length (version_field u))).fault u;
+      if nat_lt 2 (version_field u) then Some (unit_version (version_field u))
+      else (of_size (end_length (version_field u))).fault u;
   asks = λ u. false;
 }

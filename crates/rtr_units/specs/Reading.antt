@@ -38,9 +38,9 @@ of_type p kind = record {
 abbrev pub any_unit : Kind
 any_unit = record {
   fault = λ u.
-    if nat_lt 65535 (length_field u) then Some too_long
-    else if nat_lt (length_field u) 8 then Some unit_length
-    else None;
+      if nat_lt 65535 (length_field u) then Some too_long
+      else if nat_lt (length_field u) 8 then Some unit_length
+      else None;
   asks = λ u. false;
 }
 

@@ -1,4 +1,4 @@
-use Rattle.std.proofs.Common.{◌≡◌, List, ℕ, ◌++◌, drop, sym, ap, ◌∙◌}
+use Rattle.std.proofs.Common.{List, ℕ, ◌++◌, drop, sym, ap, ◌∙◌}
 use Rattle.rtr_base.specs.Actions.{act}
 use Rattle.rtr_views.proofs.Forms.{announced_form, withdrawn_form}
 use Rattle.rtr_views.proofs.Puts.{same_put, both_put, first_not_put}
