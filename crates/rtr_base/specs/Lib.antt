@@ -2,6 +2,7 @@ pub mod Actions
 pub mod Addresses
 pub mod Bytes
 pub mod Numerals
+pub mod PlainTexts
 pub mod PrefixOrder
 pub mod Serial
 pub mod States

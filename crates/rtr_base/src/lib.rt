@@ -8,3 +8,4 @@ pub mod laws;
 pub mod payload;
 pub mod pdu;
 pub mod state;
+pub mod texts;
