@@ -4,6 +4,7 @@ pub mod Bytes
 pub mod Numerals
 pub mod PlainTexts
 pub mod PrefixOrder
+pub mod ReadTexts
 pub mod Serial
 pub mod States
 pub mod Texts
