@@ -56,7 +56,7 @@ address_and_len text front back ip l p split address len e =
 cases_differ : (xs ys : List ℕ) → 97 ∷ xs ≢ 65 ∷ ys
 cases_differ xs ys e = let h : 97 ≡ 65 = ap (λ (t : List ℕ). get_or t 0 0) e in omega (arith, h)
 
-after_upper : (text digits : List ℕ) → text ≡ codes "AS" ++ digits → (n : ℕ) (h : IsAsnText text n) → h.digits ≡ digits
+pub after_upper : (text digits : List ℕ) → text ≡ codes "AS" ++ digits → (n : ℕ) (h : IsAsnText text n) → h.digits ≡ digits
 after_upper text digits e n h =
     elim h.form [
       | inl upper ↦ ap (drop 2) (sym upper ∙ e)
