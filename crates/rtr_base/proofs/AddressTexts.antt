@@ -4,8 +4,7 @@ use Rattle.std.specs.declared.net.ip_addr.IpAddr.{IpAddr}
 use Rattle.std.specs.declared.net.ip_addr.IpAddr.TheVariants.{V4, V6}
 use Rattle.std.specs.Net.Addr.{octets_of, segments_of, ipv6_segments}
 use Rattle.std.specs.Net.Text.{ip_text, ipv4_text, ipv6_text}
-use Rattle.rtr_base.specs.Addresses.{PrefixParts, IsAddressOf, v4, v6}
-use Rattle.rtr_base.specs.Bytes.{be}
+use Rattle.rtr_base.specs.Addresses.{PrefixParts, IsAddressOf}
 use Rattle.rtr_base.specs.PlainTexts.{address_text, prefix_text}
 
 segments_of-octets_of : (xs : List ℕ) → segments_of (octets_of xs) ≡ xs
@@ -24,5 +23,5 @@ shown_address p (V6 a) h =
 pub shown_prefix : (p : PrefixParts) (a : IpAddr) (l : ℕ) → IsAddressOf p a → l ≡ p.len → ip_text a ++ (47 ∷ decimal l) ≡ prefix_text p
 shown_prefix p a l h e =
     ap (λ t. t ++ (47 ∷ decimal l)) (shown_address p a h)
-        ∙ ap (λ n. address_text p.family p.address ++ (47 ∷ decimal n)) e
-        ∙ sym (append_assoc (address_text p.family p.address) (47 ∷ []) (decimal p.len))
+    ∙ ap (λ n. address_text p.family p.address ++ (47 ∷ decimal n)) e
+    ∙ sym (append_assoc (address_text p.family p.address) (47 ∷ []) (decimal p.len))

@@ -1,5 +1,5 @@
 -- The texts of addresses and prefixes have neither slash nor dash where none is wanted.
-use Rattle.std.proofs.Common.{◌≡◌, ◌≢◌, ℕ, suc, zero, ◌+◌, ◌*◌, ◌^◌, ◌<◌, ◌≤◌, List, [], ◌∷◌, ◌++◌, length, get_or, drop, take, codes, decimal, bytes_eq, All, refl, arith, inl, inr}
+use Rattle.std.proofs.Common.{◌≢◌, ℕ, suc, zero, ◌^◌, ◌<◌, List, [], ◌∷◌, ◌++◌, get_or, drop, take, codes, decimal, bytes_eq, All, arith, inl, inr}
 use Rattle.std.proofs.lemmas.Bool.{cond_both}
 use Rattle.std.proofs.lemmas.List.Elements.{All-nil, All-cons, All-append, All-weaker, All-from_get_or}
 use Rattle.std.proofs.lemmas.Fmt.{decimal_is_IsNumeral}

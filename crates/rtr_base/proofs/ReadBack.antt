@@ -1,5 +1,5 @@
 -- What `FromStr` answers on the text that `Display` writes.
-use Rattle.std.proofs.Common.{◌≡◌, ◌≢◌, ℕ, suc, zero, ◌+◌, ◌-◌, ◌%◌, ◌^◌, ◌<◌, ◌≤◌, List, [], ◌∷◌, ◌++◌, length, get_or, drop, codes, decimal, All, Option, Some, None, Result, Ok, Err, refl, sym, ap, ◌∙◌, subst, append_assoc, append-nil, length-append, arith, inl, inr, IfSome, unwrap_or}
+use Rattle.std.proofs.Common.{◌≡◌, ◌≢◌, ℕ, suc, ◌+◌, ◌^◌, ◌<◌, ◌≤◌, List, [], ◌∷◌, ◌++◌, length, get_or, drop, decimal, All, Option, Some, None, Result, Ok, Err, refl, sym, ap, ◌∙◌, subst, append_assoc, append-nil, length-append, arith, inl, inr, IfSome, unwrap_or}
 use Rattle.std.specs.declared.net.ip_addr.IpAddr.{IpAddr}
 use Rattle.std.specs.declared.net.ip_addr.IpAddr.TheVariants.{V4, V6}
 use Rattle.std.specs.Net.Addr.{segments_of}
@@ -18,7 +18,7 @@ use Rattle.rtr_base.specs.Addresses.{Family, v4, v6, PrefixParts, MaxLenParts, I
 use Rattle.rtr_base.specs.Bytes.{be, IsBytes}
 use Rattle.rtr_base.specs.Numerals.{IsDigit, number_after, IsNumeral}
 use Rattle.rtr_base.specs.PlainTexts.{asn_text, address_text, prefix_text, dash_text, max_len_text}
-use Rattle.rtr_base.specs.ReadTexts.{IsAsnText, ParsesAsn, SplitsAt, Lacks, IsLenText, IsAddressAndLen, IsPrefixText, RefusesPrefix, ParsesPrefix, MaxLenTextBy, IsMaxLenText, RefusesMaxLen, ParsesMaxLen, ParsesKey}
+use Rattle.rtr_base.specs.ReadTexts.{ParsesAsn, SplitsAt, Lacks, IsLenText, IsAddressAndLen, IsPrefixText, RefusesPrefix, ParsesPrefix, MaxLenTextBy, RefusesMaxLen, ParsesMaxLen, ParsesKey}
 use Rattle.rtr_base.specs.declared.addr.PrefixError.TheVariants.{LenOverflow, NonZeroHost}
 use Rattle.rtr_base.specs.declared.addr.MaxLenError.TheVariants.{Overflow, Underflow}
 use Rattle.rtr_base.specs.declared.parse.ParseAsnError.{ParseAsnError}

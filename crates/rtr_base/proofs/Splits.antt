@@ -1,5 +1,5 @@
 -- Texts that are cut at a character.
-use Rattle.std.proofs.Common.{◌≡◌, ℕ, ◌<◌, List, Some, None, Bor}
+use Rattle.std.proofs.Common.{ℕ, ◌<◌, List, Some, None, Bor}
 use Rattle.std.proofs.lemmas.Str.Pattern.{IsSplitOnceResult, split_parts}
 use Rattle.rtr_base.specs.ReadTexts.{SplitsAt, Lacks}
 

@@ -29,7 +29,7 @@ impl fmt::Display for RouterKey {
     }
 }
 
-/// Writes `ASPA`, the customer and its providers: `ASPA AS64496: AS64497, AS64498`, and without
+/// Writes `ASPA`, the customer and its providers: `ASPA AS64496: AS64497 AS64498`, and without
 /// any `ASPA AS64496: no providers`.
 impl fmt::Display for Aspa {
     fn fmt<W: fmt::Write>(&self, f: &mut fmt::Formatter<W>) -> fmt::Result {
@@ -37,9 +37,8 @@ impl fmt::Display for Aspa {
         if self.providers.is_empty() {
             return f.write_str(" no providers");
         }
-        for (index, provider) in self.providers.iter().enumerate() {
-            f.write_str(if index == 0 { " " } else { ", " })?;
-            write!(f, "{provider}")?;
+        for provider in self.providers.iter() {
+            write!(f, " {provider}")?;
         }
         Ok(())
     }

@@ -1,4 +1,3 @@
-use Rattle.std.proofs.Common.{sym}
 use Rattle.rtr_base.proofs.Parsing.{reads_number, refuses_others}
 use Rattle.rtr_base.proofs.ReadValues.{asn_read, asn_refused}
 use Rattle.rtr_base.proofs.parse.AsnFromStr.from_str.Goals as goal

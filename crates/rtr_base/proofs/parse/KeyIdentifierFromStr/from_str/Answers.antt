@@ -1,4 +1,4 @@
-use Rattle.std.proofs.Common.{sym, ◌∙◌, arith}
+use Rattle.std.proofs.Common.{sym, ◌∙◌}
 use Rattle.rtr_base.proofs.ReadValues.{refused_digit}
 use Rattle.rtr_base.proofs.parse.KeyIdentifierFromStr.from_str.Goals as goal
 

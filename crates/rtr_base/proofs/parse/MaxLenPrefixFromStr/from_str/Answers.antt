@@ -1,5 +1,4 @@
-use Rattle.std.proofs.Common.{arith, refl, inl, inr, ap, sym, subst}
-use Rattle.rtr_base.specs.Addresses.{MaxLenParts}
+use Rattle.std.proofs.Common.{arith, inl, inr}
 use Rattle.rtr_base.proofs.Parsing.{reads_len, refuses_len}
 use Rattle.rtr_base.proofs.Splits.{cut_at, not_cut}
 use Rattle.rtr_base.proofs.ReadValues.{broken_by, max_len_read}
