@@ -1,4 +1,5 @@
 pub mod Causes
+pub mod Codes
 pub mod End
 pub mod Ends
 pub mod FixedUnits
