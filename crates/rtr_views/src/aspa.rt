@@ -1,8 +1,8 @@
 //! Views of ASPA units (as in the Rust crate).
 
-ghost use Rattle.std.specs.Prelude.{◌≡◌, ◌≤◌, ◌∷◌, ◌++◌, length, take, drop, slice_index};
+ghost use Rattle.std.specs.Prelude.{◌≡◌, ◌≤◌, length, take, drop, slice_index};
 ghost use Rattle.std.specs.Prelude.{IfOk, IfErr, not};
-ghost use Rattle.rtr_base.specs.Bytes.{be, value};
+ghost use Rattle.rtr_base.specs.Bytes.{value};
 ghost use Rattle.rtr_units.specs.Header.{version_field, type_field};
 ghost use Rattle.rtr_units.specs.Stream.{count_after};
 ghost use Rattle.rtr_payload.specs.Places.{aspa_fields};
@@ -12,7 +12,7 @@ ghost use Rattle.rtr_views.specs.Faults.{IsFirstFault, PutsPiece, is_view_writer
 
 use crate::cut::{MAX_SIZE, first_unit};
 use crate::fault::ViewFault;
-use crate::form::put_piece;
+use crate::form::put_flagged;
 use rtr_base::asn::Asn;
 use rtr_base::payload::Action;
 use rtr_payload::pdu::Aspa;
@@ -96,19 +96,6 @@ impl<'a> AspaView<'a> {
         }
     }
 
-    /// The first twelve bytes of the form of a unit of this size and these flags.
-    #[inline(always)]
-    fn form_front(&self, flags: u8, size: u32) -> [u8; 12]
-        ensures { result ≡ (version_field self.now.unit.now ∷ 11 ∷ flags ∷ 0 ∷ be size 4)
-            ++ take 4 (drop 8 self.now.unit.now) }
-    {
-        let mut front = [0; 12];
-        front[..4].copy_from_slice(&[self.version(), Aspa::PDU, flags, 0]);
-        front[4..8].copy_from_slice(&size.to_be_bytes());
-        front[8..].copy_from_slice(&self.unit[8..12]);
-        front
-    }
-
     /// Writes the form of what the unit means: of a withdrawal without its providers.
     #[inline(always)]
     pub(crate) fn write_form<W: Sink>(&self, writer: &mut W) -> Result<(), ViewFault>
@@ -117,15 +104,11 @@ impl<'a> AspaView<'a> {
         ensures count { W.failures writer.new
             ≡ count_after (W.failures writer.old) (not (is_view_writer_fault result)) }
     {
-        match Action::from_flags(self.flags()) {
-            Action::Announce => {
-                let size = self.unit.len() as u32;
-                match put_piece(writer, &self.form_front(1, size)) {
-                    Ok(()) => put_piece(writer, self.providers()),
-                    Err(e) => Err(e),
-                }
-            }
-            Action::Withdraw => put_piece(writer, &self.form_front(0, FIXED)),
-        }
+        let action = Action::from_flags(self.flags());
+        let kept = match action {
+            Action::Announce => self.unit.len(),
+            Action::Withdraw => FIXED as usize,
+        };
+        put_flagged(writer, self.version(), Aspa::PDU, action, &self.unit[8..kept])
     }
 }
