@@ -10,7 +10,7 @@ ghost use Rattle.rtr_payload.specs.Units.{meaning, form_of};
 ghost use Rattle.rtr_views.specs.Wholes.{IsFirstUnit, IsWholeKey};
 ghost use Rattle.rtr_views.specs.Faults.{IsFirstFault, PutsPiece, is_view_writer_fault};
 
-use crate::cut::{MAX_SIZE, first_unit};
+use crate::cut::{MAX_SIZE, first_unit, size_at, size_fault};
 use crate::fault::ViewFault;
 use crate::form::put_flagged;
 use rtr_base::asn::Asn;
@@ -90,12 +90,9 @@ impl<'a> RouterKeyView<'a> {
         ensures within { IfOk result (λ v. length v.unit.now ≤ length input.now) }
         ensures fault { IfErr result (λ e. IsFirstFault input.now e) }
     {
-        let size = u32_at(input, 4);
-        if size > MAX_SIZE {
-            return Err(ViewFault::TooLong);
-        }
-        if size < FIXED {
-            return Err(ViewFault::UnitLength);
+        let size = size_at(input);
+        if size < FIXED || size > MAX_SIZE {
+            return Err(size_fault(size));
         }
         match first_unit(input, size as usize) {
             Ok(unit) => Ok(RouterKeyView { unit }),
