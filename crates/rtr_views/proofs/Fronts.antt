@@ -1,6 +1,5 @@
 -- The unit at the front of a list, and the faults that its header shows.
 use Rattle.std.proofs.Common.{◌≡◌, ◌≢◌, ◌%◌, ◌⊎◌, inl, inr, ℕ, ◌≤◌, ◌<◌, List, ◌++◌, length, take, drop, get_or, Some, None, sym, ap, subst, ◌∙◌, arith}
-use Rattle.std.proofs.lemmas.Bool.{cases_order}
 use Rattle.std.proofs.lemmas.Bool.Decides.{nat_tests}
 use Rattle.std.proofs.lemmas.List.{take-append-drop, length-take-le}
 use Rattle.rtr_base.specs.Addresses.{Family, v4, v6}
@@ -23,7 +22,7 @@ use Rattle.rtr_payload.proofs.Refusals.{prefix_refused}
 use Rattle.rtr_views.specs.Wholes.{IsFirstUnit, IsWholeKey, IsWholeAspa}
 use Rattle.rtr_views.specs.Faults.{IsFirstFault}
 use Rattle.rtr_views.specs.declared.fault.ViewFault.{ViewFault}
-use Rattle.rtr_views.specs.declared.fault.ViewFault.TheVariants.{UnitLength, TooLong}
+use Rattle.rtr_views.specs.declared.fault.ViewFault.TheVariants.{TooLong}
 use Rattle.rtr_views.proofs.Forms.{whole_key, whole_aspa}
 
 -- a fault of the header comes first
@@ -130,18 +129,10 @@ aspa_viewed r u w is whole same = let e = unit_at r u w is same in (e, subst (λ
 
 -- ---- ASPA units
 
--- the fault of a size that a unit of type t can't have
-pub size_shows : (r : List ℕ) (t n : ℕ) (f : ViewFault) → 8 ≤ length r → type_field r ≡ t → n ≡ length_field r
-    → (65535 < n → header_fault (version_field r) t (get_or r 2 0) n ≡ Some too_long)
-    → (n ≤ 65535 → header_fault (version_field r) t (get_or r 2 0) n ≡ Some unit_length)
-    → (65535 < n → f ≡ TooLong) → (n ≤ 65535 → f ≡ UnitLength) → IsFirstFault r f
-size_shows r t n f l kind field long other is_long is_other =
-    let named : (c : Refusal) → header_fault (version_field r) t (get_or r 2 0) n ≡ Some c → first_fault r ≡ Some c = λ c e. typed_shows r t c l kind (ap (header_fault (version_field r) t (get_or r 2 0)) (sym field) ∙ e) in
-    elim (cases_order n 65535) [
-      | inl same ↦ subst (IsFirstFault r) (sym (is_other (omega arith))) (named unit_length (other (omega arith)))
-      | inr (inl less) ↦ subst (IsFirstFault r) (sym (is_other (omega arith))) (named unit_length (other (omega arith)))
-      | inr (inr more) ↦ subst (IsFirstFault r) (sym (is_long more)) (named too_long (long more))
-    ]
+-- a size above 65535 is told
+pub long_shows : (r : List ℕ) (t : ℕ) (f : ViewFault) → 8 ≤ length r → type_field r ≡ t
+    → header_fault (version_field r) t (get_or r 2 0) (length_field r) ≡ Some too_long → f ≡ TooLong → IsFirstFault r f
+long_shows r t f l kind long is = subst (IsFirstFault r) (sym is) (typed_shows r t too_long l kind long)
 
 pub aspa_length : (v g n : ℕ) → n ≤ 65535 → (n < 12) ⊎ (n % 4 ≢ 0) → header_fault v 11 g n ≡ Some unit_length
 aspa_length v g n h k = elim k [ inl less ↦ aspa_short v g n less | inr uneven ↦ aspa_uneven v g n h uneven ]

@@ -10,7 +10,7 @@ ghost use Rattle.rtr_payload.specs.Units.{meaning, form_of};
 ghost use Rattle.rtr_views.specs.Wholes.{IsFirstUnit, IsWholeAspa};
 ghost use Rattle.rtr_views.specs.Faults.{IsFirstFault, PutsPiece, is_view_writer_fault};
 
-use crate::cut::{MAX_SIZE, first_unit, size_at, size_fault};
+use crate::cut::{first_unit, size_at};
 use crate::fault::ViewFault;
 use crate::form::put_flagged;
 use rtr_base::asn::Asn;
@@ -20,7 +20,7 @@ use rtr_units::numbers::u32_at;
 use rtr_units::source::Sink;
 
 /// The bytes of an ASPA unit before its providers.
-const FIXED: u32 = 12;
+const FIXED: usize = 12;
 
 /// An ASPA unit that lies in a slice.
 #[derive(Clone, Copy, Debug)]
@@ -80,14 +80,17 @@ impl<'a> AspaView<'a> {
         ensures within { IfOk result (λ v. length v.unit.now ≤ length input.now) }
         ensures fault { IfErr result (λ e. IsFirstFault input.now e) }
     {
-        let size = size_at(input);
-        if size < FIXED || size > MAX_SIZE || size % 4 != 0 {
-            return Err(size_fault(size));
+        let size = match size_at(input) {
+            Ok(size) => size,
+            Err(e) => return Err(e),
+        };
+        if size < FIXED || size % 4 != 0 {
+            return Err(ViewFault::UnitLength);
         }
         if size == FIXED && input[2] % 2 == 1 {
             return Err(ViewFault::EmptyProviders);
         }
-        match first_unit(input, size as usize) {
+        match first_unit(input, size) {
             Ok(unit) => Ok(AspaView { unit }),
             Err(e) => Err(e),
         }
@@ -104,7 +107,7 @@ impl<'a> AspaView<'a> {
         let action = Action::from_flags(self.flags());
         let kept = match action {
             Action::Announce => self.unit.len(),
-            Action::Withdraw => FIXED as usize,
+            Action::Withdraw => FIXED,
         };
         put_flagged(writer, self.version(), Aspa::PDU, action, &self.unit[8..kept])
     }

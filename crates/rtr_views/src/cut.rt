@@ -7,32 +7,20 @@ ghost use Rattle.rtr_views.specs.Faults.{IsFirstFault};
 ghost use Rattle.rtr_views.specs.Wholes.{IsFirstUnit};
 
 use crate::fault::ViewFault;
+use rtr_units::numbers::u16_at;
 
-/// The most bytes that a variable unit that is read has, header included.
-pub const MAX_SIZE: u32 = 65535;
-
-/// What the header at the front of the input says of the unit's length.
+/// The size that the header at the front of the input says, or `TooLong` where it is above 65535.
 #[inline(always)]
-pub fn size_at(input: &[u8]) -> u32
+pub fn size_at(input: &[u8]) -> Result<usize, ViewFault>
     requires { 8 ≤ length input.now }
-    ensures { result ≡ length_field input.now }
+    ensures size { IfOk result (λ n. n ≡ length_field input.now) }
+    ensures most { IfOk result (λ n. n ≤ 65535) }
+    ensures long { IfErr result (λ e. (e ≡ ViewFault.TooLong) × (65535 < length_field input.now)) }
 {
-    let mut size = [0; 4];
-    size.copy_from_slice(&input[4..8]);
-    u32::from_be_bytes(size)
-}
-
-/// The fault of a router key or an ASPA unit that can't have this size.
-#[inline(always)]
-pub fn size_fault(size: u32) -> ViewFault
-    ensures long { 65535 < size → result ≡ ViewFault.TooLong }
-    ensures other { size ≤ 65535 → result ≡ ViewFault.UnitLength }
-{
-    if size > MAX_SIZE {
-        ViewFault::TooLong
-    } else {
-        ViewFault::UnitLength
+    if u16_at(input, 4) != 0 {
+        return Err(ViewFault::TooLong);
     }
+    Ok(usize::from(u16_at(input, 6)))
 }
 
 /// The unit at the front of the input, whose header says that it has `size` bytes, or `Short`.

@@ -10,7 +10,7 @@ ghost use Rattle.rtr_payload.specs.Units.{meaning, form_of};
 ghost use Rattle.rtr_views.specs.Wholes.{IsFirstUnit, IsWholeKey};
 ghost use Rattle.rtr_views.specs.Faults.{IsFirstFault, PutsPiece, is_view_writer_fault};
 
-use crate::cut::{MAX_SIZE, first_unit, size_at, size_fault};
+use crate::cut::{first_unit, size_at};
 use crate::fault::ViewFault;
 use crate::form::put_flagged;
 use rtr_base::asn::Asn;
@@ -20,7 +20,7 @@ use rtr_units::numbers::u32_at;
 use rtr_units::source::Sink;
 
 /// The bytes of a router key before its key info.
-const FIXED: u32 = 32;
+const FIXED: usize = 32;
 
 /// A router key that lies in a slice.
 #[derive(Clone, Copy, Debug)]
@@ -90,11 +90,14 @@ impl<'a> RouterKeyView<'a> {
         ensures within { IfOk result (λ v. length v.unit.now ≤ length input.now) }
         ensures fault { IfErr result (λ e. IsFirstFault input.now e) }
     {
-        let size = size_at(input);
-        if size < FIXED || size > MAX_SIZE {
-            return Err(size_fault(size));
+        let size = match size_at(input) {
+            Ok(size) => size,
+            Err(e) => return Err(e),
+        };
+        if size < FIXED {
+            return Err(ViewFault::UnitLength);
         }
-        match first_unit(input, size as usize) {
+        match first_unit(input, size) {
             Ok(unit) => Ok(RouterKeyView { unit }),
             Err(e) => Err(e),
         }
