@@ -1,10 +1,10 @@
 -- The written forms of what views show, by the bytes of the units.
-use Rattle.std.proofs.Common.{◌≡◌, ℕ, ◌+◌, ◌*◌, List, [], ◌∷◌, ◌++◌, length, take, drop, get_or, refl, sym, ap, ◌∙◌, append-nil, append_assoc, arith}
-use Rattle.std.proofs.lemmas.List.{take-append-drop, drop-drop, length-take-le, length-drop}
+use Rattle.std.proofs.Common.{◌≡◌, ℕ, ◌+◌, ◌*◌, List, ◌∷◌, ◌++◌, length, take, drop, get_or, sym, ap, ◌∙◌, append-nil, arith}
+use Rattle.std.proofs.lemmas.List.{length-take-le, length-drop}
 use Rattle.rtr_base.specs.declared.payload.Action.{Action}
 use Rattle.rtr_base.specs.declared.payload.Action.TheVariants.{Announce, Withdraw}
 use Rattle.rtr_base.specs.Actions.{act, flags_of}
-use Rattle.rtr_base.specs.Bytes.{be, value, words}
+use Rattle.rtr_base.specs.Bytes.{be, value}
 use Rattle.rtr_base.proofs.Numbers.{be-value, length-words, IsBytes-take, IsBytes-drop}
 use Rattle.rtr_units.specs.Header.{version_field}
 use Rattle.rtr_payload.specs.Places.{key_fields, aspa_fields, words_of}

@@ -109,6 +109,12 @@ impl<'a> AspaView<'a> {
             Action::Announce => self.unit.len(),
             Action::Withdraw => FIXED,
         };
-        put_flagged(writer, self.version(), Aspa::PDU, action, &self.unit[8..kept])
+        put_flagged(
+            writer,
+            self.version(),
+            Aspa::PDU,
+            action,
+            &self.unit[8..kept],
+        )
     }
 }

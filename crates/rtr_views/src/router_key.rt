@@ -112,6 +112,12 @@ impl<'a> RouterKeyView<'a> {
             ≡ count_after (W.failures writer.old) (not (is_view_writer_fault result)) }
     {
         let action = Action::from_flags(self.flags());
-        put_flagged(writer, self.version(), RouterKey::PDU, action, &self.unit[8..])
+        put_flagged(
+            writer,
+            self.version(),
+            RouterKey::PDU,
+            action,
+            &self.unit[8..],
+        )
     }
 }

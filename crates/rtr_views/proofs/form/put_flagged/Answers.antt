@@ -1,4 +1,4 @@
-use Rattle.std.proofs.Common.{◌++◌, refl, sym, ap, ◌∙◌}
+use Rattle.std.proofs.Common.{◌++◌, ap}
 use Rattle.rtr_views.proofs.Puts.{both_put, first_not_put}
 use Rattle.rtr_views.proofs.form.put_flagged.Goals as goal
 

@@ -1,4 +1,4 @@
-use Rattle.std.proofs.Common.{arith, inl, inr, ◌≡◌, ◌≤◌, ℕ, ◌%◌, sym, ap, ◌∙◌}
+use Rattle.std.proofs.Common.{arith, inl, inr, ◌≡◌, ℕ, ◌%◌, sym, ap, ◌∙◌}
 use Rattle.rtr_units.specs.Header.{length_field}
 use Rattle.rtr_payload.proofs.Variable.{aspa_too_long}
 use Rattle.rtr_views.proofs.Fronts.{long_shows, typed_shows, typed_in_order, aspa_length, aspa_no_providers, aspa_in_order}
