@@ -1,7 +1,7 @@
 //! What tests share: bytes written as hex, and readers and writers that give and take them in pieces and fail.
 #![tactic(auto)]
 
-use std::alloc::Global;
+use std::alloc::{AllocError, Global};
 use std::hash::{DefaultHasher, Hash, Hasher};
 use std::io;
 use std::io::{Error, ErrorKind, Read, Write};
@@ -213,6 +213,19 @@ impl Recorder {
             calls: 0,
             flushes: 0,
         }
+    }
+
+    /// The same, which asks for no growth for so many bytes in all.
+    pub fn with_room(alloc: Global, size: usize, room: usize) -> Result<Recorder, AllocError> {
+        let mut writer = Recorder::new(alloc, size);
+        writer.held = Vec::with_capacity(alloc, room)?;
+        Ok(writer)
+    }
+
+    /// Gives an error at one call and takes nothing at another, counted from 1.
+    pub fn set_troubles(&mut self, fails_at: usize, stops_at: usize) {
+        self.fails_at = fails_at;
+        self.stops_at = stops_at;
     }
 
     /// The same, with an error at this call, counted from 1.
