@@ -1,11 +1,10 @@
 //! Answers as text.
 
 use rtr_wire::pdu::{Fault, PrefixRule, ViewFault};
-use std::alloc::Global;
+use std::alloc::{AllocError, Global};
 use std::fmt::Display;
 use std::io;
 use std::io::ErrorKind;
-use std::test::Fail;
 
 /// Words with spaces between them. Bytes are hex, and all that follow one another are one word.
 #[derive(Drop)]
@@ -13,6 +12,7 @@ pub struct Answer {
     alloc: Global,
     text: String,
     ends_in_bytes: bool,
+    is_cut: bool,
 }
 
 impl Answer {
@@ -22,48 +22,57 @@ impl Answer {
             alloc,
             text: String::new(alloc),
             ends_in_bytes: false,
+            is_cut: false,
         }
     }
 
     /// Appends a word.
-    pub fn word<D: Display + Drop>(&mut self, word: D) -> Result<(), Fail> {
-        let word = format!(in self.alloc; "{word}")?;
-        self.space()?;
-        self.text.push_str(word.as_str())?;
+    pub fn word<D: Display + Drop>(&mut self, word: D) {
         self.ends_in_bytes = false;
-        Ok(())
+        match format!(in self.alloc; "{word}") {
+            Ok(word) => self.append(word.as_str()),
+            Err(_) => self.is_cut = true,
+        }
     }
 
     /// Appends bytes.
-    pub fn bytes(&mut self, bytes: &[u8]) -> Result<(), Fail> {
+    pub fn bytes(&mut self, bytes: &[u8]) {
         if bytes.is_empty() {
-            return Ok(());
+            return;
         }
-        let word = hex::encode(self.alloc, bytes)?;
-        if !self.ends_in_bytes {
-            self.space()?;
+        match hex::encode(self.alloc, bytes) {
+            Ok(word) => self.append(word.as_str()),
+            Err(_) => self.is_cut = true,
         }
-        self.text.push_str(word.as_str())?;
         self.ends_in_bytes = true;
-        Ok(())
     }
 
-    /// Appends a space, but not in front of the first word.
-    fn space(&mut self) -> Result<(), Fail> {
-        if !self.text.is_empty() {
-            self.text.push_str(" ")?;
+    /// Appends a text, after a space where it is neither the first nor goes on with bytes.
+    fn append(&mut self, text: &str) {
+        if !self.text.is_empty() && !self.ends_in_bytes && self.text.push_str(" ").is_err() {
+            self.is_cut = true;
         }
-        Ok(())
+        if self.text.push_str(text).is_err() {
+            self.is_cut = true;
+        }
     }
 
-    /// The words.
-    pub fn into_text(self) -> String {
-        self.text
+    /// Whether these are the same words.
+    pub fn is_same(&self, other: &Answer) -> bool {
+        self.text == other.text && !self.is_cut && !other.is_cut
+    }
+
+    /// The words, where there was memory for all of them.
+    pub fn into_text(self) -> Result<String, AllocError> {
+        if self.is_cut {
+            return Err(AllocError);
+        }
+        Ok(self.text)
     }
 
     /// Appends the name of a fault. The errors of readers and writers are interruptions, as those
     /// that the table's readers and writers give.
-    pub fn fault(&mut self, fault: &Fault) -> Result<(), Fail> {
+    pub fn fault(&mut self, fault: &Fault) {
         match fault {
             Fault::Reader(error) => self.error("Reader", error),
             Fault::Writer(error) => self.error("Writer", error),
@@ -80,7 +89,7 @@ impl Answer {
     }
 
     /// Appends the name of a fault of a view.
-    pub fn view_fault(&mut self, fault: &ViewFault) -> Result<(), Fail> {
+    pub fn view_fault(&mut self, fault: &ViewFault) {
         match fault {
             ViewFault::Writer(error) => self.error("Writer", error),
             ViewFault::Short => self.word("Short"),
@@ -97,16 +106,15 @@ impl Answer {
     }
 
     /// Appends a name with a number.
-    fn number(&mut self, name: &str, number: u8) -> Result<(), Fail> {
+    fn number(&mut self, name: &str, number: u8) {
         self.word(format_args!("{name}({number})"))
     }
 
-    /// Appends the name of a fault that holds an error: with its kind where it is no interruption.
-    fn error(&mut self, name: &str, error: &io::Error) -> Result<(), Fail> {
+    /// Appends the name of a fault that holds an error, and whether the library made that itself.
+    fn error(&mut self, name: &str, error: &io::Error) {
         match error.kind() {
             ErrorKind::Interrupted => self.word(name),
-            ErrorKind::WriteZero => self.word(format_args!("{name}(WriteZero)")),
-            _ => self.word(format_args!("{name}(another)")),
+            _ => self.word(format_args!("{name}(own)")),
         }
     }
 }

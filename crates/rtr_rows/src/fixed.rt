@@ -9,55 +9,54 @@ use rtr_wire::pdu::{
     Ipv4Prefix, Ipv6Prefix, Payload, ResetQuery, SerialNotify, SerialQuery, SerialQueryPayload,
     SliceSource, Unit,
 };
-use std::test::Fail;
 
 /// Makes the call of a row where it is one of these: of a unit `TYPE::read`, `TYPE::try_read`,
 /// `TYPE::read_payload` or `TYPE::write`, and calls of headers and ends of data.
-pub fn answer(row: &Row<'_>, way: Way) -> Result<Option<String>, Fail> {
-    match row.call.split_once("::") {
-        Some(("SerialNotify", call)) => unit::<SerialNotify>(row, way, call),
-        Some(("SerialQuery", call)) => unit::<SerialQuery>(row, way, call),
-        Some(("ResetQuery", call)) => unit::<ResetQuery>(row, way, call),
-        Some(("CacheResponse", call)) => unit::<CacheResponse>(row, way, call),
-        Some(("Ipv4Prefix", call)) => unit::<Ipv4Prefix>(row, way, call),
-        Some(("Ipv6Prefix", call)) => unit::<Ipv6Prefix>(row, way, call),
-        Some(("EndOfDataV0", call)) => unit::<EndOfDataV0>(row, way, call),
-        Some(("EndOfDataV1", call)) => unit::<EndOfDataV1>(row, way, call),
-        Some(("CacheReset", call)) => unit::<CacheReset>(row, way, call),
-        Some(("EndOfData", "read_payload")) => Ok(Some(read_end(row, way)?)),
-        Some(("Header", "read")) => Ok(Some(read_header(row, way)?)),
-        Some(("SerialQueryPayload", "read")) => Ok(Some(read_serial(row, way)?)),
-        _ => Ok(None),
+pub fn answer(row: &Row<'_>, way: Way) -> Option<Answer> {
+    let (kind, call) = row.call.split_once("::")?;
+    match kind {
+        "SerialNotify" => unit::<SerialNotify>(row, way, call),
+        "SerialQuery" => unit::<SerialQuery>(row, way, call),
+        "ResetQuery" => unit::<ResetQuery>(row, way, call),
+        "CacheResponse" => unit::<CacheResponse>(row, way, call),
+        "Ipv4Prefix" => unit::<Ipv4Prefix>(row, way, call),
+        "Ipv6Prefix" => unit::<Ipv6Prefix>(row, way, call),
+        "EndOfDataV0" => unit::<EndOfDataV0>(row, way, call),
+        "EndOfDataV1" => unit::<EndOfDataV1>(row, way, call),
+        "CacheReset" => unit::<CacheReset>(row, way, call),
+        "EndOfData" => Some(read_end(row, way)),
+        "Header" => Some(read_header(row, way)),
+        "SerialQueryPayload" => Some(read_serial(row, way)),
+        _ => None,
     }
 }
 
 /// Makes a call of a unit.
-fn unit<U: Unit>(row: &Row<'_>, way: Way, call: &str) -> Result<Option<String>, Fail> {
+fn unit<U: Unit>(row: &Row<'_>, way: Way, call: &str) -> Option<Answer> {
     match call {
-        "read" => Ok(Some(read::<U>(row, way)?)),
-        "try_read" => Ok(Some(try_read::<U>(row, way)?)),
-        "read_payload" => Ok(Some(read_payload::<U>(row, way)?)),
-        "write" => Ok(Some(write::<U>(row, way)?)),
-        _ => Ok(None),
+        "read" => Some(read::<U>(row, way)),
+        "try_read" => Some(try_read::<U>(row, way)),
+        "read_payload" => Some(read_payload::<U>(row, way)),
+        "write" => Some(write::<U>(row, way)),
+        _ => None,
     }
 }
 
 /// Tells how many bytes a reader gave, and whether it was asked again after its end.
-pub fn tell_taken(seen: &mut Answer, reader: &Pieces<'_>) -> Result<(), Fail> {
-    seen.word("taken")?;
-    seen.word(reader.taken())?;
+pub fn tell_taken(seen: &mut Answer, reader: &Pieces<'_>) {
+    seen.word("taken");
+    seen.word(reader.taken());
     if reader.ends() > 1 {
-        seen.word("asked after the end")?;
+        seen.word("asked after the end");
     }
-    Ok(())
 }
 
 /// Tells a unit, or the fault.
-fn tell<U: Unit>(seen: &mut Answer, answer: &Result<U, Fault>) -> Result<(), Fail> {
+fn tell<U: Unit>(seen: &mut Answer, answer: &Result<U, Fault>) {
     match answer {
         Ok(unit) => {
             let (version, session) = (unit.version(), unit.session());
-            seen.word(format_args!("{version} {session} {}", U::size()))?;
+            seen.word(format_args!("{version} {session} {}", U::size()));
             seen.bytes(unit.as_ref())
         }
         Err(fault) => seen.fault(fault),
@@ -65,47 +64,47 @@ fn tell<U: Unit>(seen: &mut Answer, answer: &Result<U, Fault>) -> Result<(), Fai
 }
 
 /// `Unit::read`: version, session, size and bytes, or the fault, and how many bytes were taken.
-fn read<U: Unit>(row: &Row<'_>, way: Way) -> Result<String, Fail> {
-    let mut reader = Counted::new(row.reader(way)?);
-    row.ready()?;
+fn read<U: Unit>(row: &Row<'_>, way: Way) -> Answer {
+    let mut reader = Counted::new(row.reader(way));
+    row.ready();
     let answer = U::read(&mut reader);
-    let mut seen = Answer::new(row.alloc);
-    tell(&mut seen, &answer)?;
-    tell_taken(&mut seen, &reader.into_inner())?;
-    Ok(seen.into_text())
+    let mut seen = row.answer();
+    tell(&mut seen, &answer);
+    tell_taken(&mut seen, &reader.into_inner());
+    seen
 }
 
 /// `Unit::try_read`: the same, or the header of a report.
-fn try_read<U: Unit>(row: &Row<'_>, way: Way) -> Result<String, Fail> {
-    let mut reader = Counted::new(row.reader(way)?);
-    let mut seen = Answer::new(row.alloc);
+fn try_read<U: Unit>(row: &Row<'_>, way: Way) -> Answer {
+    let mut reader = Counted::new(row.reader(way));
+    let mut seen = row.answer();
     match U::try_read(&mut reader) {
-        Ok(Ok(unit)) => tell(&mut seen, &Ok(unit))?,
+        Ok(Ok(unit)) => tell(&mut seen, &Ok(unit)),
         Ok(Err(header)) => {
-            seen.word("report")?;
-            seen.bytes(header.as_ref())?;
+            seen.word("report");
+            seen.bytes(header.as_ref());
         }
-        Err(fault) => seen.fault(&fault)?,
+        Err(fault) => seen.fault(&fault),
     }
-    tell_taken(&mut seen, &reader.into_inner())?;
-    Ok(seen.into_text())
+    tell_taken(&mut seen, &reader.into_inner());
+    seen
 }
 
 /// The header that the row's settings say.
-pub fn header(row: &Row<'_>) -> Result<Header, Fail> {
-    let (version, pdu) = (row.number("version", 1)?, row.number("type", 0)?);
-    let (session, length) = (row.number("session", 0)?, row.number("length", 0)?);
-    Ok(Header::new(version, pdu, session, length))
+pub fn header(row: &Row<'_>) -> Header {
+    let (version, pdu) = (row.byte("version", 1), row.byte("type", 0));
+    let (session, length) = (row.short("session"), row.long("length"));
+    Header::new(version, pdu, session, length)
 }
 
 /// `Unit::read_payload` after the header that the row says.
-fn read_payload<U: Unit>(row: &Row<'_>, way: Way) -> Result<String, Fail> {
-    let mut reader = Counted::new(row.reader(way)?);
-    let answer = U::read_payload(header(row)?, &mut reader);
-    let mut seen = Answer::new(row.alloc);
-    tell(&mut seen, &answer)?;
-    tell_taken(&mut seen, &reader.into_inner())?;
-    Ok(seen.into_text())
+fn read_payload<U: Unit>(row: &Row<'_>, way: Way) -> Answer {
+    let mut reader = Counted::new(row.reader(way));
+    let answer = U::read_payload(header(row), &mut reader);
+    let mut seen = row.answer();
+    tell(&mut seen, &answer);
+    tell_taken(&mut seen, &reader.into_inner());
+    seen
 }
 
 /// Tells `Ok` or the fault, and what was written.
@@ -113,25 +112,27 @@ pub fn told_put(
     row: &Row<'_>,
     answer: &Result<(), Fault>,
     writer: &Recorder,
-) -> Result<String, Fail> {
-    let mut seen = Answer::new(row.alloc);
+) -> Answer {
+    let mut seen = row.answer();
     match answer {
-        Ok(()) => seen.word("Ok")?,
-        Err(fault) => seen.fault(fault)?,
+        Ok(()) => seen.word("Ok"),
+        Err(fault) => seen.fault(fault),
     }
-    seen.bytes(writer.held())?;
-    Ok(seen.into_text())
+    seen.bytes(writer.held());
+    seen
 }
 
 /// `Unit::write` of the unit of the row's bytes, altered as the setting `set` says: `Ok` or the
 /// fault, and what was written.
-fn write<U: Unit>(row: &Row<'_>, way: Way) -> Result<String, Fail> {
-    let mut unit = U::read(&mut SliceSource::new(&row.left))?;
+fn write<U: Unit>(row: &Row<'_>, way: Way) -> Answer {
+    let Ok(mut unit) = U::read(&mut SliceSource::new(&row.left)) else {
+        return row.no_unit();
+    };
     if row.setting("set").is_some() {
-        let place = row.number("set", 0usize)?;
+        let place = row.place("set");
         put_bytes(unit.as_mut(), place, &row.right);
     }
-    let mut writer = Counted::new(row.writer(way)?);
+    let mut writer = Counted::new(row.writer(way));
     let answer = unit.write(&mut writer);
     told_put(row, &answer, &writer.into_inner())
 }
@@ -153,49 +154,49 @@ pub fn alter(unit: &mut Payload, place: usize, new: &[u8]) {
 }
 
 /// `EndOfData::read_payload` after the header that the row says.
-fn read_end(row: &Row<'_>, way: Way) -> Result<String, Fail> {
-    let mut reader = Counted::new(row.reader(way)?);
-    let answer = EndOfData::read_payload(header(row)?, &mut reader);
-    let mut seen = Answer::new(row.alloc);
+fn read_end(row: &Row<'_>, way: Way) -> Answer {
+    let mut reader = Counted::new(row.reader(way));
+    let answer = EndOfData::read_payload(header(row), &mut reader);
+    let mut seen = row.answer();
     match &answer {
         Ok(end) => {
-            tell_end(&mut seen, end)?;
-            seen.bytes(end.as_ref())?;
+            tell_end(&mut seen, end);
+            seen.bytes(end.as_ref());
         }
-        Err(fault) => seen.fault(fault)?,
+        Err(fault) => seen.fault(fault),
     }
-    tell_taken(&mut seen, &reader.into_inner())?;
-    Ok(seen.into_text())
+    tell_taken(&mut seen, &reader.into_inner());
+    seen
 }
 
 /// `Header::read`: version, type, session, length and bytes, or the fault.
-fn read_header(row: &Row<'_>, way: Way) -> Result<String, Fail> {
-    let mut reader = Counted::new(row.reader(way)?);
-    let mut seen = Answer::new(row.alloc);
+fn read_header(row: &Row<'_>, way: Way) -> Answer {
+    let mut reader = Counted::new(row.reader(way));
+    let mut seen = row.answer();
     match Header::read(&mut reader) {
         Ok(header) => {
             let (version, pdu) = (header.version(), header.pdu());
             let (session, length) = (header.session(), header.length());
-            seen.word(format_args!("{version} {pdu} {session} {length}"))?;
-            seen.bytes(header.as_ref())?;
+            seen.word(format_args!("{version} {pdu} {session} {length}"));
+            seen.bytes(header.as_ref());
         }
-        Err(fault) => seen.fault(&fault)?,
+        Err(fault) => seen.fault(&fault),
     }
-    tell_taken(&mut seen, &reader.into_inner())?;
-    Ok(seen.into_text())
+    tell_taken(&mut seen, &reader.into_inner());
+    seen
 }
 
 /// `SerialQueryPayload::read`: the serial number and the bytes, or the fault.
-fn read_serial(row: &Row<'_>, way: Way) -> Result<String, Fail> {
-    let mut reader = Counted::new(row.reader(way)?);
-    let mut seen = Answer::new(row.alloc);
+fn read_serial(row: &Row<'_>, way: Way) -> Answer {
+    let mut reader = Counted::new(row.reader(way));
+    let mut seen = row.answer();
     match SerialQueryPayload::read(&mut reader) {
         Ok(payload) => {
-            seen.word(payload.serial())?;
-            seen.bytes(payload.as_ref())?;
+            seen.word(payload.serial());
+            seen.bytes(payload.as_ref());
         }
-        Err(fault) => seen.fault(&fault)?,
+        Err(fault) => seen.fault(&fault),
     }
-    tell_taken(&mut seen, &reader.into_inner())?;
-    Ok(seen.into_text())
+    tell_taken(&mut seen, &reader.into_inner());
+    seen
 }

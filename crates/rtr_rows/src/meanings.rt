@@ -6,48 +6,47 @@ use crate::row::Row;
 use rtr_wire::payload::{self, Action, RouteOrigin};
 use rtr_wire::pdu::{Fault, Payload};
 use std::alloc::AllocError;
-use std::test::Fail;
 
 /// Makes the call of a row where it is one of these.
-pub fn answer(row: &Row<'_>) -> Result<Option<String>, Fail> {
+pub fn answer(row: &Row<'_>) -> Option<Answer> {
     match row.call {
-        "to_payload" => Ok(Some(to_payload(row)?)),
-        "into_payload" => Ok(Some(into_payload(row)?)),
-        "payload_clone" => Ok(Some(clone(row)?)),
-        "withdraw" => Ok(Some(withdraw(row)?)),
-        "new" => Ok(Some(new(row)?)),
-        "from_payload" => Ok(Some(from_payload(row)?)),
-        "new_if_supported" => Ok(Some(new_if_supported(row)?)),
-        _ => Ok(None),
+        "to_payload" => Some(to_payload(row)),
+        "into_payload" => Some(into_payload(row)),
+        "payload_clone" => Some(clone(row)),
+        "withdraw" => Some(withdraw(row)),
+        "new" => Some(new(row)),
+        "from_payload" => Some(from_payload(row)),
+        "new_if_supported" => Some(new_if_supported(row)),
+        _ => None,
     }
 }
 
 /// Tells an origin: address, prefix length, max length, ASN.
-pub fn tell_origin(seen: &mut Answer, origin: &RouteOrigin) -> Result<(), Fail> {
+pub fn tell_origin(seen: &mut Answer, origin: &RouteOrigin) {
     let prefix = origin.prefix;
-    seen.word(format_args!("{}/{}", prefix.addr(), prefix.prefix_len()))?;
+    seen.word(format_args!("{}/{}", prefix.addr(), prefix.prefix_len()));
     match prefix.max_len() {
-        Some(max_len) => seen.word(max_len)?,
-        None => seen.word("none")?,
+        Some(max_len) => seen.word(max_len),
+        None => seen.word("none"),
     }
     seen.word(origin.asn.into_u32())
 }
 
 /// Tells a payload.
-fn tell_payload(seen: &mut Answer, payload: &payload::Payload) -> Result<(), Fail> {
+fn tell_payload(seen: &mut Answer, payload: &payload::Payload) {
     match payload {
         payload::Payload::Origin(origin) => {
-            seen.word("Origin")?;
+            seen.word("Origin");
             tell_origin(seen, origin)
         }
         payload::Payload::RouterKey(key) => {
-            seen.word(format_args!("RouterKey {}", key.asn.into_u32()))?;
-            seen.bytes(key.key_identifier.as_slice())?;
-            seen.word("info")?;
+            seen.word(format_args!("RouterKey {}", key.asn.into_u32()));
+            seen.bytes(key.key_identifier.as_slice());
+            seen.word("info");
             seen.bytes(key.key_info.as_slice())
         }
         payload::Payload::Aspa(aspa) => {
-            seen.word(format_args!("Aspa {}", aspa.customer.into_u32()))?;
+            seen.word(format_args!("Aspa {}", aspa.customer.into_u32()));
             seen.bytes(aspa.providers.as_slice())
         }
     }
@@ -57,91 +56,96 @@ fn tell_payload(seen: &mut Answer, payload: &payload::Payload) -> Result<(), Fai
 fn tell_meaning(
     seen: &mut Answer,
     answer: &Result<(Action, payload::Payload), Fault>,
-) -> Result<(), Fail> {
+) {
     match answer {
         Ok((action, payload)) => {
-            seen.word(if action.is_announce() { "announce" } else { "withdraw" })?;
+            seen.word(if action.is_announce() { "announce" } else { "withdraw" });
             tell_payload(seen, payload)
         }
         Err(fault) => {
-            seen.fault(fault)?;
+            seen.fault(fault);
             if let Fault::Refused(report) = fault {
-                seen.bytes(report.as_ref())?;
+                seen.bytes(report.as_ref());
             }
-            Ok(())
         }
     }
 }
 
 /// `pdu::Payload::to_payload`, and the unit as it is then.
-fn to_payload(row: &Row<'_>) -> Result<String, Fail> {
-    let unit = read(row)?;
-    row.ready()?;
+fn to_payload(row: &Row<'_>) -> Answer {
+    let Some(unit) = read(row) else {
+        return row.no_unit();
+    };
+    row.ready();
     let answer = unit.to_payload(row.alloc);
-    let mut seen = Answer::new(row.alloc);
-    tell_meaning(&mut seen, &answer)?;
-    seen.word("of")?;
-    tell_unit(&mut seen, row, &unit)?;
-    Ok(seen.into_text())
+    let mut seen = row.answer();
+    tell_meaning(&mut seen, &answer);
+    seen.word("of");
+    tell_unit(&mut seen, row, &unit);
+    seen
 }
 
 /// `pdu::Payload::into_payload`.
-fn into_payload(row: &Row<'_>) -> Result<String, Fail> {
-    let unit = read(row)?;
-    row.ready()?;
+fn into_payload(row: &Row<'_>) -> Answer {
+    let Some(unit) = read(row) else {
+        return row.no_unit();
+    };
+    row.ready();
     let answer = unit.into_payload(row.alloc);
-    let mut seen = Answer::new(row.alloc);
-    tell_meaning(&mut seen, &answer)?;
-    Ok(seen.into_text())
+    let mut seen = row.answer();
+    tell_meaning(&mut seen, &answer);
+    seen
 }
 
 /// What the row's unit means.
-fn meaning(row: &Row<'_>) -> Result<payload::Payload, Fail> {
-    match read(row)?.into_payload(row.alloc) {
-        Ok((_, payload)) => Ok(payload),
-        Err(fault) => Err(Fail::from(fault)),
-    }
+fn meaning(row: &Row<'_>) -> Option<payload::Payload> {
+    let (_, payload) = read(row)?.into_payload(row.alloc).ok()?;
+    Some(payload)
 }
 
 /// `payload::Payload::clone` of the row's meaning, and that meaning as it is then.
-fn clone(row: &Row<'_>) -> Result<String, Fail> {
-    let payload = meaning(row)?;
-    row.ready()?;
+fn clone(row: &Row<'_>) -> Answer {
+    let Some(payload) = meaning(row) else {
+        return row.no_unit();
+    };
+    row.ready();
     let copy = payload.clone();
-    let mut seen = Answer::new(row.alloc);
+    let mut seen = row.answer();
     match &copy {
         Ok(copy) => {
             if *copy != payload {
-                seen.word("another")?;
+                seen.word("another");
             }
-            tell_payload(&mut seen, copy)?;
+            tell_payload(&mut seen, copy);
         }
-        Err(_) => seen.word("Memory")?,
+        Err(_) => seen.word("Memory"),
     }
-    seen.word("of")?;
-    tell_payload(&mut seen, &payload)?;
-    Ok(seen.into_text())
+    seen.word("of");
+    tell_payload(&mut seen, &payload);
+    seen
 }
 
 /// `payload::Aspa::withdraw` of the row's meaning, and that meaning as it is then.
-fn withdraw(row: &Row<'_>) -> Result<String, Fail> {
-    let payload = meaning(row)?;
-    let Some(aspa) = payload.as_aspa() else {
-        return Err(Fail::new("no ASPA"));
+fn withdraw(row: &Row<'_>) -> Answer {
+    let Some(payload) = meaning(row) else {
+        return row.no_unit();
     };
-    row.ready()?;
+    let Some(aspa) = payload.as_aspa() else {
+        return row.no_unit();
+    };
+    row.ready();
     let withdrawn = aspa.withdraw(row.alloc);
-    let mut seen = Answer::new(row.alloc);
+    let mut seen = row.answer();
     match withdrawn {
         Ok(withdrawn) => {
-            seen.word(format_args!("Aspa {}", withdrawn.key().into_u32()))?;
-            seen.bytes(withdrawn.providers.as_slice())?;
+            seen.word(format_args!("Aspa {}", withdrawn.key().into_u32()));
+            seen.bytes(withdrawn.providers.as_slice());
         }
-        Err(_) => seen.word("Memory")?,
+        Err(_) => seen.word("Memory"),
     }
-    seen.word("of")?;
-    tell_payload(&mut seen, &payload)?;
-    Ok(seen.into_text())
+    seen.word("of");
+    tell_payload(&mut seen, &payload);
+    seen
 }
 
 /// Tells a unit that was made, or that there was no memory for it.
@@ -149,7 +153,7 @@ fn tell_made(
     seen: &mut Answer,
     row: &Row<'_>,
     made: &Result<Payload, AllocError>,
-) -> Result<(), Fail> {
+) {
     match made {
         Ok(unit) => tell_unit(seen, row, unit),
         Err(_) => seen.word("Memory"),
@@ -157,42 +161,48 @@ fn tell_made(
 }
 
 /// `pdu::Payload::new` of the row's meaning in a version with flags, and that meaning as it is then.
-fn new(row: &Row<'_>) -> Result<String, Fail> {
-    let payload = meaning(row)?;
-    let (version, flags) = (row.number("version", 1)?, row.number("flags", 1)?);
-    row.ready()?;
+fn new(row: &Row<'_>) -> Answer {
+    let Some(payload) = meaning(row) else {
+        return row.no_unit();
+    };
+    let (version, flags) = (row.byte("version", 1), row.byte("flags", 1));
+    row.ready();
     let made = Payload::new(version, flags, &payload.as_ref());
-    let mut seen = Answer::new(row.alloc);
-    tell_made(&mut seen, row, &made)?;
-    seen.word("of")?;
-    tell_payload(&mut seen, &payload)?;
-    Ok(seen.into_text())
+    let mut seen = row.answer();
+    tell_made(&mut seen, row, &made);
+    seen.word("of");
+    tell_payload(&mut seen, &payload);
+    seen
 }
 
 /// `pdu::Payload::from_payload` of the row's meaning.
-fn from_payload(row: &Row<'_>) -> Result<String, Fail> {
-    let payload = meaning(row)?;
-    let (version, flags) = (row.number("version", 1)?, row.number("flags", 1)?);
-    row.ready()?;
+fn from_payload(row: &Row<'_>) -> Answer {
+    let Some(payload) = meaning(row) else {
+        return row.no_unit();
+    };
+    let (version, flags) = (row.byte("version", 1), row.byte("flags", 1));
+    row.ready();
     let made = Payload::from_payload(version, flags, payload);
-    let mut seen = Answer::new(row.alloc);
-    tell_unit(&mut seen, row, &made)?;
-    Ok(seen.into_text())
+    let mut seen = row.answer();
+    tell_unit(&mut seen, row, &made);
+    seen
 }
 
 /// `pdu::Payload::new_if_supported` of the row's meaning, and that meaning as it is then.
-fn new_if_supported(row: &Row<'_>) -> Result<String, Fail> {
-    let payload = meaning(row)?;
-    let (version, flags) = (row.number("version", 1)?, row.number("flags", 1)?);
-    row.ready()?;
+fn new_if_supported(row: &Row<'_>) -> Answer {
+    let Some(payload) = meaning(row) else {
+        return row.no_unit();
+    };
+    let (version, flags) = (row.byte("version", 1), row.byte("flags", 1));
+    row.ready();
     let made = Payload::new_if_supported(version, flags, &payload.as_ref());
-    let mut seen = Answer::new(row.alloc);
+    let mut seen = row.answer();
     match &made {
-        Ok(Some(unit)) => tell_unit(&mut seen, row, unit)?,
-        Ok(None) => seen.word("none")?,
-        Err(_) => seen.word("Memory")?,
+        Ok(Some(unit)) => tell_unit(&mut seen, row, unit),
+        Ok(None) => seen.word("none"),
+        Err(_) => seen.word("Memory"),
     }
-    seen.word("of")?;
-    tell_payload(&mut seen, &payload)?;
-    Ok(seen.into_text())
+    seen.word("of");
+    tell_payload(&mut seen, &payload);
+    seen
 }

@@ -1,9 +1,8 @@
 //! A row's call, and what it is given.
 
-use rtr_support::{NEVER, ONES, Pieces, Recorder, STEPS, WHOLE};
-use std::alloc::Global;
-use std::str::FromStr;
-use std::test::Fail;
+use crate::answer::Answer;
+use rtr_support::{ONES, Pieces, Recorder, STEPS, WHOLE};
+use std::alloc::{AllocError, Global};
 
 /// A setting of a row, `KEY=VALUE`.
 #[derive(Clone, Copy, Drop)]
@@ -20,8 +19,8 @@ pub struct Row<'a> {
     pub settings: Vec<Setting<'a>>,
     pub left: Vec<u8>,
     pub right: Vec<u8>,
-    /// Growths that are made just before the call.
-    pub growths: usize,
+    /// The size of the growths that mark the call, or 0.
+    pub mark: usize,
 }
 
 /// How a reader gives its bytes, and how many a writer takes a call.
@@ -37,6 +36,12 @@ const READERS: &[&[usize]] = &[ONES, STEPS, WHOLE];
 /// One byte a call; seven; all that is there.
 const WRITERS: &[usize] = &[1, 7, usize::MAX];
 
+/// A growth of this size. It stands apart, so that no compiler leaves it out.
+#[inline(never)]
+fn growth(alloc: Global, size: usize) -> Result<Vec<u8>, AllocError> {
+    Vec::with_capacity(alloc, size)
+}
+
 impl<'a> Row<'a> {
     /// What the setting of this key says.
     pub fn setting(&self, key: &str) -> Option<&'a str> {
@@ -49,22 +54,36 @@ impl<'a> Row<'a> {
     }
 
     /// The number that the setting of this key says, or else the one given.
-    pub fn number<N: FromStr + Drop>(&self, key: &str, otherwise: N) -> Result<N, Fail>
-    where
-        <N as FromStr>::Err: Drop,
-    {
+    pub fn number(&self, key: &str, otherwise: u64) -> u64 {
         match self.setting(key) {
-            None => Ok(otherwise),
-            Some(value) => match value.parse::<N>() {
-                Ok(number) => Ok(number),
-                Err(_) => Err(Fail::new("a setting that is no number")),
-            },
+            Some(value) => value.parse::<u64>().unwrap_or(otherwise),
+            None => otherwise,
         }
+    }
+
+    /// The number of a setting as a byte.
+    pub fn byte(&self, key: &str, otherwise: u8) -> u8 {
+        u8::try_from(self.number(key, u64::from(otherwise))).unwrap_or(otherwise)
+    }
+
+    /// The number of a setting as one of 16 bits, or 0.
+    pub fn short(&self, key: &str) -> u16 {
+        u16::try_from(self.number(key, 0)).unwrap_or(0)
+    }
+
+    /// The number of a setting as one of 32 bits, or 0.
+    pub fn long(&self, key: &str) -> u32 {
+        u32::try_from(self.number(key, 0)).unwrap_or(0)
+    }
+
+    /// The number of a setting as one of a place or a call, or 0.
+    pub fn place(&self, key: &str) -> usize {
+        usize::try_from(self.number(key, 0)).unwrap_or(0)
     }
 
     /// The sizes of the readers that the row is made with: that of `by`, or all.
     pub fn readers(&self) -> &'static [&'static [usize]] {
-        if self.growths > 0 {
+        if self.mark > 0 {
             return &[WHOLE];
         }
         match self.setting("by") {
@@ -77,7 +96,7 @@ impl<'a> Row<'a> {
 
     /// The sizes of the writers that the row is made with: that of `to`, or all.
     pub fn writers(&self) -> &'static [usize] {
-        if self.growths > 0 {
+        if self.mark > 0 {
             return &[usize::MAX];
         }
         match self.setting("to") {
@@ -90,34 +109,39 @@ impl<'a> Row<'a> {
 
     /// A reader over the row's bytes. With `endless` it gives them over and over, with `fails` its
     /// call of that number fails.
-    pub fn reader<'b>(&'b self, way: Way) -> Result<Pieces<'b>, Fail> {
+    pub fn reader<'b>(&'b self, way: Way) -> Pieces<'b> {
         if self.setting("endless").is_some() {
-            return Ok(Pieces::endless(&self.left));
+            return Pieces::endless(&self.left);
         }
-        let fails_at = self.number("fails", NEVER)?;
-        Ok(Pieces::failing(&self.left, way.sizes, fails_at))
+        Pieces::failing(&self.left, way.sizes, self.place("fails"))
     }
 
-    /// A writer that asks for no growth for a form of the row's bytes. With `breaks` its call of
-    /// that number fails, with `stops` it takes nothing.
-    pub fn writer(&self, way: Way) -> Result<Recorder, Fail> {
+    /// A writer that asks for no growth for a form of the row's bytes, where there is memory. With
+    /// `breaks` its call of that number fails, with `stops` it takes nothing.
+    pub fn writer(&self, way: Way) -> Recorder {
         let room = self.left.len().saturating_add(64);
-        let mut writer = Recorder::with_room(self.alloc, way.size, room)?;
-        writer.set_troubles(self.number("breaks", NEVER)?, self.number("stops", NEVER)?);
-        Ok(writer)
+        let mut writer = Recorder::with_room(self.alloc, way.size, room);
+        writer.set_troubles(self.place("breaks"), self.place("stops"));
+        writer
     }
 
-    /// Makes the growths that come before the call.
-    pub fn ready(&self) -> Result<(), Fail> {
-        let Ok(mut held) = Vec::with_capacity(self.alloc, self.growths) else {
-            return Err(Fail::new("before the call"));
-        };
-        for _ in 0..self.growths {
-            let Ok(growth) = Vec::from_slice(self.alloc, &[1u8]) else {
-                return Err(Fail::new("before the call"));
-            };
-            held.push(growth)?;
+    /// Marks that the call comes next.
+    pub fn ready(&self) {
+        if self.mark > 0 {
+            let _ = growth(self.alloc, self.mark);
         }
-        Ok(())
+    }
+
+    /// Marks that the call is over, and begins its answer.
+    pub fn answer(&self) -> Answer {
+        self.ready();
+        Answer::new(self.alloc)
+    }
+
+    /// The answer where the row's bytes are no unit.
+    pub fn no_unit(&self) -> Answer {
+        let mut seen = Answer::new(self.alloc);
+        seen.word("no unit");
+        seen
     }
 }

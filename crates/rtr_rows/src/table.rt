@@ -3,7 +3,7 @@
 use crate::answer::Answer;
 use crate::call::call;
 use crate::row::{Row, Setting, Way};
-use std::alloc::Global;
+use std::alloc::{AllocError, Global};
 use std::test::Fail;
 
 /// Bytes that have a name.
@@ -18,7 +18,7 @@ struct Named {
 pub struct Table {
     alloc: Global,
     named: Vec<Named>,
-    growths: usize,
+    mark: usize,
 }
 
 /// What a row is printed as, and whether that differs from what it says.
@@ -29,27 +29,23 @@ pub struct Seen {
 }
 
 impl Table {
-    /// No lines.
-    pub fn new(alloc: Global) -> Table {
+    /// No lines. Calls are marked by mark of that many bytes, if that is any.
+    pub fn new(alloc: Global, mark: usize) -> Table {
         Table {
             alloc,
             named: Vec::new(alloc),
-            growths: 0,
+            mark,
         }
     }
 
     /// Goes through a line. Answers what is to be printed of it.
     pub fn line(&mut self, line: &str) -> Result<Option<Seen>, Fail> {
-        let line = line.trim();
-        if line.is_empty() || line.starts_with("//") {
+        let line = line.split("//").next().unwrap_or("").trim();
+        if line.is_empty() {
             return Ok(None);
         }
         if let Some((given, answers)) = line.split_once("=>") {
             return self.row(given.trim(), answers.trim());
-        }
-        if let Some(count) = line.strip_prefix("growths ") {
-            self.growths = count.parse::<usize>()?;
-            return Ok(None);
         }
         match line.split_once("=") {
             Some((name, words)) => self.name(name.trim(), words.trim())?,
@@ -115,7 +111,7 @@ impl Table {
         }
         match hex::decode(self.alloc, word) {
             Ok(piece) => bytes.extend_from_slice(&piece)?,
-            Err(hex::FromHexError::OutOfMemory) => return Err(Fail::new("no memory for a word")),
+            Err(hex::FromHexError::OutOfMemory) => return Err(Fail::from(AllocError)),
             Err(_) => return Ok(false),
         }
         Ok(true)
@@ -131,7 +127,7 @@ impl Table {
             settings: Vec::new(self.alloc),
             left: Vec::new(self.alloc),
             right: Vec::new(self.alloc),
-            growths: self.growths,
+            mark: self.mark,
         };
         let mut is_right = false;
         for word in words.split_ascii_whitespace() {
@@ -140,8 +136,12 @@ impl Table {
             } else if let Some((key, value)) = word.split_once("=") {
                 row.settings.push(Setting { key, value })?;
             } else {
-                let bytes = if is_right { &mut row.right } else { &mut row.left };
-                if !self.append(word, bytes)? {
+                let is_known = if is_right {
+                    self.append(word, &mut row.right)?
+                } else {
+                    self.append(word, &mut row.left)?
+                };
+                if !is_known {
                     return Err(Fail::new(format_args!("{word} stands for no bytes")));
                 }
             }
@@ -149,18 +149,18 @@ impl Table {
         Ok(row)
     }
 
-    /// An answer as calls give it: with its names and bytes as hex.
+    /// An answer with all that stands for bytes as hex.
     fn spelled(&self, answer: &str) -> Result<String, Fail> {
         let mut spelled = Answer::new(self.alloc);
         for word in answer.split_ascii_whitespace() {
             let mut bytes = Vec::new(self.alloc);
             if self.append(word, &mut bytes)? {
-                spelled.bytes(&bytes)?;
+                spelled.bytes(&bytes);
             } else {
-                spelled.word(word)?;
+                spelled.word(word);
             }
         }
-        Ok(spelled.into_text())
+        Ok(spelled.into_text()?)
     }
 
     /// Makes a row's call in each of its ways, until it answers something else.
@@ -171,9 +171,12 @@ impl Table {
         for sizes in row.readers() {
             for size in row.writers() {
                 let way = Way { sizes, size: *size };
-                let seen = call(&row, way)?;
-                if self.growths > 0 {
-                    return self.refused(seen, &whole, refused);
+                let Some(seen) = call(&row, way) else {
+                    return self.other("no such call");
+                };
+                let seen = self.spelled(seen.into_text()?.as_str())?;
+                if self.mark > 0 {
+                    return self.refused(seen, whole, refused.trim_start_matches('?'));
                 }
                 if seen != whole {
                     return self.other(seen.as_str());
@@ -184,8 +187,8 @@ impl Table {
     }
 
     /// Which of the answers the call gave, where a growth may have been refused.
-    fn refused(&self, seen: String, whole: &str, refused: &str) -> Result<Option<Seen>, Fail> {
-        if seen.as_str() == whole {
+    fn refused(&self, seen: String, whole: String, refused: &str) -> Result<Option<Seen>, Fail> {
+        if seen == whole {
             let text = String::from_str(self.alloc, "whole")?;
             return Ok(Some(Seen {
                 text,

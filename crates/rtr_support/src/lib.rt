@@ -1,7 +1,7 @@
 //! What tests share: bytes written as hex, and readers and writers that give and take them in pieces and fail.
 #![tactic(auto)]
 
-use std::alloc::{AllocError, Global};
+use std::alloc::Global;
 use std::hash::{DefaultHasher, Hash, Hasher};
 use std::io;
 use std::io::{Error, ErrorKind, Read, Write};
@@ -215,11 +215,13 @@ impl Recorder {
         }
     }
 
-    /// The same, which asks for no growth for so many bytes in all.
-    pub fn with_room(alloc: Global, size: usize, room: usize) -> Result<Recorder, AllocError> {
+    /// The same, which asks for no growth later for so many bytes in all, where there is memory.
+    pub fn with_room(alloc: Global, size: usize, room: usize) -> Recorder {
         let mut writer = Recorder::new(alloc, size);
-        writer.held = Vec::with_capacity(alloc, room)?;
-        Ok(writer)
+        if let Ok(held) = Vec::with_capacity(alloc, room) {
+            writer.held = held;
+        }
+        writer
     }
 
     /// Gives an error at one call and takes nothing at another, counted from 1.
