@@ -1,4 +1,5 @@
 pub mod Causes
+pub mod Codes
 pub mod End
 pub mod Ends
 pub mod Header
@@ -8,7 +9,7 @@ pub mod LendingError
 pub mod LendingUnits
 pub mod PrefixUnits
 pub mod Queries
-pub mod Reads
+pub mod Reading
 pub mod Report
 pub mod Stream
 pub mod Tallies
