@@ -11,8 +11,8 @@ abbrev pub words_of : List ℕ → List ℕ
 words_of (a ∷ b ∷ c ∷ d ∷ bs) = value (a ∷ b ∷ c ∷ d ∷ []) ∷ words_of bs
 words_of bs = []
 
--- as many numbers as an ASPA may name, each of four bytes: with them its unit has 65532 bytes (as in
--- the Rust crate)
+-- as many numbers as an ASPA may name, each of four bytes: with them its unit has 65532 bytes (as
+-- in the Rust crate)
 pub record AreProviders (ps : List ℕ) : Type 0 where
   pub count : length ps ≤ 16380
   pub each : AllByRecursion (λ p. p < 2 ^ 32) ps

@@ -82,8 +82,8 @@ NeedsMemory (units.Aspa u) = Unit {0}
 -- Why the unit has no payload: its prefix breaks a rule (RFC 8210 section 5.6), of which the report
 -- tells, or memory was refused (this library's own).
 abbrev pub HasNoPayload : Payload → Cause → Type 0
-HasNoPayload u (wrong (refused report)) = (rule : PrefixRule) × (rule_of (unit_fields u) ≡ Some rule) ×
-    (report ≡ refusal_report (unit_bytes u) rule)
+HasNoPayload u (wrong (refused report)) = (rule : PrefixRule) ×
+    (rule_of (unit_fields u) ≡ Some rule) × (report ≡ refusal_report (unit_bytes u) rule)
 HasNoPayload u no_memory = NeedsMemory u
 HasNoPayload u c = ⊥
 

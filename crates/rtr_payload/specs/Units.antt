@@ -36,8 +36,8 @@ Fit (prefix_unit u) = PrefixFits u
 Fit (key_unit u) = IsKey u.key
 Fit (aspa_unit u) = IsAspa u.aspa
 
--- what is read of keys and ASPAs: units of at most 65535 bytes, and in an announcement a provider (as
--- in the Rust crate)
+-- what is read of keys and ASPAs: units of at most 65535 bytes, and in an announcement a provider
+-- (as in the Rust crate)
 abbrev pub WithinLimits : Fields → Type 0
 WithinLimits (prefix_unit u) = Unit {0}
 WithinLimits (key_unit u) = length u.key.info ≤ 65503

@@ -101,8 +101,8 @@ impl Aspa {
         header: Header,
         reader: &mut R,
     ) -> Result<Self, Fault>
-        ensures bytes { ReadsAfter (variable_unit 11) (header_bytes header) (by_bytes (λ u. u) result)
-            (R.remaining reader.old) (R.remaining reader.new) }
+        ensures bytes { ReadsAfter (variable_unit 11) (header_bytes header)
+            (by_bytes (λ u. u) result) (R.remaining reader.old) (R.remaining reader.new) }
         ensures fields { IfOk result
             (λ u. type_field (header_bytes header) ≡ 11 → HasFields u (aspa_unit (aspa_at u))) }
         ensures count { R.failures reader.new ≡

@@ -117,8 +117,8 @@ impl RouterKey {
         header: Header,
         reader: &mut R,
     ) -> Result<Self, Fault>
-        ensures bytes { ReadsAfter (variable_unit 9) (header_bytes header) (by_bytes (λ u. u) result)
-            (R.remaining reader.old) (R.remaining reader.new) }
+        ensures bytes { ReadsAfter (variable_unit 9) (header_bytes header)
+            (by_bytes (λ u. u) result) (R.remaining reader.old) (R.remaining reader.new) }
         ensures fields { IfOk result
             (λ u. type_field (header_bytes header) ≡ 9 → HasFields u (key_unit (key_at u))) }
         ensures count { R.failures reader.new ≡
