@@ -15,6 +15,8 @@ mod providers;
 #[cfg(test)]
 mod sets;
 #[cfg(test)]
+mod texts;
+#[cfg(test)]
 mod units;
 #[cfg(test)]
 mod values;
