@@ -181,7 +181,7 @@ fn tell_made(seen: &mut Answer, row: &Row<'_>, made: &Result<Payload, AllocError
     }
 }
 
-/// `pdu::Payload::new` of the row's meaning in a version with flags, and that meaning as it is then.
+/// `pdu::Payload::new` of the row's meaning in a version with flags, and that meaning then.
 fn new(row: &Row<'_>) -> Answer {
     let Some(payload) = meaning(row) else {
         return row.no_unit();
