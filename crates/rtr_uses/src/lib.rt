@@ -5,8 +5,8 @@
 use rtr_wire::base::{Asn, MaxLenPrefix, ParseMaxLenPrefixError};
 use rtr_wire::payload::{Action, Aspa, Payload, RouteOrigin, Timing};
 use rtr_wire::pdu::{
-    CacheResponse, EndOfData, Error, Fault, Header, ResetQuery, Sink, Source, Unit, UnitView,
-    ViewFault,
+    CacheResponse, EndOfData, Error, ErrorCode, Fault, Header, ResetQuery, Sink, Source, Unit,
+    UnitView, ViewFault,
 };
 use rtr_wire::state::State;
 use rtr_wire::{normalise, pdu, same_meaning};
@@ -33,6 +33,19 @@ pub fn take_response<R: Source, W: Sink>(
     let response = CacheResponse::read(reader)?;
     let count = normalise(alloc, reader, writer, MOST_UNITS)?;
     Ok((response.session(), count))
+}
+
+/// Takes a cache response, or in its place the code of an error report, whose rest is passed over.
+pub fn response_or_code<R: Source>(
+    reader: &mut R,
+) -> Result<Result<CacheResponse, ErrorCode>, Fault> {
+    match CacheResponse::try_read(reader)? {
+        Ok(response) => Ok(Ok(response)),
+        Err(header) => {
+            Error::skip_payload(header, reader)?;
+            Ok(Err(ErrorCode(header.session())))
+        }
+    }
 }
 
 /// Whether two recorded sequences mean the same.
