@@ -3,21 +3,13 @@
 #![tactic(auto)]
 
 #[cfg(test)]
-mod ample;
-#[cfg(test)]
-mod ends;
-#[cfg(test)]
 mod keys;
-#[cfg(test)]
-mod kinds;
 #[cfg(test)]
 mod made;
 #[cfg(test)]
 mod order;
 #[cfg(test)]
 mod parts;
-#[cfg(test)]
-mod prefixes;
 #[cfg(test)]
 mod providers;
 #[cfg(test)]

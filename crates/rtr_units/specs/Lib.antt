@@ -8,7 +8,7 @@ pub mod Lending
 pub mod LendingEnd
 pub mod LendingError
 pub mod LendingUnits
-pub mod Reads
+pub mod Reading
 pub mod Report
 pub mod Stream
 pub mod Tallies
