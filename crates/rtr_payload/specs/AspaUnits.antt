@@ -12,7 +12,7 @@ pub record AspaParts : Type 0 where
   pub customer : ℕ
   pub providers : List ℕ
 
--- (as in the Rust crate)
+-- a customer of four bytes, and providers (as in the Rust crate)
 pub record IsAspa (a : AspaParts) : Type 0 where
   pub customer : a.customer < 2 ^ 32
   pub providers : AreProviders a.providers

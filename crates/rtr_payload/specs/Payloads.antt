@@ -20,7 +20,7 @@ pub record Meaning : Type 0 where
   pub action : Action
   pub payload : Payload
 
--- (RFC 8210 sections 5.6, 5.7 and 5.10; ASPAs as in the Rust crate)
+-- its parts are in their ranges (RFC 8210 sections 5.6, 5.7 and 5.10; ASPAs as in the Rust crate)
 abbrev pub IsPayload : Payload → Type 0
 IsPayload (origin o) = IsOrigin o
 IsPayload (key k) = IsKey k
