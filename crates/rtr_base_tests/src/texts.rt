@@ -111,7 +111,12 @@ fn refused_prefixes(rt: HostRuntime) -> Result<(), Fail> {
 
 #[test]
 fn prefixes_with_max_len(rt: HostRuntime) -> Result<(), Fail> {
-    for text in ["192.0.2.0/23-26", "192.0.2.0/23", "2001:db8::/32-128", "0.0.0.0/0-0"] {
+    for text in [
+        "192.0.2.0/23-26",
+        "192.0.2.0/23",
+        "2001:db8::/32-128",
+        "0.0.0.0/0-0",
+    ] {
         let prefix: MaxLenPrefix = text.parse()?;
         expect_text(&rt, rt.alloc(), &prefix, text)?;
     }
@@ -155,7 +160,11 @@ fn key_identifiers(rt: HostRuntime) -> Result<(), Fail> {
     let text = "5af000000000000000000000000000000000000f";
     expect_text(&rt, rt.alloc(), &key, text)?;
     expect_equal(&rt, text.parse(), Ok(key));
-    expect_equal(&rt, "5AF000000000000000000000000000000000000F".parse(), Ok(key));
+    expect_equal(
+        &rt,
+        "5AF000000000000000000000000000000000000F".parse(),
+        Ok(key),
+    );
     #[rattlefmt::skip]
     let refused = [
         ("", ParseKeyIdentifierError::Length),
@@ -202,9 +211,15 @@ fn texts_of_refusals(rt: HostRuntime) -> Result<(), Fail> {
     let refused = [
         ("192.0.2.0", "missing prefix length"),
         ("x/24", "invalid IP address syntax"),
-        ("192.0.2.0/x", "invalid prefix length: invalid digit found in string"),
+        (
+            "192.0.2.0/x",
+            "invalid prefix length: invalid digit found in string",
+        ),
         ("192.0.2.0/33", "prefix length too large"),
-        ("192.0.2.0/24-x", "invalid max-length: invalid digit found in string"),
+        (
+            "192.0.2.0/24-x",
+            "invalid max-length: invalid digit found in string",
+        ),
         ("192.0.2.0/24-33", "max-length too large"),
     ];
     for (text, want) in refused {
