@@ -1,0 +1,172 @@
+//! Error reports that are read (RFC 8210 section 5.11, RFC 6810 section 5.10).
+
+ghost use Rattle.std.specs.Prelude.{◌≡◌, nat_eq};
+ghost use Rattle.std.proofs.Common.{rules};
+ghost use Rattle.std.specs.Cmp.{partial_equiv_from_equiv};
+ghost use Rattle.std.specs.Cmp.Lexicographic.{nat_list_eq_equiv, pointwise};
+ghost use Rattle.std.specs.Cmp.Rules.{hashing};
+ghost use Rattle.std.specs.Hash as fed;
+
+use rtr_base::pdu::ErrorCode;
+use rtr_units::fault::Fault;
+use rtr_units::header::Header;
+use rtr_units::numbers::{u16_at, u32_at};
+use rtr_units::piece::{fill, put};
+use rtr_units::source::{Sink, Source};
+use std::alloc::Global;
+use std::hash::{Hash, Hasher};
+use std::marker::Model;
+
+/// The bytes of the smallest report: a header and two lengths.
+const MIN_SIZE: u32 = 16;
+
+/// The most bytes that a report that is read has, header included, as in the Rust crate `rpki`.
+const MAX_SIZE: u32 = 65535;
+
+/// An error report that was read, seen as the list of its bytes: 16 to 65535, as many as its length
+/// field says.
+#[derive(Debug, Drop)]
+pub struct Report {
+    bytes: Vec<u8>,
+}
+
+impl Model for Report {
+    ghost use Rattle.std.specs.Prelude.{◌≤◌, ℕ, List, length};
+
+    ghost Value = { List ℕ };
+
+    ghost view = { λ a. a.bytes.items };
+
+    ghost invariant = { λ a. (16 ≤ length a.bytes.items) × (length a.bytes.items ≤ 65535) };
+}
+
+impl Report {
+    /// The type of an error report.
+    pub const PDU: u8 = 10;
+
+    /// Reads an error report.
+    ///
+    /// Faults, in this order: `Short` or `Reader` inside the header; those of `read_payload`, of
+    /// which `UnitType` and the two after it take the header alone.
+    pub fn read<R: Source>(alloc: Global, reader: &mut R) -> Result<Self, Fault> {
+        match Header::read(reader) {
+            Ok(header) => Report::read_payload(alloc, header, reader),
+            Err(e) => Err(e),
+        }
+    }
+
+    /// Reads what follows the header, which is kept as it is.
+    ///
+    /// Faults, in this order: `UnitType` where its type isn't 10, `TooLong` above length 65535 and
+    /// `UnitLength` below 16, with nothing read and no memory asked for; `Memory`, with nothing
+    /// read; `Short` or `Reader` inside the unit.
+    pub fn read_payload<R: Source>(
+        alloc: Global,
+        header: Header,
+        reader: &mut R,
+    ) -> Result<Self, Fault> {
+        if header.pdu() != Report::PDU {
+            return Err(Fault::UnitType(header.pdu()));
+        }
+        let size = header.length();
+        if size > MAX_SIZE {
+            return Err(Fault::TooLong);
+        }
+        if size < MIN_SIZE {
+            return Err(Fault::UnitLength);
+        }
+        let mut bytes = Vec::new(alloc);
+        if bytes.resize(size as usize, 0).is_err() {
+            return Err(Fault::Memory);
+        }
+        let (front, rest) = bytes.as_mut_slice().split_at_mut(8);
+        front.copy_from_slice(header.as_ref());
+        match fill(reader, rest) {
+            Ok(()) => Ok(Report { bytes }),
+            Err(e) => Err(e),
+        }
+    }
+
+    /// The version of the protocol.
+    pub fn version(&self) -> u8 {
+        self.bytes[0]
+    }
+
+    /// Why the peer reports an error.
+    pub fn code(&self) -> ErrorCode {
+        ErrorCode(u16_at(self.bytes.as_slice(), 2))
+    }
+
+    /// The unit that the report speaks of, of no bytes where it speaks of none.
+    ///
+    /// None where the two lengths inside the report don't fit: a length of four bytes, that unit, a
+    /// length of four bytes and the text have to fill the report exactly.
+    pub fn pdu(&self) -> Option<&[u8]> {
+        let (pdu, _) = self.parts()?;
+        Some(pdu)
+    }
+
+    /// The text, which may have no bytes and need not be UTF-8. None where `pdu` answers none.
+    pub fn text(&self) -> Option<&[u8]> {
+        let (_, text) = self.parts()?;
+        Some(text)
+    }
+
+    /// The number of bytes of the report.
+    pub fn size(&self) -> u32 {
+        self.bytes.len() as u32
+    }
+
+    /// The bytes of the report.
+    pub fn as_ref(&self) -> &[u8]
+        ensures { result.now ≡ self.now }
+    {
+        self.bytes.as_slice()
+    }
+
+    /// Writes the bytes.
+    pub fn write<W: Sink>(&self, writer: &mut W) -> Result<(), Fault> {
+        put(writer, self.as_ref())
+    }
+
+    /// The unit that the report speaks of and the text, where their lengths fill the report.
+    fn parts(&self) -> Option<(&[u8], &[u8])> {
+        let (pdu, rest) = counted(&self.bytes[8..])?;
+        let (text, rest) = counted(rest)?;
+        if rest.is_empty() {
+            Some((pdu, text))
+        } else {
+            None
+        }
+    }
+}
+
+/// As many bytes as a length of four bytes says, which stands before them, and what follows them.
+fn counted(bytes: &[u8]) -> Option<(&[u8], &[u8])> {
+    let (size, rest) = bytes.split_at_checked(4)?;
+    rest.split_at_checked(u32_at(size, 0) as usize)
+}
+
+impl PartialEq for Report {
+    ghost eq = { pointwise nat_eq };
+
+    ghost laws = { partial_equiv_from_equiv nat_list_eq_equiv };
+
+    fn eq(&self, other: &Self) -> bool {
+        self.bytes == other.bytes
+    }
+}
+
+impl Eq for Report {
+    ghost laws = { nat_list_eq_equiv };
+}
+
+impl Hash for Report {
+    ghost hash_input = { fed.slice fed.u8 };
+
+    ghost respects_eq = { Prim.search (hashing, rules) };
+
+    fn hash<H: Hasher>(&self, state: &mut H) {
+        self.as_ref().hash(state);
+    }
+}
