@@ -2,6 +2,7 @@
 
 use crate::expect_equal;
 use crate::support::{Page, normalised};
+use rtr_session::AnyUnit;
 use rtr_support::{ASPA_BARE, ASPA_NAMED, END_1, IPV4, KEY};
 use rtr_wire::pdu::{Aspa, Counted, Fault, RouterKey, SliceSource};
 use std::alloc::Global;
@@ -53,6 +54,28 @@ fn aspa(rt: HostRuntime) -> Result<(), Fail> {
         Err(Fault::Memory) => {
             let taken = input.bytes().len().saturating_sub(reader.rest().len());
             println!(rt; "{}", word(&rt, taken, 20))?;
+        }
+        Err(fault) => panic!(rt; "{fault}"),
+    }
+    Ok(())
+}
+
+#[test]
+fn error_report(rt: HostRuntime) -> Result<(), Fail> {
+    let input = Page::spelled(&["01 0a 00 03 00 00 00 12 00 00 00 00 00 00 00 02 6e 6f"])?;
+    let mut reader = SliceSource::new(input.bytes());
+    match AnyUnit::read(rt.alloc(), &mut reader) {
+        Ok(Some(unit)) => {
+            let mut writer = Counted::new(Page::new());
+            unit.write(&mut writer)?;
+            expect_equal(&rt, writer.into_inner().bytes(), input.bytes());
+            expect_equal(&rt, reader.rest().len(), 0);
+            println!(rt; "whole")?;
+        }
+        Ok(None) => panic!(rt; "no unit"),
+        Err(Fault::Memory) => {
+            let taken = input.bytes().len().saturating_sub(reader.rest().len());
+            println!(rt; "{}", word(&rt, taken, 18))?;
         }
         Err(fault) => panic!(rt; "{fault}"),
     }

@@ -1,8 +1,6 @@
 -- Where reading a unit of any type stops, by what reading one of its type says.
-use Rattle.std.proofs.Common.{◌≡◌, ℕ, ◌+◌, ◌<◌, ◌≤◌, ◌⊎◌, List, [], ◌++◌, length, get_or, Option, Some, None, refl, sym, ap, subst, ◌∙◌, arith, inl, inr, length-append}
-use Rattle.std.specs.Prelude.{Result, Ok, Err, if◌then◌else◌, ◌==◌}
-use Rattle.std.specs.Io.KnownBytes.{Consumes}
-use Rattle.std.proofs.KnownBytes.{Consumes-nil}
+use Rattle.std.proofs.Common.{◌≡◌, ℕ, ◌+◌, ◌<◌, ◌≤◌, ◌⊎◌, List, [], ◌++◌, length, get_or, Option, Some, None, refl, sym, ap, ◌∙◌, arith, inl, inr, length-append}
+use Rattle.std.specs.Prelude.{if◌then◌else◌, ◌==◌}
 use Rattle.std.proofs.lemmas.Bool.Decides.{nat_tests}
 use Rattle.rtr_units.specs.declared.fault.Fault.{Fault}
 use Rattle.rtr_units.specs.declared.fault.Fault.TheVariants.{Reader, Short}
@@ -10,7 +8,7 @@ use Rattle.rtr_units.specs.Causes.{Refusal, short, unit_type, unit_version, too_
 use Rattle.rtr_units.specs.Ends.{HasEndHeader, end_length, StopsEnd}
 use Rattle.rtr_units.specs.Header.{version_field, type_field, length_field}
 use Rattle.rtr_units.specs.Reads.{Takes, StopsRest}
-use Rattle.rtr_units.specs.Stream.{StopsReading, FallsShort}
+use Rattle.rtr_units.specs.Stream.{StopsReading}
 use Rattle.rtr_units.proofs.Headers.{same_header}
 use Rattle.rtr_payload.specs.Frames.{IsPart, StopsInUnit, fault_as}
 use Rattle.rtr_payload.specs.Steps.{header_fault}

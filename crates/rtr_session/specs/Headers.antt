@@ -1,6 +1,6 @@
 -- What is wrong with the header of a unit, of any type and of an error report alone. The order of
 -- the refusals is this library's own.
-use Rattle.std.specs.Prelude.{ℕ, List, slice_index, Option, Some, None, Bool, not, ◌||◌, ◌==◌}
+use Rattle.std.specs.Prelude.{ℕ, List, slice_index, Option, Some, None, not, ◌||◌, ◌==◌}
 use Rattle.std.specs.Prelude.{nat_lt, if◌then◌else◌}
 use Rattle.rtr_units.specs.Causes.{Refusal, unit_type, too_long, unit_length}
 use Rattle.rtr_units.specs.Header.{version_field, type_field, length_field}

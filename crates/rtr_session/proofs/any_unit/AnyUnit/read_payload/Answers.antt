@@ -153,6 +153,9 @@ returns-in_ok-read_payload-in-10-clause-bytes g c =
 pub returns-in_default-clause-bytes : goal.returns-in_default-clause-bytes
 returns-in_default-clause-bytes g c =
     let h = header_bytes c.args.header in
-    let l : length h ≡ 8 = search rules in
-    ([], Consumes-nil _, unknown_type h c.pdu.result l (sym c.pdu.ensures)
-    (omega arith) (omega arith) (omega arith) (omega arith) (omega arith) (omega arith) (omega arith) (omega arith) (omega arith) (omega arith) (omega arith))
+    let l : length h ≡ 8 = search rules in (
+      [],
+      Consumes-nil _,
+      unknown_type h c.pdu.result l (sym c.pdu.ensures)
+          (omega arith) (omega arith) (omega arith) (omega arith) (omega arith) (omega arith) (omega arith) (omega arith) (omega arith) (omega arith) (omega arith),
+    )
