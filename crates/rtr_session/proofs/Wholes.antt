@@ -8,17 +8,21 @@ use Rattle.rtr_base.proofs.Numbers.{value-be}
 use Rattle.rtr_units.specs.End.{HasTimingOf, timed_list}
 use Rattle.rtr_units.specs.Header.{version_field, type_field, session_field, length_field}
 use Rattle.rtr_units.proofs.Headers.{same_header}
-use Rattle.rtr_payload.specs.Frames.{IsWhole}
+use Rattle.rtr_units.specs.Reading.{IsWhole}
 use Rattle.rtr_payload.specs.Steps.{header_fault}
 use Rattle.rtr_payload.proofs.Frames.{Whole, shape_whole}
 use Rattle.rtr_payload.proofs.Wholes.{whole_is}
 use Rattle.rtr_session.specs.Fields.{AnyFields, serial_notify, serial_query, reset_query, cache_response, payload, end_of_data, cache_reset, error_report, any_list, AnyFit, HasAnyFields}
-use Rattle.rtr_session.specs.Headers.{any_header_fault, any_fault}
+use Rattle.rtr_session.specs.Headers.{any_header_fault, session_unit}
 use Rattle.rtr_session.specs.Reports.{IsReport}
 use Rattle.rtr_session.specs.Values.{serial_of, bare_of}
 use Rattle.rtr_session.proofs.Units.{notify_has, query_has, reset_query_has, response_has, cache_reset_has, payload_has, end_has, report_has}
 
 -- ---- a unit is whole
+
+-- the header of u is in order, and says its length
+abbrev InOrder : List ℕ → Type 0
+InOrder u = (session_unit.fault u ≡ None) × (length u ≡ length_field u)
 
 payload_in_order : (v t g n : ℕ) → header_fault v t g n ≡ None → any_header_fault v t g n ≡ None
 unfolding any_header_fault header_fault
@@ -28,12 +32,12 @@ report_in_order : (v g n : ℕ) → 16 ≤ n → n ≤ 65535 → any_header_faul
 unfolding any_header_fault
 report_in_order v g n least most = grind (arith, nat_tests)
 
-end_whole : (v s q : ℕ) (t : Option Timing) → HasTimingOf v t → IsWhole any_fault (timed_list v s q t)
+end_whole : (v s q : ℕ) (t : Option Timing) → HasTimingOf v t → InOrder (timed_list v s q t)
 unfolding any_header_fault header_fault
 end_whole v s q None h = (rw h refl, refl)
 end_whole v s q (Some t) h = (elim h.0 [ inl e ↦ rw e refl | inr e ↦ rw e refl ], refl)
 
-list_whole : (f : AnyFields) → AnyFit f → IsBytes (any_list f) → IsWhole any_fault (any_list f)
+list_whole : (f : AnyFields) → AnyFit f → IsBytes (any_list f) → InOrder (any_list f)
 unfolding any_header_fault
 list_whole (serial_notify v s q) fits bytes = (refl, refl)
 list_whole (serial_query v s q) fits bytes = (refl, refl)
@@ -51,24 +55,27 @@ list_whole (error_report v c b) (small, least, most) bytes =
     let g = get_or (be c 2) 0 0 in
     (ap (any_header_fault v 10 g) size ∙ report_in_order v g (8 + length b) (omega arith) (omega arith), all ∙ sym size)
 
-pub any_whole : (b : List ℕ) (f : AnyFields) → HasAnyFields b f → IsWhole any_fault b
-any_whole b f has = subst (IsWhole any_fault) (sym has.bytes) (list_whole f has.fits (subst IsBytes has.bytes has.are_bytes))
-
--- ---- and what is whole is a unit
-
 eight_said : (v t g n : ℕ) → any_header_fault v t g n ≡ None → 8 ≤ n
 unfolding any_header_fault header_fault
 eight_said v t g n e = grind (arith, nat_tests)
+
+pub any_whole : (b : List ℕ) (f : AnyFields) → HasAnyFields b f → IsWhole session_unit b
+any_whole b f has =
+    let o : InOrder b = subst InOrder (sym has.bytes) (list_whole f has.fits (subst IsBytes has.bytes has.are_bytes)) in
+    record { header = omega (arith, o.1, eight_said (version_field b) (type_field b) (get_or b 2 0) (length_field b) o.0); in_order = o.0; size = o.1; are_bytes = has.are_bytes }
+
+-- ---- and what is whole is a unit
 
 kinds : (v t g n : ℕ) → any_header_fault v t g n ≡ None
     → ((t ≡ 0) × (n ≡ 12)) ⊎ (((t ≡ 1) × (n ≡ 12)) ⊎ (((t ≡ 2) × (n ≡ 8)) ⊎ (((t ≡ 3) × (n ≡ 8)) ⊎ (((t ≡ 8) × (n ≡ 8)) ⊎ (((t ≡ 10) × (16 ≤ n) × (n ≤ 65535)) ⊎ (header_fault v t g n ≡ None))))))
 unfolding any_header_fault
 kinds v t g n e = grind (arith, nat_tests)
 
-pub whole_any : (b : List ℕ) → IsBytes b → IsWhole any_fault b → (f : AnyFields) × HasAnyFields b f
-whole_any b h (e, size) =
-    let long : 8 ≤ length b = omega (arith, size, eight_said (version_field b) (type_field b) (get_or b 2 0) (length_field b) e) in
-    elim (kinds (version_field b) (type_field b) (get_or b 2 0) (length_field b) e) [
+pub whole_any : (b : List ℕ) → IsWhole session_unit b → (f : AnyFields) × HasAnyFields b f
+whole_any b w =
+    let h = w.are_bytes in
+    let size = w.size in
+    elim (kinds (version_field b) (type_field b) (get_or b 2 0) (length_field b) w.in_order) [
       | inl (t, n) ↦ (serial_of serial_notify b, notify_has b (record { bytes = (size ∙ n, h); kind = t; size = n }))
       | inr (inl (t, n)) ↦ (serial_of serial_query b, query_has b (record { bytes = (size ∙ n, h); kind = t; size = n }))
       | inr (inr (inl (t, n))) ↦ (bare_of reset_query b, reset_query_has b (record { bytes = (size ∙ n, h); kind = t; size = n }))
@@ -78,8 +85,8 @@ whole_any b h (e, size) =
           let is : IsReport b = record { kind = t; size = sym size; least = omega arith; most = omega arith; are_bytes = h } in
           (error_report (version_field b) (session_field b) (drop 8 b), report_has b is)
       | inr (inr (inr (inr (inr (inr in_order))))) ↦
-          let w : Whole b = record { long = long; in_order = in_order; size = sym size } in
-          elim (whole_is b h w) [
+          let all : Whole b = record { long = w.header; in_order = in_order; size = sym size } in
+          elim (whole_is b h all) [
             | inl u ↦ (payload u.0, payload_has b u.0 u.1)
             | inr d ↦ (end_of_data d.0, end_has b d.0 d.1)
           ]
@@ -91,7 +98,5 @@ pub any_one : (a b r s : List ℕ) (f g : AnyFields) → HasAnyFields a f → Ha
 any_one a b r s f g has_a has_b e =
     let wa = any_whole a f has_a in
     let wb = any_whole b g has_b in
-    let la : 8 ≤ length a = omega (arith, wa.1, eight_said (version_field a) (type_field a) (get_or a 2 0) (length_field a) wa.0) in
-    let lb : 8 ≤ length b = omega (arith, wb.1, eight_said (version_field b) (type_field b) (get_or b 2 0) (length_field b) wb.0) in
-    let same : length a ≡ length b = wa.1 ∙ sym (same_header a r la).size ∙ ap length_field e ∙ (same_header b s lb).size ∙ sym wb.1 in
+    let same : length a ≡ length b = wa.size ∙ sym (same_header a r wa.header).size ∙ ap length_field e ∙ (same_header b s wb.header).size ∙ sym wb.size in
     (sym (take_at a r (length a) refl) ∙ ap (take (length a)) e ∙ take_at b s (length a) (sym same), sym (drop_at a r (length a) refl) ∙ ap (drop (length a)) e ∙ drop_at b s (length a) (sym same))

@@ -1,10 +1,9 @@
 //! Laws of units of any type and of error reports.
 
 ghost use Rattle.std.specs.Prelude.{◌≡◌, ◌++◌, ℕ, List};
-ghost use Rattle.rtr_base.specs.Bytes.{IsBytes};
-ghost use Rattle.rtr_payload.specs.Frames.{IsWhole};
+ghost use Rattle.rtr_units.specs.Reading.{IsWhole};
 ghost use Rattle.rtr_session.specs.Fields.{AnyFields, HasAnyFields};
-ghost use Rattle.rtr_session.specs.Headers.{any_fault};
+ghost use Rattle.rtr_session.specs.Headers.{session_unit};
 ghost use Rattle.rtr_session.specs.Reports.{IsReport, HasParts};
 
 use crate::report::{MAX_SIZE, MIN_SIZE, Report};
@@ -18,9 +17,8 @@ pub fn type_and_limits()
 
 /// The units are the lists of bytes whose header is in order and says their length.
 pub fn units_by_their_headers()
-    ensures whole { (b : List ℕ) (f : AnyFields) → HasAnyFields b f → IsWhole any_fault b }
-    ensures unit { (b : List ℕ) → IsBytes b → IsWhole any_fault b →
-        (f : AnyFields) × HasAnyFields b f }
+    ensures whole { (b : List ℕ) (f : AnyFields) → HasAnyFields b f → IsWhole session_unit b }
+    ensures unit { (b : List ℕ) → IsWhole session_unit b → (f : AnyFields) × HasAnyFields b f }
 {}
 
 /// No unit begins another.
