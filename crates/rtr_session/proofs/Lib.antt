@@ -1,0 +1,6 @@
+mod Parts
+mod Headers
+mod Reports
+mod Stops
+mod Units
+mod Wholes

@@ -1,0 +1,213 @@
+//! Error reports that are read (RFC 8210 section 5.11, RFC 6810 section 5.10).
+
+ghost use Rattle.std.specs.Prelude.{◌≡◌, ◌≤◌, ◌++◌, ℕ, List, length, take, nat_eq, not};
+ghost use Rattle.std.specs.Prelude.{MatchOption};
+ghost use Rattle.std.proofs.Common.{rules};
+ghost use Rattle.std.specs.Cmp.{partial_equiv_from_equiv};
+ghost use Rattle.std.specs.Cmp.Lexicographic.{nat_list_eq_equiv, pointwise};
+ghost use Rattle.std.specs.Cmp.Rules.{hashing};
+ghost use Rattle.std.specs.Hash as fed;
+ghost use Rattle.rtr_base.specs.Bytes.{value};
+ghost use Rattle.rtr_units.specs.Header.{version_field, session_field};
+ghost use Rattle.rtr_units.specs.Stream.{PutsForm, count_after, is_reader_fault, is_writer_fault};
+ghost use Rattle.rtr_units.specs.Views.{header_bytes};
+ghost use Rattle.rtr_session.specs.Reports.{IsReport, HasParts, ReadsReport, ReadsReportAfter};
+ghost use Rattle.rtr_session.specs.Reports.{IsCounted, IsCutShort};
+
+use rtr_base::pdu::ErrorCode;
+use rtr_units::fault::Fault;
+use rtr_units::header::Header;
+use rtr_units::numbers::{u16_at, u32_at};
+use rtr_units::piece::{fill, put};
+use rtr_units::source::{Sink, Source};
+use std::alloc::Global;
+use std::hash::{Hash, Hasher};
+use std::marker::Model;
+
+/// The bytes of the smallest report: a header and two lengths.
+pub(crate) const MIN_SIZE: u32 = 16;
+
+/// The most bytes that a report that is read has, header included, as in the Rust crate `rpki`.
+pub(crate) const MAX_SIZE: u32 = 65535;
+
+/// An error report that was read, seen as the list of its bytes: 16 to 65535, as many as its length
+/// field says.
+#[derive(Debug, Drop)]
+pub struct Report {
+    bytes: Vec<u8>,
+}
+
+impl Model for Report {
+    ghost use Rattle.std.specs.Prelude.{ℕ, List};
+    ghost use Rattle.rtr_session.specs.Reports.{IsReport};
+
+    ghost Value = { List ℕ };
+
+    ghost view = { λ a. a.bytes.items };
+
+    ghost invariant = { λ a. IsReport a.bytes.items };
+}
+
+impl Report {
+    /// The type of an error report.
+    pub const PDU: u8 = 10;
+
+    /// Reads an error report.
+    ///
+    /// Faults, in this order: `Short` or `Reader` inside the header; those of `read_payload`, of
+    /// which `UnitType` and the two after it take the header alone.
+    pub fn read<R: Source>(alloc: Global, reader: &mut R) -> Result<Self, Fault>
+        ensures bytes { ReadsReport result (R.remaining reader.old) (R.remaining reader.new) }
+        ensures count { R.failures reader.new ≡
+            count_after (R.failures reader.old) (not (is_reader_fault result)) }
+    {
+        match Header::read(reader) {
+            Ok(header) => Report::read_payload(alloc, header, reader),
+            Err(e) => Err(e),
+        }
+    }
+
+    /// Reads what follows the header, which is kept as it is.
+    ///
+    /// Faults, in this order: `UnitType` where its type isn't 10, `TooLong` above length 65535 and
+    /// `UnitLength` below 16, with nothing read and no memory asked for; `Memory`, with nothing
+    /// read; `Short` or `Reader` inside the unit.
+    pub fn read_payload<R: Source>(
+        alloc: Global,
+        header: Header,
+        reader: &mut R,
+    ) -> Result<Self, Fault>
+        ensures bytes { ReadsReportAfter (header_bytes header) result (R.remaining reader.old)
+            (R.remaining reader.new) }
+        ensures count { R.failures reader.new ≡
+            count_after (R.failures reader.old) (not (is_reader_fault result)) }
+    {
+        if header.pdu() != Report::PDU {
+            return Err(Fault::UnitType(header.pdu()));
+        }
+        let size = header.length();
+        if size > MAX_SIZE {
+            return Err(Fault::TooLong);
+        }
+        if size < MIN_SIZE {
+            return Err(Fault::UnitLength);
+        }
+        let mut bytes = Vec::new(alloc);
+        if bytes.resize(size as usize, 0).is_err() {
+            return Err(Fault::Memory);
+        }
+        let (front, rest) = bytes.as_mut_slice().split_at_mut(8);
+        front.copy_from_slice(header.as_ref());
+        match fill(reader, rest) {
+            Ok(()) => Ok(Report { bytes }),
+            Err(e) => Err(e),
+        }
+    }
+
+    /// The version of the protocol.
+    pub fn version(&self) -> u8
+        ensures { result ≡ version_field self.now }
+    {
+        self.bytes[0]
+    }
+
+    /// Why the peer reports an error.
+    pub fn code(&self) -> ErrorCode
+        ensures { result.0 ≡ session_field self.now }
+    {
+        ErrorCode(u16_at(self.bytes.as_slice(), 2))
+    }
+
+    /// The unit that the report speaks of, of no bytes where it speaks of none.
+    ///
+    /// None where the two lengths inside the report don't fit: a length of four bytes, that unit, a
+    /// length of four bytes and the text have to fill the report exactly.
+    pub fn pdu(&self) -> Option<&[u8]>
+        ensures { MatchOption result ((p t : List ℕ) → HasParts self.now p t → ⊥)
+            (λ p. (t : List ℕ) × HasParts self.now p.now t) }
+    {
+        let (pdu, _) = self.parts()?;
+        Some(pdu)
+    }
+
+    /// The text, which may have no bytes and need not be UTF-8. None where `pdu` answers none.
+    pub fn text(&self) -> Option<&[u8]>
+        ensures { MatchOption result ((p t : List ℕ) → HasParts self.now p t → ⊥)
+            (λ t. (p : List ℕ) × HasParts self.now p t.now) }
+    {
+        let (_, text) = self.parts()?;
+        Some(text)
+    }
+
+    /// The number of bytes of the report.
+    pub fn size(&self) -> u32
+        ensures { result ≡ length self.now }
+    {
+        self.bytes.len() as u32
+    }
+
+    /// The bytes of the report.
+    pub fn as_ref(&self) -> &[u8]
+        ensures bytes { result.now ≡ self.now }
+        ensures report { IsReport self.now }
+    {
+        self.bytes.as_slice()
+    }
+
+    /// Writes the bytes.
+    pub fn write<W: Sink>(&self, writer: &mut W) -> Result<(), Fault>
+        ensures bytes { PutsForm result (W.contents writer.old) (W.contents writer.new) self.now }
+        ensures count { W.failures writer.new ≡
+            count_after (W.failures writer.old) (not (is_writer_fault result)) }
+    {
+        put(writer, self.as_ref())
+    }
+
+    /// The unit that the report speaks of and the text, where their lengths fill the report.
+    fn parts(&self) -> Option<(&[u8], &[u8])>
+        ensures { MatchOption result ((p t : List ℕ) → HasParts self.now p t → ⊥)
+            (λ r. HasParts self.now r.0.now r.1.now) }
+    {
+        let (_, body) = self.bytes.split_at(8);
+        let (pdu, rest) = counted(body)?;
+        let (text, rest) = counted(rest)?;
+        if rest.is_empty() {
+            Some((pdu, text))
+        } else {
+            None
+        }
+    }
+}
+
+/// As many bytes as a length of four bytes says, which stands before them, and what follows them.
+fn counted(bytes: &[u8]) -> Option<(&[u8], &[u8])>
+    ensures { MatchOption result (IsCutShort bytes.now)
+        (λ r. IsCounted bytes.now r.0.now r.1.now) }
+{
+    let (size, rest) = bytes.split_at_checked(4)?;
+    rest.split_at_checked(u32_at(size, 0) as usize)
+}
+
+impl PartialEq for Report {
+    ghost eq = { pointwise nat_eq };
+
+    ghost laws = { partial_equiv_from_equiv nat_list_eq_equiv };
+
+    fn eq(&self, other: &Self) -> bool {
+        self.bytes == other.bytes
+    }
+}
+
+impl Eq for Report {
+    ghost laws = { nat_list_eq_equiv };
+}
+
+impl Hash for Report {
+    ghost hash_input = { fed.slice fed.u8 };
+
+    ghost respects_eq = { Prim.search (hashing, rules) };
+
+    fn hash<H: Hasher>(&self, state: &mut H) {
+        self.as_ref().hash(state);
+    }
+}
