@@ -20,7 +20,7 @@ use rtr_units::numbers::u32_at;
 use rtr_units::source::Sink;
 
 /// The bytes of an ASPA unit before its providers.
-const FIXED: u32 = 12;
+pub(crate) const FIXED: u32 = 12;
 
 /// An ASPA unit that lies in a slice.
 #[derive(Clone, Copy, Debug)]
@@ -98,7 +98,7 @@ impl<'a> AspaView<'a> {
 
     /// The first twelve bytes of the form of a unit of this size and these flags.
     #[inline(always)]
-    fn form_front(&self, flags: u8, size: u32) -> [u8; 12]
+    pub(crate) fn form_front(&self, flags: u8, size: u32) -> [u8; 12]
         ensures { result ≡ (version_field self.now.unit.now ∷ 11 ∷ flags ∷ 0 ∷ be size 4)
             ++ take 4 (drop 8 self.now.unit.now) }
     {

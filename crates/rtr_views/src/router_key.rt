@@ -105,7 +105,7 @@ impl<'a> RouterKeyView<'a> {
 
     /// What the form of the unit's meaning has before the key info.
     #[inline(always)]
-    fn form_front(&self) -> [u8; 32]
+    pub(crate) fn form_front(&self) -> [u8; 32]
         ensures { result ++ drop 32 self.now.unit.now
             ≡ form_of (meaning (key_fields self.now.unit.now)) }
     {
