@@ -1,6 +1,6 @@
 //! Runs from a slice into another, without memory.
 
-ghost use Rattle.std.specs.Prelude.{◌≡◌, ◌≢◌, ◌≤◌, ◌<◌, ℕ, List, length, Err, IfErr};
+ghost use Rattle.std.specs.Prelude.{◌≡◌, ◌≢◌, ◌+◌, ◌≤◌, ◌<◌, ℕ, List, length, Err, IfErr};
 ghost use Rattle.rtr_payload.specs.Payloads.{Meaning, smallest_version as smallest};
 ghost use Rattle.rtr_views.specs.Placing.{Places};
 ghost use Rattle.rtr_views.specs.Views.{ViewMeans};
@@ -72,6 +72,8 @@ pub fn normalise_for_into(
 ) -> (Progress, Result<(), IntoFault>)
     ensures known { version ≤ 2 →
         FillsInto (for_version version) limit result.1 input.now output.old output.new result.0 }
+    ensures room { version ≤ 2 → length input.now + 12 ≤ length output.old →
+        result.1 ≢ Err IntoFault.NoRoom }
     ensures unknown { 2 < version → refuses_version version result.0 result.1 output.old output.new }
 {
     if version > LAST_VERSION {

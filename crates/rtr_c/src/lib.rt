@@ -1,0 +1,10 @@
+//! What programs in C, Go and Rust call: units and sequences in memory, without asking for any.
+//!
+//! Each call reads and writes the slices that it is given, and nothing else. What it answers crosses
+//! as numbers; `bindings/c/rtr.h` says what each means.
+#![tactic(auto)]
+
+mod answer;
+mod next;
+mod sequence;
+mod unit;
