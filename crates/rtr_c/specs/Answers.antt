@@ -62,4 +62,4 @@ pub record Tells (p : Progress) (r : Result Unit IntoFault) (a : RtrAnswer) (cod
   pub written : a.written ≡ p.written
   pub status : a.status ≡ run_status r
   pub detail : a.detail ≡ run_detail r
-  pub code : code ≡ run_status r
+  pub answered : code ≡ run_status r

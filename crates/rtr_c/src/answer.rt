@@ -28,8 +28,10 @@ pub(crate) const TOO_MANY: u8 = 8;
 pub(crate) const NO_ROOM: u8 = 9;
 /// What is to be written has no form.
 pub(crate) const NO_FORM: u8 = 10;
-/// The writer failed, as none here does.
-const WRITER: u8 = 255;
+/// A growth of memory was refused.
+pub(crate) const NO_MEMORY: u8 = 11;
+/// A reader or a writer failed, as none here does.
+pub(crate) const WRITER: u8 = 255;
 
 /// How a call ended that writes.
 #[repr(C)]
@@ -50,6 +52,9 @@ pub struct RtrAnswer {
     /// length is below the prefix length; else 0.
     pub detail: u8,
 }
+
+// The fields stand one after the other, and six bytes are left at the end.
+const _: () = prove!(size_of::<RtrAnswer>() == 40);
 
 /// The number of a part of the rule on the lengths of a prefix.
 pub(crate) fn rule_number(rule: PrefixRule) -> u8

@@ -27,7 +27,10 @@ pub extern "C" fn rtr_next(input: &[u8], unit: &mut RtrUnit) -> u8
             ACCEPTED
         }
         Err(fault) => {
-            *unit = RtrUnit { detail: fault_detail(&fault), ..RtrUnit::none() };
+            *unit = RtrUnit {
+                detail: fault_detail(&fault),
+                ..RtrUnit::none()
+            };
             fault_status(&fault)
         }
     }
@@ -53,7 +56,11 @@ fn origin_shown(view: &OriginView, size: usize) -> RtrUnit
 {
     let origin = view.origin();
     let prefix = origin.prefix.prefix();
-    let (kind, family) = if prefix.is_v4() { (Ipv4Prefix::PDU, 4) } else { (Ipv6Prefix::PDU, 6) };
+    let (kind, family) = if prefix.is_v4() {
+        (Ipv4Prefix::PDU, 4)
+    } else {
+        (Ipv6Prefix::PDU, 6)
+    };
     RtrUnit {
         size,
         asn: origin.asn.into_u32(),

@@ -1,6 +1,6 @@
 //! Calls over whole sequences.
 
-ghost use Rattle.std.specs.Prelude.{◌≡◌, ◌≢◌, ◌+◌, ◌≤◌, ◌<◌, Result, Unit, length};
+ghost use Rattle.std.specs.Prelude.{◌≡◌, ◌≢◌, ◌+◌, ◌≤◌, ◌<◌, Result, length};
 ghost use Rattle.rtr_wire.specs.Into.{FillsInto, refuses_version};
 ghost use Rattle.rtr_wire.specs.Sequences.{everything, for_version};
 ghost use Rattle.rtr_wire.specs.declared.into.IntoFault.{IntoFault};

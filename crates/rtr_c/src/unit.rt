@@ -48,6 +48,9 @@ pub struct RtrUnit {
     pub detail: u8,
 }
 
+// The fields stand one after the other, and three bytes are left at the end.
+const _: () = prove!(size_of::<RtrUnit>() == 96);
+
 impl RtrUnit {
     /// A unit of no kind.
     pub(crate) fn none() -> Self

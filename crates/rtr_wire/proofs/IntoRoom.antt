@@ -42,7 +42,6 @@ same_size v m = by_payload m.payload refl
     by_payload (key i n k) e = rw e refl
     by_payload (aspa c ps) e = rw e refl
 
-
 units_fit : (us : List ℕ) (ms : List Meaning) → AreUnits us ms → length (forms ms) ≤ length us
 units_fit us [] h = omega (arith, ap length h)
 units_fit us (m ∷ ms) (first, rest, parts, unit, others) =

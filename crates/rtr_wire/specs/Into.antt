@@ -18,7 +18,7 @@ use Rattle.rtr_wire.specs.declared.into.Step.{Step}
 abbrev pub LacksRoom : Written → List ℕ → ℕ → Type 0
 LacksRoom what rest room = (next left : List ℕ) × (rest ≡ next ++ left)
     × (((m : Meaning) × IsUnit next m × (room < length (forms (what.units (m ∷ [])))))
-      ⊎ ((e : EndMeaning) × End next e × (room < length (end_list (what.end e)))))
+    ⊎ ((e : EndMeaning) × End next e × (room < length (end_list (what.end e)))))
 
 -- why a call stopped after units with these meanings, at the rest of the input, with this room left
 -- in the output

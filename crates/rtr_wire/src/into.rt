@@ -77,8 +77,16 @@ pub fn normalise_for_into(
     ensures unknown { 2 < version → refuses_version version result.0 result.1 output.old output.new }
 {
     if version > LAST_VERSION {
-        let none = Progress { units: 0, forms: 0, taken: 0, written: 0 };
-        return (none, Err(IntoFault::Refused(ViewFault::UnitVersion(version))));
+        let none = Progress {
+            units: 0,
+            forms: 0,
+            taken: 0,
+            written: 0,
+        };
+        return (
+            none,
+            Err(IntoFault::Refused(ViewFault::UnitVersion(version))),
+        );
     }
     run(ForVersion { version }, input, output, limit)
 }
@@ -105,18 +113,42 @@ fn run<S: Writing>(
                     Passed::LeftOut => left_out += 1,
                     Passed::End => {
                         let forms = units - left_out;
-                        return (Progress { units, forms, taken, written }, Ok(()));
+                        return (
+                            Progress {
+                                units,
+                                forms,
+                                taken,
+                                written,
+                            },
+                            Ok(()),
+                        );
                     }
                 }
             }
             Err(e) => {
                 let forms = units - left_out;
-                return (Progress { units, forms, taken, written }, Err(e));
+                return (
+                    Progress {
+                        units,
+                        forms,
+                        taken,
+                        written,
+                    },
+                    Err(e),
+                );
             }
         }
     }
     let forms = limit - left_out;
-    (Progress { units: limit, forms, taken, written }, Err(IntoFault::TooMany))
+    (
+        Progress {
+            units: limit,
+            forms,
+            taken,
+            written,
+        },
+        Err(IntoFault::TooMany),
+    )
 }
 
 /// One step of a run.
@@ -162,15 +194,27 @@ fn view_step<const TYPE: u8, S: Writing>(
     };
     match view {
         UnitView::End(end) => match place(writing.end(end).as_ref(), &[], output) {
-            Some(written) => Ok(Step { passed: Passed::End, taken, written }),
+            Some(written) => Ok(Step {
+                passed: Passed::End,
+                taken,
+                written,
+            }),
             None => Err(IntoFault::NoRoom),
         },
         _ => {
             if !writing.writes(smallest_version(&view)) {
-                return Ok(Step { passed: Passed::LeftOut, taken, written: 0 });
+                return Ok(Step {
+                    passed: Passed::LeftOut,
+                    taken,
+                    written: 0,
+                });
             }
             match place_unit(writing, &view, output) {
-                Some(written) => Ok(Step { passed: Passed::Written, taken, written }),
+                Some(written) => Ok(Step {
+                    passed: Passed::Written,
+                    taken,
+                    written,
+                }),
                 None => Err(IntoFault::NoRoom),
             }
         }
