@@ -20,6 +20,32 @@ static void check(int holds, const char *what, int line)
     }
 }
 
+/* What heap.c answers, and how often this thread asked it: linked with --wrap=rattle_alloc and
+ * --wrap=rattle_realloc. */
+struct rattle_tried {
+    bool granted;
+    void *block;
+};
+
+static _Thread_local uint64_t asked;
+
+struct rattle_tried __real_rattle_alloc(size_t size, size_t align);
+struct rattle_tried __real_rattle_realloc(void *block, size_t kept, size_t size, size_t align);
+struct rattle_tried __wrap_rattle_alloc(size_t size, size_t align);
+struct rattle_tried __wrap_rattle_realloc(void *block, size_t kept, size_t size, size_t align);
+
+struct rattle_tried __wrap_rattle_alloc(size_t size, size_t align)
+{
+    asked++;
+    return __real_rattle_alloc(size, align);
+}
+
+struct rattle_tried __wrap_rattle_realloc(void *block, size_t kept, size_t size, size_t align)
+{
+    asked++;
+    return __real_rattle_realloc(block, kept, size, align);
+}
+
 /* One case: a version or 255, and what is expected of a call. The numbers are little-endian. */
 struct test_case {
     uint8_t version, status, detail;
@@ -179,10 +205,13 @@ static void *check_cases(void *all)
         check_whole(&one, input);
         if (one.input_length < 1 << 16)
             check_in_turns(&one, input, 16);
-        if (one.version == 255) {
+        if (one.version == 255)
             check_units(&one, input);
+        CHECK(asked == 0);
+        if (one.version == 255)
             check_same(&one, input);
-        }
+        CHECK(asked > 0 || one.version != 255 || one.status != RTR_OK);
+        asked = 0;
         free(input);
     }
     return NULL;

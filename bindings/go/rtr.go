@@ -115,14 +115,14 @@ const (
 
 // Unit is a payload unit or an end of data. Fields that its kind doesn't have are zero.
 type Unit struct {
-	Kind, Version                        uint8
-	Announce                             bool
-	PrefixLength, MaxLength              uint8
-	Address                              [16]byte
-	ASN, Customer                        uint32
-	KeyIdentifier                        [20]byte
-	Session                              uint16
-	Serial, Refresh, Retry, Expire       uint32
+	Kind, Version                  uint8
+	Announce                       bool
+	PrefixLength, MaxLength        uint8
+	Address                        [16]byte
+	ASN, Customer                  uint32
+	KeyIdentifier                  [20]byte
+	Session                        uint16
+	Serial, Refresh, Retry, Expire uint32
 	// The key info of a router key or the providers of an ASPA, four bytes each, within the input.
 	Part []byte
 }

@@ -11,6 +11,9 @@ fn main() -> Result<(), Box<dyn std::error::Error>> {
     }
     let mut form = vec![0; input.len()];
     let progress = normalise(&input, &mut form, u32::MAX.into())?;
-    println!("{} payload units, form of {} bytes", progress.units, progress.written);
+    println!(
+        "{} payload units, form of {} bytes",
+        progress.units, progress.written
+    );
     Ok(())
 }

@@ -155,13 +155,32 @@ pub struct Timing {
 #[derive(Clone, Copy, Debug, PartialEq, Eq)]
 pub enum Content<'a> {
     /// A route origin (RFC 8210 sections 5.6 and 5.7), its address with the host bits cleared.
-    Origin { announce: bool, address: IpAddr, length: u8, max_length: u8, asn: u32 },
+    Origin {
+        announce: bool,
+        address: IpAddr,
+        length: u8,
+        max_length: u8,
+        asn: u32,
+    },
     /// A router key (RFC 8210 section 5.10).
-    RouterKey { announce: bool, identifier: [u8; 20], asn: u32, key_info: &'a [u8] },
+    RouterKey {
+        announce: bool,
+        identifier: [u8; 20],
+        asn: u32,
+        key_info: &'a [u8],
+    },
     /// An ASPA. The providers stand as they came, four bytes each, on a withdrawal too.
-    Aspa { announce: bool, customer: u32, providers: &'a [u8] },
+    Aspa {
+        announce: bool,
+        customer: u32,
+        providers: &'a [u8],
+    },
     /// An end of data (RFC 6810 and RFC 8210 section 5.8), in version 0 without timings.
-    EndOfData { session: u16, serial: u32, timing: Option<Timing> },
+    EndOfData {
+        session: u16,
+        serial: u32,
+        timing: Option<Timing>,
+    },
 }
 
 /// A payload unit or an end of data.
@@ -178,7 +197,13 @@ impl<'a> Unit<'a> {
     pub fn first(input: &'a [u8]) -> Result<(Self, &'a [u8]), Fault> {
         let shown = sys::next(input)?;
         let (bytes, rest) = input.split_at(shown.size);
-        Ok((Unit { version: shown.version, content: Content::of(&shown, bytes) }, rest))
+        Ok((
+            Unit {
+                version: shown.version,
+                content: Content::of(&shown, bytes),
+            },
+            rest,
+        ))
     }
 
     /// Writes the written form to the front of the output, and answers its length in bytes. Host bits of
@@ -193,10 +218,19 @@ impl<'a> Unit<'a> {
 
     /// The unit in numbers, and its key info or providers.
     fn said(&self) -> (sys::Unit, &'a [u8]) {
-        let mut said = sys::Unit { version: self.version, ..sys::Unit::default() };
+        let mut said = sys::Unit {
+            version: self.version,
+            ..sys::Unit::default()
+        };
         let mut part: &[u8] = &[];
         match self.content {
-            Content::Origin { announce, address, length, max_length, asn } => {
+            Content::Origin {
+                announce,
+                address,
+                length,
+                max_length,
+                asn,
+            } => {
                 said.action = announce.into();
                 said.prefix_length = length;
                 said.max_length = max_length;
@@ -212,20 +246,33 @@ impl<'a> Unit<'a> {
                     }
                 }
             }
-            Content::RouterKey { announce, identifier, asn, key_info } => {
+            Content::RouterKey {
+                announce,
+                identifier,
+                asn,
+                key_info,
+            } => {
                 said.kind = ROUTER_KEY;
                 said.action = announce.into();
                 said.key_identifier = identifier;
                 said.asn = asn;
                 part = key_info;
             }
-            Content::Aspa { announce, customer, providers } => {
+            Content::Aspa {
+                announce,
+                customer,
+                providers,
+            } => {
                 said.kind = ASPA;
                 said.action = announce.into();
                 said.customer = customer;
                 part = providers;
             }
-            Content::EndOfData { session, serial, timing } => {
+            Content::EndOfData {
+                session,
+                serial,
+                timing,
+            } => {
                 let timing = timing.unwrap_or(NO_TIMING);
                 said.kind = END_OF_DATA;
                 said.session = session;
@@ -247,7 +294,11 @@ const ROUTER_KEY: u8 = 9;
 const ASPA: u8 = 11;
 
 /// What an end of data says that has no timings.
-const NO_TIMING: Timing = Timing { refresh: 0, retry: 0, expire: 0 };
+const NO_TIMING: Timing = Timing {
+    refresh: 0,
+    retry: 0,
+    expire: 0,
+};
 
 impl<'a> Content<'a> {
     /// What a unit of these bytes says that is shown so.
@@ -261,7 +312,11 @@ impl<'a> Content<'a> {
                 asn: shown.asn,
                 key_info: part,
             },
-            ASPA => Content::Aspa { announce, customer: shown.customer, providers: part },
+            ASPA => Content::Aspa {
+                announce,
+                customer: shown.customer,
+                providers: part,
+            },
             END_OF_DATA => Content::EndOfData {
                 session: shown.session,
                 serial: shown.serial,
@@ -298,7 +353,10 @@ pub struct Units<'a> {
 impl<'a> Units<'a> {
     /// The units that this input begins with.
     pub fn new(input: &'a [u8]) -> Self {
-        Units { rest: input, ended: false }
+        Units {
+            rest: input,
+            ended: false,
+        }
     }
 
     /// What follows the units that were given.

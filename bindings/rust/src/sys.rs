@@ -86,7 +86,10 @@ fn told(answer: Answer) -> Result<Progress, Stopped> {
     };
     match answer.status {
         0 => Ok(progress),
-        status => Err(Stopped { progress, fault: Fault::of(status, answer.detail) }),
+        status => Err(Stopped {
+            progress,
+            fault: Fault::of(status, answer.detail),
+        }),
     }
 }
 
@@ -232,8 +235,9 @@ mod tests {
             offset_of!(Unit, key_identifier),
             offset_of!(Unit, detail),
         ];
-        let expected =
-            [0, 8, 16, 24, 28, 32, 36, 40, 44, 48, 50, 51, 52, 53, 54, 55, 56, 72, 92];
+        let expected = [
+            0, 8, 16, 24, 28, 32, 36, 40, 44, 48, 50, 51, 52, 53, 54, 55, 56, 72, 92,
+        ];
         assert_eq!(unit, expected);
     }
 }

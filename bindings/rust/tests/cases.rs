@@ -25,7 +25,8 @@ fn cases() -> Vec<Case> {
     while !rest.is_empty() {
         let (head, after) = rest.split_at(3);
         let (numbers, after) = after.split_at(40);
-        let number = |at: usize| u64::from_le_bytes(numbers[8 * at..8 * at + 8].try_into().unwrap());
+        let number =
+            |at: usize| u64::from_le_bytes(numbers[8 * at..8 * at + 8].try_into().unwrap());
         let (input, after) = after.split_at(number(3) as usize);
         let (form, after) = after.split_at(number(4) as usize);
         rest = after;
@@ -95,7 +96,9 @@ fn unit_by_unit() {
             match unit {
                 Ok(unit) => {
                     let mut output = vec![0; 65535];
-                    let size = unit.write(&mut output).expect("a unit that was read has a form");
+                    let size = unit
+                        .write(&mut output)
+                        .expect("a unit that was read has a form");
                     form.extend_from_slice(&output[..size]);
                 }
                 Err(fault) => told = numbers(fault),
@@ -132,19 +135,33 @@ fn what_has_no_form() {
         },
     };
     let mut output = [0; 20];
-    assert_eq!(origin(33, 33).write(&mut output), Err(Fault::Prefix(PrefixRule::LengthOver)));
-    assert_eq!(origin(8, 33).write(&mut output), Err(Fault::Prefix(PrefixRule::MaxLengthOver)));
-    assert_eq!(origin(9, 8).write(&mut output), Err(Fault::Prefix(PrefixRule::MaxLengthUnder)));
+    assert_eq!(
+        origin(33, 33).write(&mut output),
+        Err(Fault::Prefix(PrefixRule::LengthOver))
+    );
+    assert_eq!(
+        origin(8, 33).write(&mut output),
+        Err(Fault::Prefix(PrefixRule::MaxLengthOver))
+    );
+    assert_eq!(
+        origin(9, 8).write(&mut output),
+        Err(Fault::Prefix(PrefixRule::MaxLengthUnder))
+    );
     assert_eq!(origin(23, 26).write(&mut output[..19]), Err(Fault::NoRoom));
     assert_eq!(output, [0; 20]);
     assert_eq!(origin(23, 26).write(&mut output), Ok(20));
-    let form = [1, 4, 0, 0, 0, 0, 0, 20, 1, 23, 26, 0, 192, 0, 2, 0, 0, 1, 0, 15];
+    let form = [
+        1, 4, 0, 0, 0, 0, 0, 20, 1, 23, 26, 0, 192, 0, 2, 0, 0, 1, 0, 15,
+    ];
     assert_eq!(output, form);
 }
 
 #[test]
 fn texts() {
-    assert_eq!(Fault::UnitType(10).to_string(), "unit type 10 is not allowed here");
+    assert_eq!(
+        Fault::UnitType(10).to_string(),
+        "unit type 10 is not allowed here"
+    );
     let stopped = normalise(&[], &mut [], 1).unwrap_err();
     assert_eq!(stopped.to_string(), "unexpected end of input after 0 bytes");
 }
