@@ -1,11 +1,12 @@
-/* Times the archive for C beside the same jobs written by hand, over a sequence from standard input.
+/* Times the archive for C beside the same jobs written by hand, over a sequence from standard
+ * input.
  *
  * usage: archive < SEQUENCE, once `bindings/build` has made the archive:
  *
  *     cc -O3 -march=x86-64 -Ibindings/c -o archive bench/archive.c bindings/lib/x86_64/librtr_c.a
  *
- * Prints for each job the best of 41 runs each way, which take turns, in nanoseconds a unit, and how many
- * times as long the archive takes. It ends with status 1 where both ways don't agree. */
+ * Prints for each job the best of 41 runs each way, which take turns, in nanoseconds a unit, and
+ * how many times as long the archive takes. It ends with status 1 where both ways don't agree. */
 #include <stdio.h>
 #include <stdlib.h>
 #include <string.h>
@@ -76,8 +77,9 @@ static inline size_t checked(const uint8_t *in, size_t left)
 }
 
 /* By hand: normalises, and answers how many bytes it wrote, or 0. */
-__attribute__((noinline)) static size_t normalise_by_hand(const uint8_t *in, size_t left, uint8_t *out,
-                                                          size_t room, uint64_t *units)
+__attribute__((noinline)) static size_t normalise_by_hand(const uint8_t *in, size_t left,
+                                                          uint8_t *out, size_t room,
+                                                          uint64_t *units)
 {
     uint8_t *to = out;
     for (*units = 0;; ++*units) {

@@ -12,7 +12,8 @@ static void print_unit(const uint8_t *at, const struct rtr_unit *unit)
     switch (unit->kind) {
     case RTR_IPV4_PREFIX:
         printf("%s %u.%u.%u.%u/%u-%u AS%" PRIu32 "\n", what, unit->address[0], unit->address[1],
-               unit->address[2], unit->address[3], unit->prefix_length, unit->max_length, unit->asn);
+               unit->address[2], unit->address[3], unit->prefix_length, unit->max_length,
+               unit->asn);
         break;
     case RTR_IPV6_PREFIX:
         printf("%s ", what);

@@ -1,16 +1,16 @@
 /* Payload units and sequences of the RPKI to Router protocol (RFC 6810, RFC 8210), in memory.
  *
- * The functions are proved: the contracts stand in crates/rtr_c, and docs/PROTOCOL.md says in prose
- * what is accepted, in which order faults come, and what the written form is. This header is not
- * proved; `.ci/bindings` checks its layout and runs its examples.
+ * The functions are proved: the contracts stand in crates/rtr_c, and docs/PROTOCOL.md says in
+ * prose what is accepted, in which order faults come, and what the written form is. This header is
+ * not proved; `.ci/bindings` checks its layout and runs its examples.
  *
  * What the caller owes, for each call:
- *   - a slice crosses as a pointer and a number of bytes. No pointer is null, not even with 0 bytes;
+ *   - a slice crosses as a pointer and a number of bytes. No pointer is null, even with 0 bytes;
  *   - the slice that is written to, and what the last pointer points at, overlap nothing else;
  *   - rtr_same_meaning, which asks malloc for memory, isn't called from a signal handler.
- * Then no call crashes, reads or writes a byte outside of what it is given, keeps a pointer or a state
- * of its own, or waits. Several threads may call at once. All calls but rtr_same_meaning ask for no
- * memory.
+ * Then no call crashes, reads or writes a byte outside of what it is given, keeps a pointer or a
+ * state of its own, or waits. Several threads may call at once. All calls but rtr_same_meaning ask
+ * for no memory.
  */
 #ifndef RTR_H
 #define RTR_H
@@ -83,34 +83,34 @@ struct rtr_unit {
     uint8_t family;     /* 4 or 6 for a prefix */
     uint8_t prefix_length;
     uint8_t max_length;
-    uint8_t address[16];        /* in network order, the bits after the prefix length clear; the first
-                                   4 bytes in IPv4 */
+    uint8_t address[16];        /* in network order, the bits after the prefix length clear; the
+                                   first 4 bytes in IPv4 */
     uint8_t key_identifier[20]; /* the subject key identifier of a router key */
     uint8_t detail;             /* where rtr_next refuses: see rtr_status */
 };
 
-/* Normalises the sequence that the input begins with: reads payload units up to an end of data, and
- * writes the form of what each means, and the end of data, to the front of the output.
+/* Normalises the sequence that the input begins with: reads payload units up to an end of data,
+ * and writes the form of what each means, and the end of data, to the front of the output.
  *
- * At most `limit` units are taken, the end of data included. RTR_OK says that all of the sequence was
- * taken and written; what follows it is left. Else the call stopped before a unit, none of whose bytes
- * count as taken: output[0 .. written) is the form of input[0 .. taken), whole units, and the rest of
- * the output is as it was. RTR_TOO_MANY comes first, then RTR_SHORT to RTR_PREFIX, then RTR_NO_ROOM.
- * After RTR_NO_ROOM and RTR_TOO_MANY, and after RTR_SHORT once more bytes are there, a caller goes on at
- * input + taken, with the limit less by `units`.
+ * At most `limit` units are taken, the end of data included. RTR_OK says that all of the sequence
+ * was taken and written; what follows it is left. Else the call stopped before a unit, none of
+ * whose bytes count as taken: output[0 .. written) is the form of input[0 .. taken), whole units,
+ * and the rest of the output is as it was. RTR_TOO_MANY comes first, then RTR_SHORT to RTR_PREFIX,
+ * then RTR_NO_ROOM. After RTR_NO_ROOM and RTR_TOO_MANY, and after RTR_SHORT once more bytes are
+ * there, a caller goes on at input + taken, with the limit less by `units`.
  *
- * The output always suffices where it is at least as long as the input: RTR_NO_ROOM doesn't come then.
- * Two sequences have the same form exactly where they mean the same. */
+ * The output always suffices where it is at least as long as the input: RTR_NO_ROOM doesn't come
+ * then. Two sequences have the same form exactly where they mean the same. */
 uint8_t rtr_normalise_slice(const uint8_t *input, size_t input_length,
                             uint8_t *output, size_t output_length,
                             uint64_t limit, struct rtr_answer *answer);
 
-/* The same for clients of one version of the protocol: units that the version doesn't have are checked
- * and counted in `units` but not written, and all others, and the end of data, are written in this
- * version. Version 0 has prefixes, version 1 router keys too, version 2 ASPAs too.
+/* The same for clients of one version of the protocol: units that the version doesn't have are
+ * checked and counted in `units` but not written, and all others, and the end of data, are written
+ * in this version. Version 0 has prefixes, version 1 router keys too, version 2 ASPAs too.
  *
- * An end of data has 12 bytes in version 0 and 24 in versions 1 and 2, so that one that came in version
- * 0 grows: the output always suffices where it is at least 12 bytes longer than the input.
+ * An end of data has 12 bytes in version 0 and 24 in versions 1 and 2, so that one that came in
+ * version 0 grows: the output always suffices where it is at least 12 bytes longer than the input.
  *
  * RTR_UNIT_VERSION comes first for a version above 2, with nothing taken or written. */
 uint8_t rtr_normalise_for_slice(const uint8_t *input, size_t input_length,
@@ -124,15 +124,15 @@ uint8_t rtr_normalise_for_slice(const uint8_t *input, size_t input_length,
  * RTR_OK, or RTR_SHORT to RTR_PREFIX, with all fields 0 but `detail`. */
 uint8_t rtr_next(const uint8_t *input, size_t input_length, struct rtr_unit *unit);
 
-/* Writes the written form of the unit to the front of the output, and its length to `written`. Key info
- * and providers are input[part_start .. part_start + part_length). An address is written with the bits
- * after the prefix length clear, a withdrawn ASPA without providers, and an end of data of version 0
- * without timings. `size`, `detail` and what the kind doesn't have are not looked at.
+/* Writes the written form of the unit to the front of the output, and its length to `written`. Key
+ * info and providers are input[part_start .. part_start + part_length). An address is written with the
+ * bits after the prefix length clear, a withdrawn ASPA without providers, and an end of data of
+ * version 0 without timings. `size`, `detail` and what the kind doesn't have are not looked at.
  *
  * RTR_OK; or, with nothing written and `written` 0, in this order:
  *   RTR_UNIT_TYPE        `kind` is none
- *   RTR_NO_FORM          `action` is above 1, or above 0 for an end of data; `family` isn't that of the
- *                        kind; key info or providers lie outside of the input
+ *   RTR_NO_FORM          `action` is above 1, or above 0 for an end of data; `family` isn't that
+ *                        of the kind; key info or providers lie outside of the input
  *   RTR_PREFIX           the lengths of a prefix break their rule
  *   RTR_TOO_LONG         more than 65503 bytes of key info or, announced, 65520 of providers
  *   RTR_UNIT_LENGTH      providers, announced, that aren't 4 bytes each
@@ -142,10 +142,12 @@ uint8_t rtr_next(const uint8_t *input, size_t input_length, struct rtr_unit *uni
 uint8_t rtr_write_unit(const struct rtr_unit *unit, const uint8_t *input, size_t input_length,
                        uint8_t *output, size_t output_length, size_t *written);
 
-/* Whether both inputs begin with sequences that mean the same, of fewer than `limit` payload units each.
+/* Whether both inputs begin with sequences that mean the same, of fewer than `limit` payload units
+ * each.
  *
- * RTR_OK with the answer in `same`. Else `same` is as it was: RTR_SHORT to RTR_PREFIX or RTR_TOO_MANY of
- * the left input, or of the right one where the left is accepted; or RTR_NO_MEMORY. */
+ * RTR_OK with the answer in `same`. Else `same` is as it was: RTR_SHORT to RTR_PREFIX or
+ * RTR_TOO_MANY of the left input, or of the right one where the left is accepted; or
+ * RTR_NO_MEMORY. */
 uint8_t rtr_same_meaning(const uint8_t *left, size_t left_length,
                          const uint8_t *right, size_t right_length,
                          uint64_t limit, bool *same);

@@ -1,5 +1,5 @@
-//! Units and sequences of the RPKI to Router protocol (RFC 6810, RFC 8210) in memory, over the proved
-//! library `rtr_c`.
+//! Units and sequences of the RPKI to Router protocol (RFC 6810, RFC 8210) in memory, over the
+//! proved library `rtr_c`.
 //!
 //! What the functions promise is proved; this wrapper and the declarations in it are not.
 #![deny(unsafe_op_in_unsafe_fn)]
@@ -120,14 +120,15 @@ impl fmt::Display for Stopped {
 
 impl std::error::Error for Stopped {}
 
-/// Normalises the sequence that the input begins with, into the front of the output. At most `limit`
-/// units are taken, the end of data included. An output as long as the input always suffices.
+/// Normalises the sequence that the input begins with, into the front of the output. At most
+/// `limit` units are taken, the end of data included. An output as long as the input always
+/// suffices.
 pub fn normalise(input: &[u8], output: &mut [u8], limit: u64) -> Result<Progress, Stopped> {
     sys::normalise(input, output, limit)
 }
 
-/// As `normalise`, for clients of one protocol version, 0, 1 or 2. An output 12 bytes longer than the
-/// input always suffices.
+/// As `normalise`, for clients of one protocol version, 0, 1 or 2. An output 12 bytes longer than
+/// the input always suffices.
 pub fn normalise_for(
     input: &[u8],
     output: &mut [u8],
@@ -137,8 +138,8 @@ pub fn normalise_for(
     sys::normalise_for(input, output, limit, version)
 }
 
-/// Whether both inputs begin with sequences that mean the same, of fewer than `limit` payload units.
-/// The fault is that of the left input, or of the right one where the left is accepted.
+/// Whether both inputs begin with sequences that mean the same, of fewer than `limit` payload
+/// units. The fault is that of the left input, or of the right one where the left is accepted.
 pub fn same_meaning(left: &[u8], right: &[u8], limit: u64) -> Result<bool, Fault> {
     sys::same_meaning(left, right, limit)
 }
@@ -206,11 +207,11 @@ impl<'a> Unit<'a> {
         ))
     }
 
-    /// Writes the written form to the front of the output, and answers its length in bytes. Host bits of
-    /// an address are cleared, and a withdrawn ASPA is written without providers.
+    /// Writes the written form to the front of the output, and answers its length in bytes. Host
+    /// bits of an address are cleared, and a withdrawn ASPA is written without providers.
     ///
-    /// Faults, in this order: `Prefix`, `TooLong`, `UnitLength`, `EmptyProviders`, `UnitVersion` for an
-    /// end of data; at last `NoRoom`. Nothing is written then.
+    /// Faults, in this order: `Prefix`, `TooLong`, `UnitLength`, `EmptyProviders`, `UnitVersion`
+    /// for an end of data; at last `NoRoom`. Nothing is written then.
     pub fn write(&self, output: &mut [u8]) -> Result<usize, Fault> {
         let (said, part) = self.said();
         sys::write(&said, part, output)
@@ -343,7 +344,8 @@ impl<'a> Content<'a> {
     }
 }
 
-/// The units of an input, one after the other, up to and with the end of data; or to the first fault.
+/// The units of an input, one after the other, up to and with the end of data; or to the first
+/// fault.
 #[derive(Clone, Debug)]
 pub struct Units<'a> {
     rest: &'a [u8],

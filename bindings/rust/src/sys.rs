@@ -141,11 +141,12 @@ pub(crate) fn next(input: &[u8]) -> Result<Unit, Fault> {
     }
 }
 
-/// `part` is the key info or the providers. Of a broken prefix rule the C call doesn't tell the part,
-/// so the caller says what it is.
+/// `part` is the key info or the providers. Of a broken prefix rule the C call doesn't tell the
+/// part, so the caller says what it is.
 pub(crate) fn write(unit: &Unit, part: &[u8], output: &mut [u8]) -> Result<usize, Fault> {
     let mut written = 0;
-    // SAFETY: all slices are live and of these lengths, and the output and the count overlap nothing.
+    // SAFETY: all slices are live and of these lengths, and the output and the count overlap
+    // nothing.
     let status = unsafe {
         rtr_write_unit(
             unit,
@@ -162,7 +163,8 @@ pub(crate) fn write(unit: &Unit, part: &[u8], output: &mut [u8]) -> Result<usize
     }
 }
 
-/// What a status of `rtr_write_unit` tells of: the type, the version or the broken rule of the unit.
+/// What a status of `rtr_write_unit` tells of: the type, the version or the broken rule of the
+/// unit.
 fn refused(unit: &Unit, status: u8) -> u8 {
     let width = if unit.family == 4 { 32 } else { 128 };
     match status {

@@ -1,5 +1,5 @@
-//! The cases that `bindings/cases.py` writes, read from the file that `RTR_CASES` names, and what the
-//! wrapper adds.
+//! The cases that `bindings/cases.py` writes, read from the file that `RTR_CASES` names, and what
+//! the wrapper adds.
 
 use rtr_wire::{normalise, normalise_for, same_meaning, Content, Fault, PrefixRule, Unit, Units};
 use std::net::Ipv4Addr;

@@ -1,9 +1,11 @@
 -- What C is told of a call, in numbers (this library's own).
 use Rattle.std.specs.Prelude.{◌≡◌, ℕ, Bool, Result, Ok, Err}
 use Rattle.rtr_payload.specs.declared.prefix_rule.PrefixRule.{PrefixRule}
-use Rattle.rtr_payload.specs.declared.prefix_rule.PrefixRule.TheVariants.{LenOverflow, MaxOverflow, MaxUnderflow}
+use Rattle.rtr_payload.specs.declared.prefix_rule.PrefixRule.TheVariants.{LenOverflow}
+use Rattle.rtr_payload.specs.declared.prefix_rule.PrefixRule.TheVariants.{MaxOverflow, MaxUnderflow}
 use Rattle.rtr_views.specs.declared.fault.ViewFault.{ViewFault}
-use Rattle.rtr_views.specs.declared.fault.ViewFault.TheVariants.{Writer, Short, UnitType, UnitLength, TooLong, EmptyProviders, UnitVersion, Prefix}
+use Rattle.rtr_views.specs.declared.fault.ViewFault.TheVariants.{Writer, Short, UnitType, UnitLength}
+use Rattle.rtr_views.specs.declared.fault.ViewFault.TheVariants.{TooLong, EmptyProviders, UnitVersion, Prefix}
 use Rattle.rtr_views.specs.declared.fault.ViewFault.TheVariants as faults
 use Rattle.rtr_wire.specs.declared.into.IntoFault.{IntoFault}
 use Rattle.rtr_wire.specs.declared.into.IntoFault.TheVariants.{NoRoom, TooMany, Refused}
@@ -55,7 +57,8 @@ run_detail (Ok done) = 0
 run_detail (Err f) = stop_detail f
 
 -- a run is told: how far it came and how it ended
-pub record Tells (p : Progress) (r : Result Unit IntoFault) (a : RtrAnswer) (code : ℕ) : Type 0 where
+pub record Tells (p : Progress) (r : Result Unit IntoFault) (a : RtrAnswer) (code : ℕ)
+    : Type 0 where
   pub units : a.units ≡ p.units
   pub forms : a.forms ≡ p.forms
   pub taken : a.taken ≡ p.taken

@@ -1,6 +1,7 @@
--- What C is shown of a unit (this library's own; the fields by RFC 8210 sections 5.6 to 5.8 and 5.10,
--- of an ASPA as in the Rust crate).
-use Rattle.std.specs.Prelude.{◌≡◌, ℕ, ◌-◌, ◌%◌, ◌≤◌, List, ◌++◌, length, take, drop, Option, Some, None}
+-- What C is shown of a unit (this library's own; the fields by RFC 8210 sections 5.6 to 5.8 and
+-- 5.10, of an ASPA as in the Rust crate).
+use Rattle.std.specs.Prelude.{◌≡◌, ℕ, ◌-◌, ◌%◌, ◌≤◌, List}
+use Rattle.std.specs.Prelude.{◌++◌, length, take, drop, Option, Some, None}
 use Rattle.std.specs.Prelude.{Result, Ok, Err, slice_index, replicate}
 use Rattle.rtr_base.specs.Addresses.{Family, v4, v6, PrefixParts, resolved_len}
 use Rattle.rtr_base.specs.Bytes.{be, value}

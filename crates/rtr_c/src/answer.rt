@@ -1,7 +1,8 @@
 //! How a call ended, in numbers.
 
 ghost use Rattle.std.specs.Prelude.{◌≡◌};
-ghost use Rattle.rtr_c.specs.Answers.{rule_number, fault_status, fault_detail, stop_status, stop_detail};
+ghost use Rattle.rtr_c.specs.Answers.{rule_number, fault_status, fault_detail};
+ghost use Rattle.rtr_c.specs.Answers.{stop_status, stop_detail};
 
 use rtr_wire::IntoFault;
 use rtr_wire::pdu::{PrefixRule, ViewFault};
@@ -47,9 +48,9 @@ pub struct RtrAnswer {
     pub written: usize,
     /// How the call ended.
     pub status: u8,
-    /// With `UNIT_TYPE` the type and with `UNIT_VERSION` the version that is refused; with `PREFIX` 1
-    /// where the prefix length is above that of an address, 2 where the max length is, 3 where the max
-    /// length is below the prefix length; else 0.
+    /// With `UNIT_TYPE` the type and with `UNIT_VERSION` the version that is refused; with
+    /// `PREFIX` 1 where the prefix length is above that of an address, 2 where the max length is,
+    /// 3 where the max length is below the prefix length; else 0.
     pub detail: u8,
 }
 

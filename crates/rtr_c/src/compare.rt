@@ -13,7 +13,8 @@ use crate::answer::{
 use rtr_wire::pdu::Fault;
 use std::alloc::Global;
 
-/// As `rtr_wire::same_meaning`. Where both inputs are accepted, `same` says whether they mean the same.
+/// As `rtr_wire::same_meaning`. Where both inputs are accepted, `same` says whether they mean the
+/// same.
 #[unsafe(no_mangle)]
 pub extern "C" fn rtr_same_meaning(
     alloc: Global,

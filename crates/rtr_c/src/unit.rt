@@ -27,8 +27,8 @@ pub struct RtrUnit {
     pub expire: u32,
     /// The session of an end of data.
     pub session: u16,
-    /// The type of the unit: 4 and 6 for a prefix, 7 for an end of data, 9 for a router key, 11 for an
-    /// ASPA.
+    /// The type of the unit: 4 and 6 for a prefix, 7 for an end of data, 9 for a router key, 11
+    /// for an ASPA.
     pub kind: u8,
     /// The version of the protocol.
     pub version: u8,
@@ -40,7 +40,8 @@ pub struct RtrUnit {
     pub prefix_length: u8,
     /// The max length.
     pub max_length: u8,
-    /// The address, whose first four bytes count in IPv4. The bits after the prefix length are clear.
+    /// The address, whose first four bytes count in IPv4. The bits after the prefix length are
+    /// clear.
     pub address: [u8; 16],
     /// The subject key identifier of a router key.
     pub key_identifier: [u8; 20],

@@ -25,14 +25,14 @@ const MAX_KEY_INFO: usize = 65503;
 /// The most bytes of providers that an ASPA unit has.
 const MAX_PROVIDERS: usize = 65520;
 
-/// Writes the written form of the unit to the front of the output; key info and providers stand in the
-/// input, where the unit says.
+/// Writes the written form of the unit to the front of the output; key info and providers stand in
+/// the input, where the unit says.
 ///
-/// Statuses, in this order: `UNIT_TYPE` for no kind of unit; `NO_FORM` for an action that is none, a
-/// family that isn't that of the kind, or key info or providers outside the input; then `PREFIX`;
-/// `TOO_LONG` for more than 65503 bytes of key info or 65520 of providers; `UNIT_LENGTH` for providers
-/// that aren't four bytes each; `EMPTY_PROVIDERS`; `UNIT_VERSION` for an end of data; at last
-/// `NO_ROOM`. Nothing is written then.
+/// Statuses, in this order: `UNIT_TYPE` for no kind of unit; `NO_FORM` for an action that is none,
+/// a family that isn't that of the kind, or key info or providers outside the input; then
+/// `PREFIX`; `TOO_LONG` for more than 65503 bytes of key info or 65520 of providers; `UNIT_LENGTH`
+/// for providers that aren't four bytes each; `EMPTY_PROVIDERS`; `UNIT_VERSION` for an end of
+/// data; at last `NO_ROOM`. Nothing is written then.
 #[unsafe(no_mangle)]
 pub extern "C" fn rtr_write_unit(
     unit: &RtrUnit,

@@ -1,6 +1,8 @@
 //! Forms of views, written into a slice.
 
-ghost use Rattle.std.specs.Prelude.{◌≡◌, ◌++◌};
+ghost use Rattle.std.specs.Prelude.{◌≡◌, ◌+◌, ◌<◌, ◌^◌, ◌∷◌, ◌++◌, length};
+ghost use Rattle.rtr_base.specs.Actions.{flags_of};
+ghost use Rattle.rtr_base.specs.Bytes.{be};
 ghost use Rattle.rtr_payload.specs.Payloads.{Meaning};
 ghost use Rattle.rtr_payload.specs.Places.{key_fields, aspa_fields};
 ghost use Rattle.rtr_payload.specs.Units.{meaning, form_of};
@@ -9,16 +11,18 @@ ghost use Rattle.rtr_views.specs.Placing.{Places};
 ghost use Rattle.rtr_views.specs.Views.{ViewMeans, view_form};
 
 use crate::aspa::{AspaView, FIXED};
+use crate::form::flagged_header;
 use crate::origin::OriginView;
 use crate::router_key::RouterKeyView;
 use crate::view::UnitView;
 use rtr_base::payload::Action;
-use rtr_payload::pdu::PrefixUnit;
+use rtr_payload::pdu::{Aspa, PrefixUnit, RouterKey};
 use rtr_units::fixed::{Ipv4Prefix, Ipv6Prefix};
 use rtr_units::unit::Unit;
 
-/// Writes two pieces to the front of the output, the second after the first, and answers their length
-/// in bytes. Where the output is shorter it answers nothing and leaves the output as it was.
+/// Writes two pieces to the front of the output, the second after the first, and answers their
+/// length in bytes. Where the output is shorter it answers nothing and leaves the output as it
+/// was.
 #[inline(always)]
 pub fn place(front: &[u8], back: &[u8], output: &mut [u8]) -> Option<usize>
     ensures { Places result (front.now ++ back.now) output.old output.new }
@@ -30,6 +34,25 @@ pub fn place(front: &[u8], back: &[u8], output: &mut [u8]) -> Option<usize>
     output[..front.len()].copy_from_slice(front);
     output[front.len()..size].copy_from_slice(back);
     Some(size)
+}
+
+/// Writes a router key or an ASPA unit: a header that is made of the fields, and then `rest`,
+/// which is what follows the header.
+#[inline(always)]
+fn place_flagged(
+    version: u8,
+    pdu: u8,
+    action: Action,
+    rest: &[u8],
+    output: &mut [u8],
+) -> Option<usize>
+    requires size { 8 + length rest.now < 2 ^ 32 }
+    ensures form { Places result
+        ((version ∷ pdu ∷ flags_of action ∷ 0 ∷ be (8 + length rest.now) 4) ++ rest.now)
+        output.old output.new }
+{
+    let size = 8 + rest.len() as u32;
+    place(&flagged_header(version, pdu, action, size), rest, output)
 }
 
 impl OriginView {
@@ -55,9 +78,12 @@ impl<'a> RouterKeyView<'a> {
     /// Writes the form of what the unit means.
     #[inline(always)]
     fn place_form(&self, output: &mut [u8]) -> Option<usize>
-        ensures { Places result (form_of (meaning (key_fields self.now.unit.now))) output.old output.new }
+        ensures { Places result (form_of (meaning (key_fields self.now.unit.now)))
+            output.old output.new }
     {
-        place(&self.form_front(), self.key_info(), output)
+        let action = Action::from_flags(self.flags());
+        let rest = &self.unit[8..];
+        place_flagged(self.version(), RouterKey::PDU, action, rest, output)
     }
 }
 
@@ -65,15 +91,16 @@ impl<'a> AspaView<'a> {
     /// Writes the form of what the unit means: of a withdrawal without its providers.
     #[inline(always)]
     fn place_form(&self, output: &mut [u8]) -> Option<usize>
-        ensures { Places result (form_of (meaning (aspa_fields self.now.unit.now))) output.old output.new }
+        ensures { Places result (form_of (meaning (aspa_fields self.now.unit.now)))
+            output.old output.new }
     {
-        match Action::from_flags(self.flags()) {
-            Action::Announce => {
-                let size = self.unit().len() as u32;
-                place(&self.form_front(1, size), self.providers(), output)
-            }
-            Action::Withdraw => place(&self.form_front(0, FIXED), &[], output),
-        }
+        let action = Action::from_flags(self.flags());
+        let kept = match action {
+            Action::Announce => self.unit.len(),
+            Action::Withdraw => FIXED,
+        };
+        let rest = &self.unit[8..kept];
+        place_flagged(self.version(), Aspa::PDU, action, rest, output)
     }
 }
 
@@ -91,8 +118,9 @@ impl<'a> UnitView<'a> {
         }
     }
 
-    /// Writes the form to the front of the output, as `write_form` does to a writer, and answers its
-    /// length in bytes. Where the output is shorter it answers nothing and leaves the output as it was.
+    /// Writes the form to the front of the output, as `write_form` does to a writer, and answers
+    /// its length in bytes. Where the output is shorter it answers nothing and leaves the output
+    /// as it was.
     #[inline(always)]
     pub fn place_form(&self, output: &mut [u8]) -> Option<usize>
         ensures { Places result (view_form self.now) output.old output.new }

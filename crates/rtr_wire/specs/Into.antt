@@ -20,15 +20,15 @@ LacksRoom what rest room = (next left : List ℕ) × (rest ≡ next ++ left)
     × (((m : Meaning) × IsUnit next m × (room < length (forms (what.units (m ∷ [])))))
     ⊎ ((e : EndMeaning) × End next e × (room < length (end_list (what.end e)))))
 
--- why a call stopped after units with these meanings, at the rest of the input, with this room left
--- in the output
+-- why a call stopped after units with these meanings, at the rest of the input, with this room
+-- left in the output
 abbrev pub WhyStopped : Written → ℕ → IntoFault → List Meaning → List ℕ → ℕ → Type 0
 WhyStopped what limit NoRoom ms rest room = (length ms < limit) × LacksRoom what rest room
 WhyStopped what limit TooMany ms rest room = length ms ≡ limit
 WhyStopped what limit (Refused e) ms rest room = (length ms < limit) × IsFirstFault rest e
 
--- what a call did after units with these meanings, of n bytes: it took the end of data and wrote the
--- form of what is written for it, or it stopped
+-- what a call did after units with these meanings, of n bytes: it took the end of data and wrote
+-- the form of what is written for it, or it stopped
 abbrev pub EndsInto : Written → ℕ → Result Unit IntoFault → List Meaning → ℕ → List ℕ → ℕ
     → List ℕ → ℕ → Type 0
 EndsInto what limit (Ok done) ms n rest room written taken =

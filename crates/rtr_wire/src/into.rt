@@ -16,8 +16,8 @@ use rtr_views::fault::ViewFault;
 use rtr_views::placing::place;
 use rtr_views::view::UnitView;
 
-/// How far a call came: whole units taken from the front of the input, and what is written of them at
-/// the front of the output.
+/// How far a call came: whole units taken from the front of the input, and what is written of them
+/// at the front of the output.
 #[derive(Clone, Copy, Debug, PartialEq, Eq)]
 pub struct Progress {
     /// Payload units that were taken.
@@ -42,12 +42,12 @@ pub enum IntoFault {
 }
 
 /// As `normalise_slice`, into a slice. It says how far it came, also where it stops early: what it
-/// wrote then is the form of the whole units before the one that it stopped at, none of whose bytes
-/// count as taken. What follows in the output is as it was.
+/// wrote then is the form of the whole units before the one that it stopped at, none of whose
+/// bytes count as taken. What follows in the output is as it was.
 ///
-/// At most `limit` units are viewed, the end of data included: `TooMany` comes before the next one.
-/// Then `Refused`, with the faults of `UnitView::first`, and then `NoRoom`, which never comes where
-/// the output is at least as long as the input.
+/// At most `limit` units are viewed, the end of data included: `TooMany` comes before the next
+/// one. Then `Refused`, with the faults of `UnitView::first`, and then `NoRoom`, which never comes
+/// where the output is at least as long as the input.
 pub fn normalise_into(
     input: &[u8],
     output: &mut [u8],
@@ -59,9 +59,9 @@ pub fn normalise_into(
     run(Everything, input, output, limit)
 }
 
-/// As `normalise_for`, from a slice into a slice, as `normalise_into`. An end of data of version 0 has
-/// 12 bytes and one of another version 24, so that the output suffices where it is at least 12 bytes
-/// longer than the input.
+/// As `normalise_for`, from a slice into a slice, as `normalise_into`. An end of data of version 0
+/// has 12 bytes and one of another version 24, so that the output suffices where it is at least 12
+/// bytes longer than the input.
 ///
 /// `Refused` with `UnitVersion` comes first for a version above 2, with nothing taken or written.
 pub fn normalise_for_into(
@@ -74,7 +74,8 @@ pub fn normalise_for_into(
         FillsInto (for_version version) limit result.1 input.now output.old output.new result.0 }
     ensures room { version ≤ 2 → length input.now + 12 ≤ length output.old →
         result.1 ≢ Err IntoFault.NoRoom }
-    ensures unknown { 2 < version → refuses_version version result.0 result.1 output.old output.new }
+    ensures unknown { 2 < version →
+        refuses_version version result.0 result.1 output.old output.new }
 {
     if version > LAST_VERSION {
         let none = Progress {
@@ -91,8 +92,8 @@ pub fn normalise_for_into(
     run(ForVersion { version }, input, output, limit)
 }
 
-/// Takes units from the input up to an end of data, and writes for each, and for the end of data, what
-/// is to be written.
+/// Takes units from the input up to an end of data, and writes for each, and for the end of data,
+/// what is to be written.
 #[inline(always)]
 fn run<S: Writing>(
     writing: S,
@@ -179,7 +180,8 @@ fn take_step<S: Writing>(writing: S, rest: &[u8], output: &mut [u8]) -> Result<S
     }
 }
 
-/// The step for units of one type, or of any other: the type is named so that each has code of its own.
+/// The step for units of one type, or of any other: the type is named so that each has code of its
+/// own.
 #[inline(always)]
 fn view_step<const TYPE: u8, S: Writing>(
     writing: S,
