@@ -8,10 +8,11 @@ use Rattle.rtr_base.specs.Addresses.{Family, v4, v6, width, cleared}
 use Rattle.rtr_base.specs.Bytes.{value}
 use Rattle.rtr_base.specs.declared.payload.Timing.{Timing}
 use Rattle.rtr_units.specs.End.{timed_list}
-use Rattle.rtr_units.specs.FixedUnits.{address_bytes}
+use Rattle.rtr_units.specs.PrefixUnits.{address_bytes}
 use Rattle.rtr_payload.specs.Payloads.{origin, key, aspa}
-use Rattle.rtr_payload.specs.Places.{words_of}
-use Rattle.rtr_payload.specs.Steps.{PrefixFault, broken_rule}
+use Rattle.rtr_payload.specs.Providers.{words_of}
+use Rattle.rtr_payload.specs.Steps.{broken_rule}
+use Rattle.rtr_payload.specs.declared.prefix_rule.PrefixRule.{PrefixRule}
 use Rattle.rtr_payload.specs.Units.{form}
 use Rattle.rtr_views.specs.Placing.{Places}
 use Rattle.rtr_c.specs.Shown.{family_number}
@@ -25,7 +26,7 @@ part_said u input =
     else None
 
 -- a form, where the rule on prefix lengths is kept
-abbrev pub unless_broken : Option PrefixFault → List ℕ → Result (List ℕ) ℕ
+abbrev pub unless_broken : Option PrefixRule → List ℕ → Result (List ℕ) ℕ
 unless_broken None f = Ok f
 unless_broken (Some fault) f = Err 7
 
@@ -34,9 +35,13 @@ abbrev pub prefix_said : Family → RtrUnit → Result (List ℕ) ℕ
 prefix_said f u =
     if nat_lt 1 u.action || not (u.family == family_number f) then Err 10
     else unless_broken (broken_rule (width f) u.prefix_length u.max_length)
-    (form u.version u.action (origin f
-    (cleared (width f) u.prefix_length (value (take (address_bytes f) u.address)))
-    u.prefix_length u.max_length u.asn))
+    (form u.version u.action (origin (record {
+      family = f;
+      address = cleared (width f) u.prefix_length (value (take (address_bytes f) u.address));
+      prefix_len = u.prefix_length;
+      max_len = u.max_length;
+      asn = u.asn;
+    })))
 
 -- the form of a router key
 abbrev pub key_said : RtrUnit → Option (List ℕ) → Result (List ℕ) ℕ
@@ -44,18 +49,24 @@ key_said u None = Err 10
 key_said u (Some info) =
     if nat_lt 1 u.action then Err 10
     else if nat_lt 65503 (length info) then Err 4
-    else Ok (form u.version u.action (key u.key_identifier u.asn info))
+    else Ok (form u.version u.action
+    (key (record { identifier = u.key_identifier; asn = u.asn; info = info })))
+
+-- the form of the ASPA that the unit says, with these providers
+abbrev pub aspa_form : RtrUnit → List ℕ → List ℕ
+aspa_form u providers =
+    form u.version u.action (aspa (record { customer = u.customer; providers = providers }))
 
 -- the form of an ASPA unit, without providers where it is withdrawn
 abbrev pub aspa_said : RtrUnit → Option (List ℕ) → Result (List ℕ) ℕ
 aspa_said u None = Err 10
 aspa_said u (Some providers) =
     if nat_lt 1 u.action then Err 10
-    else if u.action == 0 then Ok (form u.version u.action (aspa u.customer []))
+    else if u.action == 0 then Ok (aspa_form u [])
     else if nat_lt 65520 (length providers) then Err 4
     else if not (length providers % 4 == 0) then Err 5
     else if length providers == 0 then Err 6
-    else Ok (form u.version u.action (aspa u.customer (words_of providers)))
+    else Ok (aspa_form u (words_of providers))
 
 -- the timings of an end of data, which has none in version 0
 abbrev pub timing_said : RtrUnit → Option Timing

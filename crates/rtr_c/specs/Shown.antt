@@ -8,7 +8,7 @@ use Rattle.rtr_base.specs.Bytes.{be, value}
 use Rattle.rtr_base.specs.declared.payload.Timing.{Timing}
 use Rattle.rtr_units.specs.End.{EndMeaning}
 use Rattle.rtr_units.specs.Ends.{end_meaning}
-use Rattle.rtr_units.specs.FixedUnits.{prefix_type, address_bytes}
+use Rattle.rtr_units.specs.PrefixUnits.{prefix_type, address_bytes}
 use Rattle.rtr_units.specs.Header.{version_field}
 use Rattle.rtr_payload.specs.declared.payload.RouteOrigin.{RouteOrigin}
 use Rattle.rtr_views.specs.Faults.{IsFirstFault}

@@ -4,8 +4,9 @@ ghost use Rattle.std.specs.Prelude.{◌≡◌, ◌+◌, ◌<◌, ◌^◌, ◌∷
 ghost use Rattle.rtr_base.specs.Actions.{flags_of};
 ghost use Rattle.rtr_base.specs.Bytes.{be};
 ghost use Rattle.rtr_payload.specs.Payloads.{Meaning};
-ghost use Rattle.rtr_payload.specs.Places.{key_fields, aspa_fields};
-ghost use Rattle.rtr_payload.specs.Units.{meaning, form_of};
+ghost use Rattle.rtr_payload.specs.AspaUnits.{aspa_at};
+ghost use Rattle.rtr_payload.specs.KeyUnits.{key_at};
+ghost use Rattle.rtr_payload.specs.Units.{key_unit, aspa_unit, meaning, form_of};
 ghost use Rattle.rtr_views.specs.Origins.{origin_meaning};
 ghost use Rattle.rtr_views.specs.Placing.{Places};
 ghost use Rattle.rtr_views.specs.Views.{ViewMeans, view_form};
@@ -78,7 +79,7 @@ impl<'a> RouterKeyView<'a> {
     /// Writes the form of what the unit means.
     #[inline(always)]
     fn place_form(&self, output: &mut [u8]) -> Option<usize>
-        ensures { Places result (form_of (meaning (key_fields self.now.unit.now)))
+        ensures { Places result (form_of (meaning (key_unit (key_at self.now.unit.now))))
             output.old output.new }
     {
         let action = Action::from_flags(self.flags());
@@ -91,7 +92,7 @@ impl<'a> AspaView<'a> {
     /// Writes the form of what the unit means: of a withdrawal without its providers.
     #[inline(always)]
     fn place_form(&self, output: &mut [u8]) -> Option<usize>
-        ensures { Places result (form_of (meaning (aspa_fields self.now.unit.now)))
+        ensures { Places result (form_of (meaning (aspa_unit (aspa_at self.now.unit.now))))
             output.old output.new }
     {
         let action = Action::from_flags(self.flags());

@@ -4,13 +4,15 @@ use Rattle.std.specs.List.{filter}
 use Rattle.std.proofs.lemmas.Bool.{cond_both}
 use Rattle.std.proofs.lemmas.List.{length-append}
 use Rattle.rtr_base.specs.Actions.{act, flags_of}
-use Rattle.rtr_base.specs.Addresses.{v4, v6}
+use Rattle.rtr_base.specs.Addresses.{Family, v4, v6}
 use Rattle.rtr_base.specs.Bytes.{be, words}
 use Rattle.rtr_base.specs.declared.payload.Action.{Action}
 use Rattle.rtr_base.specs.declared.payload.Action.TheVariants.{Announce, Withdraw}
 use Rattle.rtr_units.specs.End.{EndMeaning, End, end_list, timed_list}
 use Rattle.rtr_payload.specs.Payloads.{Meaning, Payload, origin, key, aspa, smallest_version}
-use Rattle.rtr_payload.specs.Units.{Fields, prefix, router_key, providers, IsUnit, unit_list, named, meaning, form_of}
+use Rattle.rtr_units.specs.PrefixUnits.{PrefixFields, prefix_list}
+use Rattle.rtr_payload.specs.AspaUnits.{aspa_list, meant_aspa}
+use Rattle.rtr_payload.specs.Units.{Fields, prefix_unit, key_unit, aspa_unit, IsUnit, unit_list, meaning, form_of}
 use Rattle.rtr_base.specs.declared.payload.Timing.{Timing}
 use Rattle.rtr_wire.specs.Into.{LacksRoom, FillsInto}
 use Rattle.rtr_wire.specs.Sequences.{AreUnits, Written, everything, for_version, forms, in_version, units_for, end_for}
@@ -20,15 +22,18 @@ use Rattle.rtr_wire.specs.declared.into.Progress.{Progress}
 use Rattle.rtr_wire.proofs.Push.{forms_append}
 
 -- a withdrawal names no providers
-fewer : (v f g z c : ℕ) (a : Action) (ps : List ℕ) → length (unit_list (providers v f 0 c (named a ps))) ≤ length (unit_list (providers v g z c ps))
+fewer : (v f g z c : ℕ) (a : Action) (ps : List ℕ) → length (aspa_list (record { version = v; flags = f; free = 0; aspa = meant_aspa a (record { customer = c; providers = ps }) })) ≤ length (aspa_list (record { version = v; flags = g; free = z; aspa = record { customer = c; providers = ps } }))
 fewer v f g z c Announce ps = omega arith
 fewer v f g z c Withdraw ps = omega (arith, length-append (be c 4) (words ps), length-append (be c 4) (words []))
 
+prefix_fits : (u : PrefixFields) (f : Family) → u.origin.family ≡ f → length (form_of (meaning (prefix_unit u))) ≤ length (prefix_list u)
+prefix_fits u v4 e = rw e (omega arith)
+prefix_fits u v6 e = rw e (omega arith)
+
 form_fits : (u : Fields) → length (form_of (meaning u)) ≤ length (unit_list u)
-form_fits (prefix v4 v s g l x z a n) = omega arith
-form_fits (prefix v6 v s g l x z a n) = omega arith
-form_fits (router_key v g z i n k) = omega arith
-form_fits (providers v g z c ps) = fewer v (flags_of (act g)) g z c (act g) ps
+form_fits (prefix_unit u) = prefix_fits u u.origin.family refl
+form_fits (key_unit u) = omega arith
+form_fits (aspa_unit u) = fewer u.version (flags_of (act u.flags)) u.flags u.free u.aspa.customer (act u.flags) u.aspa.providers
 
 unit_fits : (b : List ℕ) (m : Meaning) → IsUnit b m → length (form_of m) ≤ length b
 unit_fits b m h = omega (arith, form_fits h.fields, ap length h.bytes, ap (λ m. length (form_of m)) h.means)
@@ -38,9 +43,9 @@ same_size : (v : ℕ) (m : Meaning) → length (form_of (in_version v m)) ≡ le
 same_size v m = by_payload m.payload refl
   where
     by_payload : (p : Payload) → m.payload ≡ p → length (form_of (in_version v m)) ≡ length (form_of m)
-    by_payload (origin f a l x n) e = rw e refl
-    by_payload (key i n k) e = rw e refl
-    by_payload (aspa c ps) e = rw e refl
+    by_payload (origin o) e = rw e refl
+    by_payload (key k) e = rw e refl
+    by_payload (aspa a) e = rw e refl
 
 units_fit : (us : List ℕ) (ms : List Meaning) → AreUnits us ms → length (forms ms) ≤ length us
 units_fit us [] h = omega (arith, ap length h)

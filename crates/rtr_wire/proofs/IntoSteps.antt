@@ -6,8 +6,9 @@ use Rattle.rtr_units.specs.End.{EndMeaning, End, end_list}
 use Rattle.rtr_units.specs.Ends.{end_bytes, end_meaning}
 use Rattle.rtr_units.specs.declared.end.EndOfData.{EndOfData}
 use Rattle.rtr_payload.specs.Payloads.{Meaning, smallest_version}
-use Rattle.rtr_payload.specs.Places.{key_fields, aspa_fields}
-use Rattle.rtr_payload.specs.Units.{IsUnit, meaning, form_of}
+use Rattle.rtr_payload.specs.KeyUnits.{key_at}
+use Rattle.rtr_payload.specs.AspaUnits.{aspa_at}
+use Rattle.rtr_payload.specs.Units.{key_unit, aspa_unit, IsUnit, meaning, form_of}
 use Rattle.rtr_views.specs.Origins.{origin_meaning}
 use Rattle.rtr_views.specs.Placing.{Places}
 use Rattle.rtr_views.specs.Views.{IsViewOf, ViewMeans}
@@ -36,8 +37,8 @@ pub record Viewed (v : UnitView) (b : List ℕ) : Type 0 where
 
 pub viewed : (v : UnitView) (b : List ℕ) → ((e : EndOfData) → v ≡ views.End e → ⊥) → IsViewOf v b → Viewed v b
 viewed (views.Origin v) b not is = let m = origin_meaning v in record { m = m; means = refl; unit = view_means (views.Origin v) b m is refl }
-viewed (views.RouterKey v) b not is = let m = meaning (key_fields v.unit.now) in record { m = m; means = refl; unit = view_means (views.RouterKey v) b m is refl }
-viewed (views.Aspa v) b not is = let m = meaning (aspa_fields v.unit.now) in record { m = m; means = refl; unit = view_means (views.Aspa v) b m is refl }
+viewed (views.RouterKey v) b not is = let m = meaning (key_unit (key_at v.unit.now)) in record { m = m; means = refl; unit = view_means (views.RouterKey v) b m is refl }
+viewed (views.Aspa v) b not is = let m = meaning (aspa_unit (aspa_at v.unit.now)) in record { m = m; means = refl; unit = view_means (views.Aspa v) b m is refl }
 viewed (views.End e) b not is = absurd (not e refl)
 
 module _ (what : Written) (has : ℕ → Bool) (to : ℕ → ℕ) (one : OneByOne what has to) (rest : List ℕ) (k : ℕ) (le : k ≤ length rest) (before : List ℕ) where
