@@ -39,8 +39,8 @@ fn flagged_header(version: u8, pdu: u8, action: Action, size: u32) -> [u8; 8]
     header
 }
 
-/// Writes a router key or an ASPA unit: a header that is made of the fields, and then `rest`, which
-/// is what follows the header.
+/// Writes a router key or an ASPA unit: a header that is made of the fields, and then what follows
+/// it, `rest`.
 #[inline(always)]
 pub fn put_flagged<W: Sink>(
     writer: &mut W,
