@@ -158,7 +158,10 @@ pub fn report_on(
 pub fn list<W: io::Write>(input: &[u8], lines: &mut W) -> Result<(), Unlisted> {
     let mut rest = input;
     for _ in 0..input.len() {
-        let (unit, size) = UnitView::first(rest).map_err(Unlisted::Unit)?;
+        let (unit, size) = match UnitView::first(rest) {
+            Ok(first) => first,
+            Err(fault) => return Err(Unlisted::Unit(fault)),
+        };
         write_line(&unit, lines).map_err(Unlisted::Line)?;
         if matches!(unit, UnitView::End(_)) {
             return Ok(());

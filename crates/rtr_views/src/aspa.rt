@@ -19,12 +19,12 @@ use rtr_units::numbers::u32_at;
 use rtr_units::source::Sink;
 
 /// The bytes of an ASPA unit before its providers.
-const FIXED: usize = 12;
+pub(crate) const FIXED: usize = 12;
 
 /// An ASPA unit that lies in a slice.
 #[derive(Clone, Copy, Debug)]
 pub struct AspaView<'a> {
-    unit: &'a [u8],
+    pub(crate) unit: &'a [u8],
     ghost whole: { IsWholeAspa unit.now },
 }
 

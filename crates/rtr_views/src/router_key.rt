@@ -24,7 +24,7 @@ const FIXED: usize = 32;
 /// A router key that lies in a slice.
 #[derive(Clone, Copy, Debug)]
 pub struct RouterKeyView<'a> {
-    unit: &'a [u8],
+    pub(crate) unit: &'a [u8],
     ghost whole: { IsWholeKey unit.now },
 }
 
