@@ -8,16 +8,15 @@ use Rattle.rtr_base.proofs.Numbers.{IsBytes-append, IsBytes-be}
 use Rattle.rtr_units.specs.End.{EndMeaning, End, HasTimingOf, timed_list}
 use Rattle.rtr_units.specs.Ends.{end_bytes, end_meaning, end_unit}
 use Rattle.rtr_units.specs.declared.end.EndOfData.{EndOfData}
-use Rattle.rtr_units.specs.FixedUnits.{bare_list, serial_list, prefix_type, prefix_size}
+use Rattle.rtr_units.specs.Queries.{bare_list, serial_list, serial_field}
+use Rattle.rtr_units.specs.PrefixUnits.{prefix_type, prefix_size, prefix_at}
 use Rattle.rtr_units.specs.Header.{header, version_field, type_field, session_field, length_field}
 use Rattle.rtr_units.specs.Reading.{Kind, of_size, Takes, ReadsAfter}
 use Rattle.rtr_units.proofs.UnitsRead.{sized_from}
-use Rattle.rtr_units.specs.Units.{serial_field}
 use Rattle.rtr_units.specs.Views.{AreBytes}
 use Rattle.rtr_units.proofs.Headers.{header_read, header_bytes, same_header, session_fits}
-use Rattle.rtr_payload.specs.Places.{prefix_fields}
 use Rattle.rtr_payload.specs.UnitKinds.{variable_unit}
-use Rattle.rtr_payload.specs.Units.{Fields, HasFields}
+use Rattle.rtr_payload.specs.Units.{Fields, prefix_unit, HasFields}
 use Rattle.rtr_payload.proofs.FieldsRead.{prefix_has}
 use Rattle.rtr_session.specs.Fields.{AnyFields, serial_notify, serial_query, reset_query, cache_response, payload, end_of_data, cache_reset, error_report, HasAnyFields}
 use Rattle.rtr_session.specs.Reports.{IsReport}
@@ -83,10 +82,10 @@ pub payload_has : (u : List ℕ) (f : Fields) → HasFields u f → HasAnyFields
 payload_has u f has = record { fits = (has.fits, has.limits); bytes = has.bytes; are_bytes = has.are_bytes }
 
 pub prefix_reads : (f : Family) (h u : List ℕ) (old left : Option (List ℕ)) → type_field h ≡ prefix_type f → ReadsAfter (of_size (prefix_size f)) h (Ok u) old left
-    → Takes old left (λ t. u ≡ h ++ t) × HasAnyFields u (payload (prefix_fields f u))
+    → Takes old left (λ t. u ≡ h ++ t) × HasAnyFields u (payload (prefix_unit (prefix_at f u)))
 prefix_reads f h u old left kind r =
     let s = rest_sized (prefix_size f) (prefix_type f) h u old left kind r in
-    (taken_rest (of_size (prefix_size f)) h u old left r, payload_has u (prefix_fields f u) (prefix_has f u s.bytes.1 s.bytes.0 s.kind s.size))
+    (taken_rest (of_size (prefix_size f)) h u old left r, payload_has u (prefix_unit (prefix_at f u)) (prefix_has f u s.bytes.1 s.bytes.0 s.kind s.size))
 
 pub variable_reads : (k : ℕ) (h u : List ℕ) (old left : Option (List ℕ)) (f : Fields) → ReadsAfter (variable_unit k) h (Ok u) old left → HasFields u f
     → Takes old left (λ t. u ≡ h ++ t) × HasAnyFields u (payload f)

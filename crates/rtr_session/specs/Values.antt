@@ -2,8 +2,8 @@
 use Rattle.std.specs.Prelude.{ℕ, List, drop}
 use Rattle.rtr_units.specs.Ends.{end_bytes, end_meaning}
 use Rattle.rtr_units.specs.Header.{version_field, session_field}
-use Rattle.rtr_units.specs.Units.{notify_bytes, query_bytes, reset_query_bytes, response_bytes}
-use Rattle.rtr_units.specs.Units.{cache_reset_bytes, serial_field}
+use Rattle.rtr_units.specs.Queries.{notify_bytes, query_bytes, reset_query_bytes, response_bytes}
+use Rattle.rtr_units.specs.Queries.{cache_reset_bytes, serial_field}
 use Rattle.rtr_payload.specs.UnitValues.{unit_bytes, unit_fields}
 use Rattle.rtr_session.specs.Fields.{AnyFields, serial_notify, serial_query, reset_query}
 use Rattle.rtr_session.specs.Fields.{cache_response, payload, end_of_data, cache_reset}

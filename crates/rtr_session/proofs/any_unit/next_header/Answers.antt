@@ -1,4 +1,4 @@
-use Rattle.std.proofs.Common.{◌≡◌, ◌+◌, ◌-◌, ◌<◌, ◌++◌, ◌∙◌, length, take, drop, sym, arith, length-append, length-drop, length-take-le}
+use Rattle.std.proofs.Common.{◌≡◌, ◌-◌, ◌<◌, ◌++◌, ◌∙◌, length, take, drop, sym, arith, length-append, length-drop, length-take-le}
 use Rattle.std.proofs.KnownBytes.{Consumes-trans}
 use Rattle.rtr_units.specs.Causes.{cause_of}
 use Rattle.rtr_units.proofs.UnitsRead.{short_more}
