@@ -1,11 +1,18 @@
 //! Error reports that are read (RFC 8210 section 5.11, RFC 6810 section 5.10).
 
-ghost use Rattle.std.specs.Prelude.{◌≡◌, nat_eq};
+ghost use Rattle.std.specs.Prelude.{◌≡◌, ◌≤◌, ◌++◌, ℕ, List, length, take, nat_eq, not};
+ghost use Rattle.std.specs.Prelude.{MatchOption};
 ghost use Rattle.std.proofs.Common.{rules};
 ghost use Rattle.std.specs.Cmp.{partial_equiv_from_equiv};
 ghost use Rattle.std.specs.Cmp.Lexicographic.{nat_list_eq_equiv, pointwise};
 ghost use Rattle.std.specs.Cmp.Rules.{hashing};
 ghost use Rattle.std.specs.Hash as fed;
+ghost use Rattle.rtr_base.specs.Bytes.{value};
+ghost use Rattle.rtr_units.specs.Header.{version_field, session_field};
+ghost use Rattle.rtr_units.specs.Stream.{PutsForm, count_after, is_reader_fault, is_writer_fault};
+ghost use Rattle.rtr_units.specs.Views.{header_bytes};
+ghost use Rattle.rtr_session.specs.Reports.{IsReport, HasParts, ReadsReport, ReadsReportAfter};
+ghost use Rattle.rtr_session.specs.Reports.{IsCounted, IsCutShort};
 
 use rtr_base::pdu::ErrorCode;
 use rtr_units::fault::Fault;
@@ -31,13 +38,14 @@ pub struct Report {
 }
 
 impl Model for Report {
-    ghost use Rattle.std.specs.Prelude.{◌≤◌, ℕ, List, length};
+    ghost use Rattle.std.specs.Prelude.{ℕ, List};
+    ghost use Rattle.rtr_session.specs.Reports.{IsReport};
 
     ghost Value = { List ℕ };
 
     ghost view = { λ a. a.bytes.items };
 
-    ghost invariant = { λ a. (16 ≤ length a.bytes.items) × (length a.bytes.items ≤ 65535) };
+    ghost invariant = { λ a. IsReport a.bytes.items };
 }
 
 impl Report {
@@ -48,7 +56,11 @@ impl Report {
     ///
     /// Faults, in this order: `Short` or `Reader` inside the header; those of `read_payload`, of
     /// which `UnitType` and the two after it take the header alone.
-    pub fn read<R: Source>(alloc: Global, reader: &mut R) -> Result<Self, Fault> {
+    pub fn read<R: Source>(alloc: Global, reader: &mut R) -> Result<Self, Fault>
+        ensures bytes { ReadsReport result (R.remaining reader.old) (R.remaining reader.new) }
+        ensures count { R.failures reader.new ≡
+            count_after (R.failures reader.old) (not (is_reader_fault result)) }
+    {
         match Header::read(reader) {
             Ok(header) => Report::read_payload(alloc, header, reader),
             Err(e) => Err(e),
@@ -64,7 +76,12 @@ impl Report {
         alloc: Global,
         header: Header,
         reader: &mut R,
-    ) -> Result<Self, Fault> {
+    ) -> Result<Self, Fault>
+        ensures bytes { ReadsReportAfter (header_bytes header) result (R.remaining reader.old)
+            (R.remaining reader.new) }
+        ensures count { R.failures reader.new ≡
+            count_after (R.failures reader.old) (not (is_reader_fault result)) }
+    {
         if header.pdu() != Report::PDU {
             return Err(Fault::UnitType(header.pdu()));
         }
@@ -88,12 +105,16 @@ impl Report {
     }
 
     /// The version of the protocol.
-    pub fn version(&self) -> u8 {
+    pub fn version(&self) -> u8
+        ensures { result ≡ version_field self.now }
+    {
         self.bytes[0]
     }
 
     /// Why the peer reports an error.
-    pub fn code(&self) -> ErrorCode {
+    pub fn code(&self) -> ErrorCode
+        ensures { result.0 ≡ session_field self.now }
+    {
         ErrorCode(u16_at(self.bytes.as_slice(), 2))
     }
 
@@ -101,37 +122,54 @@ impl Report {
     ///
     /// None where the two lengths inside the report don't fit: a length of four bytes, that unit, a
     /// length of four bytes and the text have to fill the report exactly.
-    pub fn pdu(&self) -> Option<&[u8]> {
+    pub fn pdu(&self) -> Option<&[u8]>
+        ensures { MatchOption result ((p t : List ℕ) → HasParts self.now p t → ⊥)
+            (λ p. (t : List ℕ) × HasParts self.now p.now t) }
+    {
         let (pdu, _) = self.parts()?;
         Some(pdu)
     }
 
     /// The text, which may have no bytes and need not be UTF-8. None where `pdu` answers none.
-    pub fn text(&self) -> Option<&[u8]> {
+    pub fn text(&self) -> Option<&[u8]>
+        ensures { MatchOption result ((p t : List ℕ) → HasParts self.now p t → ⊥)
+            (λ t. (p : List ℕ) × HasParts self.now p t.now) }
+    {
         let (_, text) = self.parts()?;
         Some(text)
     }
 
     /// The number of bytes of the report.
-    pub fn size(&self) -> u32 {
+    pub fn size(&self) -> u32
+        ensures { result ≡ length self.now }
+    {
         self.bytes.len() as u32
     }
 
     /// The bytes of the report.
     pub fn as_ref(&self) -> &[u8]
-        ensures { result.now ≡ self.now }
+        ensures bytes { result.now ≡ self.now }
+        ensures report { IsReport self.now }
     {
         self.bytes.as_slice()
     }
 
     /// Writes the bytes.
-    pub fn write<W: Sink>(&self, writer: &mut W) -> Result<(), Fault> {
+    pub fn write<W: Sink>(&self, writer: &mut W) -> Result<(), Fault>
+        ensures bytes { PutsForm result (W.contents writer.old) (W.contents writer.new) self.now }
+        ensures count { W.failures writer.new ≡
+            count_after (W.failures writer.old) (not (is_writer_fault result)) }
+    {
         put(writer, self.as_ref())
     }
 
     /// The unit that the report speaks of and the text, where their lengths fill the report.
-    fn parts(&self) -> Option<(&[u8], &[u8])> {
-        let (pdu, rest) = counted(&self.bytes[8..])?;
+    fn parts(&self) -> Option<(&[u8], &[u8])>
+        ensures { MatchOption result ((p t : List ℕ) → HasParts self.now p t → ⊥)
+            (λ r. HasParts self.now r.0.now r.1.now) }
+    {
+        let (_, body) = self.bytes.split_at(8);
+        let (pdu, rest) = counted(body)?;
         let (text, rest) = counted(rest)?;
         if rest.is_empty() {
             Some((pdu, text))
@@ -142,7 +180,10 @@ impl Report {
 }
 
 /// As many bytes as a length of four bytes says, which stands before them, and what follows them.
-fn counted(bytes: &[u8]) -> Option<(&[u8], &[u8])> {
+fn counted(bytes: &[u8]) -> Option<(&[u8], &[u8])>
+    ensures { MatchOption result (IsCutShort bytes.now)
+        (λ r. IsCounted bytes.now r.0.now r.1.now) }
+{
     let (size, rest) = bytes.split_at_checked(4)?;
     rest.split_at_checked(u32_at(size, 0) as usize)
 }

@@ -1,0 +1,28 @@
+-- Error reports that are read: a header and the frame after it.
+use Rattle.std.proofs.Common.{◌≡◌, ℕ, ◌+◌, ◌<◌, ◌≤◌, List, [], ◌++◌, length, take, drop, Option, Some, None, refl, sym, ap, ◌∙◌, arith, length-append}
+use Rattle.std.proofs.lemmas.Bool.Decides.{nat_tests}
+use Rattle.std.proofs.lemmas.List.{take_at}
+use Rattle.rtr_base.specs.Bytes.{IsBytes}
+use Rattle.rtr_base.proofs.Numbers.{IsBytes-append}
+use Rattle.rtr_units.specs.Causes.{unit_length}
+use Rattle.rtr_units.specs.Header.{type_field, length_field}
+use Rattle.rtr_units.specs.Views.{AreBytes}
+use Rattle.rtr_units.proofs.Headers.{same_header}
+use Rattle.rtr_session.specs.Headers.{report_fault, report_length}
+use Rattle.rtr_session.specs.Reports.{IsReport}
+
+pub report_in_order : (h : List ℕ) → type_field h ≡ 10 → 16 ≤ length_field h → length_field h ≤ 65535 → report_fault h ≡ None
+report_in_order h kind least most = grind (arith, nat_tests)
+
+pub report_too_short : (h : List ℕ) → type_field h ≡ 10 → length_field h < 16 → report_fault h ≡ Some unit_length
+report_too_short h kind less = grind (arith, nat_tests)
+
+pub report_read : (h t : List ℕ) → AreBytes 8 h → IsBytes t → type_field h ≡ 10 → 16 ≤ length_field h → length_field h ≤ 65535 → length t + 8 ≡ length_field h → IsReport (h ++ t)
+report_read h t (l, hb) tb kind least most size =
+    let same = same_header h t (omega arith) in
+    let all = length-append h t in
+    record { kind = same.kind ∙ kind; size = omega (arith, same.size); least = omega arith; most = omega arith; are_bytes = IsBytes-append h t hb tb }
+
+-- the vector that was filled: the header, and then what was read
+pub frame_is : (n : ℕ) (h a b items : List ℕ) → a ≡ h → length h ≡ 8 → length b + 8 ≡ n → take n ((a ++ b) ++ drop (length (a ++ b)) items) ≡ h ++ b
+frame_is n h a b items e l k = take_at (a ++ b) (drop (length (a ++ b)) items) n (omega (arith, length-append a b, ap length e)) ∙ ap (λ l. l ++ b) e

@@ -1,0 +1,39 @@
+-- What is wrong with the header of a unit, of any type and of an error report alone. The order of
+-- the refusals is this library's own.
+use Rattle.std.specs.Prelude.{ℕ, List, slice_index, Option, Some, None, Bool, not, ◌||◌, ◌==◌}
+use Rattle.std.specs.Prelude.{nat_lt, if◌then◌else◌}
+use Rattle.rtr_units.specs.Causes.{Refusal, unit_type, too_long, unit_length}
+use Rattle.rtr_units.specs.Header.{version_field, type_field, length_field}
+use Rattle.rtr_payload.specs.Steps.{header_fault}
+
+-- the length field n has to be m
+abbrev pub sized : ℕ → ℕ → Option Refusal
+sized m n = if not (n == m) then Some unit_length else None
+
+-- the length field n of an error report: a header and two lengths at least (RFC 8210 section 5.11),
+-- and at most 65535 (that limit as in the Rust crate)
+abbrev pub report_length : ℕ → Option Refusal
+report_length n = if nat_lt 65535 n then Some too_long
+    else if nat_lt n 16 then Some unit_length
+    else None
+
+-- By the version v, the type t, byte 2 and the length field n: serial notify and serial query (RFC
+-- 8210 sections 5.2 and 5.3) have 12 bytes; reset query, cache response and cache reset (sections
+-- 5.4, 5.5 and 5.9) have 8; then error reports; what is wrong with the others is said of payload
+-- units and ends of data, and of the types that no unit has.
+unfoldable pub any_header_fault : ℕ → ℕ → ℕ → ℕ → Option Refusal
+any_header_fault v t g n =
+    if (t == 0) || (t == 1) then sized 12 n
+    else if (t == 2) || (t == 3) || (t == 8) then sized 8 n
+    else if t == 10 then report_length n
+    else header_fault v t g n
+
+-- what is wrong with the header that u begins with, where any type may come
+abbrev pub any_fault : List ℕ → Option Refusal
+any_fault u =
+    any_header_fault (version_field u) (type_field u) (slice_index u 2) (length_field u)
+
+-- what is wrong with the header that u begins with, where an error report has to come
+abbrev pub report_fault : List ℕ → Option Refusal
+report_fault u = if type_field u == 10 then report_length (length_field u)
+    else Some (unit_type (type_field u))

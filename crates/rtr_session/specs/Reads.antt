@@ -1,0 +1,54 @@
+-- What reading a unit of any type leaves, by the bytes that were taken. The order of refusals and
+-- the places where memory is asked for are this library's own.
+use Rattle.std.specs.Prelude.{◌≡◌, ◌⊎◌, ℕ, ◌<◌, List, [], ◌++◌, length, Option, Some, None}
+use Rattle.std.specs.Prelude.{Result, Ok, Err}
+use Rattle.std.specs.Io.KnownBytes.{Consumes, IsAtEnd}
+use Rattle.rtr_units.specs.declared.fault.Fault.{Fault}
+use Rattle.rtr_units.specs.declared.header.Header.{Header}
+use Rattle.rtr_units.specs.Causes.{short, Cause, no_memory, wrong, cause_of}
+use Rattle.rtr_units.specs.Header.{type_field}
+use Rattle.rtr_units.specs.Reads.{Takes}
+use Rattle.rtr_units.specs.Views.{header_bytes}
+use Rattle.rtr_payload.specs.Frames.{StopsInUnit}
+use Rattle.rtr_session.specs.Fields.{HasAnyFields}
+use Rattle.rtr_session.specs.Headers.{any_fault}
+use Rattle.rtr_session.specs.Values.{any_bytes, any_fields}
+use Rattle.rtr_session.specs.declared.any_unit.AnyUnit.{AnyUnit}
+
+-- Memory is asked for where a router key or an ASPA unit is read, and for an error report right
+-- after its header.
+abbrev pub AsksForMemory : List ℕ → Type 0
+AsksForMemory t = (type_field t ≡ 9) ⊎ ((type_field t ≡ 11) ⊎
+    ((type_field t ≡ 10) × (length t ≡ 8)))
+
+-- Why reading a unit of any type stopped where the bytes t of it were there; `left` is what the
+-- reader then has. At the end of input it stopped inside the unit: a byte of it was there.
+abbrev pub StopsInAny : Cause → List ℕ → Option (List ℕ) → Type 0
+StopsInAny no_memory t left = StopsInUnit any_fault no_memory t left × AsksForMemory t
+StopsInAny (wrong short) t left = StopsInUnit any_fault (wrong short) t left × (0 < length t)
+StopsInAny cause t left = StopsInUnit any_fault cause t left
+
+-- not a byte was left
+abbrev pub HasEnded : Option (List ℕ) → Option (List ℕ) → Type 0
+HasEnded old left = Consumes old left [] × IsAtEnd left
+
+-- a header was read, or there was none, or reading stopped inside it
+abbrev pub ReadsHeader : Result (Option Header) Fault → Option (List ℕ) → Option (List ℕ) → Type 0
+ReadsHeader (Ok None) old left = HasEnded old left
+ReadsHeader (Ok (Some h)) old left = Consumes old left (header_bytes h)
+ReadsHeader (Err e) old left = Takes old left (λ t. StopsInAny (cause_of e) t left)
+
+-- a unit was read, or there was none, or reading stopped
+abbrev pub ReadsAny : Result (Option AnyUnit) Fault → Option (List ℕ) → Option (List ℕ) → Type 0
+ReadsAny (Ok None) old left = HasEnded old left
+ReadsAny (Ok (Some u)) old left = Consumes old left (any_bytes u) ×
+    HasAnyFields (any_bytes u) (any_fields u)
+ReadsAny (Err e) old left = Takes old left (λ t. StopsInAny (cause_of e) t left)
+
+-- what follows the header h was read, and the unit made of both, or reading stopped
+abbrev pub ReadsAnyAfter : List ℕ → Result AnyUnit Fault → Option (List ℕ) → Option (List ℕ) →
+    Type 0
+ReadsAnyAfter h (Ok u) old left = Takes old left (λ t. any_bytes u ≡ h ++ t) ×
+    HasAnyFields (any_bytes u) (any_fields u)
+ReadsAnyAfter h (Err e) old left =
+    Takes old left (λ t. StopsInAny (cause_of e) (h ++ t) left)
