@@ -1,3 +1,5 @@
 mod Parts
 mod Headers
 mod Reports
+mod Stops
+mod Units

@@ -1,10 +1,17 @@
 //! A unit of any type.
 
+ghost use Rattle.std.specs.Prelude.{◌≡◌, length, not};
+ghost use Rattle.rtr_units.specs.Header.{version_field};
+ghost use Rattle.rtr_units.specs.Stream.{PutsForm, count_after, is_reader_fault, is_writer_fault};
+ghost use Rattle.rtr_units.specs.Views.{header_bytes};
+ghost use Rattle.rtr_session.specs.Fields.{any_session};
+ghost use Rattle.rtr_session.specs.Reads.{ReadsHeader};
+
 use crate::report::Report;
 use rtr_payload::pdu::{Aspa, Payload, RouterKey};
 use rtr_units::end::EndOfData;
 use rtr_units::fault::Fault;
-use rtr_units::fixed::{EndOfDataV0, EndOfDataV1, Ipv4Prefix, Ipv6Prefix};
+use rtr_units::fixed::{Ipv4Prefix, Ipv6Prefix};
 use rtr_units::header::Header;
 use rtr_units::piece::fill;
 use rtr_units::session::{CacheReset, CacheResponse, ResetQuery, SerialNotify, SerialQuery};
@@ -35,12 +42,19 @@ pub enum AnyUnit {
 }
 
 impl AnyUnit {
+    ghost use Rattle.rtr_session.specs.Reads.{ReadsAny, ReadsAnyAfter};
+    ghost use Rattle.rtr_session.specs.Values.{any_bytes, any_fields};
+
     /// Reads the next unit, or none where not a byte was left.
     ///
     /// Faults, in this order: `Short` or `Reader` inside the header; those of `read_payload`.
     /// `Short` has taken a byte at least. `UnitType`, `UnitVersion`, `TooLong`, `UnitLength` and
     /// `EmptyProviders` take the header alone.
-    pub fn read<R: Source>(alloc: Global, reader: &mut R) -> Result<Option<Self>, Fault> {
+    pub fn read<R: Source>(alloc: Global, reader: &mut R) -> Result<Option<Self>, Fault>
+        ensures bytes { ReadsAny result (R.remaining reader.old) (R.remaining reader.new) }
+        ensures count { R.failures reader.new ≡
+            count_after (R.failures reader.old) (not (is_reader_fault result)) }
+    {
         let header = match next_header(reader) {
             Ok(Some(header)) => header,
             Ok(None) => return Ok(None),
@@ -64,37 +78,51 @@ impl AnyUnit {
         alloc: Global,
         header: Header,
         reader: &mut R,
-    ) -> Result<Self, Fault> {
-        let unit = match header.pdu() {
-            SerialNotify::PDU => AnyUnit::SerialNotify(SerialNotify::read_payload(header, reader)?),
-            SerialQuery::PDU => AnyUnit::SerialQuery(SerialQuery::read_payload(header, reader)?),
-            ResetQuery::PDU => AnyUnit::ResetQuery(ResetQuery::read_payload(header, reader)?),
+    ) -> Result<Self, Fault>
+        ensures bytes { ReadsAnyAfter (header_bytes header) result (R.remaining reader.old)
+            (R.remaining reader.new) }
+        ensures count { R.failures reader.new ≡
+            count_after (R.failures reader.old) (not (is_reader_fault result)) }
+    {
+        match header.pdu() {
+            SerialNotify::PDU => {
+                Ok(AnyUnit::SerialNotify(SerialNotify::read_payload(header, reader)?))
+            }
+            SerialQuery::PDU => {
+                Ok(AnyUnit::SerialQuery(SerialQuery::read_payload(header, reader)?))
+            }
+            ResetQuery::PDU => Ok(AnyUnit::ResetQuery(ResetQuery::read_payload(header, reader)?)),
             CacheResponse::PDU => {
-                AnyUnit::CacheResponse(CacheResponse::read_payload(header, reader)?)
+                Ok(AnyUnit::CacheResponse(CacheResponse::read_payload(header, reader)?))
             }
             Ipv4Prefix::PDU => {
-                AnyUnit::Payload(Payload::V4(Ipv4Prefix::read_payload(header, reader)?))
+                Ok(AnyUnit::Payload(Payload::V4(Ipv4Prefix::read_payload(header, reader)?)))
             }
             Ipv6Prefix::PDU => {
-                AnyUnit::Payload(Payload::V6(Ipv6Prefix::read_payload(header, reader)?))
+                Ok(AnyUnit::Payload(Payload::V6(Ipv6Prefix::read_payload(header, reader)?)))
             }
-            EndOfData::PDU => AnyUnit::EndOfData(EndOfData::read_payload(header, reader)?),
-            CacheReset::PDU => AnyUnit::CacheReset(CacheReset::read_payload(header, reader)?),
+            EndOfData::PDU => Ok(AnyUnit::EndOfData(EndOfData::read_payload(header, reader)?)),
+            CacheReset::PDU => Ok(AnyUnit::CacheReset(CacheReset::read_payload(header, reader)?)),
             RouterKey::PDU => {
                 let unit = RouterKey::read_payload(alloc, header, reader)?;
-                AnyUnit::Payload(Payload::RouterKey(unit))
+                Ok(AnyUnit::Payload(Payload::RouterKey(unit)))
             }
-            Report::PDU => AnyUnit::Error(Report::read_payload(alloc, header, reader)?),
+            Report::PDU => Ok(AnyUnit::Error(Report::read_payload(alloc, header, reader)?)),
             Aspa::PDU => {
-                AnyUnit::Payload(Payload::Aspa(Aspa::read_payload(alloc, header, reader)?))
+                let unit = Aspa::read_payload(alloc, header, reader)?;
+                Ok(AnyUnit::Payload(Payload::Aspa(unit)))
             }
-            pdu => return Err(Fault::UnitType(pdu)),
-        };
-        Ok(unit)
+            pdu => Err(Fault::UnitType(pdu)),
+        }
     }
 
     /// Writes all bytes of the unit.
-    pub fn write<W: Sink>(&self, writer: &mut W) -> Result<(), Fault> {
+    pub fn write<W: Sink>(&self, writer: &mut W) -> Result<(), Fault>
+        ensures bytes { PutsForm result (W.contents writer.old) (W.contents writer.new)
+            (any_bytes self.now) }
+        ensures count { W.failures writer.new ≡
+            count_after (W.failures writer.old) (not (is_writer_fault result)) }
+    {
         match self {
             AnyUnit::SerialNotify(unit) => unit.write(writer),
             AnyUnit::SerialQuery(unit) => unit.write(writer),
@@ -107,15 +135,18 @@ impl AnyUnit {
         }
     }
 
-    /// The version of the protocol.
-    pub fn version(&self) -> u8 {
+    /// The version of the protocol, as the first byte has it.
+    pub fn version(&self) -> u8
+        ensures { result ≡ version_field (any_bytes self.now) }
+    {
         match self {
             AnyUnit::SerialNotify(unit) => unit.version(),
             AnyUnit::SerialQuery(unit) => unit.version(),
             AnyUnit::ResetQuery(unit) => unit.version(),
             AnyUnit::CacheResponse(unit) => unit.version(),
             AnyUnit::Payload(unit) => unit.version(),
-            AnyUnit::EndOfData(unit) => unit.version(),
+            AnyUnit::EndOfData(EndOfData::V0(unit)) => unit.version(),
+            AnyUnit::EndOfData(EndOfData::V1(unit)) => unit.version(),
             AnyUnit::CacheReset(unit) => unit.version(),
             AnyUnit::Error(report) => report.version(),
         }
@@ -123,7 +154,9 @@ impl AnyUnit {
 
     /// The session, of the units that name one: serial notify, serial query, cache response and end
     /// of data. Where it stands the others have other things.
-    pub fn session(&self) -> Option<u16> {
+    pub fn session(&self) -> Option<u16>
+        ensures { result ≡ any_session (any_fields self.now) }
+    {
         match self {
             AnyUnit::SerialNotify(unit) => Some(unit.session()),
             AnyUnit::SerialQuery(unit) => Some(unit.session()),
@@ -137,26 +170,32 @@ impl AnyUnit {
     }
 
     /// The number of bytes of the unit.
-    pub fn size(&self) -> u32 {
+    pub fn size(&self) -> u32
+        ensures { result ≡ length (any_bytes self.now) }
+    {
         match self {
-            AnyUnit::SerialNotify(_) => SerialNotify::size(),
-            AnyUnit::SerialQuery(_) => SerialQuery::size(),
-            AnyUnit::ResetQuery(_) => ResetQuery::size(),
-            AnyUnit::CacheResponse(_) => CacheResponse::size(),
-            AnyUnit::Payload(Payload::V4(_)) => Ipv4Prefix::size(),
-            AnyUnit::Payload(Payload::V6(_)) => Ipv6Prefix::size(),
+            AnyUnit::SerialNotify(unit) => unit.as_ref().len() as u32,
+            AnyUnit::SerialQuery(unit) => unit.as_ref().len() as u32,
+            AnyUnit::ResetQuery(unit) => unit.as_ref().len() as u32,
+            AnyUnit::CacheResponse(unit) => unit.as_ref().len() as u32,
+            AnyUnit::Payload(Payload::V4(unit)) => unit.as_ref().len() as u32,
+            AnyUnit::Payload(Payload::V6(unit)) => unit.as_ref().len() as u32,
             AnyUnit::Payload(Payload::RouterKey(unit)) => unit.size(),
             AnyUnit::Payload(Payload::Aspa(unit)) => unit.size(),
-            AnyUnit::EndOfData(EndOfData::V0(_)) => EndOfDataV0::size(),
-            AnyUnit::EndOfData(EndOfData::V1(_)) => EndOfDataV1::size(),
-            AnyUnit::CacheReset(_) => CacheReset::size(),
+            AnyUnit::EndOfData(EndOfData::V0(unit)) => unit.as_ref().len() as u32,
+            AnyUnit::EndOfData(EndOfData::V1(unit)) => unit.as_ref().len() as u32,
+            AnyUnit::CacheReset(unit) => unit.as_ref().len() as u32,
             AnyUnit::Error(report) => report.size(),
         }
     }
 }
 
 /// The next header, or none where not a byte was left.
-fn next_header<R: Source>(reader: &mut R) -> Result<Option<Header>, Fault> {
+fn next_header<R: Source>(reader: &mut R) -> Result<Option<Header>, Fault>
+    ensures bytes { ReadsHeader result (R.remaining reader.old) (R.remaining reader.new) }
+    ensures count { R.failures reader.new ≡
+        count_after (R.failures reader.old) (not (is_reader_fault result)) }
+{
     let mut header = Header::default();
     let bytes = header.as_mut();
     match reader.read(bytes) {
