@@ -109,6 +109,18 @@ impl Checker {
 
     fn payload(&mut self, unit: &Payload) -> Result<(), AllocError> {
         self.version(unit.version())?;
+        let bytes = unit.as_partial_slice();
+        match unit {
+            Payload::V4(_) | Payload::V6(_) => {
+                self.reserved(bytes, 2, 4)?;
+                self.flags(unit.flags())?;
+                self.reserved(bytes, 11, 12)?;
+            }
+            Payload::RouterKey(_) | Payload::Aspa(_) => {
+                self.flags(unit.flags())?;
+                self.reserved(bytes, 3, 4)?;
+            }
+        }
         match unit {
             Payload::V4(unit) => self.ipv4(unit),
             Payload::V6(unit) => self.ipv6(unit),
@@ -125,9 +137,6 @@ impl Checker {
     }
 
     fn ipv4(&mut self, unit: &Ipv4Prefix) -> Result<(), AllocError> {
-        self.reserved(unit.as_ref(), 2, 4)?;
-        self.flags(unit.flags())?;
-        self.reserved(unit.as_ref(), 11, 12)?;
         match ipv4_prefix(unit.prefix_bits(), unit.prefix_len(), unit.max_len()) {
             Ok(prefix) => {
                 self.host_bits(prefix, IpAddr::V4(unit.prefix()))?;
@@ -139,9 +148,6 @@ impl Checker {
     }
 
     fn ipv6(&mut self, unit: &Ipv6Prefix) -> Result<(), AllocError> {
-        self.reserved(unit.as_ref(), 2, 4)?;
-        self.flags(unit.flags())?;
-        self.reserved(unit.as_ref(), 11, 12)?;
         match ipv6_prefix(unit.prefix_bits(), unit.prefix_len(), unit.max_len()) {
             Ok(prefix) => {
                 self.host_bits(prefix, IpAddr::V6(unit.prefix()))?;
@@ -171,7 +177,6 @@ impl Checker {
         if unit.version() == 0 {
             self.find(Finding::Lacks(0))?;
         }
-        self.flags(unit.flags())?;
         let info = unit.key_info().clone()?;
         let key = payload::Payload::router_key(unit.key_identifier().into(), unit.asn(), info);
         self.count(Action::from_flags(unit.flags()), key)
@@ -181,7 +186,6 @@ impl Checker {
         if unit.version() < 2 {
             self.find(Finding::Lacks(unit.version()))?;
         }
-        self.flags(unit.flags())?;
         if !ascend(unit.providers()) {
             self.find(Finding::ProviderOrder)?;
         }

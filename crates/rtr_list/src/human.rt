@@ -45,12 +45,18 @@ fn describe_payload(alloc: Global, line: &mut String, unit: &Payload) -> Result<
         Payload::V4(unit) => {
             let (prefix, len, max_len) = (unit.prefix(), unit.prefix_len(), unit.max_len());
             let asn = unit.asn().into_u32();
-            write!(line, "IPv4 prefix {action} {prefix}/{len}-{max_len} AS{asn}")
+            write!(
+                line,
+                "IPv4 prefix {action} {prefix}/{len}-{max_len} AS{asn}"
+            )
         }
         Payload::V6(unit) => {
             let (prefix, len, max_len) = (unit.prefix(), unit.prefix_len(), unit.max_len());
             let asn = unit.asn().into_u32();
-            write!(line, "IPv6 prefix {action} {prefix}/{len}-{max_len} AS{asn}")
+            write!(
+                line,
+                "IPv6 prefix {action} {prefix}/{len}-{max_len} AS{asn}"
+            )
         }
         Payload::RouterKey(unit) => describe_key(alloc, line, action, unit),
         Payload::Aspa(unit) => describe_aspa(line, action, unit),

@@ -9,12 +9,14 @@ use rtr_units::end::EndOfData;
 use rtr_units::fixed::{Ipv4Prefix, Ipv6Prefix};
 use rtr_units::unit::Unit;
 use std::alloc::{AllocError, Global};
+use std::fmt::Write;
 use std::str;
 
 /// Writes what the unit says.
 pub fn describe(
     alloc: Global,
     line: Vec<u8>,
+    scratch: &mut String,
     offset: u64,
     unit: &AnyUnit,
 ) -> Result<Vec<u8>, AllocError> {
@@ -27,7 +29,7 @@ pub fn describe(
     if let Some(session) = unit.session() {
         number(&mut out, "session_id", u64::from(session))?;
     }
-    fields(alloc, &mut out, unit)?;
+    fields(alloc, &mut out, scratch, unit)?;
     out.end_object()?;
     Ok(out.into_inner())
 }
@@ -49,43 +51,85 @@ fn kind(unit: &AnyUnit) -> &'static str {
     }
 }
 
-fn fields(alloc: Global, out: &mut Writer, unit: &AnyUnit) -> Result<(), AllocError> {
+fn fields(
+    alloc: Global,
+    out: &mut Writer,
+    scratch: &mut String,
+    unit: &AnyUnit,
+) -> Result<(), AllocError> {
     match unit {
         AnyUnit::SerialNotify(unit) => number(out, "serial_number", u64::from(unit.serial().0)),
         AnyUnit::SerialQuery(unit) => number(out, "serial_number", u64::from(unit.serial().0)),
-        AnyUnit::ResetQuery(unit) => number(out, "zero", u64::from(unit.session())),
+        AnyUnit::ResetQuery(unit) => zeros(out, &[unit.session()]),
         AnyUnit::CacheResponse(_) => Ok(()),
-        AnyUnit::Payload(unit) => payload_fields(alloc, out, unit),
+        AnyUnit::Payload(unit) => payload_fields(alloc, out, scratch, unit),
         AnyUnit::EndOfData(unit) => end_fields(out, unit),
-        AnyUnit::CacheReset(unit) => number(out, "zero", u64::from(unit.session())),
+        AnyUnit::CacheReset(unit) => zeros(out, &[unit.session()]),
         AnyUnit::Error(report) => report_fields(alloc, out, report),
     }
 }
 
-fn payload_fields(alloc: Global, out: &mut Writer, unit: &Payload) -> Result<(), AllocError> {
+fn payload_fields(
+    alloc: Global,
+    out: &mut Writer,
+    scratch: &mut String,
+    unit: &Payload,
+) -> Result<(), AllocError> {
     number(out, "flags", u64::from(unit.flags()))?;
     text(out, "action", name(unit.action()))?;
+    payload_zeros(out, unit)?;
     match unit {
-        Payload::V4(unit) => ipv4_fields(alloc, out, unit),
-        Payload::V6(unit) => ipv6_fields(alloc, out, unit),
+        Payload::V4(unit) => ipv4_fields(out, scratch, unit),
+        Payload::V6(unit) => ipv6_fields(out, scratch, unit),
         Payload::RouterKey(unit) => key_fields(alloc, out, unit),
         Payload::Aspa(unit) => aspa_fields(out, unit),
     }
 }
 
-fn ipv4_fields(alloc: Global, out: &mut Writer, unit: &Ipv4Prefix) -> Result<(), AllocError> {
+/// The reserved fields: bytes 2 and 3 and byte 11 of a prefix unit, byte 3 of the others.
+fn payload_zeros(out: &mut Writer, unit: &Payload) -> Result<(), AllocError> {
+    let bytes = unit.as_partial_slice();
+    let byte = |place: usize| u16::from(bytes.get(place).copied().unwrap_or(0));
+    match unit {
+        Payload::V4(unit) => zeros(out, &[unit.session(), byte(11)]),
+        Payload::V6(unit) => zeros(out, &[unit.session(), byte(11)]),
+        Payload::RouterKey(_) | Payload::Aspa(_) => zeros(out, &[byte(3)]),
+    }
+}
+
+/// The fields that RFC 8210 calls zero, in their order.
+fn zeros(out: &mut Writer, fields: &[u16]) -> Result<(), AllocError> {
+    out.key("zero")?;
+    out.begin_array()?;
+    for field in fields {
+        out.u64(u64::from(*field))?;
+    }
+    out.end_array()
+}
+
+fn ipv4_fields(
+    out: &mut Writer,
+    scratch: &mut String,
+    unit: &Ipv4Prefix,
+) -> Result<(), AllocError> {
     let prefix = unit.prefix();
-    let prefix = format!(in alloc; "{prefix}")?;
-    text(out, "prefix", prefix.as_str())?;
+    scratch.clear();
+    write!(scratch, "{prefix}")?;
+    text(out, "prefix", scratch.as_str())?;
     number(out, "prefix_length", u64::from(unit.prefix_len()))?;
     number(out, "max_length", u64::from(unit.max_len()))?;
     number(out, "asn", u64::from(unit.asn().into_u32()))
 }
 
-fn ipv6_fields(alloc: Global, out: &mut Writer, unit: &Ipv6Prefix) -> Result<(), AllocError> {
+fn ipv6_fields(
+    out: &mut Writer,
+    scratch: &mut String,
+    unit: &Ipv6Prefix,
+) -> Result<(), AllocError> {
     let prefix = unit.prefix();
-    let prefix = format!(in alloc; "{prefix}")?;
-    text(out, "prefix", prefix.as_str())?;
+    scratch.clear();
+    write!(scratch, "{prefix}")?;
+    text(out, "prefix", scratch.as_str())?;
     number(out, "prefix_length", u64::from(unit.prefix_len()))?;
     number(out, "max_length", u64::from(unit.max_len()))?;
     number(out, "asn", u64::from(unit.asn().into_u32()))

@@ -6,6 +6,7 @@ mod finding;
 mod human;
 mod json_line;
 mod line;
+mod printer;
 mod run;
 
 use rtr_units::source::Counted;
