@@ -8,6 +8,10 @@ use Rattle.std.specs.declared.net.ip_addr.IpAddr.TheVariants.{V4, V6}
 use Rattle.std.specs.Net.Addr.{ipv4_octets, ipv6_octets, ipv4_bits, ipv6_bits}
 use Rattle.std.specs.Ordering.{nat_cmp, ordering_then}
 use Rattle.rtr_base.specs.Bytes.{be}
+use Rattle.rtr_base.specs.declared.addr.PrefixError.{PrefixError}
+use Rattle.rtr_base.specs.declared.addr.PrefixError.TheVariants.{LenOverflow, NonZeroHost}
+use Rattle.rtr_base.specs.declared.addr.MaxLenError.{MaxLenError}
+use Rattle.rtr_base.specs.declared.addr.MaxLenError.TheVariants.{Overflow, Underflow}
 
 -- a family of addresses
 pub data Family : Type 0 where
@@ -57,10 +61,30 @@ abbrev pub ip_number : IpAddr → ℕ
 ip_number (V4 a) = ipv4_bits a
 ip_number (V6 a) = ipv6_bits a
 
+-- the family of the address
+abbrev pub ip_family : IpAddr → Family
+ip_family (V4 a) = v4
+ip_family (V6 a) = v6
+
 -- the address is that of the prefix
 abbrev pub IsAddressOf : PrefixParts → IpAddr → Type 0
 IsAddressOf p (V4 a) = (p.family ≡ v4) × (ipv4_octets a ≡ be p.address 4)
 IsAddressOf p (V6 a) = (p.family ≡ v6) × (ipv6_octets a ≡ be p.address 16)
+
+-- the address as it is, with this length
+abbrev pub prefix_at : IpAddr → ℕ → PrefixParts
+prefix_at a l = record { family = ip_family a; address = ip_number a; len = l }
+
+-- why an address and a length are no prefix
+abbrev pub BreaksPrefix : PrefixParts → PrefixError → Type 0
+BreaksPrefix p LenOverflow = width p.family < p.len
+BreaksPrefix p NonZeroHost =
+    (p.len ≤ width p.family) × ¬ (cleared (width p.family) p.len p.address ≡ p.address)
+
+-- why a max length doesn't go with a prefix
+abbrev pub BreaksMaxLen : PrefixParts → ℕ → MaxLenError → Type 0
+BreaksMaxLen p x Overflow = width p.family < x
+BreaksMaxLen p x Underflow = x < p.len
 
 -- ---- order, which is this library's own
 

@@ -2,7 +2,9 @@ pub mod Actions
 pub mod Addresses
 pub mod Bytes
 pub mod Numerals
+pub mod PlainTexts
 pub mod PrefixOrder
+pub mod ReadTexts
 pub mod Serial
 pub mod States
 pub mod Texts

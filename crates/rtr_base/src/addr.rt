@@ -1,6 +1,6 @@
 //! Prefixes of IP addresses.
 
-ghost use Rattle.std.specs.Prelude.{◌≡◌, ◌≤◌, ◌<◌, ◌↔◌, Option, IfOk, IfErr, IsErrOf, IsOk, IfSome};
+ghost use Rattle.std.specs.Prelude.{◌≡◌, ◌≤◌, ◌<◌, ◌↔◌, Option, IfOk, IfErr, IsErrOf, IsOk, IfSome, None};
 ghost use Rattle.std.specs.Prelude.{IsSomeAnd, refl};
 ghost use Rattle.std.specs.Cmp.{partial_equiv_from_equiv, eq_by_cmp_equiv};
 ghost use Rattle.std.specs.Cmp.{partial_order_from_agreeing_total};
@@ -8,7 +8,7 @@ ghost use Rattle.std.specs.Ordering.{eq_by_cmp, as_partial_cmp};
 ghost use Rattle.std.specs.Net.Addr.{ipv4_bits, ipv6_bits};
 ghost use Rattle.rtr_base.specs.Addresses.{v4, v6, width, cleared, v4_test, IsPrefix};
 ghost use Rattle.rtr_base.specs.Addresses.{IsMaxLenPrefix, IsAddressOf, ip_number, resolved_len};
-ghost use Rattle.rtr_base.specs.Addresses.{prefix_cmp};
+ghost use Rattle.rtr_base.specs.Addresses.{prefix_at, prefix_cmp, BreaksPrefix};
 ghost use Rattle.rtr_base.specs.PrefixOrder.{prefix_total};
 
 use std::cmp::Ordering;
@@ -69,6 +69,18 @@ impl fmt::Display for PrefixError {
 impl Error for PrefixError {}
 
 impl Prefix {
+    /// The prefix of this address and length. Host bits have to be zero.
+    pub fn new(addr: IpAddr, len: u8) -> Result<Self, PrefixError>
+        ensures ok { IfOk result (λ p. p ≡ prefix_at addr len) }
+        ensures valid { IfOk result IsPrefix }
+        ensures broken { IfErr result (BreaksPrefix (prefix_at addr len)) }
+    {
+        match addr {
+            IpAddr::V4(addr) => Prefix::new_v4(addr, len),
+            IpAddr::V6(addr) => Prefix::new_v6(addr, len),
+        }
+    }
+
     /// The IPv4 prefix of this address and length.
     pub fn new_v4(addr: Ipv4Addr, len: u8) -> Result<Self, PrefixError>
         ensures ok { IfOk result (λ p. p ≡
@@ -293,6 +305,19 @@ impl fmt::Display for MaxLenError {
 }
 
 impl Error for MaxLenError {}
+
+impl From<Prefix> for MaxLenPrefix {
+    ghost from_gives = { λ prefix p. (p ≡ record { prefix = prefix; max_len = None })
+        × IsMaxLenPrefix p };
+
+    /// The prefix alone, without a max length.
+    fn from(prefix: Prefix) -> Self {
+        MaxLenPrefix {
+            prefix,
+            max_len: None,
+        }
+    }
+}
 
 impl MaxLenPrefix {
     /// The prefix with this max length.

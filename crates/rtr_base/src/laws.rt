@@ -1,8 +1,18 @@
 //! Laws of serial numbers, and the constants of this crate.
 
-ghost use Rattle.std.specs.Prelude.{◌≡◌, ℕ, ◌+◌, ◌%◌, ◌^◌, ◌<◌, ◌↔◌, None, Some};
+ghost use Rattle.std.specs.Prelude.{◌≡◌, ℕ, ◌+◌, ◌%◌, ◌^◌, ◌<◌, ◌↔◌, None, Some, List, length};
+ghost use Rattle.std.specs.Prelude.{Ok, Result};
 ghost use Rattle.std.specs.Ordering.{nat_cmp};
 ghost use Rattle.std.specs.declared.cmp.Ordering.TheVariants.{Equal};
+ghost use Rattle.hex.specs.Hex.{encode_lower};
+ghost use Rattle.rtr_base.specs.Addresses.{IsMaxLenPrefix, IsPrefix, MaxLenParts, PrefixParts};
+ghost use Rattle.rtr_base.specs.Bytes.{IsBytes};
+ghost use Rattle.rtr_base.specs.PlainTexts.{asn_text, max_len_text, prefix_text};
+ghost use Rattle.rtr_base.specs.ReadTexts.{ParsesAsn, ParsesKey, ParsesMaxLen, ParsesPrefix};
+ghost use Rattle.rtr_base.specs.declared.parse.ParseAsnError.{ParseAsnError};
+ghost use Rattle.rtr_base.specs.declared.parse.ParseKeyIdentifierError.{ParseKeyIdentifierError};
+ghost use Rattle.rtr_base.specs.declared.parse.ParseMaxLenPrefixError.{ParseMaxLenPrefixError};
+ghost use Rattle.rtr_base.specs.declared.parse.ParsePrefixError.{ParsePrefixError};
 ghost use Rattle.rtr_base.specs.Serial.{serial_cmp, serial_distance, reversed};
 
 use crate::pdu::ErrorCode;
@@ -38,4 +48,16 @@ pub fn serial_reversed()
 pub fn serial_half_circle()
     ensures { (a m n : ℕ) → a < 2 ^ 32 → m < 2 ^ 31 → n < 2 ^ 31 →
         serial_cmp ((a + m) % 2 ^ 32) ((a + n) % 2 ^ 32) ≡ Some (nat_cmp m n) }
+{}
+
+/// `FromStr` gives back what `Display` wrote: on the text of a value its answer is that value.
+pub fn texts_read_back()
+    ensures asn { (n : ℕ) (read : Result ℕ ParseAsnError) → n < 2 ^ 32 →
+        ParsesAsn (asn_text n) read → read ≡ Ok n }
+    ensures prefix { (p : PrefixParts) (read : Result PrefixParts ParsePrefixError) → IsPrefix p →
+        ParsesPrefix (prefix_text p) read → read ≡ Ok p }
+    ensures max_len { (p : MaxLenParts) (read : Result MaxLenParts ParseMaxLenPrefixError) →
+        IsMaxLenPrefix p → ParsesMaxLen (max_len_text p) read → read ≡ Ok p }
+    ensures key { (bytes : List ℕ) (read : Result (List ℕ) ParseKeyIdentifierError) →
+        length bytes ≡ 20 → IsBytes bytes → ParsesKey (encode_lower bytes) read → read ≡ Ok bytes }
 {}

@@ -6,6 +6,8 @@ mod addresses;
 #[cfg(test)]
 mod serials;
 #[cfg(test)]
+mod texts;
+#[cfg(test)]
 mod values;
 
 #[cfg(test)]

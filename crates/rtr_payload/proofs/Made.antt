@@ -1,11 +1,10 @@
 -- What a written form means when it is read again.
-use Rattle.std.proofs.Common.{◌≡◌, ℕ, Option, Some, None, refl, sym, ap, subst, ◌∙◌}
+use Rattle.std.proofs.Common.{◌≡◌, ℕ, Option, Some, None, refl, sym, ap, ◌∙◌}
 use Rattle.std.specs.Prelude.{IsSome}
 use Rattle.rtr_base.specs.Actions.{act}
 use Rattle.rtr_base.specs.declared.payload.Action.{Action}
-use Rattle.rtr_units.specs.Causes.{Refusal, short, unit_type, unit_version, too_long, unit_length, empty_providers, refused, Cause, by_reader, by_writer, too_many, no_memory, wrong}
+use Rattle.rtr_units.specs.Causes.{short, unit_type, unit_version, too_long, unit_length, empty_providers, refused, Cause, by_reader, by_writer, too_many, no_memory, wrong}
 use Rattle.rtr_units.specs.Header.{version_field}
-use Rattle.rtr_units.specs.Units.{ipv4_bytes, ipv6_bytes}
 use Rattle.rtr_payload.specs.Payloads.{Payload, origin, key, aspa, Meaning, IsPayload}
 use Rattle.rtr_payload.specs.Steps.{rule_of}
 use Rattle.rtr_payload.specs.Units.{Fields, prefix, router_key, providers, LengthsAgree, meaning, written, stripped}

@@ -1,141 +1,111 @@
--- Reading a unit behind its header.
-use Rattle.std.proofs.Common.{◌≡◌, ℕ, ◌+◌, ◌<◌, ◌≤◌, List, [], ◌++◌, length, Option, Some, None, Result, Ok, Err, refl, sym, ap, subst, ◌∙◌, append-nil, get_or, arith, ◌⊎◌, inr}
+-- Reading a unit after its header.
+use Rattle.std.proofs.Common.{◌≡◌, ℕ, ◌≤◌, List, [], ◌++◌, length, Option, Some, None, Result, Ok, Err, refl, sym, ap, subst, ◌∙◌, get_or, arith, ◌⊎◌, inr}
 use Rattle.std.proofs.lemmas.Bool.Decides.{nat_tests}
-use Rattle.std.proofs.lemmas.List.{length-append}
-use Rattle.std.specs.Io.KnownBytes.{Consumes}
-use Rattle.std.proofs.KnownBytes.{Consumes-trans}
+use Rattle.std.proofs.KnownBytes.{Consumes-nil}
+use Rattle.std.proofs.lemmas.Bool.{cases_lt}
+use Rattle.std.proofs.Common.{cond, eqb, ltb, inl}
 use Rattle.rtr_base.specs.Addresses.{Family, v4, v6}
-use Rattle.rtr_units.specs.Causes.{Refusal, short, unit_type, unit_version, too_long, unit_length, empty_providers, refused, Cause, by_reader, by_writer, too_many, no_memory, wrong, cause_of}
-use Rattle.rtr_units.specs.declared.end.EndOfData.{EndOfData}
-use Rattle.rtr_units.specs.End.{End}
-use Rattle.rtr_units.specs.Ends.{end_bytes, end_meaning, end_length, HasEndHeader, ReadsEnd, StopsEnd}
+use Rattle.rtr_units.specs.Causes.{Refusal, short, unit_type, unit_version, too_long, unit_length, empty_providers, refused, Cause, by_reader, by_writer, too_many, no_memory, wrong}
+use Rattle.rtr_units.specs.Ends.{end_unit}
 use Rattle.rtr_units.specs.FixedUnits.{prefix_type, prefix_size}
 use Rattle.rtr_units.specs.Header.{version_field, type_field, length_field}
-use Rattle.rtr_units.specs.Reads.{Takes, ReadsRest, StopsRest}
-use Rattle.rtr_units.specs.Stream.{FallsShort}
+use Rattle.rtr_units.specs.Reading.{of_size, IsPart, AsksAfter, Reads, ReadsAfter, by_bytes}
 use Rattle.rtr_units.specs.declared.fault.Fault.{Fault}
-use Rattle.rtr_units.specs.declared.fault.Fault.TheVariants.{Reader, Short}
+use Rattle.rtr_units.proofs.UnitsRead.{AlikeAfter, read_alike, at_header}
 use Rattle.rtr_units.specs.Views.{AreBytes}
 use Rattle.rtr_units.proofs.Headers.{same_header}
-use Rattle.rtr_payload.specs.Frames.{fault_as, StopsInUnit}
+use Rattle.rtr_payload.specs.UnitKinds.{variable_unit, payload_unit}
 use Rattle.rtr_payload.specs.Places.{prefix_fields}
-use Rattle.rtr_payload.specs.Reads.{IsPartial, IsRefused, IsVariable, StopsReadingUnit, IsReport}
-use Rattle.rtr_payload.specs.UnitValues.{unit_bytes, unit_fields, ReadsAfter, NeedsMemory, HasNoPayload}
+use Rattle.rtr_payload.specs.PrivateCalls.{IsReport}
+use Rattle.rtr_payload.specs.Refusals.{IsPartial, IsRefused}
+use Rattle.rtr_payload.specs.UnitValues.{unit_bytes, unit_fields, NeedsMemory, HasNoPayload}
 use Rattle.rtr_payload.specs.declared.pdu_payload.Payload.{Payload}
 use Rattle.rtr_payload.specs.declared.pdu_payload.Payload.TheVariants.{V4, V6, RouterKey, Aspa}
-use Rattle.std.specs.Prelude.{IsSome, MatchResult}
+use Rattle.std.specs.Prelude.{IsSome, IfOk, IsTrue}
 use Rattle.rtr_payload.specs.Steps.{PrefixFault, header_fault, header_step, rule_of, refusal_report}
 use Rattle.rtr_payload.specs.Units.{Fields, HasFields}
-use Rattle.rtr_payload.proofs.Frames.{Whole, shape_whole}
-use Rattle.rtr_payload.proofs.Refusals.{header_short, unit_short, body_short, header_refused}
-use Rattle.rtr_payload.proofs.Wholes.{body_whole, prefix_whole}
+use Rattle.rtr_payload.proofs.Frames.{shape_whole}
+use Rattle.rtr_payload.proofs.Refusals.{header_short, unit_short, header_refused}
+use Rattle.rtr_payload.proofs.Wholes.{prefix_whole}
 
 -- ---- headers by their type
-
-prefix_sized : (f : Family) (v g n : ℕ) → n ≡ prefix_size f → header_fault v (prefix_type f) g n ≡ None
-unfolding header_fault
-prefix_sized v4 v g n h = rw h refl
-prefix_sized v6 v g n h = rw h refl
-
-prefix_unsized : (f : Family) (v g n : ℕ) → ¬ (n ≡ prefix_size f) → header_fault v (prefix_type f) g n ≡ Some unit_length
-unfolding header_fault
-prefix_unsized v4 v g n h = grind (arith, nat_tests)
-prefix_unsized v6 v g n h = grind (arith, nat_tests)
 
 unknown_type : (v t g n : ℕ) → ¬ (t ≡ 4) → ¬ (t ≡ 6) → ¬ (t ≡ 7) → ¬ (t ≡ 9) → ¬ (t ≡ 11) → header_fault v t g n ≡ Some (unit_type t)
 unfolding header_fault
 unknown_type v t g n a b c d e = grind (arith, nat_tests)
 
--- ---- behind a header
+-- ---- what is wrong with a unit, by its kind
 
--- no whole header came
-pub header_stops : (f : Fault) (a b : Option (List ℕ)) → FallsShort f a b 8 → Takes a b (λ t. StopsReadingUnit (cause_of f) t b)
-header_stops Short a b (t, took, less, end) = (t, took, (header_short t less, end))
-header_stops (Reader e) a b (t, took, less, stop) = (t, took, header_short t less)
-header_stops f a b (t, took, less, stop) = absurd stop
+-- what a header says, by its type
+step_of : (k : ℕ) (u : List ℕ) → type_field u ≡ k → (variable_unit k).fault u ≡ header_step u
+step_of k u kind = rw kind refl
 
--- the header h was taken, and reading on behind it stopped
-pub behind : (h : List ℕ) (P Q : List ℕ → Type 0) (a b c : Option (List ℕ)) → Consumes a b h → Takes b c P → ((t : List ℕ) → P t → Q (h ++ t)) → Takes a c Q
-behind h P Q a b c took (t, taken, p) so = (h ++ t, Consumes-trans a b c h t took taken, so t p)
-
--- ---- a prefix unit behind its header h
-
-module _ (f : Family) (h : List ℕ) (is : AreBytes 8 h) (kind : type_field h ≡ prefix_type f) where
-  in_order : length_field h ≡ prefix_size f → header_step h ≡ None
-  in_order n = rw kind (prefix_sized f (version_field h) (get_or h 2 0) (length_field h) n)
-
-  part : (t : List ℕ) → length_field h ≡ prefix_size f → 8 + length t < prefix_size f → IsPartial (h ++ t)
-  part t n less = body_short h t is.0 (in_order n) (omega (arith, n))
-
-  length_refused : ¬ (length_field h ≡ prefix_size f) → IsRefused h unit_length
-  length_refused n = header_refused h unit_length is.0 (rw kind (prefix_unsized f (version_field h) (get_or h 2 0) (length_field h) n))
-
-  pub prefix_stops : (c : Cause) (t : List ℕ) (left : Option (List ℕ)) → StopsRest (prefix_size f) h c t left → StopsReadingUnit c (h ++ t) left
-  prefix_stops by_reader t left (n, less) = part t n less
-  prefix_stops by_writer t left s = absurd s
-  prefix_stops too_many t left s = absurd s
-  prefix_stops no_memory t left s = absurd s
-  prefix_stops (wrong short) t left (n, less, end) = (part t n less, end)
-  prefix_stops (wrong unit_length) t left (n, none) = subst (λ l. IsRefused l unit_length) (sym (ap (λ t. h ++ t) none ∙ append-nil h)) (length_refused n)
-  prefix_stops (wrong (unit_type k)) t left s = absurd s
-  prefix_stops (wrong (unit_version v)) t left s = absurd s
-  prefix_stops (wrong too_long) t left s = absurd s
-  prefix_stops (wrong empty_providers) t left s = absurd s
-  prefix_stops (wrong (refused r)) t left s = absurd s
-
-  pub prefix_reads : (u : List ℕ) (a b c : Option (List ℕ)) → Consumes a b h → ReadsRest (prefix_size f) h u b c → Consumes a c u × HasFields u (prefix_fields f u)
-  prefix_reads u a b c took (n, head, all, (t, taken, e)) =
-      let size : 8 + length t ≡ length_field h = omega (arith, n, all.0, ap length e, length-append h t, is.0) in
-      let whole : Whole u = subst Whole (sym e) (body_whole h t is.0 (in_order n) size) in
-      let same = same_header h t (omega (arith, is.0)) in
-      (subst (Consumes a c) (sym e) (Consumes-trans a b c h t took taken), prefix_whole f u all.1 whole (ap type_field e ∙ same.kind ∙ kind))
-
--- the unit u of the family f, whose rest was read behind the header h, or reading stopped
-module _ (f : Family) (u : Payload) (bytes : List ℕ) (n : ℕ) (same : unit_bytes u ≡ bytes) (fields : unit_fields u ≡ prefix_fields f bytes) (size : n ≡ prefix_size f) where
-  pub prefix_after : {T : Type 0} (h : List ℕ) → type_field h ≡ prefix_type f → (r : Result T Fault) (a b : Option (List ℕ)) → MatchResult r (λ x. ReadsRest n h bytes a b) (λ e. Takes a b (λ t. StopsRest n h (cause_of e) t b)) → MatchResult r (λ x. ReadsAfter h (Ok (Ok (Some u))) a b) (λ e. ReadsAfter h (Err e) a b)
-  prefix_after h kind (Ok x) a b reads = λ is before took. rw (same, fields) (prefix_reads f h is kind bytes before a b took (subst (λ n. ReadsRest n h bytes a b) size reads))
-  prefix_after h kind (Err e) a b stops = λ is before took. behind h _ _ before a b took stops (λ t s. prefix_stops f h is kind (cause_of e) t b (subst (λ n. StopsRest n h (cause_of e) t b) size s))
-
--- ---- an end of data behind its header h
-
-end_sized : (v g n : ℕ) → v ≤ 2 → n ≡ end_length v → header_fault v 7 g n ≡ None
+size_step : (f : Family) (v g n : ℕ) → cond (eqb n (prefix_size f)) None (Some unit_length) ≡ header_fault v (prefix_type f) g n
 unfolding header_fault
-end_sized v g n le h = grind (arith, nat_tests)
+size_step v4 v g n = grind (arith, nat_tests)
+size_step v6 v g n = grind (arith, nat_tests)
 
-end_unsized : (v g n : ℕ) → v ≤ 2 → ¬ (n ≡ end_length v) → header_fault v 7 g n ≡ Some unit_length
+prefix_step : (f : Family) (u : List ℕ) → type_field u ≡ prefix_type f → (of_size (prefix_size f)).fault u ≡ header_step u
+prefix_step f u kind = size_step f (version_field u) (get_or u 2 0) (length_field u) ∙ step_of (prefix_type f) u kind
+
+ends_step : (v g n : ℕ) → cond (ltb 2 v) (Some (unit_version v)) (cond (eqb n (cond (eqb v 0) 12 24)) None (Some unit_length)) ≡ header_fault v 7 g n
 unfolding header_fault
-end_unsized v g n le h = grind (arith, nat_tests)
+ends_step v g n = grind (arith, nat_tests)
 
-end_versioned : (v g n : ℕ) → 2 < v → header_fault v 7 g n ≡ Some (unit_version v)
-unfolding header_fault
-end_versioned v g n lt = grind (arith, nat_tests)
+end_step : (u : List ℕ) → type_field u ≡ 7 → end_unit.fault u ≡ header_step u
+end_step u kind = ends_step (version_field u) (get_or u 2 0) (length_field u) ∙ step_of 7 u kind
 
-module _ (h : List ℕ) (is : AreBytes 8 h) (kind : type_field h ≡ 7) where
-  end_in_order : HasEndHeader h → header_step h ≡ None
-  end_in_order has = rw kind (end_sized (version_field h) (get_or h 2 0) (length_field h) has.0 has.1)
+module _ (h : List ℕ) (long : 8 ≤ length h) where
+  kind_after : (k : ℕ) (t : List ℕ) → type_field h ≡ k → type_field (h ++ t) ≡ k
+  kind_after k t kind = (same_header h t long).kind ∙ kind
 
-  -- a header that is refused, behind which nothing was taken
-  end_refused : (f : Refusal) (t : List ℕ) → t ≡ [] → header_fault (version_field h) 7 (get_or h 2 0) (length_field h) ≡ Some f → IsRefused (h ++ t) f
-  end_refused f t none e = subst (λ l. IsRefused l f) (sym (ap (λ t. h ++ t) none ∙ append-nil h)) (header_refused h f is.0 (rw kind e))
+  pub prefix_alike : (f : Family) → type_field h ≡ prefix_type f → AlikeAfter (of_size (prefix_size f)) payload_unit h
+  prefix_alike f kind = record { fault = λ t. prefix_step f (h ++ t) (kind_after (prefix_type f) t kind); asks = λ t asks. absurd cc }
 
-  pub end_stops : (c : Cause) (t : List ℕ) (left : Option (List ℕ)) → StopsEnd h c t left → StopsReadingUnit c (h ++ t) left
-  end_stops by_reader t left (has, less) = body_short h t is.0 (end_in_order has) less
-  end_stops by_writer t left s = absurd s
-  end_stops too_many t left s = absurd s
-  end_stops no_memory t left s = absurd s
-  end_stops (wrong short) t left (has, less, end) = (body_short h t is.0 (end_in_order has) less, end)
-  end_stops (wrong unit_length) t left (le, n, none) = end_refused unit_length t none (end_unsized (version_field h) (get_or h 2 0) (length_field h) le n)
-  end_stops (wrong (unit_version v)) t left (e, lt, none) =
-      end_refused (unit_version v) t none (subst (λ v. header_fault (version_field h) 7 (get_or h 2 0) (length_field h) ≡ Some (unit_version v)) (sym e) (end_versioned (version_field h) (get_or h 2 0) (length_field h) (omega arith)))
-  end_stops (wrong (unit_type k)) t left s = absurd s
-  end_stops (wrong too_long) t left s = absurd s
-  end_stops (wrong empty_providers) t left s = absurd s
-  end_stops (wrong (refused r)) t left s = absurd s
+  pub end_alike : type_field h ≡ 7 → AlikeAfter end_unit payload_unit h
+  end_alike kind = record { fault = λ t. end_step (h ++ t) (kind_after 7 t kind); asks = λ t asks. absurd cc }
 
-  pub end_reads : (e : EndOfData) (a b c : Option (List ℕ)) → Consumes a b h → ReadsEnd h e b c → Consumes a c (end_bytes e) × End (end_bytes e) (end_meaning e)
-  end_reads e a b c took (has, (t, taken, is), version, end) = (subst (Consumes a c) (sym is) (Consumes-trans a b c h t took taken), end kind)
+  pub key_alike : type_field h ≡ 9 → AlikeAfter (variable_unit 9) payload_unit h
+  key_alike kind = record { fault = λ t. step_of 9 (h ++ t) (kind_after 9 t kind); asks = λ t asks. rw (kind_after 9 t kind) refl }
 
--- ---- a router key or an ASPA unit, by the bytes u of it that were there
+  pub aspa_alike : type_field h ≡ 11 → AlikeAfter (variable_unit 11) payload_unit h
+  aspa_alike kind = record { fault = λ t. step_of 11 (h ++ t) (kind_after 11 t kind); asks = λ t asks. rw (kind_after 11 t kind) refl }
+
+-- ---- a prefix unit after its header h
+
+module _ (f : Family) (h u : List ℕ) (kind : type_field h ≡ prefix_type f) where
+  prefix_fields_read : (a b : Option (List ℕ)) → ReadsAfter (of_size (prefix_size f)) h (Ok u) a b → HasFields u (prefix_fields f u)
+  prefix_fields_read a b (is, ((t, took, parts), whole)) =
+      let l : 8 ≤ length h = omega (arith, is.0) in
+      let kind_u : type_field u ≡ prefix_type f = ap type_field parts ∙ kind_after h l (prefix_type f) t kind in
+      let order : header_step u ≡ None = sym (prefix_step f u kind_u) ∙ whole.in_order in
+      prefix_whole f u whole.are_bytes (record { long = whole.header; in_order = order; size = sym whole.size }) kind_u
+
+-- the unit u of the family f, whose rest was read after the header h, or reading stopped
+module _ (f : Family) (u : Payload) (bytes : List ℕ) (n : ℕ) (same : unit_bytes u ≡ bytes) (fields : unit_fields u ≡ prefix_fields f bytes) (size : n ≡ prefix_size f) (h : List ℕ) (kind : type_field h ≡ prefix_type f) where
+  pub prefix_after : (r : Result (List ℕ) Cause) (a b : Option (List ℕ)) → ReadsAfter (of_size n) h r a b → ReadsAfter payload_unit h r a b
+  prefix_after r a b (is, reads) = (is, read_alike (of_size (prefix_size f)) payload_unit h r a b (prefix_alike h (omega (arith, is.0)) f kind) (subst (λ n. Reads (of_size n) h r a b) size reads))
+
+  pub prefix_has_fields : {T : Type 0} (r : Result T Fault) (a b : Option (List ℕ)) → ReadsAfter (of_size n) h (by_bytes (λ x. bytes) r) a b → IfOk r (λ x. HasFields (unit_bytes u) (unit_fields u))
+  prefix_has_fields (Ok x) a b reads = rw (same, fields) (prefix_fields_read f h bytes kind a b (subst (λ n. ReadsAfter (of_size n) h (Ok bytes) a b) size reads))
+  prefix_has_fields (Err e) a b reads = tt
+
+-- ---- a unit of a kind by its type, after its header h
+
+pub end_after : (h : List ℕ) (r : Result (List ℕ) Cause) (a b : Option (List ℕ)) → type_field h ≡ 7 → ReadsAfter end_unit h r a b → ReadsAfter payload_unit h r a b
+end_after h r a b kind (is, reads) = (is, read_alike end_unit payload_unit h r a b (end_alike h (omega (arith, is.0)) kind) reads)
+
+pub key_after : (h : List ℕ) (r : Result (List ℕ) Cause) (a b : Option (List ℕ)) → type_field h ≡ 9 → ReadsAfter (variable_unit 9) h r a b → ReadsAfter payload_unit h r a b
+key_after h r a b kind (is, reads) = (is, read_alike (variable_unit 9) payload_unit h r a b (key_alike h (omega (arith, is.0)) kind) reads)
+
+pub aspa_after : (h : List ℕ) (r : Result (List ℕ) Cause) (a b : Option (List ℕ)) → type_field h ≡ 11 → ReadsAfter (variable_unit 11) h r a b → ReadsAfter payload_unit h r a b
+aspa_after h r a b kind (is, reads) = (is, read_alike (variable_unit 11) payload_unit h r a b (aspa_alike h (omega (arith, is.0)) kind) reads)
+
+-- a header of no unit that is read
+pub none_after : (h : List ℕ) (t : ℕ) (a : Option (List ℕ)) → AreBytes 8 h → type_field h ≡ t → ¬ (t ≡ 4) → ¬ (t ≡ 6) → ¬ (t ≡ 7) → ¬ (t ≡ 9) → ¬ (t ≡ 11) → ReadsAfter payload_unit h (Err (wrong (unit_type t))) a a
+none_after h t a is kind n4 n6 n7 n9 n11 = (is, ([], Consumes-nil a, at_header payload_unit (unit_type t) h is.0 (sym (step_of t h kind) ∙ unknown_type (version_field h) t (get_or h 2 0) (length_field h) n4 n6 n7 n9 n11)))
+
+-- ---- where reading stopped, by the steps
 
 never_short : (v t g n : ℕ) → header_fault v t g n ≡ Some short → ⊥
 unfolding header_fault
@@ -145,40 +115,26 @@ never_report : (v t g n : ℕ) (report : List ℕ) → header_fault v t g n ≡ 
 unfolding header_fault
 never_report v t g n report e = grind (arith, nat_tests)
 
-module _ (k : ℕ) (u : List ℕ) (kind : type_field u ≡ k) (long : 8 ≤ length u) where
-  step_is : (o : Option Refusal) → fault_as k u ≡ o → header_step u ≡ o
-  step_is o e = rw kind e
+pub no_report : (h report : List ℕ) → header_step h ≡ Some (refused report) → ⊥
+no_report h report e = never_report (version_field h) (type_field h) (get_or h 2 0) (length_field h) report e
 
-  variable_stops : (c : Cause) (left : Option (List ℕ)) → (k ≡ 9) ⊎ (k ≡ 11) → StopsInUnit (fault_as k) c u left → StopsReadingUnit c u left
-  variable_stops by_reader left some part = let p = part long in unit_short u long (step_is None p.0) p.1
-  variable_stops by_writer left some s = absurd s
-  variable_stops too_many left some s = absurd s
-  variable_stops no_memory left some (there, e, place) = record { whole_header = long; kind = rw kind some; in_order = step_is None e; place = place }
-  variable_stops (wrong short) left some (part, end) = let p = part long in (unit_short u long (step_is None p.0) p.1, end)
-  variable_stops (wrong (refused report)) left some (eight, e) = absurd (never_report (version_field u) k (get_or u 2 0) (length_field u) report e)
-  variable_stops (wrong (unit_type t)) left some (eight, e) = header_refused u (unit_type t) eight (step_is (Some (unit_type t)) e)
-  variable_stops (wrong (unit_version v)) left some (eight, e) = header_refused u (unit_version v) eight (step_is (Some (unit_version v)) e)
-  variable_stops (wrong too_long) left some (eight, e) = header_refused u too_long eight (step_is (Some too_long) e)
-  variable_stops (wrong unit_length) left some (eight, e) = header_refused u unit_length eight (step_is (Some unit_length) e)
-  variable_stops (wrong empty_providers) left some (eight, e) = header_refused u empty_providers eight (step_is (Some empty_providers) e)
+pub part_short : (h : List ℕ) → IsPart payload_unit h → IsPartial h
+part_short h part = elim (cases_lt (length h) 8) [
+  | inl less ↦ header_short h less
+  | inr long ↦ let p = part long in unit_short h long p.0 p.1
+]
 
-module _ (k : ℕ) (h : List ℕ) (is : AreBytes 8 h) (kind : type_field h ≡ k) (some : (k ≡ 9) ⊎ (k ≡ 11)) where
-  pub behind_stops : (c : Cause) (left : Option (List ℕ)) (t : List ℕ) → StopsInUnit (fault_as k) c (h ++ t) left → StopsReadingUnit c (h ++ t) left
-  behind_stops c left t s = variable_stops k (h ++ t) ((same_header h t (omega (arith, is.0))).kind ∙ kind) (omega (arith, length-append h t, is.0)) c left some s
+pub stop_refused : (h : List ℕ) (f : Refusal) → (length h ≡ 8) × (header_step h ≡ Some f) → IsRefused h f
+stop_refused h f (eight, e) = header_refused h f eight e
 
-  pub behind_reads : (u : List ℕ) (a b c : Option (List ℕ)) → Consumes a b h → Takes b c (λ t. u ≡ h ++ t) → Consumes a c u
-  behind_reads u a b c took (t, taken, e) = subst (Consumes a c) (sym e) (Consumes-trans a b c h t took taken)
-
--- ---- a header of no unit that is read
-
-pub type_refused : (h : List ℕ) (t : ℕ) → AreBytes 8 h → type_field h ≡ t → ¬ (t ≡ 4) → ¬ (t ≡ 6) → ¬ (t ≡ 7) → ¬ (t ≡ 9) → ¬ (t ≡ 11) → IsRefused h (unit_type t)
-type_refused h t is kind a b c d e = header_refused h (unit_type t) is.0 (rw kind (unknown_type (version_field h) t (get_or h 2 0) (length_field h) a b c d e))
+pub asks_kind : (h : List ℕ) → IsTrue (payload_unit.asks h) → (type_field h ≡ 9) ⊎ (type_field h ≡ 11)
+asks_kind h e = grind (arith, nat_tests)
 
 -- the whole of a router key or an ASPA unit
-pub shape_variable : (b : List ℕ) (u : Fields) → HasFields b u → (type_field b ≡ 9) ⊎ (type_field b ≡ 11) → IsVariable b
-shape_variable b u h kind =
+pub shape_asks : (b : List ℕ) (u : Fields) → HasFields b u → (type_field b ≡ 9) ⊎ (type_field b ≡ 11) → AsksAfter payload_unit b
+shape_asks b u h kind =
     let w = shape_whole b u h in
-    record { whole_header = w.long; kind = kind; in_order = w.in_order; place = inr (sym w.size) }
+    record { header = w.long; asks = elim kind [ inl e ↦ rw e refl | inr e ↦ rw e refl ]; in_order = w.in_order; place = inr (sym w.size) }
 
 -- ---- a prefix unit that breaks the rule on its lengths
 

@@ -6,7 +6,7 @@ use Rattle.std.proofs.lemmas.List.{length-append, length-take-le, take-append-dr
 use Rattle.rtr_units.specs.Causes.{Refusal, short, unit_type, unit_version, too_long, unit_length, empty_providers, refused}
 use Rattle.rtr_units.specs.Header.{version_field, type_field, length_field}
 use Rattle.rtr_units.proofs.Headers.{same_header}
-use Rattle.rtr_payload.specs.Reads.{IsPartial, IsRefused}
+use Rattle.rtr_payload.specs.Refusals.{IsPartial, IsRefused}
 use Rattle.rtr_payload.specs.Steps.{PrefixFault, header_fault, header_step, length_step, lengths_fault, frame_fault, first_of, first_unit, taken, rule_of, refuse, refusal_report}
 use Rattle.rtr_payload.specs.Units.{Fields, HasFields}
 use Rattle.rtr_payload.proofs.Frames.{Whole, behind_header, same_step, shape_fault, shape_cut}

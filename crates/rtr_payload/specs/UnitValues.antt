@@ -1,20 +1,15 @@
 -- What the values of payload units are: their bytes, and the fields that stand in them.
-use Rattle.std.specs.Prelude.{◌≡◌, ◌≤◌, slice_index, List, ℕ, Option, Some, None, Result, Ok, Err}
+use Rattle.std.specs.Prelude.{◌≡◌, ◌≤◌, slice_index, List, [], ℕ, Option, Some, None, Result, Ok, Err}
 use Rattle.std.specs.Prelude.{IsSome}
-use Rattle.std.specs.Io.KnownBytes.{Consumes}
 use Rattle.rtr_base.specs.Addresses.{v4, v6}
 use Rattle.rtr_base.specs.declared.payload.Action.{Action}
-use Rattle.rtr_units.specs.Causes.{refused, Cause, no_memory, wrong, cause_of}
+use Rattle.rtr_units.specs.Causes.{refused, Cause, no_memory, wrong}
 use Rattle.rtr_units.specs.End.{End}
 use Rattle.rtr_units.specs.Header.{version_field}
-use Rattle.rtr_units.specs.Reads.{Takes}
 use Rattle.rtr_units.specs.Units.{ipv4_bytes, ipv6_bytes}
-use Rattle.rtr_units.specs.Views.{AreBytes}
 use Rattle.rtr_units.specs.Ends.{end_bytes, end_meaning}
 use Rattle.rtr_units.specs.declared.end.EndOfData.{EndOfData}
-use Rattle.rtr_units.specs.declared.fault.Fault.{Fault}
 use Rattle.rtr_payload.specs.Places.{prefix_fields, key_fields, aspa_fields}
-use Rattle.rtr_payload.specs.Reads.{StopsReadingUnit}
 use Rattle.rtr_payload.specs.Steps.{PrefixFault, rule_of, refusal_report}
 use Rattle.rtr_payload.specs.Units.{Fields, HasFields, LengthsAgree, form, meaning, written}
 use Rattle.rtr_payload.specs.Values.{payload_of}
@@ -45,22 +40,17 @@ pub record IsWritten (v f : ℕ) (p : Meant) (u : Payload) : Type 0 where
   pub bytes : unit_bytes u ≡ form v f p
   pub fields : unit_fields u ≡ written v f p
 
--- what reading one unit or end of data leaves
-abbrev pub ReadsPayload : Result (Result (Option Payload) EndOfData) Fault → Option (List ℕ) →
-    Option (List ℕ) → Type 0
-ReadsPayload (Ok (Ok (Some u))) old new = Consumes old new (unit_bytes u) ×
-    HasFields (unit_bytes u) (unit_fields u)
-ReadsPayload (Ok (Ok None)) old new = ⊥
-ReadsPayload (Ok (Err d)) old new = Consumes old new (end_bytes d) ×
-    End (end_bytes d) (end_meaning d)
-ReadsPayload (Err f) old new = Takes old new (λ h. StopsReadingUnit (cause_of f) h new)
+-- the bytes of what is read where a payload unit or an end of data may stand
+abbrev pub answer_bytes : Result (Option Payload) EndOfData → List ℕ
+answer_bytes (Ok (Some u)) = unit_bytes u
+answer_bytes (Ok None) = []
+answer_bytes (Err d) = end_bytes d
 
--- what reading on after the header h leaves, said of all that was taken: of h, which was taken
--- before, and of what follows it
-abbrev pub ReadsAfter : List ℕ → Result (Result (Option Payload) EndOfData) Fault →
-    Option (List ℕ) → Option (List ℕ) → Type 0
-ReadsAfter h r old new = AreBytes 8 h → (before : Option (List ℕ)) → Consumes before old h →
-    ReadsPayload r before new
+-- they are a unit with the fields that stand in it, or an end of data with its meaning
+abbrev pub IsAnswer : Result (Option Payload) EndOfData → Type 0
+IsAnswer (Ok (Some u)) = HasFields (unit_bytes u) (unit_fields u)
+IsAnswer (Ok None) = ⊥
+IsAnswer (Err d) = End (end_bytes d) (end_meaning d)
 
 -- an origin whose max length was given
 abbrev pub HasMaxLen : Value → Type 0

@@ -1,17 +1,18 @@
 //! The ASPA unit (as in the Rust crate).
 
 ghost use Rattle.std.specs.Prelude.{◌≡◌, ◌≤◌, ◌+◌, ◌%◌, ◌++◌, length, take, drop, slice_index};
-ghost use Rattle.std.specs.Prelude.{nat_eq, IfOk, not};
+ghost use Rattle.std.specs.Prelude.{nat_eq, IfOk, not, []};
 ghost use Rattle.std.specs.Cmp.{partial_equiv_from_equiv};
 ghost use Rattle.std.specs.Cmp.Lexicographic.{bytes_decides, nat_list_eq_equiv, pointwise};
 ghost use Rattle.std.specs.Hash as fed;
 ghost use Rattle.rtr_base.specs.Bytes.{IsBytes, value};
 ghost use Rattle.rtr_units.specs.Header.{version_field, type_field};
+ghost use Rattle.rtr_units.specs.Reading.{Reads, ReadsAfter, by_bytes, of_type};
 ghost use Rattle.rtr_units.specs.Stream.{PutsForm, count_after, is_reader_fault, is_writer_fault};
 ghost use Rattle.rtr_units.specs.Views.{header_bytes};
-ghost use Rattle.rtr_payload.specs.Frames.{fault_as, fault_of, ReadsVariable, ReadsBehind};
 ghost use Rattle.rtr_payload.specs.Payloads.{aspa, IsPayload};
 ghost use Rattle.rtr_payload.specs.Places.{aspa_fields, words_of};
+ghost use Rattle.rtr_payload.specs.UnitKinds.{variable_unit};
 ghost use Rattle.rtr_payload.specs.Units.{form, HasFields};
 
 use crate::frame::{MAX_SIZE, asn_at, read_frame};
@@ -70,8 +71,8 @@ impl Aspa {
     /// Faults, in this order: `Short` or `Reader` inside the header; `UnitType` where its type
     /// isn't 11, with the header taken; those of `read_payload`, `Memory` among them.
     pub fn read<R: Source>(alloc: Global, reader: &mut R) -> Result<Self, Fault>
-        ensures bytes { ReadsVariable (fault_of 11) result (R.remaining reader.old)
-            (R.remaining reader.new) }
+        ensures bytes { Reads (of_type 11 (variable_unit 11)) [] (by_bytes (λ u. u) result)
+            (R.remaining reader.old) (R.remaining reader.new) }
         ensures fields { IfOk result (λ u. HasFields u (aspa_fields u)) }
         ensures count { R.failures reader.new ≡
             count_after (R.failures reader.old) (not (is_reader_fault result)) }
@@ -99,7 +100,7 @@ impl Aspa {
         header: Header,
         reader: &mut R,
     ) -> Result<Self, Fault>
-        ensures bytes { ReadsBehind (fault_as 11) (header_bytes header) result
+        ensures bytes { ReadsAfter (variable_unit 11) (header_bytes header) (by_bytes (λ u. u) result)
             (R.remaining reader.old) (R.remaining reader.new) }
         ensures fields { IfOk result
             (λ u. type_field (header_bytes header) ≡ 11 → HasFields u (aspa_fields u)) }

@@ -10,6 +10,7 @@ ghost use Rattle.rtr_payload.specs.declared.payload.PayloadRef.TheVariants as le
 mod compare;
 mod compare_origins;
 pub mod laws;
+mod texts;
 
 use crate::key_info::RouterKeyInfo;
 use crate::providers::ProviderAsns;

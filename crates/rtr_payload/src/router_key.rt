@@ -1,7 +1,7 @@
 //! The router key (RFC 8210 section 5.10).
 
 ghost use Rattle.std.specs.Prelude.{◌≡◌, ◌≤◌, ◌+◌, ◌++◌, length, take, drop, slice_index, nat_eq};
-ghost use Rattle.std.specs.Prelude.{IfOk, not};
+ghost use Rattle.std.specs.Prelude.{IfOk, not, []};
 ghost use Rattle.std.proofs.Common.{rules};
 ghost use Rattle.std.specs.Cmp.{partial_equiv_from_equiv};
 ghost use Rattle.std.specs.Cmp.Lexicographic.{bytes_decides, nat_list_eq_equiv, pointwise};
@@ -9,11 +9,12 @@ ghost use Rattle.std.specs.Cmp.Rules.{hashing};
 ghost use Rattle.std.specs.Hash as fed;
 ghost use Rattle.rtr_base.specs.Bytes.{value};
 ghost use Rattle.rtr_units.specs.Header.{version_field, type_field};
+ghost use Rattle.rtr_units.specs.Reading.{Reads, ReadsAfter, by_bytes, of_type};
 ghost use Rattle.rtr_units.specs.Stream.{PutsForm, count_after, is_reader_fault, is_writer_fault};
 ghost use Rattle.rtr_units.specs.Views.{header_bytes};
-ghost use Rattle.rtr_payload.specs.Frames.{fault_as, fault_of, ReadsVariable, ReadsBehind};
 ghost use Rattle.rtr_payload.specs.Payloads.{key, IsPayload};
 ghost use Rattle.rtr_payload.specs.Places.{key_fields};
+ghost use Rattle.rtr_payload.specs.UnitKinds.{variable_unit};
 ghost use Rattle.rtr_payload.specs.Units.{form, HasFields};
 
 use crate::frame::{MAX_SIZE, asn_at, read_frame};
@@ -85,8 +86,8 @@ impl RouterKey {
     /// Faults, in this order: `Short` or `Reader` inside the header; `UnitType` where its type
     /// isn't 9, with the header taken; those of `read_payload`, `Memory` among them.
     pub fn read<R: Source>(alloc: Global, reader: &mut R) -> Result<Self, Fault>
-        ensures bytes { ReadsVariable (fault_of 9) result (R.remaining reader.old)
-            (R.remaining reader.new) }
+        ensures bytes { Reads (of_type 9 (variable_unit 9)) [] (by_bytes (λ u. u) result)
+            (R.remaining reader.old) (R.remaining reader.new) }
         ensures fields { IfOk result (λ u. HasFields u (key_fields u)) }
         ensures count { R.failures reader.new ≡
             count_after (R.failures reader.old) (not (is_reader_fault result)) }
@@ -113,7 +114,7 @@ impl RouterKey {
         header: Header,
         reader: &mut R,
     ) -> Result<Self, Fault>
-        ensures bytes { ReadsBehind (fault_as 9) (header_bytes header) result
+        ensures bytes { ReadsAfter (variable_unit 9) (header_bytes header) (by_bytes (λ u. u) result)
             (R.remaining reader.old) (R.remaining reader.new) }
         ensures fields { IfOk result
             (λ u. type_field (header_bytes header) ≡ 9 → HasFields u (key_fields u)) }

@@ -3,7 +3,7 @@
 use crate::expect_equal;
 use bytes::Bytes;
 use rtr_payload::pdu::{KeyInfoError, KeyInfoVecError, RouterKeyInfo};
-use rtr_support::{bytes, hash_of};
+use rtr_support::hash_of;
 use std::alloc::Global;
 use std::cmp::Ordering;
 use std::test::Fail;
@@ -15,19 +15,6 @@ pub const INFO: &[u8] = &[0x15, 0x16, 0x17, 0x18];
 pub fn key_info(alloc: Global, info: &[u8]) -> Result<RouterKeyInfo, Fail> {
     let info = Vec::from_slice(alloc, info)?;
     Ok(RouterKeyInfo::from_vec(alloc, info)?)
-}
-
-#[test]
-fn key_info_texts(rt: HostRuntime) -> Result<(), Fail> {
-    let alloc = rt.alloc();
-    for (text, shown) in [("15 16 17 18", "FRYXGA"), ("fb ff", "-_8"), ("", "")] {
-        let info = RouterKeyInfo::from_vec(alloc, bytes(alloc, &[text])?)?;
-        let displayed = info.to_string(alloc)?;
-        expect_equal(&rt, displayed.as_str(), shown);
-        let encoded = info.to_text(alloc)?;
-        expect_equal(&rt, encoded.as_str(), shown);
-    }
-    Ok(())
 }
 
 #[test]

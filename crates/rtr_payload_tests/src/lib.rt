@@ -3,13 +3,7 @@
 #![tactic(auto)]
 
 #[cfg(test)]
-mod ample;
-#[cfg(test)]
-mod ends;
-#[cfg(test)]
 mod keys;
-#[cfg(test)]
-mod kinds;
 #[cfg(test)]
 mod made;
 #[cfg(test)]
@@ -17,11 +11,11 @@ mod order;
 #[cfg(test)]
 mod parts;
 #[cfg(test)]
-mod prefixes;
-#[cfg(test)]
 mod providers;
 #[cfg(test)]
 mod sets;
+#[cfg(test)]
+mod texts;
 #[cfg(test)]
 mod units;
 #[cfg(test)]

@@ -3,7 +3,6 @@
 use crate::expect_equal;
 use rtr_base::asn::Asn;
 use rtr_payload::pdu::{ProviderAsns, ProviderIterError};
-use rtr_support::{bytes, hash_of};
 use std::alloc::Global;
 use std::cell::Cell;
 use std::cmp::Ordering;
@@ -75,33 +74,6 @@ fn provider_count(rt: HostRuntime) -> Result<(), Fail> {
         expect_equal(&rt, asked.get(), *asks);
     }
     expect_equal(&rt, ProviderAsns::MAX_COUNT, 16380);
-    Ok(())
-}
-
-#[test]
-fn no_providers(rt: HostRuntime) -> Result<(), Fail> {
-    let empty = ProviderAsns::empty(rt.alloc())?;
-    expect_equal(&rt, empty.asn_count(), 0);
-    expect_equal(&rt, empty.len(), 0);
-    assert!(rt; empty.is_empty());
-    assert!(rt; empty.iter().next().is_none());
-    let copy = empty.clone()?;
-    assert!(rt; copy == empty);
-    Ok(())
-}
-
-#[test]
-fn two_providers(rt: HostRuntime) -> Result<(), Fail> {
-    let alloc = rt.alloc();
-    let two = providers(alloc, &[65549, 65550])?;
-    expect_equal(&rt, two.asn_count(), 2);
-    expect_equal(&rt, two.len(), 8);
-    assert!(rt; !two.is_empty());
-    let written = bytes(alloc, &["00 01 00 0d 00 01 00 0e"])?;
-    expect_equal(&rt, two.as_slice(), written.as_slice());
-    let copy = two.clone()?;
-    assert!(rt; copy == two);
-    expect_equal(&rt, hash_of(&copy), hash_of(&two));
     Ok(())
 }
 

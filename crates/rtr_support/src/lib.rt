@@ -215,6 +215,21 @@ impl Recorder {
         }
     }
 
+    /// The same, which asks for no growth later for so many bytes in all, where there is memory.
+    pub fn with_room(alloc: Global, size: usize, room: usize) -> Recorder {
+        let mut writer = Recorder::new(alloc, size);
+        if let Ok(held) = Vec::with_capacity(alloc, room) {
+            writer.held = held;
+        }
+        writer
+    }
+
+    /// Gives an error at one call and takes nothing at another, counted from 1.
+    pub fn set_troubles(&mut self, fails_at: usize, stops_at: usize) {
+        self.fails_at = fails_at;
+        self.stops_at = stops_at;
+    }
+
     /// The same, with an error at this call, counted from 1.
     pub fn failing(alloc: Global, size: usize, fails_at: usize) -> Recorder {
         let mut writer = Recorder::new(alloc, size);

@@ -1,13 +1,11 @@
 -- An end of data of any version (RFC 6810 and RFC 8210 section 5.8): its bytes, its meaning, and
--- what reading it leaves. The order of the refusals, and that versions above 2 are refused, is this
+-- what is wrong with its header. That versions above 2 are refused, and before a length, is this
 -- library's own.
-use Rattle.std.specs.Prelude.{◌≡◌, ℕ, Bool, true, false, ◌+◌, ◌<◌, ◌≤◌, List, [], ◌++◌, length}
-use Rattle.std.specs.Prelude.{Option, ◌==◌, if◌then◌else◌}
-use Rattle.std.specs.Io.KnownBytes.{IsAtEnd}
-use Rattle.rtr_units.specs.Causes.{short, unit_version, unit_length, Cause, by_reader, wrong}
-use Rattle.rtr_units.specs.End.{EndMeaning, End, untimed_meaning, timed_meaning}
-use Rattle.rtr_units.specs.Header.{version_field, type_field, length_field}
-use Rattle.rtr_units.specs.Reads.{Takes}
+use Rattle.std.specs.Prelude.{ℕ, Bool, true, false, List, Some, nat_lt, ◌==◌, if◌then◌else◌}
+use Rattle.rtr_units.specs.Causes.{unit_version}
+use Rattle.rtr_units.specs.End.{EndMeaning, untimed_meaning, timed_meaning}
+use Rattle.rtr_units.specs.Header.{version_field}
+use Rattle.rtr_units.specs.Reading.{Kind, of_size}
 use Rattle.rtr_units.specs.Units.{end_v0_bytes, end_v1_bytes}
 use Rattle.rtr_units.specs.declared.end.EndOfData.{EndOfData}
 use Rattle.rtr_units.specs.declared.end.EndOfData.TheVariants.{V0, V1}
@@ -29,24 +27,11 @@ is_timed (V1 u) = true
 abbrev pub end_length : ℕ → ℕ
 end_length v = if v == 0 then 12 else 24
 
--- the header of an end of data, whatever its type
-abbrev pub HasEndHeader : List ℕ → Type 0
-HasEndHeader h = (version_field h ≤ 2) × (length_field h ≡ end_length (version_field h))
-
--- The rest of the end of data e was read after its header h, which is kept. With type 7 its bytes
--- have its meaning.
-abbrev pub ReadsEnd : List ℕ → EndOfData → Option (List ℕ) → Option (List ℕ) → Type 0
-ReadsEnd h e old left =
-    HasEndHeader h × Takes old left (λ t. end_bytes e ≡ h ++ t) ×
-    ((end_meaning e).version ≡ version_field h) ×
-    (type_field h ≡ 7 → End (end_bytes e) (end_meaning e))
-
--- Why reading the rest of an end of data stopped where it had taken t of it: at the version of the
--- header h or its length field, of which nothing was taken, or inside the unit.
-abbrev pub StopsEnd : List ℕ → Cause → List ℕ → Option (List ℕ) → Type 0
-StopsEnd h (wrong (unit_version v)) t left = (v ≡ version_field h) × (2 < v) × (t ≡ [])
-StopsEnd h (wrong unit_length) t left = (version_field h ≤ 2) ×
-    ¬ (length_field h ≡ end_length (version_field h)) × (t ≡ [])
-StopsEnd h (wrong short) t left = HasEndHeader h × (8 + length t < length_field h) × IsAtEnd left
-StopsEnd h by_reader t left = HasEndHeader h × (8 + length t < length_field h)
-StopsEnd h cause t left = ⊥
+-- ends of data of any version, whatever their type
+abbrev pub end_unit : Kind
+end_unit = record {
+  fault = λ u.
+      if nat_lt 2 (version_field u) then Some (unit_version (version_field u))
+      else (of_size (end_length (version_field u))).fault u;
+  asks = λ u. false;
+}

@@ -1,4 +1,5 @@
 pub mod Causes
+pub mod Codes
 pub mod End
 pub mod Ends
 pub mod FixedUnits
@@ -7,7 +8,7 @@ pub mod Lending
 pub mod LendingEnd
 pub mod LendingError
 pub mod LendingUnits
-pub mod Reads
+pub mod Reading
 pub mod Report
 pub mod Stream
 pub mod Tallies

@@ -3,12 +3,11 @@
 ghost use Rattle.std.specs.Prelude.{◌≡◌, ℕ, List, length, IfOk, MatchResult, Some, not, ◌==◌};
 ghost use Rattle.std.specs.Borrow.{sem};
 ghost use Rattle.rtr_base.specs.Bytes.{IsBytes};
-ghost use Rattle.rtr_units.specs.Causes.{cause_of};
-ghost use Rattle.rtr_units.specs.End.{timed_list};
-ghost use Rattle.rtr_units.specs.Ends.{end_bytes, end_meaning, is_timed, ReadsEnd, StopsEnd};
+ghost use Rattle.rtr_units.specs.End.{End, timed_list};
+ghost use Rattle.rtr_units.specs.Ends.{end_bytes, end_meaning, end_unit, is_timed};
 ghost use Rattle.rtr_units.specs.FixedUnits.{serial_list};
-ghost use Rattle.rtr_units.specs.Header.{version_field};
-ghost use Rattle.rtr_units.specs.Reads.{Takes};
+ghost use Rattle.rtr_units.specs.Header.{version_field, type_field};
+ghost use Rattle.rtr_units.specs.Reading.{ReadsAfter, by_bytes};
 ghost use Rattle.rtr_units.specs.Stream.{PutsForm, count_after, is_reader_fault, is_writer_fault};
 ghost use Rattle.rtr_units.specs.Views.{header_bytes};
 
@@ -60,11 +59,12 @@ impl EndOfData {
     /// version 2 is as in the Rust crate `rpki`.
     #[inline(always)]
     pub fn read_payload<R: Source>(header: Header, reader: &mut R) -> Result<Self, Fault>
-        ensures bytes { MatchResult result
-            (λ e. ReadsEnd (header_bytes header) e (R.remaining reader.old)
-            (R.remaining reader.new))
-            (λ e. Takes (R.remaining reader.old) (R.remaining reader.new)
-            (λ t. StopsEnd (header_bytes header) (cause_of e) t (R.remaining reader.new))) }
+        ensures bytes { ReadsAfter end_unit (header_bytes header) (by_bytes end_bytes result)
+            (R.remaining reader.old) (R.remaining reader.new) }
+        ensures version { IfOk result (λ e.
+            (end_meaning e).version ≡ version_field (header_bytes header)) }
+        ensures end { IfOk result (λ e. type_field (header_bytes header) ≡ 7 →
+            End (end_bytes e) (end_meaning e)) }
         ensures kind { IfOk result (λ e. is_timed e ≡
             not (version_field (header_bytes header) == 0)) }
         ensures count { R.failures reader.new ≡

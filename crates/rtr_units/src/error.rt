@@ -9,11 +9,11 @@ ghost use Rattle.std.specs.Cmp.Lexicographic.{nat_list_eq_equiv, pointwise};
 ghost use Rattle.std.specs.Cmp.Rules.{hashing};
 ghost use Rattle.std.specs.Hash as fed;
 ghost use Rattle.rtr_units.specs.Causes.{cause_of};
-ghost use Rattle.rtr_units.specs.Reads.{Takes, SkipsRest, StopsSkip};
+ghost use Rattle.rtr_units.specs.Reading.{Takes, ReadsAfter, any_unit, by_bytes};
 ghost use Rattle.rtr_units.specs.Report.{report};
 ghost use Rattle.rtr_units.specs.Stream.{FallsShort, PutsForm, count_after, is_reader_fault};
 ghost use Rattle.rtr_units.specs.Stream.{is_writer_fault};
-ghost use Rattle.rtr_units.specs.Views.{header_bytes};
+ghost use Rattle.rtr_units.specs.Views.{header_bytes, AreBytes};
 
 use crate::fault::Fault;
 use crate::header::Header;
@@ -83,10 +83,8 @@ impl Error {
     /// with nothing read; then `Short` or `Reader` inside the unit. This order is this library's
     /// own.
     pub fn skip_payload<R: Source>(header: Header, reader: &mut R) -> Result<(), Fault>
-        ensures bytes { MatchResult result
-            (λ _. SkipsRest (header_bytes header) (R.remaining reader.old) (R.remaining reader.new))
-            (λ e. Takes (R.remaining reader.old) (R.remaining reader.new)
-            (λ t. StopsSkip (header_bytes header) (cause_of e) t (R.remaining reader.new))) }
+        ensures bytes { (u : List ℕ) × ReadsAfter any_unit (header_bytes header)
+            (by_bytes (λ _. u) result) (R.remaining reader.old) (R.remaining reader.new) }
         ensures count { R.failures reader.new ≡
             count_after (R.failures reader.old) (not (is_reader_fault result)) }
     {
@@ -139,8 +137,9 @@ impl Error {
 /// Reads past this many bytes.
 fn skip<R: Source>(reader: &mut R, size: usize) -> Result<(), Fault>
     ensures bytes { MatchResult result
-        (λ _. Takes (R.remaining reader.old) (R.remaining reader.new) (λ t. length t ≡ size))
-        (λ e. FallsShort e (R.remaining reader.old) (R.remaining reader.new) size) }
+        (λ _. Takes (R.remaining reader.old) (R.remaining reader.new) (AreBytes size))
+        (λ e. Takes (R.remaining reader.old) (R.remaining reader.new)
+        (λ t. FallsShort size (cause_of e) t (R.remaining reader.new))) }
     ensures count { R.failures reader.new ≡
         count_after (R.failures reader.old) (not (is_reader_fault result)) }
 {

@@ -1,6 +1,11 @@
 //! Why a call on units failed: an enum of this library's own.
 
+ghost use Rattle.std.specs.Prelude.{◌≡◌};
+ghost use Rattle.std.specs.Option.{option_map};
+ghost use Rattle.rtr_units.specs.Codes.{code_of};
+
 use crate::error::Error;
+use rtr_base::pdu::ErrorCode;
 use std::io;
 
 /// Why a call on units failed.
@@ -39,4 +44,23 @@ pub enum Fault {
     /// A growth was refused.
     #[error("out of memory")]
     Memory,
+}
+
+impl Fault {
+    /// The error code of RFC 8210 section 12 that the peer is to be told, which closes the session;
+    /// for an ASPA without providers that of the Rust crate `rpki`. None for what isn't the peer's
+    /// fault: reading, writing, a limit of the caller's, and memory.
+    pub fn code(&self) -> Option<ErrorCode>
+        ensures { option_map (λ c. c.0) result ≡ code_of self.now }
+    {
+        match self {
+            Fault::Short | Fault::UnitLength | Fault::TooLong | Fault::Refused(_) => {
+                Some(ErrorCode::CORRUPT_DATA)
+            }
+            Fault::UnitType(_) => Some(ErrorCode::UNSUPPORTED_PDU_TYPE),
+            Fault::UnitVersion(_) => Some(ErrorCode::UNSUPPORTED_PROTOCOL_VERSION),
+            Fault::EmptyProviders => Some(ErrorCode::ASPA_PROVIDER_LIST_ERROR),
+            Fault::Reader(_) | Fault::Writer(_) | Fault::TooMany | Fault::Memory => None,
+        }
+    }
 }

@@ -5,8 +5,10 @@ ghost use Rattle.std.specs.Prelude.{IfOk, IsOk, IfErr, ◌↔◌, not};
 ghost use Rattle.std.specs.Borrow.{sem};
 ghost use Rattle.std.specs.Io.KnownBytes.{Consumes};
 ghost use Rattle.rtr_base.specs.Bytes.{IsBytes};
+ghost use Rattle.rtr_units.specs.Causes.{cause_of};
 ghost use Rattle.rtr_units.specs.Header.{header, version_field, type_field, session_field};
 ghost use Rattle.rtr_units.specs.Header.{length_field};
+ghost use Rattle.rtr_units.specs.Reading.{Takes};
 ghost use Rattle.rtr_units.specs.Stream.{FallsShort, PutsForm, count_after, is_reader_fault};
 ghost use Rattle.rtr_units.specs.Stream.{is_writer_fault};
 ghost use Rattle.rtr_units.specs.Views.{header_bytes, AreBytes};
@@ -55,7 +57,8 @@ impl Header {
         ensures bytes { MatchResult result
             (λ h. Consumes (R.remaining reader.old) (R.remaining reader.new) (header_bytes h) ×
             AreBytes 8 (header_bytes h))
-            (λ e. FallsShort e (R.remaining reader.old) (R.remaining reader.new) 8) }
+            (λ e. Takes (R.remaining reader.old) (R.remaining reader.new)
+            (λ t. FallsShort 8 (cause_of e) t (R.remaining reader.new))) }
         ensures count { R.failures reader.new ≡
             count_after (R.failures reader.old) (not (is_reader_fault result)) }
     {
@@ -80,7 +83,8 @@ impl Header {
     /// The version of the protocol.
     #[inline(always)]
     pub fn version(&self) -> u8
-        ensures { result ≡ version_field (header_bytes self.now) }
+        ensures value { result ≡ version_field (header_bytes self.now) }
+        ensures header { AreBytes 8 (header_bytes self.now) }
     {
         self.as_ref()[0]
     }
@@ -88,7 +92,8 @@ impl Header {
     /// The type of the unit.
     #[inline(always)]
     pub fn pdu(&self) -> u8
-        ensures { result ≡ type_field (header_bytes self.now) }
+        ensures value { result ≡ type_field (header_bytes self.now) }
+        ensures header { AreBytes 8 (header_bytes self.now) }
     {
         self.as_ref()[1]
     }
@@ -104,7 +109,8 @@ impl Header {
     /// The length field: the bytes of the whole unit, header included.
     #[inline(always)]
     pub fn length(&self) -> u32
-        ensures { result ≡ length_field (header_bytes self.now) }
+        ensures value { result ≡ length_field (header_bytes self.now) }
+        ensures header { AreBytes 8 (header_bytes self.now) }
     {
         u32_at(self.as_ref(), 4)
     }

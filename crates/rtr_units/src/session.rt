@@ -6,8 +6,10 @@ ghost use Rattle.std.proofs.Common.{rules};
 ghost use Rattle.std.specs.Borrow.{sem};
 ghost use Rattle.std.specs.Io.KnownBytes.{Consumes};
 ghost use Rattle.rtr_base.specs.Bytes.{be, value, IsBytes};
+ghost use Rattle.rtr_units.specs.Causes.{cause_of};
 ghost use Rattle.rtr_units.specs.FixedUnits.{bare_list, serial_list};
 ghost use Rattle.rtr_units.specs.Header.{session_field};
+ghost use Rattle.rtr_units.specs.Reading.{Takes};
 ghost use Rattle.rtr_units.specs.Stream.{FallsShort, PutsForm, count_after, is_reader_fault};
 ghost use Rattle.rtr_units.specs.Stream.{is_writer_fault};
 ghost use Rattle.rtr_units.specs.Units.{notify_bytes, query_bytes, reset_query_bytes};
@@ -219,7 +221,8 @@ impl SerialQueryPayload {
         ensures bytes { MatchResult result
             (λ p. Consumes (R.remaining reader.old) (R.remaining reader.new)
             (query_payload_bytes p) × AreBytes 4 (query_payload_bytes p))
-            (λ e. FallsShort e (R.remaining reader.old) (R.remaining reader.new) 4) }
+            (λ e. Takes (R.remaining reader.old) (R.remaining reader.new)
+            (λ t. FallsShort 4 (cause_of e) t (R.remaining reader.new))) }
         ensures count { R.failures reader.new ≡
             count_after (R.failures reader.old) (not (is_reader_fault result)) }
     {

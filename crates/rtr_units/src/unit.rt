@@ -3,14 +3,14 @@
 //! A unit is what the RFCs call a PDU: a header and what follows it, up to its length field.
 
 ghost use Rattle.std.specs.Prelude.{◌≡◌, ℕ, ◌^◌, ◌<◌, ◌≤◌, List, length, replicate, IfErr};
-ghost use Rattle.std.specs.Prelude.{MatchResult, not};
+ghost use Rattle.std.specs.Prelude.{MatchResult, Ok, [], not};
 ghost use Rattle.std.specs.Borrow.{sem, Lends, Array, u8};
 ghost use Rattle.std.specs.Io.KnownBytes.{Consumes};
 ghost use Rattle.rtr_base.specs.Bytes.{IsBytes};
 ghost use Rattle.rtr_units.specs.Causes.{cause_of};
 ghost use Rattle.rtr_units.specs.Header.{version_field, type_field, session_field};
-ghost use Rattle.rtr_units.specs.Reads.{Takes, ReadsRest, StopsRest, LeavesUnit, ReadsUnit};
-ghost use Rattle.rtr_units.specs.Reads.{StopsUnit};
+ghost use Rattle.rtr_units.specs.Reading.{LeavesUnit, Reads, ReadsAfter, Stops, Takes, by_bytes};
+ghost use Rattle.rtr_units.specs.Reading.{of_size, of_type};
 ghost use Rattle.rtr_units.specs.Stream.{PutsForm, count_after, is_reader_fault, is_writer_fault};
 ghost use Rattle.rtr_units.specs.Views.{header_bytes, AreBytes};
 
@@ -92,10 +92,8 @@ pub trait Unit: Drop + Copy {
     /// `Reader` inside the unit.
     #[inline(always)]
     final fn read<R: Source>(reader: &mut R) -> Result<Self, Fault>
-        ensures bytes { MatchResult result
-            (λ u. ReadsUnit PDU LENGTH (bytes u) (R.remaining reader.old) (R.remaining reader.new))
-            (λ e. Takes (R.remaining reader.old) (R.remaining reader.new)
-            (λ t. StopsUnit PDU LENGTH (cause_of e) t (R.remaining reader.new))) }
+        ensures bytes { Reads (of_type PDU (of_size LENGTH)) [] (by_bytes bytes result)
+            (R.remaining reader.old) (R.remaining reader.new) }
         ensures count { R.failures reader.new ≡
             count_after (R.failures reader.old) (not (is_reader_fault result)) }
     {
@@ -115,12 +113,12 @@ pub trait Unit: Drop + Copy {
     final fn try_read<R: Source>(reader: &mut R) -> Result<Result<Self, Header>, Fault>
         ensures bytes { MatchResult result
             (λ answer. MatchResult answer
-            (λ u. ReadsUnit PDU LENGTH (bytes u) (R.remaining reader.old) (R.remaining reader.new) ×
-            ¬ (PDU ≡ 10))
+            (λ u. Reads (of_type PDU (of_size LENGTH)) [] (Ok (bytes u)) (R.remaining reader.old)
+            (R.remaining reader.new) × ¬ (PDU ≡ 10))
             (λ h. Consumes (R.remaining reader.old) (R.remaining reader.new) (header_bytes h) ×
             AreBytes 8 (header_bytes h) × (type_field (header_bytes h) ≡ 10)))
             (λ e. Takes (R.remaining reader.old) (R.remaining reader.new)
-            (λ t. StopsUnit PDU LENGTH (cause_of e) t (R.remaining reader.new) ×
+            (λ t. Stops (of_type PDU (of_size LENGTH)) (cause_of e) t (R.remaining reader.new) ×
             (8 ≤ length t → ¬ (type_field t ≡ 10)))) }
         ensures count { R.failures reader.new ≡
             count_after (R.failures reader.old) (not (is_reader_fault result)) }
@@ -143,12 +141,8 @@ pub trait Unit: Drop + Copy {
     /// `UnitLength` is answered with nothing read, `Short` and `Reader` inside the unit.
     #[inline(always)]
     final fn read_payload<R: Source>(header: Header, reader: &mut R) -> Result<Self, Fault>
-        ensures bytes { MatchResult result
-            (λ u. ReadsRest LENGTH (header_bytes header) (bytes u) (R.remaining reader.old)
-            (R.remaining reader.new))
-            (λ e. Takes (R.remaining reader.old) (R.remaining reader.new)
-            (λ t. StopsRest LENGTH (header_bytes header) (cause_of e) t
-            (R.remaining reader.new))) }
+        ensures bytes { ReadsAfter (of_size LENGTH) (header_bytes header) (by_bytes bytes result)
+            (R.remaining reader.old) (R.remaining reader.new) }
         ensures count { R.failures reader.new ≡
             count_after (R.failures reader.old) (not (is_reader_fault result)) }
     {
@@ -165,12 +159,9 @@ pub trait Unit: Drop + Copy {
     /// header and then the bytes that were taken.
     #[inline(always)]
     final fn read_rest<R: Source>(&mut self, header: Header, reader: &mut R) -> Result<(), Fault>
-        ensures bytes { MatchResult result
-            (λ _. ReadsRest LENGTH (header_bytes header) (bytes self.new) (R.remaining reader.old)
-            (R.remaining reader.new))
-            (λ e. Takes (R.remaining reader.old) (R.remaining reader.new)
-            (λ t. StopsRest LENGTH (header_bytes header) (cause_of e) t
-            (R.remaining reader.new))) }
+        ensures bytes { ReadsAfter (of_size LENGTH) (header_bytes header)
+            (by_bytes (λ _. bytes self.new) result) (R.remaining reader.old)
+            (R.remaining reader.new) }
         ensures left { IfErr result
             (λ e. LeavesUnit bytes (header_bytes header) (cause_of e) self.old self.new
             (R.remaining reader.old) (R.remaining reader.new)) }

@@ -4,7 +4,6 @@ use crate::expect_equal;
 use rtr_base::state::{Serial, State};
 use rtr_units::error::Error;
 use rtr_units::fault::Fault;
-use std::alloc::Global;
 use std::io;
 use std::io::ErrorKind;
 use std::test::Fail;
@@ -12,14 +11,6 @@ use std::test::Fail;
 /// The state of the units of these tests.
 pub fn state() -> State {
     State::from_parts(0x1234, Serial(0xdeadbeef))
-}
-
-/// The text of the fault, or "ok".
-pub fn said<T: Drop>(alloc: Global, answer: Result<T, Fault>) -> Result<String, Fail> {
-    match answer {
-        Ok(_) => Ok(format!(in alloc; "ok")?),
-        Err(fault) => Ok(format!(in alloc; "{fault}")?),
-    }
 }
 
 fn is_error<E: std::error::Error>(_: &E) {}

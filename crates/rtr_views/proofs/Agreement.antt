@@ -5,13 +5,11 @@ use Rattle.rtr_base.specs.Addresses.{Family, v4, v6}
 use Rattle.rtr_base.specs.declared.payload.Timing.{Timing}
 use Rattle.rtr_units.specs.End.{EndMeaning, End, timed_list}
 use Rattle.rtr_units.specs.Header.{type_field}
-use Rattle.rtr_units.specs.Ends.{end_bytes, end_meaning}
+use Rattle.rtr_units.specs.Ends.{end_meaning}
 use Rattle.rtr_payload.specs.Payloads.{Meaning}
 use Rattle.rtr_payload.specs.Places.{prefix_fields, key_fields, aspa_fields}
 use Rattle.rtr_payload.specs.Units.{Fields, prefix, router_key, providers, HasFields, IsUnit, LengthsAgree, meaning, form_of, unit_list}
-use Rattle.rtr_payload.specs.UnitValues.{unit_bytes, unit_fields}
 use Rattle.rtr_payload.specs.Values.{origin_of}
-use Rattle.rtr_payload.specs.declared.pdu_payload.Payload.{Payload}
 use Rattle.rtr_payload.proofs.Fields.{lists_same}
 use Rattle.rtr_views.specs.Origins.{IsOriginOf, origin_meaning}
 use Rattle.rtr_views.specs.Views.{IsViewOf, ViewMeans, view_form}

@@ -1,10 +1,10 @@
 -- The written forms of what views show, by the bytes of the units.
-use Rattle.std.proofs.Common.{◌≡◌, ℕ, ◌+◌, ◌*◌, List, [], ◌∷◌, ◌++◌, length, take, drop, get_or, refl, sym, ap, ◌∙◌, append-nil, append_assoc, arith}
+use Rattle.std.proofs.Common.{◌≡◌, ℕ, ◌+◌, ◌*◌, List, [], ◌∷◌, ◌++◌, length, take, drop, get_or, sym, ap, ◌∙◌, append-nil, append_assoc, arith}
 use Rattle.std.proofs.lemmas.List.{take-append-drop, drop-drop, length-take-le, length-drop}
 use Rattle.rtr_base.specs.declared.payload.Action.{Action}
 use Rattle.rtr_base.specs.declared.payload.Action.TheVariants.{Announce, Withdraw}
 use Rattle.rtr_base.specs.Actions.{act, flags_of}
-use Rattle.rtr_base.specs.Bytes.{be, value, words}
+use Rattle.rtr_base.specs.Bytes.{be, value}
 use Rattle.rtr_base.proofs.Numbers.{be-value, length-words, IsBytes-take, IsBytes-drop}
 use Rattle.rtr_units.specs.Header.{version_field}
 use Rattle.rtr_payload.specs.Places.{key_fields, aspa_fields, words_of}
@@ -21,18 +21,16 @@ whole_key u h = key_has u h.are_bytes h.least h.most h.kind h.field
 pub whole_aspa : (u : List ℕ) → IsWholeAspa u → HasFields u (aspa_fields u)
 whole_aspa u h = aspa_has u h.are_bytes h.least h.most h.fours h.named h.kind h.field
 
--- what follows the first four bytes, in two parts
-parts : (u : List ℕ) (n : ℕ) → take n (drop 4 u) ++ drop (4 + n) u ≡ drop 4 u
-parts u n = ap (λ (l : List ℕ). take n (drop 4 u) ++ l) (sym (drop-drop n 4 u)) ∙ take-append-drop n (drop 4 u)
-
--- the form of a key, by the first four bytes and the others
-pub key_form : (u a b : List ℕ) (v g f : ℕ) (action : Action) → IsWholeKey u → v ≡ version_field u → g ≡ get_or u 2 0 → action ≡ act g → f ≡ flags_of action
-    → a ≡ v ∷ 9 ∷ f ∷ 0 ∷ [] → b ≡ take 28 (drop 4 u) → (a ++ (b ++ [])) ++ drop 32 u ≡ form_of (meaning (key_fields u))
-key_form u a b v g f action h ev eg ea ef front back =
+-- the form of a key, by its header and what follows it
+pub key_form : (u rest : List ℕ) (v : ℕ) (a : Action) → IsWholeKey u → v ≡ version_field u → a ≡ act (get_or u 2 0) → rest ≡ drop 8 u
+    → (v ∷ 9 ∷ flags_of a ∷ 0 ∷ be (8 + length rest) 4) ++ rest ≡ form_of (meaning (key_fields u))
+key_form u rest v a h ev ea er =
     let has = whole_key u h in
-    let flags : f ≡ flags_of (act (get_or u 2 0)) = ef ∙ ap flags_of (ea ∙ ap act eg) in
-    ap (λ (l : List ℕ). l ++ drop 32 u) ((λ i. front i ++ append-nil (back i) i) ∙ (λ i. ev i ∷ 9 ∷ flags i ∷ 0 ∷ take 28 (drop 4 u)))
-    ∙ ap (λ (l : List ℕ). version_field u ∷ 9 ∷ flags_of (act (get_or u 2 0)) ∷ 0 ∷ l) (parts u 28 ∙ ap (drop 4) has.bytes)
+    let front = λ (n : ℕ). version_field u ∷ 9 ∷ flags_of (act (get_or u 2 0)) ∷ 0 ∷ be n 4 in
+    let size : 8 + length (drop 8 u) ≡ 32 + length (drop 32 u) = omega (arith, length-drop 8 u, length-drop 32 u, h.least) in
+    (λ i. (ev i ∷ 9 ∷ flags_of (ea i) ∷ 0 ∷ be (8 + length (er i)) 4) ++ er i)
+    ∙ ap (λ (n : ℕ). front n ++ drop 8 u) size
+    ∙ ap (λ (l : List ℕ). front (32 + length (drop 32 u)) ++ l) (ap (drop 8) has.bytes)
 
 -- ---- ASPA units
 
@@ -40,25 +38,35 @@ key_form u a b v g f action h ev eg ea ef front back =
 by_action : (u : List ℕ) (a : Action) → act (get_or u 2 0) ≡ a → form_of (meaning (aspa_fields u)) ≡ unit_list (providers (version_field u) (flags_of a) 0 (value (take 4 (drop 8 u))) (named a (words_of (drop 12 u))))
 by_action u a e = ap (λ b. unit_list (providers (version_field u) (flags_of b) 0 (value (take 4 (drop 8 u))) (named b (words_of (drop 12 u))))) e
 
-pub announced_form : (u : List ℕ) → IsWholeAspa u → act (get_or u 2 0) ≡ Announce → ((version_field u ∷ 11 ∷ 1 ∷ 0 ∷ be (length u) 4) ++ take 4 (drop 8 u)) ++ drop 12 u ≡ form_of (meaning (aspa_fields u))
+announced_form : (u : List ℕ) → IsWholeAspa u → act (get_or u 2 0) ≡ Announce → (version_field u ∷ 11 ∷ 1 ∷ 0 ∷ be (8 + length (drop 8 u)) 4) ++ drop 8 u ≡ form_of (meaning (aspa_fields u))
 announced_form u h e =
     let has = whole_aspa u h in
     let ps = words_of (drop 12 u) in
-    let c = value (take 4 (drop 8 u)) in
-    let size : length u ≡ 12 + 4 * length ps =
-    omega (arith, ap length has.bytes, length-words ps) in
-    let tail : take 4 (drop 8 u) ++ drop 12 u ≡ be c 4 ++ words ps = ap (λ (l : List ℕ). take 4 (drop 8 u) ++ l) (sym (drop-drop 4 8 u)) ∙ take-append-drop 4 (drop 8 u) ∙ ap (drop 8) has.bytes in
-    ap (λ (n : ℕ). ((version_field u ∷ 11 ∷ 1 ∷ 0 ∷ be n 4) ++ take 4 (drop 8 u)) ++ drop 12 u) size
-    ∙ append_assoc (version_field u ∷ 11 ∷ 1 ∷ 0 ∷ be (12 + 4 * length ps) 4) (take 4 (drop 8 u)) (drop 12 u)
-    ∙ ap (λ (l : List ℕ). (version_field u ∷ 11 ∷ 1 ∷ 0 ∷ be (12 + 4 * length ps) 4) ++ l) tail
+    let front = λ (n : ℕ). version_field u ∷ 11 ∷ 1 ∷ 0 ∷ be n 4 in
+    let size : 8 + length (drop 8 u) ≡ 12 + 4 * length ps =
+    omega (arith, length-drop 8 u, h.least, ap length has.bytes, length-words ps) in
+    ap (λ (n : ℕ). front n ++ drop 8 u) size
+    ∙ ap (λ (l : List ℕ). front (12 + 4 * length ps) ++ l) (ap (drop 8) has.bytes)
     ∙ sym (by_action u Announce e)
 
-pub withdrawn_form : (u : List ℕ) → IsWholeAspa u → act (get_or u 2 0) ≡ Withdraw → (version_field u ∷ 11 ∷ 0 ∷ 0 ∷ be 12 4) ++ take 4 (drop 8 u) ≡ form_of (meaning (aspa_fields u))
+withdrawn_form : (u : List ℕ) → IsWholeAspa u → act (get_or u 2 0) ≡ Withdraw → (version_field u ∷ 11 ∷ 0 ∷ 0 ∷ be (8 + length (take 4 (drop 8 u))) 4) ++ take 4 (drop 8 u) ≡ form_of (meaning (aspa_fields u))
 withdrawn_form u h e =
     let whole : length (take 4 (drop 8 u)) ≡ 4 = length-take-le 4 (drop 8 u) (omega (arith, length-drop 8 u, h.least)) in
     let customer : be (value (take 4 (drop 8 u))) 4 ≡ take 4 (drop 8 u) = be-value (take 4 (drop 8 u)) 4 (IsBytes-take 4 (drop 8 u) (IsBytes-drop 8 u h.are_bytes)) whole in
-    ap (λ (l : List ℕ). version_field u ∷ 11 ∷ 0 ∷ 0 ∷ 0 ∷ 0 ∷ 0 ∷ 12 ∷ l) (sym customer)
+    ap (λ (n : ℕ). (version_field u ∷ 11 ∷ 0 ∷ 0 ∷ be (8 + n) 4) ++ take 4 (drop 8 u)) whole
+    ∙ ap (λ (l : List ℕ). version_field u ∷ 11 ∷ 0 ∷ 0 ∷ 0 ∷ 0 ∷ 0 ∷ 12 ∷ l) (sym customer)
     ∙ sym (by_action u Withdraw e ∙ append-nil (version_field u ∷ 11 ∷ 0 ∷ 0 ∷ 0 ∷ 0 ∷ 0 ∷ 12 ∷ be (value (take 4 (drop 8 u))) 4))
+
+-- what follows the header in the form of an ASPA unit
+abbrev pub kept_rest : Action → List ℕ → List ℕ
+kept_rest Announce u = drop 8 u
+kept_rest Withdraw u = take 4 (drop 8 u)
+
+-- the form of an ASPA unit, by its header and what follows it
+pub aspa_form : (u rest : List ℕ) (v : ℕ) (a : Action) → IsWholeAspa u → v ≡ version_field u → a ≡ act (get_or u 2 0) → rest ≡ kept_rest a u
+    → (v ∷ 11 ∷ flags_of a ∷ 0 ∷ be (8 + length rest) 4) ++ rest ≡ form_of (meaning (aspa_fields u))
+aspa_form u rest v Announce h ev ea er = (λ i. (ev i ∷ 11 ∷ 1 ∷ 0 ∷ be (8 + length (er i)) 4) ++ er i) ∙ announced_form u h (sym ea)
+aspa_form u rest v Withdraw h ev ea er = (λ i. (ev i ∷ 11 ∷ 0 ∷ 0 ∷ be (8 + length (er i)) 4) ++ er i) ∙ withdrawn_form u h (sym ea)
 
 -- ---- origins
 

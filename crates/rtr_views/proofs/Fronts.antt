@@ -5,7 +5,7 @@ use Rattle.std.proofs.lemmas.List.{take-append-drop, length-take-le}
 use Rattle.rtr_base.specs.Addresses.{Family, v4, v6}
 use Rattle.rtr_base.specs.Bytes.{IsBytes}
 use Rattle.rtr_base.proofs.Numbers.{IsBytes-take}
-use Rattle.rtr_units.specs.Causes.{Refusal, unit_type, unit_version, unit_length, empty_providers, refused}
+use Rattle.rtr_units.specs.Causes.{Refusal, unit_type, unit_version, too_long, unit_length, empty_providers, refused}
 use Rattle.rtr_units.specs.FixedUnits.{prefix_type, prefix_size}
 use Rattle.rtr_units.specs.Header.{version_field, type_field, length_field}
 use Rattle.rtr_units.specs.End.{End, untimed_meaning, timed_meaning}
@@ -20,6 +20,9 @@ use Rattle.rtr_payload.proofs.Frames.{behind_header, eleven_in_order}
 use Rattle.rtr_payload.proofs.Variable.{aspa_short, aspa_uneven, aspa_empty}
 use Rattle.rtr_payload.proofs.Refusals.{prefix_refused}
 use Rattle.rtr_views.specs.Wholes.{IsFirstUnit, IsWholeKey, IsWholeAspa}
+use Rattle.rtr_views.specs.Faults.{IsFirstFault}
+use Rattle.rtr_views.specs.declared.fault.ViewFault.{ViewFault}
+use Rattle.rtr_views.specs.declared.fault.ViewFault.TheVariants.{TooLong}
 use Rattle.rtr_views.proofs.Forms.{whole_key, whole_aspa}
 
 -- a fault of the header comes first
@@ -125,6 +128,11 @@ pub aspa_viewed : (r u w : List ℕ) → IsFirstUnit r u → IsWholeAspa u → w
 aspa_viewed r u w is whole same = let e = unit_at r u w is same in (e, subst (λ l. HasFields l (aspa_fields l)) e (whole_aspa u whole))
 
 -- ---- ASPA units
+
+-- a size above 65535 is told
+pub long_shows : (r : List ℕ) (t : ℕ) (f : ViewFault) → 8 ≤ length r → type_field r ≡ t
+    → header_fault (version_field r) t (get_or r 2 0) (length_field r) ≡ Some too_long → f ≡ TooLong → IsFirstFault r f
+long_shows r t f l kind long is = subst (IsFirstFault r) (sym is) (typed_shows r t too_long l kind long)
 
 pub aspa_length : (v g n : ℕ) → n ≤ 65535 → (n < 12) ⊎ (n % 4 ≢ 0) → header_fault v 11 g n ≡ Some unit_length
 aspa_length v g n h k = elim k [ inl less ↦ aspa_short v g n less | inr uneven ↦ aspa_uneven v g n h uneven ]

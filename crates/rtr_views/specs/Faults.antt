@@ -1,5 +1,5 @@
 -- What a fault of a call on views says.
-use Rattle.std.specs.Prelude.{◌≡◌, ℕ, ◌<◌, Bool, true, false, List, ◌++◌, length, Option, Some, Result, Ok, Err, MatchResult, ⊤}
+use Rattle.std.specs.Prelude.{◌≡◌, ℕ, ◌<◌, Bool, true, false, List, ◌++◌, length, Option, Some, Result, Err, MatchResult, ⊤}
 use Rattle.std.specs.Io.KnownBytes.{Appends}
 use Rattle.rtr_units.specs.Causes.{short, unit_type, unit_version, too_long, unit_length, empty_providers, refused}
 use Rattle.rtr_payload.specs.PrefixRules.{fault_of}

@@ -1,8 +1,8 @@
 //! Views of ASPA units (as in the Rust crate).
 
-ghost use Rattle.std.specs.Prelude.{◌≡◌, ◌≤◌, ◌∷◌, ◌++◌, length, take, drop, slice_index};
+ghost use Rattle.std.specs.Prelude.{◌≡◌, ◌≤◌, length, take, drop, slice_index};
 ghost use Rattle.std.specs.Prelude.{IfOk, IfErr, not};
-ghost use Rattle.rtr_base.specs.Bytes.{be, value};
+ghost use Rattle.rtr_base.specs.Bytes.{value};
 ghost use Rattle.rtr_units.specs.Header.{version_field, type_field};
 ghost use Rattle.rtr_units.specs.Stream.{count_after};
 ghost use Rattle.rtr_payload.specs.Places.{aspa_fields};
@@ -10,9 +10,9 @@ ghost use Rattle.rtr_payload.specs.Units.{meaning, form_of};
 ghost use Rattle.rtr_views.specs.Wholes.{IsFirstUnit, IsWholeAspa};
 ghost use Rattle.rtr_views.specs.Faults.{IsFirstFault, PutsPiece, is_view_writer_fault};
 
-use crate::cut::{MAX_SIZE, first_unit};
+use crate::cut::{first_unit, size_at};
 use crate::fault::ViewFault;
-use crate::form::put_piece;
+use crate::form::put_flagged;
 use rtr_base::asn::Asn;
 use rtr_base::payload::Action;
 use rtr_payload::pdu::Aspa;
@@ -20,7 +20,7 @@ use rtr_units::numbers::u32_at;
 use rtr_units::source::Sink;
 
 /// The bytes of an ASPA unit before its providers.
-const FIXED: u32 = 12;
+const FIXED: usize = 12;
 
 /// An ASPA unit that lies in a slice.
 #[derive(Clone, Copy, Debug)]
@@ -80,33 +80,20 @@ impl<'a> AspaView<'a> {
         ensures within { IfOk result (λ v. length v.unit.now ≤ length input.now) }
         ensures fault { IfErr result (λ e. IsFirstFault input.now e) }
     {
-        let size = u32_at(input, 4);
-        if size > MAX_SIZE {
-            return Err(ViewFault::TooLong);
-        }
+        let size = match size_at(input) {
+            Ok(size) => size,
+            Err(e) => return Err(e),
+        };
         if size < FIXED || size % 4 != 0 {
             return Err(ViewFault::UnitLength);
         }
         if size == FIXED && input[2] % 2 == 1 {
             return Err(ViewFault::EmptyProviders);
         }
-        match first_unit(input, size as usize) {
+        match first_unit(input, size) {
             Ok(unit) => Ok(AspaView { unit }),
             Err(e) => Err(e),
         }
-    }
-
-    /// The first twelve bytes of the form of a unit of this size and these flags.
-    #[inline(always)]
-    fn form_front(&self, flags: u8, size: u32) -> [u8; 12]
-        ensures { result ≡ (version_field self.now.unit.now ∷ 11 ∷ flags ∷ 0 ∷ be size 4)
-            ++ take 4 (drop 8 self.now.unit.now) }
-    {
-        let mut front = [0; 12];
-        front[..4].copy_from_slice(&[self.version(), Aspa::PDU, flags, 0]);
-        front[4..8].copy_from_slice(&size.to_be_bytes());
-        front[8..].copy_from_slice(&self.unit[8..12]);
-        front
     }
 
     /// Writes the form of what the unit means: of a withdrawal without its providers.
@@ -117,15 +104,17 @@ impl<'a> AspaView<'a> {
         ensures count { W.failures writer.new
             ≡ count_after (W.failures writer.old) (not (is_view_writer_fault result)) }
     {
-        match Action::from_flags(self.flags()) {
-            Action::Announce => {
-                let size = self.unit.len() as u32;
-                match put_piece(writer, &self.form_front(1, size)) {
-                    Ok(()) => put_piece(writer, self.providers()),
-                    Err(e) => Err(e),
-                }
-            }
-            Action::Withdraw => put_piece(writer, &self.form_front(0, FIXED)),
-        }
+        let action = Action::from_flags(self.flags());
+        let kept = match action {
+            Action::Announce => self.unit.len(),
+            Action::Withdraw => FIXED,
+        };
+        put_flagged(
+            writer,
+            self.version(),
+            Aspa::PDU,
+            action,
+            &self.unit[8..kept],
+        )
     }
 }

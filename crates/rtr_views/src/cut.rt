@@ -1,15 +1,27 @@
 //! Units cut from the front of a slice.
 
-ghost use Rattle.std.specs.Prelude.{◌≡◌, ◌≤◌, None, length, IfOk, IfErr};
+ghost use Rattle.std.specs.Prelude.{◌≡◌, ◌≤◌, ◌<◌, None, length, IfOk, IfErr};
 ghost use Rattle.rtr_units.specs.Header.{length_field};
 ghost use Rattle.rtr_payload.specs.Steps.{header_step};
 ghost use Rattle.rtr_views.specs.Faults.{IsFirstFault};
 ghost use Rattle.rtr_views.specs.Wholes.{IsFirstUnit};
 
 use crate::fault::ViewFault;
+use rtr_units::numbers::u16_at;
 
-/// The most bytes that a variable unit that is read has, header included.
-pub const MAX_SIZE: u32 = 65535;
+/// The size that the header at the front of the input says, or `TooLong` where it is above 65535.
+#[inline(always)]
+pub fn size_at(input: &[u8]) -> Result<usize, ViewFault>
+    requires { 8 ≤ length input.now }
+    ensures size { IfOk result (λ n. n ≡ length_field input.now) }
+    ensures most { IfOk result (λ n. n ≤ 65535) }
+    ensures long { IfErr result (λ e. (e ≡ ViewFault.TooLong) × (65535 < length_field input.now)) }
+{
+    if u16_at(input, 4) != 0 {
+        return Err(ViewFault::TooLong);
+    }
+    Ok(usize::from(u16_at(input, 6)))
+}
 
 /// The unit at the front of the input, whose header says that it has `size` bytes, or `Short`.
 #[inline(always)]

@@ -1,11 +1,14 @@
 //! Pieces of forms, as they are written.
 
-ghost use Rattle.std.specs.Prelude.{◌≡◌, not};
+ghost use Rattle.std.specs.Prelude.{◌≡◌, ◌+◌, ◌<◌, ◌^◌, ◌∷◌, ◌++◌, length, not};
+ghost use Rattle.rtr_base.specs.Actions.{flags_of};
+ghost use Rattle.rtr_base.specs.Bytes.{be};
 ghost use Rattle.rtr_units.specs.Ends.{end_bytes};
 ghost use Rattle.rtr_units.specs.Stream.{count_after};
 ghost use Rattle.rtr_views.specs.Faults.{PutsPiece, is_view_writer_fault};
 
 use crate::fault::ViewFault;
+use rtr_base::payload::Action;
 use rtr_units::end::EndOfData;
 use rtr_units::fault::Fault;
 use rtr_units::piece::put;
@@ -22,6 +25,40 @@ pub fn put_piece<W: Sink>(writer: &mut W, piece: &[u8]) -> Result<(), ViewFault>
         Ok(()) => Ok(()),
         Err(Fault::Writer(e)) => Err(ViewFault::Writer(e)),
         Err(_) => unreachable!(),
+    }
+}
+
+/// The header of a router key or an ASPA unit, which holds flags where others have a session.
+#[inline(always)]
+fn flagged_header(version: u8, pdu: u8, action: Action, size: u32) -> [u8; 8]
+    ensures { result ≡ version ∷ pdu ∷ flags_of action ∷ 0 ∷ be size 4 }
+{
+    let mut header = [0; 8];
+    header[..4].copy_from_slice(&[version, pdu, action.into_flags(), 0]);
+    header[4..].copy_from_slice(&size.to_be_bytes());
+    header
+}
+
+/// Writes a router key or an ASPA unit: a header that is made of the fields, and then `rest`, which
+/// is what follows the header.
+#[inline(always)]
+pub fn put_flagged<W: Sink>(
+    writer: &mut W,
+    version: u8,
+    pdu: u8,
+    action: Action,
+    rest: &[u8],
+) -> Result<(), ViewFault>
+    requires size { 8 + length rest.now < 2 ^ 32 }
+    ensures bytes { PutsPiece result (W.contents writer.old) (W.contents writer.new)
+        ((version ∷ pdu ∷ flags_of action ∷ 0 ∷ be (8 + length rest.now) 4) ++ rest.now) }
+    ensures count { W.failures writer.new
+        ≡ count_after (W.failures writer.old) (not (is_view_writer_fault result)) }
+{
+    let size = 8 + rest.len() as u32;
+    match put_piece(writer, &flagged_header(version, pdu, action, size)) {
+        Ok(()) => put_piece(writer, rest),
+        Err(e) => Err(e),
     }
 }
 

@@ -1,6 +1,6 @@
 //! Views of router keys (RFC 8210 section 5.10).
 
-ghost use Rattle.std.specs.Prelude.{◌≡◌, ◌≤◌, ◌++◌, length, take, drop, slice_index};
+ghost use Rattle.std.specs.Prelude.{◌≡◌, ◌≤◌, length, take, drop, slice_index};
 ghost use Rattle.std.specs.Prelude.{IfOk, IfErr, not};
 ghost use Rattle.rtr_base.specs.Bytes.{value};
 ghost use Rattle.rtr_units.specs.Header.{version_field, type_field};
@@ -10,9 +10,9 @@ ghost use Rattle.rtr_payload.specs.Units.{meaning, form_of};
 ghost use Rattle.rtr_views.specs.Wholes.{IsFirstUnit, IsWholeKey};
 ghost use Rattle.rtr_views.specs.Faults.{IsFirstFault, PutsPiece, is_view_writer_fault};
 
-use crate::cut::{MAX_SIZE, first_unit};
+use crate::cut::{first_unit, size_at};
 use crate::fault::ViewFault;
-use crate::form::put_piece;
+use crate::form::put_flagged;
 use rtr_base::asn::Asn;
 use rtr_base::payload::Action;
 use rtr_payload::pdu::RouterKey;
@@ -20,7 +20,7 @@ use rtr_units::numbers::u32_at;
 use rtr_units::source::Sink;
 
 /// The bytes of a router key before its key info.
-const FIXED: u32 = 32;
+const FIXED: usize = 32;
 
 /// A router key that lies in a slice.
 #[derive(Clone, Copy, Debug)]
@@ -90,30 +90,17 @@ impl<'a> RouterKeyView<'a> {
         ensures within { IfOk result (λ v. length v.unit.now ≤ length input.now) }
         ensures fault { IfErr result (λ e. IsFirstFault input.now e) }
     {
-        let size = u32_at(input, 4);
-        if size > MAX_SIZE {
-            return Err(ViewFault::TooLong);
-        }
+        let size = match size_at(input) {
+            Ok(size) => size,
+            Err(e) => return Err(e),
+        };
         if size < FIXED {
             return Err(ViewFault::UnitLength);
         }
-        match first_unit(input, size as usize) {
+        match first_unit(input, size) {
             Ok(unit) => Ok(RouterKeyView { unit }),
             Err(e) => Err(e),
         }
-    }
-
-    /// What the form of the unit's meaning has before the key info.
-    #[inline(always)]
-    fn form_front(&self) -> [u8; 32]
-        ensures { result ++ drop 32 self.now.unit.now
-            ≡ form_of (meaning (key_fields self.now.unit.now)) }
-    {
-        let flags = Action::from_flags(self.flags()).into_flags();
-        let mut front = [0; 32];
-        front[4..].copy_from_slice(&self.unit[4..32]);
-        front[..4].copy_from_slice(&[self.version(), RouterKey::PDU, flags, 0]);
-        front
     }
 
     /// Writes the form of what the unit means.
@@ -124,9 +111,13 @@ impl<'a> RouterKeyView<'a> {
         ensures count { W.failures writer.new
             ≡ count_after (W.failures writer.old) (not (is_view_writer_fault result)) }
     {
-        match put_piece(writer, &self.form_front()) {
-            Ok(()) => put_piece(writer, self.key_info()),
-            Err(e) => Err(e),
-        }
+        let action = Action::from_flags(self.flags());
+        put_flagged(
+            writer,
+            self.version(),
+            RouterKey::PDU,
+            action,
+            &self.unit[8..],
+        )
     }
 }

@@ -1,13 +1,12 @@
 -- Views one after the other are a run.
-use Rattle.std.proofs.Common.{◌≡◌, ℕ, ◌+◌, ◌-◌, ◌<◌, Bool, true, false, not, List, ◌++◌, [], length, Option, Some, Result, Ok, Err, refl, sym, ap, subst, ◌∙◌, append_assoc, append-nil, arith, inl, inr}
-use Rattle.std.specs.Prelude.{IsOk, IsErr, IfOk}
+use Rattle.std.proofs.Common.{◌≡◌, ℕ, ◌-◌, ◌<◌, not, List, ◌++◌, [], length, Option, Some, Result, Ok, Err, refl, sym, ap, subst, ◌∙◌, append_assoc, append-nil, arith, inl, inr}
+use Rattle.std.specs.Prelude.{IsOk, IfOk}
 use Rattle.std.proofs.lemmas.List.{length-append}
 use Rattle.std.specs.Io.KnownBytes.{Appends}
 use Rattle.std.proofs.KnownBytes.{Appends-trans, Appends-nil}
 use Rattle.rtr_base.specs.Bytes.{IsBytes}
 use Rattle.rtr_units.specs.declared.fault.Fault.{Fault}
 use Rattle.rtr_units.specs.Causes.{Refusal, short, unit_type, unit_version, too_long, unit_length, empty_providers, refused, Cause, by_reader, by_writer, too_many, no_memory, wrong}
-use Rattle.rtr_units.specs.End.{end_list}
 use Rattle.rtr_units.specs.Ends.{end_meaning}
 use Rattle.rtr_units.specs.Stream.{count_after}
 use Rattle.rtr_payload.specs.Payloads.{Meaning}
@@ -24,7 +23,7 @@ use Rattle.rtr_views.specs.declared.view.UnitView.{UnitView}
 use Rattle.rtr_views.specs.declared.view.UnitView.TheVariants as views
 use Rattle.rtr_views.proofs.Agreement.{view_means, form_meant}
 use Rattle.rtr_wire.specs.Outcome.{StepTells, Steps}
-use Rattle.rtr_wire.specs.Run.{Run, HasRun, Sides, Ends, IsPartOfForm, BlamesNobody, Normalises, by_cause}
+use Rattle.rtr_wire.specs.Run.{Run, Sides, Ends, IsPartOfForm, BlamesNobody, Normalises, by_cause}
 use Rattle.rtr_wire.specs.Sequences.{AreUnits, everything, forms}
 use Rattle.rtr_wire.specs.declared.run.Passed.TheVariants as passes
 use Rattle.rtr_wire.specs.SliceRun.{view_cause, slice_answer, Side, NormalisesSlice, is_payload_unit, passed, StopsStep}

@@ -3,23 +3,15 @@
 #![tactic(auto)]
 
 #[cfg(test)]
-mod compared;
-#[cfg(test)]
 mod debug;
 #[cfg(test)]
 mod fixed;
 #[cfg(test)]
-mod normalised;
-#[cfg(test)]
-mod rows;
-#[cfg(test)]
 mod shown;
 #[cfg(test)]
-mod slices;
+mod texts;
 #[cfg(test)]
 mod variable;
-#[cfg(test)]
-mod versions;
 
 #[cfg(test)]
 use std::fmt::Debug;

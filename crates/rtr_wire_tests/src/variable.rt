@@ -1,10 +1,10 @@
 //! Router keys, ASPA units and payload units of any kind, made, written and read with what the crate shows.
 
 use crate::expect_equal;
-use rtr_support::{ASPA_BARE, IPV4, KEY, bytes};
+use rtr_support::{IPV4, KEY, bytes};
 use rtr_wire::base::{Asn, KeyIdentifier, MaxLenPrefix, Prefix};
 use rtr_wire::pdu::{Counted, Payload, ProviderAsns, RouterKeyInfo, SliceSource};
-use rtr_wire::{payload, pdu};
+use rtr_wire::payload;
 use std::alloc::Global;
 use std::net::Ipv4Addr;
 use std::process::Abort;
@@ -34,32 +34,6 @@ fn a_key_identifier(rt: HostRuntime) {
     let identifier = KeyIdentifier::from(IDENTIFIER);
     expect_equal(&rt, identifier.as_slice(), IDENTIFIER.as_slice());
     expect_equal(&rt, identifier.into_bytes(), IDENTIFIER);
-}
-
-#[test]
-fn router_key_units(rt: HostRuntime) -> Result<(), Fail> {
-    let alloc = rt.alloc();
-    let want = bytes(alloc, &[KEY])?;
-    let unit = pdu::RouterKey::new(1, 1, IDENTIFIER, Asn::from_u32(65551), info(alloc)?);
-    let mut writer = Counted::new(Vec::new(alloc));
-    unit.write(&mut writer)?;
-    expect_equal(&rt, writer.into_inner().as_slice(), want.as_slice());
-    let mut reader = SliceSource::new(&want);
-    assert!(rt; pdu::RouterKey::read(alloc, &mut reader)? == unit);
-    Ok(())
-}
-
-#[test]
-fn aspa_units(rt: HostRuntime) -> Result<(), Fail> {
-    let alloc = rt.alloc();
-    let want = bytes(alloc, &[ASPA])?;
-    let unit = pdu::Aspa::new(2, 1, Asn::from_u32(65551), providers(alloc)?);
-    let mut writer = Counted::new(Vec::new(alloc));
-    unit.write(&mut writer)?;
-    expect_equal(&rt, writer.into_inner().as_slice(), want.as_slice());
-    let mut reader = SliceSource::new(&want);
-    assert!(rt; pdu::Aspa::read(alloc, &mut reader)? == unit);
-    Ok(())
 }
 
 /// Asserts that these bytes are read as the unit of this action and payload.
@@ -122,13 +96,4 @@ fn payload_units_of_aspas(rt: HostRuntime) -> Result<(), Fail> {
     let alloc = rt.alloc();
     let aspa = payload::Payload::aspa(Asn::from_u32(65551), providers(alloc)?);
     passes(&rt, alloc, 2, payload::Action::Announce, &aspa, ASPA)
-}
-
-#[test]
-fn withdrawal_of_an_aspa(rt: HostRuntime) -> Result<(), Fail> {
-    let alloc = rt.alloc();
-    let aspa = payload::Aspa::new(Asn::from_u32(65551), providers(alloc)?);
-    let withdrawn = payload::Payload::from(aspa.withdraw(alloc)?);
-    let withdraw = payload::Action::Withdraw;
-    passes(&rt, alloc, 2, withdraw, &withdrawn, ASPA_BARE)
 }

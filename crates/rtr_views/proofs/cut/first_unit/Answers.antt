@@ -1,7 +1,5 @@
-use Rattle.std.proofs.Common.{◌≡◌, ◌≤◌, length, sym, ap, ◌∙◌, arith, take, subst}
+use Rattle.std.proofs.Common.{◌≡◌, sym, ap, ◌∙◌, arith, take, subst}
 use Rattle.rtr_payload.specs.Steps.{first_unit}
-use Rattle.rtr_units.specs.Header.{length_field}
-use Rattle.rtr_payload.proofs.Refusals.{unit_short}
 use Rattle.rtr_views.proofs.Fronts.{cut_first, least_size}
 use Rattle.rtr_views.specs.Wholes.{IsFirstUnit}
 use Rattle.rtr_views.proofs.cut.first_unit.Goals as goal

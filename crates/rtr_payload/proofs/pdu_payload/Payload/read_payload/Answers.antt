@@ -1,24 +1,18 @@
-use Rattle.std.proofs.Common.{sym, refl, ◌∙◌, arith, inl, inr}
+use Rattle.std.proofs.Common.{◌∙◌, sym, arith, Ok, Err}
+use Rattle.rtr_units.specs.Causes.{cause_of}
+use Rattle.rtr_units.specs.Ends.{end_bytes}
 use Rattle.rtr_units.specs.Views.{header_bytes}
-use Rattle.rtr_payload.proofs.Reading.{behind, behind_stops, end_stops, type_refused}
+use Rattle.rtr_payload.proofs.Reading.{end_after, none_after}
 use Rattle.rtr_payload.proofs.pdu_payload.Payload.read_payload.Goals as goal
 
+pub returns-in-Ok-read_payload-clause-bytes : goal.returns-in-Ok-read_payload-clause-bytes
+returns-in-Ok-read_payload-clause-bytes g c =
+    end_after (header_bytes c.args.header) (Ok (end_bytes c.in-Ok-read_payload.end)) _ _ (sym c.pdu.ensures.value ∙ c.in-7.is) c.in-Ok-read_payload.ensures.bytes
+
 pub returns-in-Err-read_payload-clause-bytes : goal.returns-in-Err-read_payload-clause-bytes
-returns-in-Err-read_payload-clause-bytes g c is before took =
-    let h = header_bytes c.args.header in
-    behind h _ _ _ _ _ took c.in-Err-read_payload.ensures.bytes (λ t. end_stops h is (sym c.pdu.ensures ∙ c.in-7.is) _ t _)
-
-pub returns-in-Err-read_payload-2-clause-bytes : goal.returns-in-Err-read_payload-2-clause-bytes
-returns-in-Err-read_payload-2-clause-bytes g c is before took =
-    let h = header_bytes c.args.header in
-    behind h _ _ _ _ _ took c.in-Err-read_payload-2.ensures.bytes (behind_stops 9 h is (sym c.pdu.ensures ∙ c.in-9.is) (inl refl) _ _)
-
-pub returns-in-Err-read_payload-3-clause-bytes : goal.returns-in-Err-read_payload-3-clause-bytes
-returns-in-Err-read_payload-3-clause-bytes g c is before took =
-    let h = header_bytes c.args.header in
-    behind h _ _ _ _ _ took c.in-Err-read_payload-3.ensures.bytes (behind_stops 11 h is (sym c.pdu.ensures ∙ c.in-11.is) (inr refl) _ _)
+returns-in-Err-read_payload-clause-bytes g c =
+    end_after (header_bytes c.args.header) (Err (cause_of c.in-Err-read_payload.e)) _ _ (sym c.pdu.ensures.value ∙ c.in-7.is) c.in-Err-read_payload.ensures.bytes
 
 pub returns-in_default-clause-bytes : goal.returns-in_default-clause-bytes
-returns-in_default-clause-bytes g c is before took =
-    let h = header_bytes c.args.header in
-    (h, took, type_refused h c.pdu.result is (sym c.pdu.ensures) (omega arith) (omega arith) (omega arith) (omega arith) (omega arith))
+returns-in_default-clause-bytes g c =
+    none_after (header_bytes c.args.header) c.pdu.result _ c.pdu.ensures.header (sym c.pdu.ensures.value) (omega arith) (omega arith) (omega arith) (omega arith) (omega arith)

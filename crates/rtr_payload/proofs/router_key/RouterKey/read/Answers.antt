@@ -1,11 +1,13 @@
 use Rattle.std.proofs.Common.{◌≡◌, sym, ◌∙◌}
 use Rattle.rtr_units.specs.Header.{type_field}
 use Rattle.rtr_units.specs.Views.{header_bytes}
-use Rattle.rtr_payload.proofs.Variable.{read_of_type}
+use Rattle.rtr_units.specs.Reading.{by_bytes}
+use Rattle.rtr_units.proofs.UnitsRead.{read_both}
+use Rattle.rtr_payload.specs.UnitKinds.{variable_unit}
 use Rattle.rtr_payload.proofs.router_key.RouterKey.read.Goals as goal
 
 pub returns-clause-bytes : goal.returns-clause-bytes
 returns-clause-bytes g c =
     let h = header_bytes c.in-Ok.header in
-    let kind : type_field h ≡ 9 = sym c.pdu-pdu.ensures ∙ c.if-pdu-ne-PDU.false in
-    read_of_type 9 h c.read_payload.result _ _ _ c.in-Ok.ensures.bytes.1.0 kind c.in-Ok.ensures.bytes.0 c.read_payload.ensures.bytes
+    let kind : type_field h ≡ 9 = sym c.pdu-pdu.ensures.value ∙ c.if-pdu-ne-PDU.false in
+    read_both 9 (variable_unit 9) h (by_bytes (λ u. u) c.read_payload.result) _ _ _ c.in-Ok.ensures.bytes.1 kind c.in-Ok.ensures.bytes.0 c.read_payload.ensures.bytes

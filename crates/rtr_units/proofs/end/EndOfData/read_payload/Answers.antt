@@ -1,39 +1,40 @@
-use Rattle.std.proofs.Common.{◌≡◌, ◌≤◌, ◌∙◌, sym, ap, arith}
+use Rattle.std.proofs.Common.{◌≡◌, ◌≤◌, ◌∙◌, [], sym, ap, arith}
+use Rattle.std.proofs.KnownBytes.{Consumes-nil}
+use Rattle.rtr_units.specs.Causes.{unit_version}
+use Rattle.rtr_units.specs.Ends.{end_unit}
 use Rattle.rtr_units.specs.Header.{version_field, type_field, length_field}
+use Rattle.rtr_units.specs.Views.{header_bytes}
+use Rattle.rtr_units.proofs.UnitsRead.{at_header, end_version, sized_from}
 use Rattle.rtr_units.proofs.EndsRead.{untimed_has}
-use Rattle.rtr_units.proofs.EndUnits.{end_with_timing, header_without_timing, header_with_timing}
+use Rattle.rtr_units.proofs.EndUnits.{end_with_timing}
 use Rattle.rtr_units.proofs.Headers.{same_header}
 use Rattle.rtr_units.proofs.end.EndOfData.read_payload.Goals as goal
 
-pub returns-in-Ok-clause-bytes : goal.returns-in-Ok-clause-bytes
-returns-in-Ok-clause-bytes g c =
-    let h = c.args.header.cells.bytes in
-    let u = c.in-Ok.unit.cells.bytes in
-    let (is_length, (size8, range8), (size, range), (t, taken, parts)) = c.in-Ok.ensures.bytes in
-    let is_version : version_field h ≡ 0 = cc in
-    let same = same_header h t (omega arith) in
-    let version : version_field u ≡ version_field h = ap version_field parts ∙ same.version in
-    let kind : type_field u ≡ type_field h = ap type_field parts ∙ same.kind in
-    let field : length_field u ≡ length_field h = ap length_field parts ∙ same.size in (
-      header_without_timing h is_version is_length,
-      (t, taken, parts),
-      sym is_version,
-      λ is_type. untimed_has u range (version ∙ is_version) (kind ∙ is_type) size (field ∙ is_length),
-    )
+pub returns-then-version-gt2-clause-bytes : goal.returns-then-version-gt2-clause-bytes
+returns-then-version-gt2-clause-bytes g c =
+    let h = header_bytes c.args.header in
+    let is = c.version-version.ensures.header in
+    let v = c.version-version.ensures.value in
+    (is, ([], Consumes-nil _, rw v (at_header end_unit (unit_version (version_field h)) h is.0 (end_version h (omega (arith, v))))))
 
-pub returns-in-Ok-read_payload-clause-bytes : goal.returns-in-Ok-read_payload-clause-bytes
-returns-in-Ok-read_payload-clause-bytes g c =
-    let h = c.args.header.cells.bytes in
+pub returns-in-Ok-clause-end : goal.returns-in-Ok-clause-end
+returns-in-Ok-clause-end g c is_type =
+    let h = header_bytes c.args.header in
+    let u = c.in-Ok.unit.cells.bytes in
+    let (is, ((t, taken, parts), whole)) = c.in-Ok.ensures.bytes in
+    let is_version : version_field h ≡ 0 = cc in
+    let same = same_header h t (omega (arith, is.0)) in
+    let field : length_field u ≡ 12 = sized_from 12 u whole.in_order in
+    untimed_has u whole.are_bytes (ap version_field parts ∙ same.version ∙ is_version) (ap type_field parts ∙ same.kind ∙ is_type) (whole.size ∙ field) field
+
+pub returns-in-Ok-read_payload-clause-end : goal.returns-in-Ok-read_payload-clause-end
+returns-in-Ok-read_payload-clause-end g c is_type =
+    let h = header_bytes c.args.header in
     let u = c.in-Ok-read_payload.unit.cells.bytes in
-    let (is_length, (size8, range8), (size, range), (t, taken, parts)) = c.in-Ok-read_payload.ensures.bytes in
-    let small : version_field h ≤ 2 = rw (← c.version-version.ensures) c.if-version-gt2.false in
-    let later : ¬ (version_field h ≡ 0) = λ zero. c.if-version-eq0.false (c.version-version.ensures ∙ zero) in
-    let same = same_header h t (omega arith) in
+    let (is, ((t, taken, parts), whole)) = c.in-Ok-read_payload.ensures.bytes in
+    let small : version_field h ≤ 2 = rw (← c.version-version.ensures.value) c.if-version-gt2.false in
+    let later : ¬ (version_field h ≡ 0) = λ zero. c.if-version-eq0.false (c.version-version.ensures.value ∙ zero) in
+    let same = same_header h t (omega (arith, is.0)) in
     let version : version_field u ≡ version_field h = ap version_field parts ∙ same.version in
-    let kind : type_field u ≡ type_field h = ap type_field parts ∙ same.kind in
-    let field : length_field u ≡ length_field h = ap length_field parts ∙ same.size in (
-      header_with_timing h small later is_length,
-      (t, taken, parts),
-      version,
-      λ is_type. end_with_timing u range size (rw version small) (λ zero. later (sym version ∙ zero)) (kind ∙ is_type) (field ∙ is_length),
-    )
+    let field : length_field u ≡ 24 = sized_from 24 u whole.in_order in
+    end_with_timing u whole.are_bytes (whole.size ∙ field) (rw version small) (λ zero. later (sym version ∙ zero)) (ap type_field parts ∙ same.kind ∙ is_type) field

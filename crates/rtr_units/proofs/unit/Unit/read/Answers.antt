@@ -1,13 +1,14 @@
-use Rattle.std.proofs.Common.{◌≡◌, ◌++◌}
-use Rattle.std.proofs.KnownBytes.{Consumes-trans}
+use Rattle.std.proofs.Common.{◌≡◌, Err}
+use Rattle.rtr_units.specs.Causes.{cause_of}
 use Rattle.rtr_units.specs.Header.{type_field}
-use Rattle.rtr_units.proofs.Stops.{stops_unit}
+use Rattle.rtr_units.specs.Reading.{of_size}
+use Rattle.rtr_units.specs.Views.{header_bytes}
+use Rattle.rtr_units.proofs.UnitsRead.{read_both}
 use Rattle.rtr_units.proofs.unit.Unit.read.Goals as goal
 
 pub returns-in-Err-clause-bytes : goal.returns-in-Err-clause-bytes
 returns-in-Err-clause-bytes g c =
-    let h = c.in_ok-header.header.cells.bytes in
-    let (read, (size, range)) = c.in_ok-header.ensures.bytes in
-    let (t, taken, stops) = c.in-Err.ensures.bytes in
+    let h = header_bytes c.in_ok-header.header in
+    let (read, is) = c.in_ok-header.ensures.bytes in
     let is_type : type_field h ≡ g.Self.Unit.PDU = cc in
-    (h ++ t, Consumes-trans _ _ _ _ _ read taken, stops_unit _ _ _ h t _ size is_type stops)
+    read_both g.Self.Unit.PDU (of_size g.Self.Unit.LENGTH) h (Err (cause_of c.in-Err.e)) _ _ _ is is_type read c.in-Err.ensures.bytes

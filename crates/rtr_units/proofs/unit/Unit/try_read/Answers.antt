@@ -1,14 +1,18 @@
 use Rattle.std.proofs.Common.{◌≡◌, ◌∙◌, arith, sym, ◌++◌}
 use Rattle.std.proofs.KnownBytes.{Consumes-trans}
+use Rattle.rtr_units.specs.Causes.{cause_of}
 use Rattle.rtr_units.specs.Header.{type_field}
+use Rattle.rtr_units.specs.Reading.{of_size, of_type}
+use Rattle.rtr_units.specs.Views.{header_bytes}
 use Rattle.rtr_units.proofs.Headers.{same_header}
-use Rattle.rtr_units.proofs.Stops.{stops_unit}
+use Rattle.rtr_units.proofs.UnitsRead.{alike_stops, typed_is}
 use Rattle.rtr_units.proofs.unit.Unit.try_read.Goals as goal
 
 pub returns-in-Err-clause-bytes : goal.returns-in-Err-clause-bytes
 returns-in-Err-clause-bytes g c =
-    let h = c.in_ok-header.header.cells.bytes in
+    let h = header_bytes c.in_ok-header.header in
     let (read, (size, range)) = c.in_ok-header.ensures.bytes in
-    let (t, taken, stops) = c.in-Err.ensures.bytes in
+    let (eight, (t, taken, stops)) = c.in-Err.ensures.bytes in
     let is_type : type_field h ≡ g.Self.Unit.PDU = cc in
-    (h ++ t, Consumes-trans _ _ _ _ _ read taken, (stops_unit _ _ _ h t _ size is_type stops, λ _ same. c.if-pdu-eq-PDU.false (c.pdu.ensures ∙ sym (same_header h t (omega arith)).kind ∙ same)))
+    let same : type_field (h ++ t) ≡ type_field h = (same_header h t (omega (arith, size))).kind in
+    (h ++ t, Consumes-trans _ _ _ _ _ read taken, (alike_stops (of_size g.Self.Unit.LENGTH) (of_type g.Self.Unit.PDU (of_size g.Self.Unit.LENGTH)) (h ++ t) (sym (typed_is g.Self.Unit.PDU (of_size g.Self.Unit.LENGTH) (h ++ t) (same ∙ is_type))) (λ asks. asks) (cause_of c.in-Err.e) _ stops, λ _ ten. c.if-pdu-eq-PDU.false (c.pdu.ensures.value ∙ sym same ∙ ten)))

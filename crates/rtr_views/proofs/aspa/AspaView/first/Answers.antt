@@ -1,29 +1,29 @@
-use Rattle.std.proofs.Common.{arith, inl, inr, ◌≡◌, ◌≤◌, ℕ, ◌%◌, sym, ap, ◌∙◌}
+use Rattle.std.proofs.Common.{arith, inl, inr, ◌≡◌, ℕ, ◌%◌, sym, ap, ◌∙◌}
 use Rattle.rtr_units.specs.Header.{length_field}
 use Rattle.rtr_payload.proofs.Variable.{aspa_too_long}
-use Rattle.rtr_views.proofs.Fronts.{typed_shows, typed_in_order, aspa_length, aspa_no_providers, aspa_in_order}
+use Rattle.rtr_views.proofs.Fronts.{long_shows, typed_shows, typed_in_order, aspa_length, aspa_no_providers, aspa_in_order}
 use Rattle.rtr_views.proofs.aspa.AspaView.first.Goals as goal
 use Rattle.rtr_views.proofs.aspa.AspaView.first.Goals.{then-size-lt-FIXED-via-then-size-lt-FIXED, then-size-lt-FIXED-via-else-size-lt-FIXED+then-size-ne0, else-size-eq-FIXED-via-then-size-eq-FIXED+else-input-eq1, else-size-eq-FIXED-via-else-size-eq-FIXED}
 
-pub returns-then-size-gt-MAX_SIZE-clause-fault : goal.returns-then-size-gt-MAX_SIZE-clause-fault
-returns-then-size-gt-MAX_SIZE-clause-fault c = typed_shows c.args.input.now 11 _ c.requires.header c.requires.kind (aspa_too_long _ _ _ (omega (arith, c.u32_at-size.ensures)))
+pub returns-in-Err-clause-fault : goal.returns-in-Err-clause-fault
+returns-in-Err-clause-fault c = long_shows c.args.input.now 11 _ c.requires.header c.requires.kind (aspa_too_long _ _ _ c.in-Err.ensures.long.1) c.in-Err.ensures.long.0
 
 pub returns-then-size-lt-FIXED-clause-fault : goal.returns-then-size-lt-FIXED-clause-fault
 returns-then-size-lt-FIXED-clause-fault c =
-    let is = c.u32_at-size.ensures in
-    typed_shows c.args.input.now 11 _ c.requires.header c.requires.kind (aspa_length _ _ _ (omega (arith, is)) (elim c.then-size-lt-FIXED.branch [
-      | then-size-lt-FIXED-via-then-size-lt-FIXED w ↦ inl (omega (arith, is, w.if-size-lt-FIXED.true))
+    let is = c.in-Ok.ensures.size in
+    typed_shows c.args.input.now 11 _ c.requires.header c.requires.kind (aspa_length _ _ _ (omega (arith, is, c.in-Ok.ensures.most)) (elim c.then-size-lt-FIXED.branch [
+      | then-size-lt-FIXED-via-then-size-lt-FIXED w ↦ inl (omega (arith, is, c.in-Ok.ensures.most, w.if-size-lt-FIXED.true))
       | then-size-lt-FIXED-via-else-size-lt-FIXED+then-size-ne0 w ↦ inr (λ e. w.if-size-ne0.true (ap (λ (n : ℕ). n % 4) is ∙ e))
     ]))
 
 pub returns-then-input-eq1-clause-fault : goal.returns-then-input-eq1-clause-fault
-returns-then-input-eq1-clause-fault c = typed_shows c.args.input.now 11 _ c.requires.header c.requires.kind (aspa_no_providers _ _ _ (sym c.u32_at-size.ensures ∙ c.if-size-eq-FIXED.true) c.if-input-eq1.true)
+returns-then-input-eq1-clause-fault c = typed_shows c.args.input.now 11 _ c.requires.header c.requires.kind (aspa_no_providers _ _ _ (sym c.in-Ok.ensures.size ∙ c.if-size-eq-FIXED.true) c.if-input-eq1.true)
 
 pub first_unit-requires-clause-in_order : goal.first_unit-requires-clause-in_order
 first_unit-requires-clause-in_order c =
-    let is = c.u32_at-size.ensures in
+    let is = c.in-Ok.ensures.size in
     let fours : length_field c.args.input.now % 4 ≡ 0 = ap (λ (n : ℕ). n % 4) (sym is) ∙ c.if-size-ne0.false in
     typed_in_order c.args.input.now 11 c.requires.kind (elim c.else-size-eq-FIXED.branch [
-      | else-size-eq-FIXED-via-then-size-eq-FIXED+else-input-eq1 w ↦ aspa_in_order _ _ _ (omega (arith, is)) (omega (arith, is)) fours (inr w.if-input-eq1.false)
-      | else-size-eq-FIXED-via-else-size-eq-FIXED w ↦ aspa_in_order _ _ _ (omega (arith, is)) (omega (arith, is)) fours (inl (λ e. w.if-size-eq-FIXED.false (is ∙ e)))
+      | else-size-eq-FIXED-via-then-size-eq-FIXED+else-input-eq1 w ↦ aspa_in_order _ _ _ (omega (arith, is, c.in-Ok.ensures.most)) (omega (arith, is, c.in-Ok.ensures.most)) fours (inr w.if-input-eq1.false)
+      | else-size-eq-FIXED-via-else-size-eq-FIXED w ↦ aspa_in_order _ _ _ (omega (arith, is, c.in-Ok.ensures.most)) (omega (arith, is, c.in-Ok.ensures.most)) fours (inl (λ e. w.if-size-eq-FIXED.false (is ∙ e)))
     ])

@@ -1,9 +1,10 @@
-use Rattle.rtr_views.proofs.Puts.{same_put, both_put, first_not_put}
+use Rattle.std.proofs.Common.{ap, ◌∙◌}
+use Rattle.std.proofs.lemmas.List.{take_rest}
+use Rattle.rtr_base.specs.Actions.{act}
+use Rattle.rtr_views.proofs.Forms.{key_form}
+use Rattle.rtr_views.proofs.Puts.{same_put}
 use Rattle.rtr_views.proofs.router_key.RouterKeyView.write_form.Goals as goal
 
-pub returns-in-Ok-clause-bytes : goal.returns-in-Ok-clause-bytes
-returns-in-Ok-clause-bytes g c =
-    both_put c.put_piece-in-Ok.result _ _ _ _ _ _ c.form_front.ensures c.in-Ok.ensures.bytes (same_put c.put_piece-in-Ok.result _ _ _ _ c.key_info.ensures c.put_piece-in-Ok.ensures.bytes)
-
-pub returns-in-Err-clause-bytes : goal.returns-in-Err-clause-bytes
-returns-in-Err-clause-bytes g c = first_not_put c.in-Err.e _ _ _ _ _ c.form_front.ensures c.in-Err.ensures.bytes
+pub returns-clause-bytes : goal.returns-clause-bytes
+returns-clause-bytes g c =
+    same_put c.put_flagged.result _ _ _ _ (key_form c.args.self.now.unit.now _ _ c.from_flags-action.result c.args.self.now.whole c.version.ensures (c.from_flags-action.ensures ∙ ap act c.flags.ensures) (take_rest c.args.self.now.unit.now 8)) c.put_flagged.ensures.bytes

@@ -1,0 +1,120 @@
+//! Answers as text.
+
+use rtr_wire::pdu::{Fault, PrefixRule, ViewFault};
+use std::alloc::{AllocError, Global};
+use std::fmt::Display;
+use std::io;
+use std::io::ErrorKind;
+
+/// Words with spaces between them. Bytes are hex, and all that follow one another are one word.
+#[derive(Drop)]
+pub struct Answer {
+    alloc: Global,
+    text: String,
+    ends_in_bytes: bool,
+    is_cut: bool,
+}
+
+impl Answer {
+    /// No words.
+    pub fn new(alloc: Global) -> Answer {
+        Answer {
+            alloc,
+            text: String::new(alloc),
+            ends_in_bytes: false,
+            is_cut: false,
+        }
+    }
+
+    /// Appends a word.
+    pub fn word<D: Display + Drop>(&mut self, word: D) {
+        self.ends_in_bytes = false;
+        match format!(in self.alloc; "{word}") {
+            Ok(word) => self.append(word.as_str()),
+            Err(_) => self.is_cut = true,
+        }
+    }
+
+    /// Appends bytes.
+    pub fn bytes(&mut self, bytes: &[u8]) {
+        if bytes.is_empty() {
+            return;
+        }
+        match hex::encode(self.alloc, bytes) {
+            Ok(word) => self.append(word.as_str()),
+            Err(_) => self.is_cut = true,
+        }
+        self.ends_in_bytes = true;
+    }
+
+    /// Appends a text, after a space where it is neither the first nor goes on with bytes.
+    fn append(&mut self, text: &str) {
+        if !self.text.is_empty() && !self.ends_in_bytes && self.text.push_str(" ").is_err() {
+            self.is_cut = true;
+        }
+        if self.text.push_str(text).is_err() {
+            self.is_cut = true;
+        }
+    }
+
+    /// Whether these are the same words.
+    pub fn is_same(&self, other: &Answer) -> bool {
+        self.text == other.text && !self.is_cut && !other.is_cut
+    }
+
+    /// The words, where there was memory for all of them.
+    pub fn into_text(self) -> Result<String, AllocError> {
+        if self.is_cut {
+            return Err(AllocError);
+        }
+        Ok(self.text)
+    }
+
+    /// Appends the name of a fault. The errors of readers and writers are interruptions, as those
+    /// that the table's readers and writers give.
+    pub fn fault(&mut self, fault: &Fault) {
+        match fault {
+            Fault::Reader(error) => self.error("Reader", error),
+            Fault::Writer(error) => self.error("Writer", error),
+            Fault::Short => self.word("Short"),
+            Fault::UnitType(pdu) => self.number("UnitType", *pdu),
+            Fault::UnitLength => self.word("UnitLength"),
+            Fault::TooLong => self.word("TooLong"),
+            Fault::EmptyProviders => self.word("EmptyProviders"),
+            Fault::UnitVersion(version) => self.number("UnitVersion", *version),
+            Fault::Refused(_) => self.word("Refused"),
+            Fault::TooMany => self.word("TooMany"),
+            Fault::Memory => self.word("Memory"),
+        }
+    }
+
+    /// Appends the name of a fault of a view.
+    pub fn view_fault(&mut self, fault: &ViewFault) {
+        match fault {
+            ViewFault::Writer(error) => self.error("Writer", error),
+            ViewFault::Short => self.word("Short"),
+            ViewFault::UnitType(pdu) => self.number("UnitType", *pdu),
+            ViewFault::UnitLength => self.word("UnitLength"),
+            ViewFault::TooLong => self.word("TooLong"),
+            ViewFault::EmptyProviders => self.word("EmptyProviders"),
+            ViewFault::UnitVersion(version) => self.number("UnitVersion", *version),
+            ViewFault::Prefix(PrefixRule::LenOverflow) => self.word("Prefix(LenOverflow)"),
+            ViewFault::Prefix(PrefixRule::MaxOverflow) => self.word("Prefix(MaxOverflow)"),
+            ViewFault::Prefix(PrefixRule::MaxUnderflow) => self.word("Prefix(MaxUnderflow)"),
+            ViewFault::TooMany => self.word("TooMany"),
+        }
+    }
+
+    /// Appends a name with a number.
+    fn number(&mut self, name: &str, number: u8) {
+        self.word(format_args!("{name}({number})"))
+    }
+
+    /// Appends the name of a fault that holds an error, and whether the library made that itself.
+    fn error(&mut self, name: &str, error: &io::Error) {
+        match error.kind() {
+            ErrorKind::Interrupted => self.word(name),
+            _ => self.word(format_args!("{name}(own)")),
+        }
+    }
+}

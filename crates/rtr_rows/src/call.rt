@@ -1,0 +1,16 @@
+//! The calls that rows name.
+
+use crate::answer::Answer;
+use crate::row::{Row, Way};
+use crate::{fixed, meanings, parts, payloads, sequences, variable, views};
+
+/// Makes the call of a row in one way, and answers what it gave, if there is such a call.
+pub fn call(row: &Row<'_>, way: Way) -> Option<Answer> {
+    sequences::answer(row, way)
+        .or_else(|| views::answer(row, way))
+        .or_else(|| payloads::answer(row, way))
+        .or_else(|| meanings::answer(row))
+        .or_else(|| variable::answer(row, way))
+        .or_else(|| parts::answer(row, way))
+        .or_else(|| fixed::answer(row, way))
+}

@@ -1,0 +1,56 @@
+//! Makes the calls that the rows of a table name, and prints what differs from what the rows say.
+//!
+//! The table is standard input, one row a line. `//` begins a comment. `NAME = WORDS` gives bytes a
+//! name, and `CALL WORDS => ANSWER` is a call with bytes and settings `KEY=VALUE`, and its answer.
+//! Words that stand for bytes are names, hex digits, `..N` for N bytes that count up, and `WORD*N`
+//! for N times those of a word. A second `=>` says which answers may come where a growth is
+//! refused, in their order and with `;` between; they must come, unless they begin with `?`.
+//! With an argument the program marks each call by a growth of that many bytes before it and after it,
+//! so that `.ci/growth` can refuse the growths between. Then each row prints `whole`, or `refused` and
+//! which of its answers that is.
+#![tactic(auto)]
+
+mod answer;
+mod call;
+mod fixed;
+mod meanings;
+mod parts;
+mod payloads;
+mod row;
+mod sequences;
+mod table;
+mod variable;
+mod views;
+
+use crate::table::Table;
+use std::env;
+use std::io::Read;
+use std::process::ExitCode;
+use std::test::Fail;
+
+/// The number that the program's argument is, or 0 without one.
+fn mark(rt: &HostRuntime) -> Result<usize, Fail> {
+    let words: Vec<String> = env::args(rt)?.collect(rt.alloc())?;
+    match words.get(1) {
+        Some(word) => Ok(word.parse::<usize>()?),
+        None => Ok(0),
+    }
+}
+
+fn main(rt: HostRuntime) -> Result<ExitCode, Fail> {
+    let mut input = Vec::new(rt.alloc());
+    rt.stdin().read_to_end(&mut input)?;
+    let text = String::from_utf8(input)?;
+    let mut table = Table::new(rt.alloc(), mark(&rt)?);
+    let mut differs = 0u64;
+    for line in text.lines() {
+        if let Some(seen) = table.line(line)? {
+            println!(rt; "{}", seen.text)?;
+            if seen.is_other {
+                println!(rt; "    of {line}")?;
+                differs = differs.saturating_add(1);
+            }
+        }
+    }
+    Ok(ExitCode::from(if differs == 0 { 0 } else { 1 }))
+}

@@ -1,0 +1,138 @@
+//! Payload units of any kind.
+
+use crate::answer::Answer;
+use crate::row::{Row, Way};
+use crate::views::tell_end;
+use rtr_support::{Recorder, hash_of};
+use rtr_wire::pdu::{Counted, Payload, SliceSource};
+
+/// Makes the call of a row where it is one of these.
+pub fn answer(row: &Row<'_>, way: Way) -> Option<Answer> {
+    match row.call {
+        "read" => Some(read_any(row, way)),
+        "clone" => Some(clone(row)),
+        "as_partial_slice" => Some(lent(row)),
+        "write" => Some(write(row, way)),
+        "same_units" => Some(compared(row)),
+        _ => None,
+    }
+}
+
+/// The payload unit that these bytes begin with.
+fn unit_of(row: &Row<'_>, bytes: &[u8]) -> Option<Payload> {
+    match Payload::read(row.alloc, &mut SliceSource::new(bytes)) {
+        Ok(Ok(unit)) => unit,
+        _ => None,
+    }
+}
+
+/// The payload unit that the row's bytes begin with, altered: `set=3` puts the right side's bytes
+/// in place of those from the third on, where it is a prefix unit.
+pub fn read(row: &Row<'_>) -> Option<Payload> {
+    let mut unit = unit_of(row, &row.left)?;
+    if row.setting("set").is_some() {
+        let place = row.place("set");
+        crate::fixed::alter(&mut unit, place, &row.right);
+    }
+    Some(unit)
+}
+
+/// Tells a unit: its kind, version, flags and bytes.
+pub fn tell_unit(seen: &mut Answer, row: &Row<'_>, unit: &Payload) {
+    let kind = match unit {
+        Payload::V4(_) => "V4",
+        Payload::V6(_) => "V6",
+        Payload::RouterKey(_) => "RouterKey",
+        Payload::Aspa(_) => "Aspa",
+    };
+    seen.word(format_args!("{kind} {} {}", unit.version(), unit.flags()));
+    let mut writer = Counted::new(Recorder::new(row.alloc, usize::MAX));
+    match unit.write(&mut writer) {
+        Ok(()) => seen.bytes(writer.into_inner().held()),
+        Err(fault) => seen.fault(&fault),
+    }
+}
+
+/// `pdu::Payload::read`: the unit or the end of data, or the fault, and how many bytes were taken.
+fn read_any(row: &Row<'_>, way: Way) -> Answer {
+    let mut reader = Counted::new(row.reader(way));
+    row.ready();
+    let answer = Payload::read(row.alloc, &mut reader);
+    let mut seen = row.answer();
+    match &answer {
+        Ok(Ok(Some(unit))) => tell_unit(&mut seen, row, unit),
+        Ok(Ok(None)) => seen.word("none"),
+        Ok(Err(end)) => {
+            tell_end(&mut seen, end);
+            seen.bytes(end.as_ref());
+        }
+        Err(fault) => seen.fault(fault),
+    }
+    let reader = reader.into_inner();
+    seen.word(reader.taken());
+    if reader.ends() > 1 {
+        seen.word("asked after the end");
+    }
+    seen
+}
+
+/// `pdu::Payload::clone`, and the unit as it is then.
+fn clone(row: &Row<'_>) -> Answer {
+    let Some(unit) = read(row) else {
+        return row.no_unit();
+    };
+    row.ready();
+    let copy = unit.clone();
+    let mut seen = row.answer();
+    match &copy {
+        Ok(copy) => {
+            if *copy != unit || hash_of(copy) != hash_of(&unit) {
+                seen.word("another");
+            }
+            tell_unit(&mut seen, row, copy);
+        }
+        Err(_) => seen.word("Memory"),
+    }
+    seen.word("of");
+    tell_unit(&mut seen, row, &unit);
+    seen
+}
+
+/// `pdu::Payload::as_partial_slice`.
+fn lent(row: &Row<'_>) -> Answer {
+    let Some(unit) = read(row) else {
+        return row.no_unit();
+    };
+    row.ready();
+    let mut seen = row.answer();
+    seen.bytes(unit.as_partial_slice());
+    seen
+}
+
+/// `pdu::Payload::write`: `Ok` or the fault, what was written, and the number of calls.
+fn write(row: &Row<'_>, way: Way) -> Answer {
+    let Some(unit) = read(row) else {
+        return row.no_unit();
+    };
+    let mut writer = Counted::new(row.writer(way));
+    row.ready();
+    let answer = unit.write(&mut writer);
+    let mut seen = row.answer();
+    match answer {
+        Ok(()) => seen.word("Ok"),
+        Err(fault) => seen.fault(&fault),
+    }
+    seen.bytes(writer.into_inner().held());
+    seen
+}
+
+/// Whether the units of both sides are equal.
+fn compared(row: &Row<'_>) -> Answer {
+    let is_same = match (unit_of(row, &row.left), unit_of(row, &row.right)) {
+        (Some(left), Some(right)) => left == right,
+        _ => return row.no_unit(),
+    };
+    let mut seen = row.answer();
+    seen.word(is_same);
+    seen
+}

@@ -1,0 +1,147 @@
+//! A row's call, and what it is given.
+
+use crate::answer::Answer;
+use rtr_support::{ONES, Pieces, Recorder, STEPS, WHOLE};
+use std::alloc::{AllocError, Global};
+
+/// A setting of a row, `KEY=VALUE`.
+#[derive(Clone, Copy, Drop)]
+pub struct Setting<'a> {
+    pub key: &'a str,
+    pub value: &'a str,
+}
+
+/// A row's call, its settings, and the bytes before and after a `|`.
+#[derive(Drop)]
+pub struct Row<'a> {
+    pub alloc: Global,
+    pub call: &'a str,
+    pub settings: Vec<Setting<'a>>,
+    pub left: Vec<u8>,
+    pub right: Vec<u8>,
+    /// The size of the growths that mark the call, or 0.
+    pub mark: usize,
+}
+
+/// How a reader gives its bytes, and how many a writer takes a call.
+#[derive(Clone, Copy, Drop)]
+pub struct Way {
+    pub sizes: &'static [usize],
+    pub size: usize,
+}
+
+/// One byte at a time; one, two and three in turn; all that is asked for.
+const READERS: &[&[usize]] = &[ONES, STEPS, WHOLE];
+
+/// One byte a call; seven; all that is there.
+const WRITERS: &[usize] = &[1, 7, usize::MAX];
+
+/// A growth of this size. It stands apart, so that no compiler leaves it out.
+#[inline(never)]
+fn growth(alloc: Global, size: usize) -> Result<Vec<u8>, AllocError> {
+    Vec::with_capacity(alloc, size)
+}
+
+impl<'a> Row<'a> {
+    /// What the setting of this key says.
+    pub fn setting(&self, key: &str) -> Option<&'a str> {
+        for setting in &self.settings {
+            if setting.key == key {
+                return Some(setting.value);
+            }
+        }
+        None
+    }
+
+    /// The number that the setting of this key says, or else the one given.
+    pub fn number(&self, key: &str, otherwise: u64) -> u64 {
+        match self.setting(key) {
+            Some(value) => value.parse::<u64>().unwrap_or(otherwise),
+            None => otherwise,
+        }
+    }
+
+    /// The number of a setting as a byte.
+    pub fn byte(&self, key: &str, otherwise: u8) -> u8 {
+        u8::try_from(self.number(key, u64::from(otherwise))).unwrap_or(otherwise)
+    }
+
+    /// The number of a setting as one of 16 bits, or 0.
+    pub fn short(&self, key: &str) -> u16 {
+        u16::try_from(self.number(key, 0)).unwrap_or(0)
+    }
+
+    /// The number of a setting as one of 32 bits, or 0.
+    pub fn long(&self, key: &str) -> u32 {
+        u32::try_from(self.number(key, 0)).unwrap_or(0)
+    }
+
+    /// The number of a setting as one of a place or a call, or 0.
+    pub fn place(&self, key: &str) -> usize {
+        usize::try_from(self.number(key, 0)).unwrap_or(0)
+    }
+
+    /// The sizes of the readers that the row is made with: that of `by`, or all.
+    pub fn readers(&self) -> &'static [&'static [usize]] {
+        if self.mark > 0 {
+            return &[WHOLE];
+        }
+        match self.setting("by") {
+            Some("1") => &[ONES],
+            Some("123") => &[STEPS],
+            Some(_) => &[WHOLE],
+            None => READERS,
+        }
+    }
+
+    /// The sizes of the writers that the row is made with: that of `to`, or all.
+    pub fn writers(&self) -> &'static [usize] {
+        if self.mark > 0 {
+            return &[usize::MAX];
+        }
+        match self.setting("to") {
+            Some("1") => &[1],
+            Some("7") => &[7],
+            Some(_) => &[usize::MAX],
+            None => WRITERS,
+        }
+    }
+
+    /// A reader over the row's bytes. With `endless` it gives them over and over, with `fails` its
+    /// call of that number fails.
+    pub fn reader<'b>(&'b self, way: Way) -> Pieces<'b> {
+        if self.setting("endless").is_some() {
+            return Pieces::endless(&self.left);
+        }
+        Pieces::failing(&self.left, way.sizes, self.place("fails"))
+    }
+
+    /// A writer that asks for no growth for a form of the row's bytes, where there is memory. With
+    /// `breaks` its call of that number fails, with `stops` it takes nothing.
+    pub fn writer(&self, way: Way) -> Recorder {
+        let room = self.left.len().saturating_add(64);
+        let mut writer = Recorder::with_room(self.alloc, way.size, room);
+        writer.set_troubles(self.place("breaks"), self.place("stops"));
+        writer
+    }
+
+    /// Marks that the call comes next.
+    pub fn ready(&self) {
+        if self.mark > 0 {
+            let _ = growth(self.alloc, self.mark);
+        }
+    }
+
+    /// Marks that the call is over, and begins its answer.
+    pub fn answer(&self) -> Answer {
+        self.ready();
+        Answer::new(self.alloc)
+    }
+
+    /// The answer where the row's bytes are no unit.
+    pub fn no_unit(&self) -> Answer {
+        let mut seen = Answer::new(self.alloc);
+        seen.word("no unit");
+        seen
+    }
+}

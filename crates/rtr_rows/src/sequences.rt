@@ -1,0 +1,199 @@
+//! Whole sequences.
+
+use crate::answer::Answer;
+use crate::row::{Row, Way};
+use rtr_support::{Pieces, Recorder};
+use rtr_wire::pdu::{CacheResponse, Counted, Fault, PrefixRule, Unit, ViewFault};
+use rtr_wire::{normalise, normalise_for, normalise_slice, same_meaning};
+
+/// More units than any row has.
+const LIMIT: u64 = 4294967295;
+
+/// Makes the call of a row where it is one of these.
+pub fn answer(row: &Row<'_>, way: Way) -> Option<Answer> {
+    match row.call {
+        "normalise" => Some(normalised(row, way)),
+        "normalise_for" => Some(normalised_for(row, way)),
+        "normalise_slice" => Some(normalised_slice(row, way)),
+        "normalise_twice" => Some(normalised_twice(row, way)),
+        "response" => Some(after_a_response(row, way)),
+        "same_meaning" => Some(compared(row)),
+        _ => None,
+    }
+}
+
+/// Tells an answer of `normalise`: the number of units or the fault, how many bytes were taken, or
+/// `unasked` where the reader was never called, what was written, and the report.
+fn tell(
+    seen: &mut Answer,
+    answer: &Result<u64, Fault>,
+    reader: &Pieces<'_>,
+    writer: &Recorder,
+) {
+    match answer {
+        Ok(units) => seen.word(format_args!("Ok({units})")),
+        Err(fault) => seen.fault(fault),
+    }
+    if reader.calls() == 0 {
+        seen.word("unasked");
+    } else {
+        seen.word(reader.taken());
+    }
+    if reader.ends() > 1 {
+        seen.word("asked after the end");
+    }
+    seen.word(":");
+    seen.bytes(writer.held());
+    if let Err(Fault::Refused(report)) = answer {
+        seen.word("report");
+        seen.bytes(report.as_ref());
+    }
+}
+
+/// `normalise`, and `normalise_slice` where the row's reader gives all bytes: its answer follows
+/// where it differs.
+fn normalised(row: &Row<'_>, way: Way) -> Answer {
+    let limit = row.number("limit", LIMIT);
+    let mut reader = Counted::new(row.reader(way));
+    let mut writer = Counted::new(row.writer(way));
+    row.ready();
+    let answer = normalise(row.alloc, &mut reader, &mut writer, limit);
+    let (reader, writer) = (reader.into_inner(), writer.into_inner());
+    let mut seen = row.answer();
+    tell(&mut seen, &answer, &reader, &writer);
+    let is_plain = row.setting("fails").is_none() && row.setting("endless").is_none();
+    if row.mark == 0 && is_plain {
+        tell_slice(&mut seen, row, way, &answer, &reader, &writer);
+    }
+    seen
+}
+
+/// Whether a fault of `normalise` and one of `normalise_slice` are the same.
+fn is_same_fault(row: &Row<'_>, left: &Fault, right: &ViewFault) -> bool {
+    if let (Fault::Refused(report), ViewFault::Prefix(rule)) = (left, right) {
+        return report.as_ref().ends_with(rule_text(*rule));
+    }
+    let mut left_name = Answer::new(row.alloc);
+    left_name.fault(left);
+    let mut right_name = Answer::new(row.alloc);
+    right_name.view_fault(right);
+    left_name.is_same(&right_name)
+}
+
+/// The text of a report on a broken rule.
+fn rule_text(rule: PrefixRule) -> &'static [u8] {
+    match rule {
+        PrefixRule::LenOverflow => b"prefix length too large",
+        PrefixRule::MaxOverflow => b"max-length too large",
+        PrefixRule::MaxUnderflow => b"max-length smaller than prefix length",
+    }
+}
+
+/// Tells the answer of `normalise_slice` where it isn't that of `normalise`.
+fn tell_slice(
+    seen: &mut Answer,
+    row: &Row<'_>,
+    way: Way,
+    answer: &Result<u64, Fault>,
+    reader: &Pieces<'_>,
+    writer: &Recorder,
+) {
+    let limit = row.number("limit", LIMIT);
+    let mut other = Counted::new(row.writer(way));
+    let sliced = normalise_slice(&row.left, &mut other, limit);
+    let other = other.into_inner();
+    let is_same = match (answer, &sliced) {
+        (Ok(units), Ok((number, taken))) => units == number && reader.taken() == *taken,
+        (Err(left), Err(right)) => is_same_fault(row, left, right),
+        _ => false,
+    };
+    if !is_same || writer.held() != other.held() {
+        seen.word("slice");
+        tell_sliced(seen, &sliced, &other);
+    }
+}
+
+/// Tells an answer of `normalise_slice`: the numbers of units and bytes, or the fault, and what was
+/// written.
+fn tell_sliced(
+    seen: &mut Answer,
+    answer: &Result<(u64, usize), ViewFault>,
+    writer: &Recorder,
+) {
+    match answer {
+        Ok((units, taken)) => seen.word(format_args!("Ok({units}) {taken}")),
+        Err(fault) => seen.view_fault(fault),
+    }
+    seen.word(":");
+    seen.bytes(writer.held())
+}
+
+/// `normalise_slice`.
+fn normalised_slice(row: &Row<'_>, way: Way) -> Answer {
+    let limit = row.number("limit", LIMIT);
+    let mut writer = Counted::new(row.writer(way));
+    row.ready();
+    let answer = normalise_slice(&row.left, &mut writer, limit);
+    let mut seen = row.answer();
+    tell_sliced(&mut seen, &answer, &writer.into_inner());
+    seen
+}
+
+/// `normalise_for`.
+fn normalised_for(row: &Row<'_>, way: Way) -> Answer {
+    let limit = row.number("limit", LIMIT);
+    let version = row.byte("version", 0);
+    let mut reader = Counted::new(row.reader(way));
+    let mut writer = Counted::new(row.writer(way));
+    row.ready();
+    let answer = normalise_for(row.alloc, &mut reader, &mut writer, limit, version);
+    let mut seen = row.answer();
+    tell(&mut seen, &answer, &reader.into_inner(), &writer.into_inner());
+    seen
+}
+
+/// `normalise`, and again with the same reader, writer and limit.
+fn normalised_twice(row: &Row<'_>, way: Way) -> Answer {
+    let limit = row.number("limit", LIMIT);
+    let mut reader = Counted::new(row.reader(way));
+    let mut first = Counted::new(row.writer(way));
+    let mut second = Counted::new(row.writer(way));
+    let mut seen = row.answer();
+    match normalise(row.alloc, &mut reader, &mut first, limit) {
+        Ok(units) => seen.word(format_args!("Ok({units})")),
+        Err(fault) => seen.fault(&fault),
+    }
+    seen.bytes(first.into_inner().held());
+    seen.word("then");
+    let answer = normalise(row.alloc, &mut reader, &mut second, limit);
+    tell(&mut seen, &answer, &reader.into_inner(), &second.into_inner());
+    seen
+}
+
+/// A cache response, and then `normalise` on the same reader.
+fn after_a_response(row: &Row<'_>, way: Way) -> Answer {
+    let mut reader = Counted::new(row.reader(way));
+    let mut writer = Counted::new(row.writer(way));
+    let mut seen = row.answer();
+    match CacheResponse::read(&mut reader) {
+        Ok(response) => seen.bytes(response.as_ref()),
+        Err(fault) => seen.fault(&fault),
+    }
+    seen.word("then");
+    let answer = normalise(row.alloc, &mut reader, &mut writer, LIMIT);
+    tell(&mut seen, &answer, &reader.into_inner(), &writer.into_inner());
+    seen
+}
+
+/// `same_meaning`.
+fn compared(row: &Row<'_>) -> Answer {
+    let limit = row.number("limit", LIMIT);
+    row.ready();
+    let answer = same_meaning(row.alloc, &row.left, &row.right, limit);
+    let mut seen = row.answer();
+    match answer {
+        Ok(is_same) => seen.word(is_same),
+        Err(fault) => seen.fault(&fault),
+    }
+    seen
+}

@@ -1,0 +1,209 @@
+//! The lines of a table.
+
+use crate::answer::Answer;
+use crate::call::call;
+use crate::row::{Row, Setting, Way};
+use std::alloc::{AllocError, Global};
+use std::test::Fail;
+
+/// Bytes that have a name.
+#[derive(Drop)]
+struct Named {
+    name: String,
+    bytes: Vec<u8>,
+}
+
+/// What the lines up to here said.
+#[derive(Drop)]
+pub struct Table {
+    alloc: Global,
+    named: Vec<Named>,
+    mark: usize,
+}
+
+/// What a row is printed as, and whether that differs from what it says.
+#[derive(Drop)]
+pub struct Seen {
+    pub text: String,
+    pub is_other: bool,
+}
+
+impl Table {
+    /// No lines. Calls are marked by mark of that many bytes, if that is any.
+    pub fn new(alloc: Global, mark: usize) -> Table {
+        Table {
+            alloc,
+            named: Vec::new(alloc),
+            mark,
+        }
+    }
+
+    /// Goes through a line. Answers what is to be printed of it.
+    pub fn line(&mut self, line: &str) -> Result<Option<Seen>, Fail> {
+        let line = line.split("//").next().unwrap_or("").trim();
+        if line.is_empty() {
+            return Ok(None);
+        }
+        if let Some((given, answers)) = line.split_once("=>") {
+            return self.row(given.trim(), answers.trim());
+        }
+        match line.split_once("=") {
+            Some((name, words)) => self.name(name.trim(), words.trim())?,
+            None => return self.other("no row"),
+        }
+        Ok(None)
+    }
+
+    /// A text that differs from what a row says.
+    fn other(&self, text: &str) -> Result<Option<Seen>, Fail> {
+        let text = String::from_str(self.alloc, text)?;
+        Ok(Some(Seen {
+            text,
+            is_other: true,
+        }))
+    }
+
+    /// Gives bytes a name. Between quotes they are a text.
+    fn name(&mut self, name: &str, words: &str) -> Result<(), Fail> {
+        let mut bytes = Vec::new(self.alloc);
+        match words.strip_prefix("\"") {
+            Some(text) => bytes.extend_from_slice(text.trim_end_matches('"').as_bytes())?,
+            None => {
+                for word in words.split_ascii_whitespace() {
+                    if !self.append(word, &mut bytes)? {
+                        return Err(Fail::new("a word that stands for no bytes"));
+                    }
+                }
+            }
+        }
+        let name = String::from_str(self.alloc, name)?;
+        self.named.push(Named { name, bytes })?;
+        Ok(())
+    }
+
+    /// Appends the bytes that a word stands for, `WORD*N` being N times those of the word. Answers
+    /// whether it stands for some.
+    fn append(&self, word: &str, bytes: &mut Vec<u8>) -> Result<bool, Fail> {
+        let (word, times) = match word.split_once("*") {
+            Some((word, times)) => (word, times.parse::<u32>()?),
+            None => (word, 1),
+        };
+        for _ in 0..times {
+            if !self.append_once(word, bytes)? {
+                return Ok(false);
+            }
+        }
+        Ok(true)
+    }
+
+    /// Appends the bytes that a word stands for: a name, hex digits, or `..N` for N bytes that
+    /// count up to 250 again and again.
+    fn append_once(&self, word: &str, bytes: &mut Vec<u8>) -> Result<bool, Fail> {
+        for named in &self.named {
+            if named.name.as_str() == word {
+                bytes.extend_from_slice(&named.bytes)?;
+                return Ok(true);
+            }
+        }
+        if let Some(count) = word.strip_prefix("..") {
+            bytes.extend_from_slice(&rtr_support::filler(self.alloc, count.parse::<usize>()?)?)?;
+            return Ok(true);
+        }
+        match hex::decode(self.alloc, word) {
+            Ok(piece) => bytes.extend_from_slice(&piece)?,
+            Err(hex::FromHexError::OutOfMemory) => return Err(Fail::from(AllocError)),
+            Err(_) => return Ok(false),
+        }
+        Ok(true)
+    }
+
+    /// The call of a row. Words that stand for bytes are bytes, `|` parts them, and all others are
+    /// settings.
+    fn given<'a>(&self, given: &'a str) -> Result<Row<'a>, Fail> {
+        let (call, words) = given.split_once(" ").unwrap_or((given, ""));
+        let mut row = Row {
+            alloc: self.alloc,
+            call,
+            settings: Vec::new(self.alloc),
+            left: Vec::new(self.alloc),
+            right: Vec::new(self.alloc),
+            mark: self.mark,
+        };
+        let mut is_right = false;
+        for word in words.split_ascii_whitespace() {
+            if word == "|" {
+                is_right = true;
+            } else if let Some((key, value)) = word.split_once("=") {
+                row.settings.push(Setting { key, value })?;
+            } else {
+                let is_known = if is_right {
+                    self.append(word, &mut row.right)?
+                } else {
+                    self.append(word, &mut row.left)?
+                };
+                if !is_known {
+                    return Err(Fail::new(format_args!("{word} stands for no bytes")));
+                }
+            }
+        }
+        Ok(row)
+    }
+
+    /// An answer with all that stands for bytes as hex.
+    fn spelled(&self, answer: &str) -> Result<String, Fail> {
+        let mut spelled = Answer::new(self.alloc);
+        for word in answer.split_ascii_whitespace() {
+            let mut bytes = Vec::new(self.alloc);
+            if self.append(word, &mut bytes)? {
+                spelled.bytes(&bytes);
+            } else {
+                spelled.word(word);
+            }
+        }
+        Ok(spelled.into_text()?)
+    }
+
+    /// Makes a row's call in each of its ways, until it answers something else.
+    fn row(&self, given: &str, answers: &str) -> Result<Option<Seen>, Fail> {
+        let (whole, refused) = answers.split_once("=>").unwrap_or((answers, ""));
+        let whole = self.spelled(whole)?;
+        let row = self.given(given)?;
+        for sizes in row.readers() {
+            for size in row.writers() {
+                let way = Way { sizes, size: *size };
+                let Some(seen) = call(&row, way) else {
+                    return self.other("no such call");
+                };
+                let seen = self.spelled(seen.into_text()?.as_str())?;
+                if self.mark > 0 {
+                    return self.refused(seen, whole, refused.trim_start_matches('?'));
+                }
+                if seen != whole {
+                    return self.other(seen.as_str());
+                }
+            }
+        }
+        Ok(None)
+    }
+
+    /// Which of the answers the call gave, where a growth may have been refused.
+    fn refused(&self, seen: String, whole: String, refused: &str) -> Result<Option<Seen>, Fail> {
+        if seen == whole {
+            let text = String::from_str(self.alloc, "whole")?;
+            return Ok(Some(Seen {
+                text,
+                is_other: false,
+            }));
+        }
+        for (place, answer) in refused.split(';').enumerate() {
+            if self.spelled(answer)? == seen {
+                let text = format!(in self.alloc; "refused {place}")?;
+                return Ok(Some(Seen {
+                    text,
+                    is_other: false,
+                }));
+            }
+        }
+        self.other(seen.as_str())
+    }
+}

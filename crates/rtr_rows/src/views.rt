@@ -1,0 +1,90 @@
+//! Views of units in a slice.
+
+use crate::answer::Answer;
+use crate::meanings::tell_origin;
+use crate::row::{Row, Way};
+use rtr_wire::pdu::{AspaView, Counted, EndOfData, OriginView, RouterKeyView, UnitView};
+
+/// Makes the call of a row where it is one of these.
+pub fn answer(row: &Row<'_>, way: Way) -> Option<Answer> {
+    match row.call {
+        "first" => Some(first(row)),
+        "form" => Some(form(row, way)),
+        _ => None,
+    }
+}
+
+/// `UnitView::first`: what the view shows, and the unit's length.
+fn first(row: &Row<'_>) -> Answer {
+    row.ready();
+    let mut seen = row.answer();
+    match UnitView::first(&row.left) {
+        Ok((view, size)) => {
+            match view {
+                UnitView::Origin(view) => tell_origin_view(&mut seen, &view),
+                UnitView::RouterKey(view) => tell_key_view(&mut seen, &view),
+                UnitView::Aspa(view) => tell_aspa_view(&mut seen, &view),
+                UnitView::End(end) => tell_end(&mut seen, &end),
+            }
+            seen.word("size");
+            seen.word(size);
+        }
+        Err(fault) => seen.view_fault(&fault),
+    }
+    seen
+}
+
+/// Tells a prefix: version, flags, origin.
+fn tell_origin_view(seen: &mut Answer, view: &OriginView) {
+    seen.word(format_args!("Origin {} {}", view.version(), view.flags()));
+    tell_origin(seen, &view.origin())
+}
+
+/// Tells a router key: version, flags, ASN, identifier, key info.
+fn tell_key_view(seen: &mut Answer, view: &RouterKeyView<'_>) {
+    let (version, flags) = (view.version(), view.flags());
+    seen.word(format_args!("RouterKey {version} {flags} {}", view.asn().into_u32()));
+    seen.bytes(view.key_identifier().as_slice());
+    seen.word("info");
+    seen.bytes(view.key_info())
+}
+
+/// Tells an ASPA unit: version, flags, customer, providers.
+fn tell_aspa_view(seen: &mut Answer, view: &AspaView<'_>) {
+    let (version, flags) = (view.version(), view.flags());
+    seen.word(format_args!("Aspa {version} {flags} {}", view.customer().into_u32()));
+    seen.bytes(view.providers())
+}
+
+/// Tells an end of data: version, session, serial number, and its timings or none.
+pub fn tell_end(seen: &mut Answer, end: &EndOfData) {
+    let (version, session) = (end.version(), end.session());
+    seen.word(format_args!("End {version} {session} {}", end.serial()));
+    if end.state().session() != session || end.state().serial() != end.serial() {
+        seen.word("another state");
+    }
+    match end.timing() {
+        Some(timing) => {
+            let (retry, expire) = (timing.retry, timing.expire);
+            seen.word(format_args!("{} {retry} {expire}", timing.refresh))
+        }
+        None => seen.word("untimed"),
+    }
+}
+
+/// `UnitView::write_form` of the first view.
+fn form(row: &Row<'_>, way: Way) -> Answer {
+    let Ok((view, _)) = UnitView::first(&row.left) else {
+        return row.no_unit();
+    };
+    let mut writer = Counted::new(row.writer(way));
+    row.ready();
+    let answer = view.write_form(&mut writer);
+    let mut seen = row.answer();
+    match answer {
+        Ok(()) => seen.word("Ok"),
+        Err(fault) => seen.view_fault(&fault),
+    }
+    seen.bytes(writer.into_inner().held());
+    seen
+}

@@ -1,0 +1,176 @@
+//! Uses of `rtr_wire` as a caller writes them, with no other library beside std and no proofs:
+//! `docs/CALLING.md` shows them.
+#![tactic(auto)]
+
+use rtr_wire::base::{Asn, MaxLenPrefix, ParseMaxLenPrefixError};
+use rtr_wire::payload::{Action, Aspa, Payload, RouteOrigin, Timing};
+use rtr_wire::pdu::{
+    CacheResponse, EndOfData, Error, Fault, Header, ResetQuery, Sink, Source, Unit, UnitView,
+    ViewFault,
+};
+use rtr_wire::state::State;
+use rtr_wire::{normalise, pdu, same_meaning};
+use std::alloc::{AllocError, Global};
+use std::collections::{BTreeMap, BTreeSet};
+use std::io;
+
+#[cfg(test)]
+mod tests;
+
+/// The most units that these functions read of one sequence.
+pub const MOST_UNITS: u64 = 4_294_967_295;
+
+/// The last version of the protocol.
+pub const LAST_VERSION: u8 = 2;
+
+/// Takes a cache response and the sequence after it from one reader, and writes the form of the
+/// sequence. Answers the session and the number of payload units.
+pub fn take_response<R: Source, W: Sink>(
+    alloc: Global,
+    reader: &mut R,
+    writer: &mut W,
+) -> Result<(u16, u64), Fault> {
+    let response = CacheResponse::read(reader)?;
+    let count = normalise(alloc, reader, writer, MOST_UNITS)?;
+    Ok((response.session(), count))
+}
+
+/// Whether two recorded sequences mean the same.
+pub fn compare(alloc: Global, left: &[u8], right: &[u8]) -> Result<bool, Fault> {
+    same_meaning(alloc, left, right, MOST_UNITS)
+}
+
+/// What a client knows of its cache: origins and router keys as members of a set, and the ASPA of
+/// each customer.
+#[derive(Drop)]
+pub struct Data {
+    pub payloads: BTreeSet<Payload>,
+    pub aspas: BTreeMap<Asn, Aspa>,
+}
+
+impl Data {
+    /// No data.
+    pub fn new(alloc: Global) -> Self {
+        Data {
+            payloads: BTreeSet::new(alloc),
+            aspas: BTreeMap::new(alloc),
+        }
+    }
+
+    /// Applies the next sequence to the data, up to its end of data. After a fault the units before
+    /// it are applied.
+    pub fn apply<R: Source>(&mut self, alloc: Global, reader: &mut R) -> Result<EndOfData, Fault> {
+        for _ in 0..MOST_UNITS {
+            match pdu::Payload::read(alloc, reader)? {
+                Ok(Some(unit)) => {
+                    let (action, payload) = unit.into_payload(alloc)?;
+                    self.change(action, payload).map_err(|_| Fault::Memory)?;
+                }
+                Ok(None) => {}
+                Err(end) => return Ok(end),
+            }
+        }
+        Err(Fault::TooMany)
+    }
+
+    /// Announces or withdraws a payload. An ASPA takes the place of the one of its customer before,
+    /// and a withdrawal names the customer alone.
+    fn change(&mut self, action: Action, payload: Payload) -> Result<(), AllocError> {
+        match (action, payload) {
+            (Action::Announce, Payload::Aspa(aspa)) => {
+                self.aspas.insert(aspa.customer, aspa)?;
+            }
+            (Action::Withdraw, Payload::Aspa(aspa)) => {
+                self.aspas.remove(&aspa.customer);
+            }
+            (Action::Announce, payload) => {
+                self.payloads.insert(payload)?;
+            }
+            (Action::Withdraw, payload) => {
+                self.payloads.remove(&payload);
+            }
+        }
+        Ok(())
+    }
+}
+
+/// Reads a reset query and answers it with the payloads that its version has, all announced.
+pub fn answer_reset<R: Source, W: Sink>(
+    reader: &mut R,
+    writer: &mut W,
+    payloads: &[Payload],
+    state: State,
+) -> Result<(), Fault> {
+    let version = ResetQuery::read(reader)?.version();
+    if version > LAST_VERSION {
+        return Err(Fault::UnitVersion(version));
+    }
+    CacheResponse::new(version, state).write(writer)?;
+    for payload in payloads {
+        let flags = Action::Announce.into_flags();
+        match pdu::Payload::new_if_supported(version, flags, &payload.as_ref()) {
+            Ok(Some(unit)) => unit.write(writer)?,
+            Ok(None) => {}
+            Err(_) => return Err(Fault::Memory),
+        }
+    }
+    EndOfData::new(version, state, Timing::default()).write(writer)?;
+    writer.flush().map_err(Fault::Writer)
+}
+
+/// The unit that withdraws an ASPA: its customer, and no providers.
+pub fn withdrawal(alloc: Global, aspa: &Aspa) -> Result<pdu::Payload, AllocError> {
+    let withdrawn = Payload::Aspa(aspa.withdraw(alloc)?);
+    Ok(pdu::Payload::from_payload(LAST_VERSION, Action::Withdraw.into_flags(), withdrawn))
+}
+
+/// The report that tells the peer of a fault in the unit with this header, or none where the fault
+/// isn't the peer's.
+pub fn report_on(
+    alloc: Global,
+    header: Header,
+    fault: &Fault,
+) -> Result<Option<Error>, AllocError> {
+    match fault.code() {
+        Some(code) => {
+            let text = b"the unit was refused";
+            let report = Error::new(alloc, header.version(), code.0, header.as_ref(), text)?;
+            Ok(Some(report))
+        }
+        None => Ok(None),
+    }
+}
+
+/// Writes a line for each unit of a sequence that lies in memory, and asks for none.
+pub fn list<W: io::Write>(input: &[u8], lines: &mut W) -> Result<(), Unlisted> {
+    let mut rest = input;
+    for _ in 0..input.len() {
+        let (unit, size) = UnitView::first(rest).map_err(Unlisted::Unit)?;
+        let written = match unit {
+            UnitView::Origin(view) => writeln!(lines, "{}", view.origin()),
+            UnitView::RouterKey(view) => writeln!(lines, "router key of {}", view.asn()),
+            UnitView::Aspa(view) => writeln!(lines, "ASPA of {}", view.customer()),
+            UnitView::End(end) => return writeln!(lines, "serial {}", end.serial()).map_err(
+                Unlisted::Line,
+            ),
+        };
+        written.map_err(Unlisted::Line)?;
+        rest = &rest[size..];
+    }
+    Err(Unlisted::Unit(ViewFault::Short))
+}
+
+/// Why a sequence wasn't listed to its end.
+#[derive(Debug, Drop)]
+pub enum Unlisted {
+    /// A unit is refused, or the end of data is missing.
+    Unit(ViewFault),
+    /// A line couldn't be written.
+    Line(io::Error),
+}
+
+/// The origin of a prefix with a max length, as `192.0.2.0/23-26`, and an AS number.
+pub fn origin(prefix: &str, asn: u32) -> Result<RouteOrigin, ParseMaxLenPrefixError> {
+    let prefix: MaxLenPrefix = prefix.parse()?;
+    Ok(RouteOrigin::new(prefix, Asn::from_u32(asn)))
+}

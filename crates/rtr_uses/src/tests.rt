@@ -1,0 +1,204 @@
+//! The uses, over units written out by hand.
+
+use super::{
+    Data, Unlisted, answer_reset, compare, list, origin, report_on, take_response, withdrawal,
+};
+use rtr_wire::base::Asn;
+use rtr_wire::payload::{Action, Payload};
+use rtr_wire::pdu::{Counted, ErrorCode, Fault, Header, ViewFault};
+use rtr_wire::state::{Serial, State};
+use std::io;
+use std::test::Fail;
+
+/// A cache response of session 0x1234.
+const RESPONSE: &[u8] = &[2, 3, 0x12, 0x34, 0, 0, 0, 8];
+
+/// Announces 192.0.2.0/23-26 of AS65551, with host bits and stray bytes.
+#[rattlefmt::skip]
+const ORIGIN: &[u8] = &[2, 4, 0, 7, 0, 0, 0, 20, 3, 23, 26, 9, 192, 0, 2, 10, 0, 1, 0, 15];
+
+/// Withdraws it.
+#[rattlefmt::skip]
+const WITHDRAWN: &[u8] = &[2, 4, 0, 0, 0, 0, 0, 20, 0, 23, 26, 0, 192, 0, 2, 0, 0, 1, 0, 15];
+
+/// Announces AS64497 as provider of AS64496.
+#[rattlefmt::skip]
+const ASPA: &[u8] = &[2, 11, 1, 0, 0, 0, 0, 16, 0, 0, 0xfb, 0xf0, 0, 0, 0xfb, 0xf1];
+
+/// Announces AS64498 and AS64499 in its place.
+#[rattlefmt::skip]
+const OTHER_ASPA: &[u8] = &[
+    2, 11, 1, 0, 0, 0, 0, 20, 0, 0, 0xfb, 0xf0, 0, 0, 0xfb, 0xf2, 0, 0, 0xfb, 0xf3,
+];
+
+/// Withdraws the ASPA of AS64496.
+#[rattlefmt::skip]
+const ASPA_WITHDRAWN: &[u8] = &[2, 11, 0, 0, 0, 0, 0, 12, 0, 0, 0xfb, 0xf0];
+
+/// An end of data with serial number 5 and the recommended timings.
+#[rattlefmt::skip]
+const END: &[u8] = &[
+    2, 7, 0x12, 0x34, 0, 0, 0, 24, 0, 0, 0, 5,
+    0, 0, 0x0e, 0x10, 0, 0, 0x02, 0x58, 0, 0, 0x1c, 0x20,
+];
+
+/// The units, one after the other.
+fn joined(rt: &HostRuntime, units: &[&[u8]]) -> Result<Vec<u8>, Fail> {
+    let mut bytes = Vec::new(rt.alloc());
+    for unit in units {
+        bytes.extend_from_slice(*unit)?;
+    }
+    Ok(bytes)
+}
+
+#[test]
+fn a_response_is_taken(rt: HostRuntime) -> Result<(), Fail> {
+    let input = joined(&rt, &[RESPONSE, ORIGIN, END, RESPONSE])?;
+    let mut reader = Counted::new(input.as_slice());
+    let mut writer = Counted::new(Vec::new(rt.alloc()));
+    let taken = take_response(rt.alloc(), &mut reader, &mut writer)?;
+    assert!(rt; taken == (0x1234, 1));
+    assert!(rt; reader.into_inner() == RESPONSE);
+    let form = writer.into_inner();
+    assert_eq!(rt; form.len(), ORIGIN.len() + END.len());
+    assert!(rt; compare(rt.alloc(), form.as_slice(), &input.as_slice()[8..])?);
+    Ok(())
+}
+
+#[test]
+fn recordings_are_compared(rt: HostRuntime) -> Result<(), Fail> {
+    let left = joined(&rt, &[ORIGIN, ASPA, END])?;
+    let right = joined(&rt, &[ORIGIN, OTHER_ASPA, END])?;
+    assert!(rt; compare(rt.alloc(), left.as_slice(), left.as_slice())?);
+    assert!(rt; !compare(rt.alloc(), left.as_slice(), right.as_slice())?);
+    let cut = compare(rt.alloc(), left.as_slice(), ORIGIN);
+    assert!(rt; matches!(&cut, Err(Fault::Short)));
+    Ok(())
+}
+
+#[test]
+fn data_follow_their_cache(rt: HostRuntime) -> Result<(), Fail> {
+    let alloc = rt.alloc();
+    let mut data = Data::new(alloc);
+    let first = joined(&rt, &[ORIGIN, ASPA, END])?;
+    let end = data.apply(alloc, &mut Counted::new(first.as_slice()))?;
+    assert_eq!(rt; end.serial(), Serial(5));
+    let known = Payload::from(origin("192.0.2.0/23-26", 65551)?);
+    assert!(rt; data.payloads.len() == 1 && data.payloads.contains(&known));
+    assert_eq!(rt; providers(&data), Some(1));
+
+    let second = joined(&rt, &[WITHDRAWN, OTHER_ASPA, END])?;
+    let _ = data.apply(alloc, &mut Counted::new(second.as_slice()))?;
+    assert!(rt; data.payloads.is_empty());
+    assert_eq!(rt; providers(&data), Some(2));
+
+    let third = joined(&rt, &[ASPA_WITHDRAWN, ORIGIN, &[0; 8]])?;
+    let refused = data.apply(alloc, &mut Counted::new(third.as_slice()));
+    assert!(rt; matches!(&refused, Err(Fault::UnitType(0))));
+    assert_eq!(rt; data.payloads.len(), 1);
+    assert_eq!(rt; providers(&data), None);
+    Ok(())
+}
+
+/// How many providers are known of AS64496.
+fn providers(data: &Data) -> Option<u16> {
+    let aspa = data.aspas.get(&Asn::from_u32(64496))?;
+    Some(aspa.providers.asn_count())
+}
+
+#[test]
+fn reset_queries_are_answered(rt: HostRuntime) -> Result<(), Fail> {
+    let alloc = rt.alloc();
+    let mut data = Data::new(alloc);
+    let input = joined(&rt, &[ORIGIN, ASPA, END])?;
+    let _ = data.apply(alloc, &mut Counted::new(input.as_slice()))?;
+    let mut payloads = Vec::new(alloc);
+    payloads.push(Payload::from(origin("192.0.2.0/23-26", 65551)?))?;
+    if let Some(aspa) = data.aspas.remove(&Asn::from_u32(64496)) {
+        payloads.push(Payload::from(aspa))?;
+    }
+    #[rattlefmt::skip]
+    let answers: [(u8, usize); 3] = [(0, 8 + 20 + 12), (1, 8 + 20 + 24), (2, 8 + 20 + 16 + 24)];
+    for (version, size) in answers {
+        let query = [version, 2, 0, 0, 0, 0, 0, 8];
+        let mut writer = Counted::new(Vec::new(alloc));
+        let state = State::from_parts(0x1234, Serial(5));
+        answer_reset(
+            &mut Counted::new(query.as_slice()),
+            &mut writer,
+            payloads.as_slice(),
+            state,
+        )?;
+        let answer = writer.into_inner();
+        assert_eq!(rt; answer.len(), size, "at version {version}");
+        assert!(rt; answer.iter().take(2).eq([version, 3].iter()));
+        if version == 2 {
+            assert!(rt; compare(alloc, &answer.as_slice()[8..], input.as_slice())?);
+        }
+    }
+    Ok(())
+}
+
+#[test]
+fn queries_of_other_versions(rt: HostRuntime) -> Result<(), Fail> {
+    let query = [3, 2, 0, 0, 0, 0, 0, 8];
+    let mut writer = Counted::new(Vec::new(rt.alloc()));
+    let state = State::from_parts(0x1234, Serial(5));
+    let refused = answer_reset(&mut Counted::new(query.as_slice()), &mut writer, &[], state);
+    assert!(rt; matches!(&refused, Err(Fault::UnitVersion(3))));
+    assert!(rt; writer.into_inner().is_empty());
+    Ok(())
+}
+
+#[test]
+fn an_aspa_is_withdrawn(rt: HostRuntime) -> Result<(), Fail> {
+    let alloc = rt.alloc();
+    let mut data = Data::new(alloc);
+    let input = joined(&rt, &[ASPA, END])?;
+    let _ = data.apply(alloc, &mut Counted::new(input.as_slice()))?;
+    if let Some(aspa) = data.aspas.get(&Asn::from_u32(64496)) {
+        let unit = withdrawal(alloc, aspa)?;
+        assert!(rt; unit.action() == Action::Withdraw);
+        let mut writer = Counted::new(Vec::new(alloc));
+        unit.write(&mut writer)?;
+        assert!(rt; writer.into_inner().as_slice() == ASPA_WITHDRAWN);
+    }
+    Ok(())
+}
+
+#[test]
+fn peers_are_told(rt: HostRuntime) -> Result<(), Fail> {
+    let alloc = rt.alloc();
+    let header = Header::new(1, 5, 0, 8);
+    #[rattlefmt::skip]
+    let want: &[u8] = &[
+        1, 10, 0, 5, 0, 0, 0, 44, 0, 0, 0, 8, 1, 5, 0, 0, 0, 0, 0, 8, 0, 0, 0, 20,
+        b't', b'h', b'e', b' ', b'u', b'n', b'i', b't', b' ',
+        b'w', b'a', b's', b' ', b'r', b'e', b'f', b'u', b's', b'e', b'd',
+    ];
+    match report_on(alloc, header, &Fault::UnitType(5))? {
+        Some(report) => assert!(rt; report.as_ref() == want),
+        None => assert!(rt; false, "no report"),
+    }
+    assert!(rt; report_on(alloc, header, &Fault::Memory)?.is_none());
+    assert!(rt; Fault::Short.code() == Some(ErrorCode::CORRUPT_DATA));
+    Ok(())
+}
+
+#[test]
+fn sequences_are_listed(rt: HostRuntime) -> Result<(), Fail> {
+    let input = joined(&rt, &[ORIGIN, ASPA, END])?;
+    let mut lines = Vec::new(rt.alloc());
+    match list(input.as_slice(), &mut lines) {
+        Ok(()) => {}
+        Err(_) => assert!(rt; false, "refused"),
+    }
+    let want: &[u8] = b"192.0.2.0/23-26 AS65551\nASPA of AS64496\nserial 5\n";
+    assert!(rt; lines.as_slice() == want);
+
+    let cut = list(ORIGIN, &mut io::sink());
+    assert!(rt; matches!(&cut, Err(Unlisted::Unit(ViewFault::Short))));
+    let none = list(&[], &mut io::sink());
+    assert!(rt; matches!(&none, Err(Unlisted::Unit(ViewFault::Short))));
+    Ok(())
+}
