@@ -8,7 +8,8 @@ use Rattle.std.specs.Prelude.{Bool, false, not, Option, Result, Ok, Err}
 use Rattle.std.specs.Io.KnownBytes.{Consumes, Appends, IsAtEnd}
 use Rattle.std.specs.List.{AllByRecursion, concat}
 use Rattle.rtr_units.specs.declared.fault.Fault.{Fault}
-use Rattle.rtr_units.specs.Causes.{Cause, by_reader, by_writer, too_many, no_memory, wrong, cause_of}
+use Rattle.rtr_units.specs.Causes.{Cause, by_reader, by_writer, too_many, no_memory, wrong}
+use Rattle.rtr_units.specs.Causes.{cause_of}
 use Rattle.rtr_units.specs.Stream.{count_after, is_reader_fault, is_writer_fault}
 use Rattle.rtr_session.specs.Fields.{AnyFields, HasAnyFields}
 use Rattle.rtr_session.specs.Reads.{StopsInAny}
@@ -118,5 +119,7 @@ pub record Lists (what : Wanted) (answer : Result Bool Fault) (old new : Sides) 
   pub ends : Ends (by_cause answer) units rest new.left part
   -- the reader is blamed exactly where its count of failures rose, and the writer where its count
   -- did
-  pub reader_failures : new.reads_failed ≡ count_after old.reads_failed (not (is_reader_fault answer))
-  pub writer_failures : new.writes_failed ≡ count_after old.writes_failed (not (is_writer_fault answer))
+  pub reader_failures : new.reads_failed ≡ count_after old.reads_failed (not
+      (is_reader_fault answer))
+  pub writer_failures : new.writes_failed ≡ count_after old.writes_failed (not
+      (is_writer_fault answer))

@@ -40,23 +40,17 @@ pub fn describe(
 }
 
 fn describe_payload(alloc: Global, line: &mut String, unit: &Payload) -> Result<(), AllocError> {
-    let action = name(unit.action());
+    let action = unit.action();
     match unit {
         Payload::V4(unit) => {
             let (prefix, len, max_len) = (unit.prefix(), unit.prefix_len(), unit.max_len());
-            let asn = unit.asn().into_u32();
-            write!(
-                line,
-                "IPv4 prefix {action} {prefix}/{len}-{max_len} AS{asn}"
-            )
+            let asn = unit.asn();
+            write!(line, "IPv4 prefix {action} {prefix}/{len}-{max_len} {asn}")
         }
         Payload::V6(unit) => {
             let (prefix, len, max_len) = (unit.prefix(), unit.prefix_len(), unit.max_len());
-            let asn = unit.asn().into_u32();
-            write!(
-                line,
-                "IPv6 prefix {action} {prefix}/{len}-{max_len} AS{asn}"
-            )
+            let asn = unit.asn();
+            write!(line, "IPv6 prefix {action} {prefix}/{len}-{max_len} {asn}")
         }
         Payload::RouterKey(unit) => describe_key(alloc, line, action, unit),
         Payload::Aspa(unit) => describe_aspa(line, action, unit),
@@ -66,21 +60,20 @@ fn describe_payload(alloc: Global, line: &mut String, unit: &Payload) -> Result<
 fn describe_key(
     alloc: Global,
     line: &mut String,
-    action: &str,
+    action: Action,
     unit: &RouterKey,
 ) -> Result<(), AllocError> {
     let identifier = encode(alloc, unit.key_identifier().as_slice())?;
     let info = unit.key_info().to_text(alloc)?;
-    let asn = unit.asn().into_u32();
-    write!(line, "router key {action} {identifier} AS{asn} {info}")
+    let asn = unit.asn();
+    write!(line, "router key {action} {identifier} {asn} {info}")
 }
 
-fn describe_aspa(line: &mut String, action: &str, unit: &Aspa) -> Result<(), AllocError> {
-    let customer = unit.customer().into_u32();
-    write!(line, "ASPA {action} AS{customer} providers")?;
+fn describe_aspa(line: &mut String, action: Action, unit: &Aspa) -> Result<(), AllocError> {
+    let customer = unit.customer();
+    write!(line, "ASPA {action} {customer} providers")?;
     for provider in unit.providers().iter() {
-        let asn = provider.into_u32();
-        write!(line, " AS{asn}")?;
+        write!(line, " {provider}")?;
     }
     Ok(())
 }
@@ -98,7 +91,7 @@ fn describe_end(line: &mut String, unit: &EndOfData) -> Result<(), AllocError> {
 }
 
 fn describe_report(alloc: Global, line: &mut String, report: &Report) -> Result<(), AllocError> {
-    let code = report.code().0;
+    let code = report.code();
     write!(line, "error report code {code}")?;
     let (Some(pdu), Some(text)) = (report.pdu(), report.text()) else {
         return line.push_str(" with lengths that do not fit");
@@ -106,12 +99,4 @@ fn describe_report(alloc: Global, line: &mut String, report: &Report) -> Result<
     let pdu = encode(alloc, pdu)?;
     let text = text.escape_ascii();
     write!(line, " pdu \"{pdu}\" text \"{text}\"")
-}
-
-/// The name of the action.
-pub fn name(action: Action) -> &'static str {
-    match action {
-        Action::Announce => "announce",
-        Action::Withdraw => "withdraw",
-    }
 }

@@ -1,8 +1,8 @@
 //! A unit as a JSON object (RFC 8259), with the fields by the names that RFC 8210 gives them.
 
-use crate::human::name;
 use hex::encode;
 use json::Writer;
+use rtr_base::payload::Action;
 use rtr_payload::pdu::{Aspa, Payload, RouterKey};
 use rtr_session::{AnyUnit, Report};
 use rtr_units::end::EndOfData;
@@ -76,7 +76,7 @@ fn payload_fields(
     unit: &Payload,
 ) -> Result<(), AllocError> {
     number(out, "flags", u64::from(unit.flags()))?;
-    text(out, "action", name(unit.action()))?;
+    text(out, "action", action_name(unit.action()))?;
     payload_zeros(out, unit)?;
     match unit {
         Payload::V4(unit) => ipv4_fields(out, scratch, unit),
@@ -203,4 +203,11 @@ fn number(out: &mut Writer, key: &str, value: u64) -> Result<(), AllocError> {
 fn text(out: &mut Writer, key: &str, value: &str) -> Result<(), AllocError> {
     out.key(key)?;
     out.string(value)
+}
+
+fn action_name(action: Action) -> &'static str {
+    match action {
+        Action::Announce => "announce",
+        Action::Withdraw => "withdraw",
+    }
 }

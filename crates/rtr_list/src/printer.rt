@@ -46,8 +46,8 @@ impl Printer {
         self.offset
     }
 
-    /// Prints what is wanted of the next unit, and answers whether a rule was found broken. `Memory`
-    /// and `Writer` are its faults.
+    /// Prints what is wanted of the next unit, and answers whether a rule was found broken. Its
+    /// faults are `Memory` and `Writer`.
     pub fn print<W: Sink>(
         &mut self,
         wanted: Wanted,

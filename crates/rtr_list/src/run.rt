@@ -14,6 +14,12 @@ use std::alloc::Global;
 use std::io::Write;
 use std::process::ExitCode;
 
+/// The status where a rule was found broken, and at a fault of the input.
+const BROKEN: u8 = 1;
+
+/// The status where reading, writing or memory failed.
+const FAILED: u8 = 3;
+
 /// Runs the program with the words that it was started with, its name first, and answers the code
 /// to end with, which is the status of `run`. Where there are no words, since they can't be had as
 /// texts, it prints how it is called.
@@ -137,10 +143,10 @@ pub fn run<R: Source, W: Sink, F: Write>(
     if flushed {
         return status;
     }
-    if status != 3 {
+    if status != FAILED {
         let _ = writeln!(faults, "write failed");
     }
-    3
+    FAILED
 }
 
 /// Prints how the program is called, and answers status 2.
@@ -151,25 +157,25 @@ pub fn usage<F: Write>(faults: &mut F) -> u8
     2
 }
 
-/// Prints the fault, where there is one, with the place of the unit in which it came where it is the
-/// input's, and answers the status to end with.
+/// Prints the fault, where there is one, with the place of its unit where it is the input's, and
+/// answers the status to end with.
 fn tell<F: Write>(answer: Result<bool, Fault>, offset: u64, faults: &mut F) -> u8
     ensures status { result ≡ status_of (by_cause answer) }
     ensures quiet { result ≡ 0 → faults.new ≡ faults.old }
 {
     let fault = match answer {
         Ok(false) => return 0,
-        Ok(true) => return 1,
+        Ok(true) => return BROKEN,
         Err(fault) => fault,
     };
     match fault {
         Fault::Reader(_) | Fault::Writer(_) | Fault::TooMany | Fault::Memory => {
             let _ = writeln!(faults, "{fault}");
-            3
+            FAILED
         }
         _ => {
             let _ = writeln!(faults, "offset {offset}: {fault}");
-            1
+            BROKEN
         }
     }
 }

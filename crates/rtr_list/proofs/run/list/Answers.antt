@@ -9,7 +9,8 @@ pub loop-count-preserved : goal.loop-count-preserved
 loop-count-preserved g c =
     let unit = rw c.in-Ok-Some.field-0-is at c.in-Ok-Some.ensures.bytes in
     record {
-      so_far = goes_on c.args.wanted c.loop-count.found c.in-Ok.more c.loop-count.count _ _ _ _ _ _ _ c.loop-count.invariant.so_far unit.0 (_, unit.1) c.in-Ok.ensures.bytes;
+      so_far = goes_on c.args.wanted c.loop-count.found c.in-Ok.more c.loop-count.count
+          _ _ _ _ _ _ _ c.loop-count.invariant.so_far unit.0 (_, unit.1) c.in-Ok.ensures.bytes;
       reads = search rules;
       writes = search rules;
     }
@@ -17,8 +18,11 @@ loop-count-preserved g c =
 pub returns-in-Err-print : goal.returns-in-Err-print
 returns-in-Err-print g c =
     let unit = rw c.in-Ok-Some.field-0-is at c.in-Ok-Some.ensures.bytes in
-    stops_printing c.args.wanted c.loop-count.found c.loop-count.count c.in-Err-print.fault _ _ _ _ _ c.loop-count.invariant.so_far unit.0 (_, unit.1) c.in-Err-print.ensures.bytes (search rules) (search rules)
+    stops_printing c.args.wanted c.loop-count.found c.loop-count.count c.in-Err-print.fault
+    _ _ _ _ _ c.loop-count.invariant.so_far unit.0 (_, unit.1) c.in-Err-print.ensures.bytes
+    (search rules, search rules)
 
 pub returns-in-Err : goal.returns-in-Err
 returns-in-Err g c =
-    stops_reading c.args.wanted c.loop-count.found c.loop-count.count c.in-Err.fault _ _ _ c.loop-count.invariant.so_far c.in-Err.ensures.bytes (search rules) (search rules)
+    stops_reading c.args.wanted c.loop-count.found c.loop-count.count c.in-Err.fault
+    _ _ _ c.loop-count.invariant.so_far c.in-Err.ensures.bytes (search rules, search rules)
