@@ -1,6 +1,6 @@
 -- Lines that are written one after the other.
-use Rattle.std.proofs.Common.{◌≡◌, ℕ, ◌+◌, Bool, false, List, [], ◌∷◌, ◌++◌, length, Option, Result}
-use Rattle.std.proofs.Common.{Ok, Err, refl, sym, ap, subst, ◌∙◌, append-nil, arith}
+use Rattle.std.proofs.Common.{◌≡◌, ℕ, ◌+◌, false, List, [], ◌∷◌, ◌++◌, length, Option}
+use Rattle.std.proofs.Common.{Ok, refl, sym, ap, subst, ◌∙◌, append-nil, arith}
 use Rattle.std.specs.List.{AllByRecursion, concat}
 use Rattle.std.proofs.lemmas.List.{length-append}
 use Rattle.std.proofs.lemmas.List.Folds.{concat-append}
@@ -39,10 +39,20 @@ goes_on x n a b c p (line, is, wrote) = record {
 
 pub text_line : (x : Unit {0}) (a b : Option (List ℕ)) → PutsLine (Ok x) a b →
     Prints Text (Ok false) a b
-text_line x a b (line, is, wrote) = (line ∷ [], (is, tt), subst (Appends a b) (sym
-    (append-nil line)) wrote, (refl, refl))
+text_line x a b (line, is, wrote) = (
+  line ∷ [],
+  (is, tt),
+  subst (Appends a b) (sym
+      (append-nil line)) wrote,
+  (refl, refl),
+)
 
 pub json_line : (x : Unit {0}) (a b : Option (List ℕ)) → PutsLine (Ok x) a b →
     Prints Json (Ok false) a b
-json_line x a b (line, is, wrote) = (line ∷ [], (is, tt), subst (Appends a b) (sym
-    (append-nil line)) wrote, (refl, refl))
+json_line x a b (line, is, wrote) = (
+  line ∷ [],
+  (is, tt),
+  subst (Appends a b) (sym
+      (append-nil line)) wrote,
+  (refl, refl),
+)

@@ -1,13 +1,13 @@
 -- Units that are read and printed one after the other are a run.
-use Rattle.std.proofs.Common.{◌≡◌, ℕ, ◌+◌, ◌-◌, ◌^◌, ◌≤◌, not, Bool, true, false, List, [], ◌∷◌}
+use Rattle.std.proofs.Common.{◌≡◌, ℕ, ◌+◌, ◌-◌, ◌^◌, not, Bool, false, List, [], ◌∷◌}
 use Rattle.std.proofs.Common.{◌++◌, length, Option, Result, Ok, Err, refl, sym, ap, subst, ◌∙◌}
 use Rattle.std.proofs.Common.{append-nil, append_assoc, arith}
 use Rattle.std.proofs.lemmas.Bool.Decides.{nat_tests}
 use Rattle.std.specs.Prelude.{nat_lt, ◌||◌}
-use Rattle.std.specs.List.{AllByRecursion, concat}
+use Rattle.std.specs.List.{concat}
 use Rattle.std.proofs.lemmas.List.{length-append}
 use Rattle.std.proofs.lemmas.List.Folds.{concat-append}
-use Rattle.std.specs.Io.KnownBytes.{Consumes, Appends, IsAtEnd}
+use Rattle.std.specs.Io.KnownBytes.{Consumes, Appends}
 use Rattle.std.proofs.KnownBytes.{Consumes-trans, Consumes-nil, Appends-trans, Appends-nil}
 use Rattle.rtr_units.specs.declared.fault.Fault.{Fault}
 use Rattle.rtr_units.specs.declared.fault.Fault.TheVariants.{TooMany}
@@ -18,7 +18,7 @@ use Rattle.rtr_units.specs.Stream.{count_after, is_reader_fault, is_writer_fault
 use Rattle.rtr_session.specs.Reads.{HasEnded, StopsInAny}
 use Rattle.rtr_list.specs.Lines.{IsLine, StopsLine}
 use Rattle.rtr_list.specs.Listing.{IsUnit, AreUnits, AreLines, Shows, ShowsPart, Prints, Counts}
-use Rattle.rtr_list.specs.Listing.{OneEach, Ends, Sides, Lists, by_cause}
+use Rattle.rtr_list.specs.Listing.{OneEach, Ends, Sides, Lists}
 use Rattle.rtr_list.specs.declared.run.Wanted.{Wanted}
 use Rattle.rtr_list.specs.declared.run.Wanted.TheVariants.{Text, Json, Findings}
 use Rattle.rtr_list.proofs.Printing.{all_append, concat_push}
@@ -69,9 +69,10 @@ or_false a b e f = cc
 one_line_more : (found more : Bool) (units lines new : List (List ℕ)) (u : List ℕ) →
     OneEach (Ok found) units lines → (length new ≡ 1) × (more ≡ false) →
     OneEach (Ok (found || more)) (units ++ u ∷ []) (lines ++ new)
-one_line_more found more units lines new u h k =
-    (omega (arith, length-append lines new, one_more units u, h.0, k.0),
-      or_false found more h.1 k.1)
+one_line_more found more units lines new u h k = (
+  omega (arith, length-append lines new, one_more units u, h.0, k.0),
+  or_false found more h.1 k.1,
+)
 
 nat_lt_sum : (m n : ℕ) → (nat_lt 0 m || nat_lt 0 n) ≡ nat_lt 0 (m + n)
 nat_lt_sum m n = grind (arith, nat_tests)
@@ -206,24 +207,24 @@ pub stops_printing : (what : Wanted) (found : Bool) (n : ℕ) (e : Fault) (u : L
     Counted (Err e) old new → Lists what (Err e) old new
 stops_printing what found n e u old new b i p took is
     (more, part, are, wrote, stops, none) counted = record {
-  units = p.units ++ u ∷ [];
-  rest = [];
-  are_units = all_append IsUnit p.units (u ∷ []) p.are_units (is, tt);
-  takes = subst (Consumes old.left new.left)
-      (sym (append-nil (concat (p.units ++ u ∷ [])) ∙ concat_push p.units u))
-      (Consumes-trans old.left b new.left (concat p.units) u p.took took);
-  lines = p.lines ++ more;
-  part = part;
-  are_lines = all_append IsLine p.lines more p.are_lines are;
-  writes = subst (Appends old.held new.held)
-      (sym (ap (λ l. l ++ part) (concat-append p.lines more) ∙
-        append_assoc (concat p.lines) (concat more) part))
-      (Appends-trans old.held i new.held (concat p.lines) (concat more ++ part) p.wrote wrote);
-  counts = counts_broken what (cause_of e) found p.units p.lines more u part p.shows stops none;
-  ends = ends_broken (cause_of e) (p.units ++ u ∷ []) new.left part stops;
-  reader_failures = counted.0;
-  writer_failures = counted.1;
-}
+      units = p.units ++ u ∷ [];
+      rest = [];
+      are_units = all_append IsUnit p.units (u ∷ []) p.are_units (is, tt);
+      takes = subst (Consumes old.left new.left)
+          (sym (append-nil (concat (p.units ++ u ∷ [])) ∙ concat_push p.units u))
+          (Consumes-trans old.left b new.left (concat p.units) u p.took took);
+      lines = p.lines ++ more;
+      part = part;
+      are_lines = all_append IsLine p.lines more p.are_lines are;
+      writes = subst (Appends old.held new.held)
+          (sym (ap (λ l. l ++ part) (concat-append p.lines more) ∙
+          append_assoc (concat p.lines) (concat more) part))
+          (Appends-trans old.held i new.held (concat p.lines) (concat more ++ part) p.wrote wrote);
+      counts = counts_broken what (cause_of e) found p.units p.lines more u part p.shows stops none;
+      ends = ends_broken (cause_of e) (p.units ++ u ∷ []) new.left part stops;
+      reader_failures = counted.0;
+      writer_failures = counted.1;
+    }
 
 counts_full : (what : Wanted) (found : Bool) (units lines : List (List ℕ)) →
     Counts what (Ok found) units lines → Counts what (Err too_many) units lines
