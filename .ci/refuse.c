@@ -2,7 +2,7 @@
 
    REFUSED is the number of the growth, counted from 1. MARK is 0, or the size of the growths between
    which is counted. Where a growth is refused, one byte goes to the file that MET is the number of. */
-#include <stddef.h>
+typedef __SIZE_TYPE__ size_t;
 
 extern void *__libc_malloc(size_t);
 extern void *__libc_realloc(void *, size_t);
@@ -32,10 +32,10 @@ static int is_refused(size_t size)
 
 void *malloc(size_t size)
 {
-    return is_refused(size) ? NULL : __libc_malloc(size);
+    return is_refused(size) ? 0 : __libc_malloc(size);
 }
 
 void *realloc(void *old, size_t size)
 {
-    return is_refused(size) ? NULL : __libc_realloc(old, size);
+    return is_refused(size) ? 0 : __libc_realloc(old, size);
 }

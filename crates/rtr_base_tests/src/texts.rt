@@ -38,7 +38,9 @@ fn as_numbers(rt: HostRuntime) -> Result<(), Fail> {
         expect_equal(&rt, text.parse(), Ok(Asn::from_u32(65551)));
     }
     #[rattlefmt::skip]
-    let refused = ["", "AS", "AS ", "aS1", "ASN1", "AS-1", "ASAS1", "AS1 ", " AS1", "AS4294967296", "1.1"];
+    let refused = [
+        "", "AS", "AS ", "aS1", "ASN1", "AS-1", "ASAS1", "AS1 ", " AS1", "AS4294967296", "1.1",
+    ];
     for text in refused {
         assert_eq!(rt; text.parse::<Asn>(), Err(ParseAsnError), "at {text}");
     }
@@ -111,7 +113,9 @@ fn refused_prefixes(rt: HostRuntime) -> Result<(), Fail> {
 
 #[test]
 fn prefixes_with_max_len(rt: HostRuntime) -> Result<(), Fail> {
-    for text in ["192.0.2.0/23-26", "192.0.2.0/23", "2001:db8::/32-128", "0.0.0.0/0-0"] {
+    #[rattlefmt::skip]
+    let texts = ["192.0.2.0/23-26", "192.0.2.0/23", "2001:db8::/32-128", "0.0.0.0/0-0"];
+    for text in texts {
         let prefix: MaxLenPrefix = text.parse()?;
         expect_text(&rt, rt.alloc(), &prefix, text)?;
     }
@@ -155,7 +159,11 @@ fn key_identifiers(rt: HostRuntime) -> Result<(), Fail> {
     let text = "5af000000000000000000000000000000000000f";
     expect_text(&rt, rt.alloc(), &key, text)?;
     expect_equal(&rt, text.parse(), Ok(key));
-    expect_equal(&rt, "5AF000000000000000000000000000000000000F".parse(), Ok(key));
+    expect_equal(
+        &rt,
+        "5AF000000000000000000000000000000000000F".parse(),
+        Ok(key),
+    );
     #[rattlefmt::skip]
     let refused = [
         ("", ParseKeyIdentifierError::Length),
@@ -199,11 +207,13 @@ fn actions_and_codes(rt: HostRuntime) -> Result<(), Fail> {
 
 #[test]
 fn texts_of_refusals(rt: HostRuntime) -> Result<(), Fail> {
+    #[rattlefmt::skip]
     let refused = [
         ("192.0.2.0", "missing prefix length"),
         ("x/24", "invalid IP address syntax"),
         ("192.0.2.0/x", "invalid prefix length: invalid digit found in string"),
         ("192.0.2.0/33", "prefix length too large"),
+        ("192.0.2.1/24", "non-zero host portion"),
         ("192.0.2.0/24-x", "invalid max-length: invalid digit found in string"),
         ("192.0.2.0/24-33", "max-length too large"),
     ];

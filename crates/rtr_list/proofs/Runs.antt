@@ -13,7 +13,7 @@ use Rattle.rtr_units.specs.declared.fault.Fault.{Fault}
 use Rattle.rtr_units.specs.declared.fault.Fault.TheVariants.{TooMany}
 use Rattle.rtr_units.specs.Causes.{Cause, by_reader, by_writer, too_many, no_memory, wrong}
 use Rattle.rtr_units.specs.Causes.{cause_of}
-use Rattle.rtr_units.specs.Reads.{Takes}
+use Rattle.rtr_units.specs.Reading.{Takes}
 use Rattle.rtr_units.specs.Stream.{count_after, is_reader_fault, is_writer_fault}
 use Rattle.rtr_session.specs.Reads.{HasEnded, StopsInAny}
 use Rattle.rtr_list.specs.Lines.{IsLine, StopsLine}

@@ -2,18 +2,22 @@
 use Rattle.std.proofs.Common.{◌≡◌, ◌≢◌, ℕ, List, ◌++◌, Option, Some, None, refl, sym, ap, ◌∙◌, arith}
 use Rattle.rtr_base.specs.declared.payload.Timing.{Timing}
 use Rattle.rtr_base.specs.Actions.{flags_of}
-use Rattle.rtr_base.specs.Addresses.{v4, v6}
+use Rattle.rtr_base.specs.Addresses.{Family, v4, v6}
 use Rattle.rtr_units.specs.End.{EndMeaning, End, end_list, timed_list}
 use Rattle.rtr_units.specs.Header.{type_field}
+use Rattle.rtr_units.specs.PrefixUnits.{prefix_type}
 use Rattle.rtr_payload.specs.Payloads.{Meaning}
-use Rattle.rtr_payload.specs.Units.{Fields, prefix, router_key, providers, unit_list, written, IsUnit, form_of}
+use Rattle.rtr_payload.specs.Units.{Fields, prefix_unit, key_unit, aspa_unit, unit_list, written, IsUnit, form_of}
 use Rattle.rtr_payload.specs.Steps.{BeginsUnit, BeginsEnd}
 
 fields_type : (u : Fields) (r : List ℕ) → type_field (unit_list u ++ r) ≢ 7
-fields_type (prefix v4 v s g l x z a n) r h = omega arith
-fields_type (prefix v6 v s g l x z a n) r h = omega arith
-fields_type (router_key v g z i n k) r h = omega arith
-fields_type (providers v g z c ps) r h = omega arith
+fields_type (prefix_unit u) r h = by_family u.origin.family h
+  where
+    by_family : (f : Family) → prefix_type f ≢ 7
+    by_family v4 e = omega arith
+    by_family v6 e = omega arith
+fields_type (key_unit u) r h = omega arith
+fields_type (aspa_unit u) r h = omega arith
 
 timed_type : (v s q : ℕ) (t : Option Timing) (r : List ℕ) → type_field (timed_list v s q t ++ r) ≡ 7
 timed_type v s q None r = refl

@@ -7,16 +7,18 @@ use Rattle.rtr_base.specs.declared.payload.Action.{Action}
 use Rattle.rtr_base.specs.declared.payload.Action.TheVariants.{Announce, Withdraw}
 use Rattle.rtr_base.specs.declared.payload.Timing.{Timing}
 use Rattle.rtr_base.specs.Actions.{act}
-use Rattle.rtr_base.specs.Addresses.{Family, v4, v6}
+use Rattle.rtr_base.specs.Addresses.{Family, v4, v6, width}
 use Rattle.rtr_base.specs.Bytes.{be, value}
 use Rattle.rtr_base.proofs.Numbers.{length-words, value-be}
 use Rattle.rtr_units.specs.Causes.{Refusal, short}
 use Rattle.rtr_units.specs.End.{EndMeaning, End, HasTimingOf, timed_list}
-use Rattle.rtr_units.specs.FixedUnits.{prefix_type, prefix_size}
+use Rattle.rtr_units.specs.PrefixUnits.{PrefixFields, prefix_type, prefix_size, address_bytes, prefix_list}
 use Rattle.rtr_units.specs.Header.{type_field, length_field}
 use Rattle.rtr_units.proofs.Headers.{same_header}
-use Rattle.rtr_payload.specs.Steps.{header_fault, header_step, length_step, lengths_fault, frame_fault, first_of, first_fault, first_unit, rule_of, refuse}
-use Rattle.rtr_payload.specs.Units.{Fields, prefix, router_key, providers, unit_list, HasProviders, Fit, WithinLimits, HasFields}
+use Rattle.rtr_payload.specs.Steps.{header_fault, header_step, length_step, lengths_fault, frame_fault, first_of, first_fault, first_unit, rule_of, broken_rule, refuse}
+use Rattle.rtr_payload.specs.Units.{Fields, prefix_unit, key_unit, aspa_unit, unit_list, Fit, WithinLimits, HasFields}
+use Rattle.rtr_payload.specs.AspaUnits.{HasProviders, aspa_list}
+use Rattle.rtr_payload.specs.KeyUnits.{key_list}
 
 -- ---- the first of two steps
 
@@ -90,27 +92,30 @@ pub record Whole (b : List ℕ) : Type 0 where
   pub in_order : header_step b ≡ None
   pub size : length_field b ≡ length b
 
-prefix_length : (f : Family) (v s g l x z a n : ℕ) → length (unit_list (prefix f v s g l x z a n)) ≡ prefix_size f
-prefix_length v4 v s g l x z a n = refl
-prefix_length v6 v s g l x z a n = refl
+prefix_length : (u : PrefixFields) (f : Family) → length (prefix_list (record u { origin = record u.origin { family = f } })) ≡ prefix_size f
+prefix_length u v4 = refl
+prefix_length u v6 = refl
 
 prefix_size_said : (f : Family) → (8 ≤ prefix_size f) × (value (be (prefix_size f) 4) ≡ prefix_size f)
 prefix_size_said v4 = (omega arith, refl)
 prefix_size_said v6 = (omega arith, refl)
 
 unit_whole : (u : Fields) → Fit u → WithinLimits u → Whole (unit_list u)
-unit_whole (prefix f v s g l x z a n) h w =
-    let n8 = prefix_length f v s g l x z a n in
-    let p = prefix_size_said f in
-    record { long = omega arith; in_order = ap (header_fault v (prefix_type f) _) p.1 ∙ prefix_in_order f v _; size = p.1 ∙ sym n8 }
-unit_whole (router_key v g z i n k) h w =
-    let len : value (be (32 + length k) 4) ≡ 32 + length k = value-be (32 + length k) 4 (omega arith) in
-    let size : length (unit_list (router_key v g z i n k)) ≡ 32 + length k = omega (arith, length-append (i ++ be n 4) k, length-append i (be n 4)) in
-    record { long = omega arith; in_order = ap (header_fault v 9 g) len ∙ nine_in_order v g (32 + length k) (omega arith) (omega arith); size = len ∙ sym size }
-unit_whole (providers v g z c ps) h w =
-    let len : value (be (12 + 4 * length ps) 4) ≡ 12 + 4 * length ps = value-be (12 + 4 * length ps) 4 (omega arith) in
-    let size : length (unit_list (providers v g z c ps)) ≡ 12 + 4 * length ps = omega (arith, length-words ps) in
-    record { long = omega arith; in_order = ap (header_fault v 11 g) len ∙ eleven_in_order v g (12 + 4 * length ps) (omega arith) (omega arith) (omega arith) (providers_named g ps w); size = len ∙ sym size }
+unit_whole (prefix_unit u) h w =
+    let p = prefix_size_said u.origin.family in
+    record { long = omega arith; in_order = ap (header_fault u.version (prefix_type u.origin.family) _) p.1 ∙ prefix_in_order u.origin.family u.version _; size = p.1 ∙ sym (prefix_length u u.origin.family) }
+unit_whole (key_unit u) h w =
+    let i = u.key.identifier in
+    let n = u.key.asn in
+    let k = u.key.info in
+    let len : value (be (32 + length k) 4) ≡ 32 + length k = value-be (32 + length k) 4 (omega (arith, h.info)) in
+    let size : length (key_list u) ≡ 32 + length k = omega (arith, h.identifier, length-append (i ++ be n 4) k, length-append i (be n 4)) in
+    record { long = omega arith; in_order = ap (header_fault u.version 9 u.flags) len ∙ nine_in_order u.version u.flags (32 + length k) (omega arith) (omega arith); size = len ∙ sym size }
+unit_whole (aspa_unit u) h w =
+    let ps = u.aspa.providers in
+    let len : value (be (12 + 4 * length ps) 4) ≡ 12 + 4 * length ps = value-be (12 + 4 * length ps) 4 (omega (arith, h.providers.count)) in
+    let size : length (aspa_list u) ≡ 12 + 4 * length ps = omega (arith, length-words ps) in
+    record { long = omega arith; in_order = ap (header_fault u.version 11 u.flags) len ∙ eleven_in_order u.version u.flags (12 + 4 * length ps) (omega arith) (omega (arith, h.providers.count)) (omega arith) (providers_named u.flags ps w); size = len ∙ sym size }
 
 pub shape_whole : (b : List ℕ) (u : Fields) → HasFields b u → Whole b
 shape_whole b u h = subst Whole (sym h.bytes) (unit_whole u h.fits h.limits)
@@ -135,10 +140,13 @@ step_eight b r w =
 
 -- which is the rule on the fields
 lengths_are : (u : Fields) → lengths_fault (type_field (unit_list u)) (unit_list u) ≡ refuse (unit_list u) (rule_of u)
-lengths_are (prefix v4 v s g l x z a n) = refl
-lengths_are (prefix v6 v s g l x z a n) = refl
-lengths_are (router_key v g z i n k) = refl
-lengths_are (providers v g z c ps) = refl
+lengths_are (prefix_unit u) = by_family u.origin.family
+  where
+    by_family : (f : Family) → lengths_fault (prefix_type f) (prefix_list u) ≡ refuse (prefix_list u) (broken_rule (width f) u.origin.prefix_len u.origin.max_len)
+    by_family v4 = refl
+    by_family v6 = refl
+lengths_are (key_unit u) = refl
+lengths_are (aspa_unit u) = refl
 
 -- behind a list with the shape of a unit the one fault is that of its prefix lengths
 pub shape_fault : (b r : List ℕ) (u : Fields) → HasFields b u → first_fault (b ++ r) ≡ refuse b (rule_of u)

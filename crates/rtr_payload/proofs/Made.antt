@@ -7,7 +7,7 @@ use Rattle.rtr_units.specs.Causes.{short, unit_type, unit_version, too_long, uni
 use Rattle.rtr_units.specs.Header.{version_field}
 use Rattle.rtr_payload.specs.Payloads.{Payload, origin, key, aspa, Meaning, IsPayload}
 use Rattle.rtr_payload.specs.Steps.{rule_of}
-use Rattle.rtr_payload.specs.Units.{Fields, prefix, router_key, providers, LengthsAgree, meaning, written, stripped}
+use Rattle.rtr_payload.specs.Units.{Fields, prefix_unit, key_unit, aspa_unit, LengthsAgree, meaning, written, stripped}
 use Rattle.rtr_payload.specs.UnitValues.{IsWritten, unit_bytes, unit_fields, flags_in, MeansPayload, NeedsMemory, HasNoPayload, IsPrefixUnit}
 use Rattle.rtr_payload.specs.Values.{payload_of}
 use Rattle.rtr_payload.specs.declared.payload.Payload.{Payload as Value}
@@ -18,9 +18,9 @@ use Rattle.rtr_payload.proofs.Rests.{agree_kept}
 
 -- the flags that stand among the fields
 abbrev flags_among : Fields → ℕ
-flags_among (prefix f v s g l x z a n) = g
-flags_among (router_key v g z i n k) = g
-flags_among (providers v g z c ps) = g
+flags_among (prefix_unit u) = u.flags
+flags_among (key_unit u) = u.flags
+flags_among (aspa_unit u) = u.flags
 
 flags_read : (u : Unit) → flags_in u ≡ flags_among (unit_fields u)
 flags_read (V4 u) = refl
@@ -29,9 +29,9 @@ flags_read (RouterKey u) = refl
 flags_read (Aspa u) = refl
 
 flags_there : (v f : ℕ) (p : Payload) → flags_among (written v f p) ≡ f
-flags_there v f (origin fam a l x n) = refl
-flags_there v f (key i n k) = refl
-flags_there v f (aspa c ps) = refl
+flags_there v f (origin o) = refl
+flags_there v f (key k) = refl
+flags_there v f (aspa a) = refl
 
 pub made_flags : (v f : ℕ) (p : Payload) (u : Unit) → IsWritten v f p u → flags_in u ≡ f
 made_flags v f p u h = flags_read u ∙ ap flags_among h.fields ∙ flags_there v f p
@@ -43,9 +43,9 @@ made_means v f p u a q valid h m =
 
 -- a form keeps the rule on the lengths of a prefix
 lengths_kept : (v f : ℕ) (p : Payload) → IsPayload p → LengthsAgree (written v f p)
-lengths_kept v f (origin fam a l x n) h = (h.len, h.max_len)
-lengths_kept v f (key i n k) h = tt
-lengths_kept v f (aspa c ps) h = tt
+lengths_kept v f (origin o) h = h.lengths
+lengths_kept v f (key k) h = tt
+lengths_kept v f (aspa a) h = tt
 
 no_rule : (v f : ℕ) (p : Payload) (u : Unit) → IsPayload p → IsWritten v f p u → rule_of (unit_fields u) ≡ None
 no_rule v f p u valid h = ap rule_of h.fields ∙ agree_kept (written v f p) (lengths_kept v f p valid)

@@ -6,7 +6,7 @@ use Rattle.std.specs.Cmp.Lexicographic.{pointwise, slice_cmp, texts_ties}
 use Rattle.std.specs.Iterator.{Yields}
 use Rattle.rtr_base.specs.Bytes.{be, value, words, IsBytes}
 use Rattle.rtr_base.proofs.Numbers.{length-words, slice_cmp-words}
-use Rattle.rtr_payload.specs.Places.{words_of}
+use Rattle.rtr_payload.specs.Providers.{words_of}
 use Rattle.rtr_payload.specs.Providers.{AreProviders, AreProviderBytes}
 use Rattle.rtr_payload.proofs.FieldsRead.{words_of-words, below_push, is_words}
 

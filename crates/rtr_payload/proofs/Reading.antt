@@ -7,22 +7,24 @@ use Rattle.std.proofs.Common.{cond, eqb, ltb, inl}
 use Rattle.rtr_base.specs.Addresses.{Family, v4, v6}
 use Rattle.rtr_units.specs.Causes.{Refusal, short, unit_type, unit_version, too_long, unit_length, empty_providers, refused, Cause, by_reader, by_writer, too_many, no_memory, wrong}
 use Rattle.rtr_units.specs.Ends.{end_unit}
-use Rattle.rtr_units.specs.FixedUnits.{prefix_type, prefix_size}
+use Rattle.rtr_units.specs.PrefixUnits.{prefix_type, prefix_size}
 use Rattle.rtr_units.specs.Header.{version_field, type_field, length_field}
 use Rattle.rtr_units.specs.Reading.{of_size, IsPart, AsksAfter, Reads, ReadsAfter, by_bytes}
 use Rattle.rtr_units.specs.declared.fault.Fault.{Fault}
 use Rattle.rtr_units.proofs.UnitsRead.{AlikeAfter, read_alike, at_header}
 use Rattle.rtr_units.specs.Views.{AreBytes}
 use Rattle.rtr_units.proofs.Headers.{same_header}
+use Rattle.rtr_payload.specs.declared.prefix_rule.PrefixRule.{PrefixRule}
 use Rattle.rtr_payload.specs.UnitKinds.{variable_unit, payload_unit}
-use Rattle.rtr_payload.specs.Places.{prefix_fields}
+use Rattle.rtr_units.specs.PrefixUnits.{prefix_at}
+use Rattle.rtr_payload.specs.Units.{prefix_unit}
 use Rattle.rtr_payload.specs.PrivateCalls.{IsReport}
 use Rattle.rtr_payload.specs.Refusals.{IsPartial, IsRefused}
 use Rattle.rtr_payload.specs.UnitValues.{unit_bytes, unit_fields, NeedsMemory, HasNoPayload}
 use Rattle.rtr_payload.specs.declared.pdu_payload.Payload.{Payload}
 use Rattle.rtr_payload.specs.declared.pdu_payload.Payload.TheVariants.{V4, V6, RouterKey, Aspa}
 use Rattle.std.specs.Prelude.{IsSome, IfOk, IsTrue}
-use Rattle.rtr_payload.specs.Steps.{PrefixFault, header_fault, header_step, rule_of, refusal_report}
+use Rattle.rtr_payload.specs.Steps.{header_fault, header_step, rule_of, refusal_report}
 use Rattle.rtr_payload.specs.Units.{Fields, HasFields}
 use Rattle.rtr_payload.proofs.Frames.{shape_whole}
 use Rattle.rtr_payload.proofs.Refusals.{header_short, unit_short, header_refused}
@@ -74,7 +76,7 @@ module _ (h : List ℕ) (long : 8 ≤ length h) where
 -- ---- a prefix unit after its header h
 
 module _ (f : Family) (h u : List ℕ) (kind : type_field h ≡ prefix_type f) where
-  prefix_fields_read : (a b : Option (List ℕ)) → ReadsAfter (of_size (prefix_size f)) h (Ok u) a b → HasFields u (prefix_fields f u)
+  prefix_fields_read : (a b : Option (List ℕ)) → ReadsAfter (of_size (prefix_size f)) h (Ok u) a b → HasFields u (prefix_unit (prefix_at f u))
   prefix_fields_read a b (is, ((t, took, parts), whole)) =
       let l : 8 ≤ length h = omega (arith, is.0) in
       let kind_u : type_field u ≡ prefix_type f = ap type_field parts ∙ kind_after h l (prefix_type f) t kind in
@@ -82,7 +84,7 @@ module _ (f : Family) (h u : List ℕ) (kind : type_field h ≡ prefix_type f) w
       prefix_whole f u whole.are_bytes (record { long = whole.header; in_order = order; size = sym whole.size }) kind_u
 
 -- the unit u of the family f, whose rest was read after the header h, or reading stopped
-module _ (f : Family) (u : Payload) (bytes : List ℕ) (n : ℕ) (same : unit_bytes u ≡ bytes) (fields : unit_fields u ≡ prefix_fields f bytes) (size : n ≡ prefix_size f) (h : List ℕ) (kind : type_field h ≡ prefix_type f) where
+module _ (f : Family) (u : Payload) (bytes : List ℕ) (n : ℕ) (same : unit_bytes u ≡ bytes) (fields : unit_fields u ≡ prefix_unit (prefix_at f bytes)) (size : n ≡ prefix_size f) (h : List ℕ) (kind : type_field h ≡ prefix_type f) where
   pub prefix_after : (r : Result (List ℕ) Cause) (a b : Option (List ℕ)) → ReadsAfter (of_size n) h r a b → ReadsAfter payload_unit h r a b
   prefix_after r a b (is, reads) = (is, read_alike (of_size (prefix_size f)) payload_unit h r a b (prefix_alike h (omega (arith, is.0)) f kind) (subst (λ n. Reads (of_size n) h r a b) size reads))
 
@@ -141,13 +143,13 @@ shape_asks b u h kind =
 some_of : {A : Type 0} (o : Option A) (x : A) → o ≡ Some x → IsSome o
 some_of o x e = subst IsSome (sym e) refl
 
-needs_report : (u : Payload) (f : PrefixFault) → rule_of (unit_fields u) ≡ Some f → NeedsMemory u
+needs_report : (u : Payload) (f : PrefixRule) → rule_of (unit_fields u) ≡ Some f → NeedsMemory u
 needs_report (V4 u) f e = some_of _ f e
 needs_report (V6 u) f e = some_of _ f e
 needs_report (RouterKey u) f e = tt
 needs_report (Aspa u) f e = tt
 
-pub no_payload : (u : Payload) (f : PrefixFault) (c : Cause) → rule_of (unit_fields u) ≡ Some f → IsReport c (refusal_report (unit_bytes u) f) → HasNoPayload u c
+pub no_payload : (u : Payload) (f : PrefixRule) (c : Cause) → rule_of (unit_fields u) ≡ Some f → IsReport c (refusal_report (unit_bytes u) f) → HasNoPayload u c
 no_payload u f (wrong (refused report)) e r = (f, e, r)
 no_payload u f no_memory e r = needs_report u f e
 no_payload u f by_reader e r = absurd r

@@ -6,8 +6,9 @@ use Rattle.std.proofs.lemmas.List.{length-append, length-take-le, take-append-dr
 use Rattle.rtr_units.specs.Causes.{Refusal, short, unit_type, unit_version, too_long, unit_length, empty_providers, refused}
 use Rattle.rtr_units.specs.Header.{version_field, type_field, length_field}
 use Rattle.rtr_units.proofs.Headers.{same_header}
+use Rattle.rtr_payload.specs.declared.prefix_rule.PrefixRule.{PrefixRule}
 use Rattle.rtr_payload.specs.Refusals.{IsPartial, IsRefused}
-use Rattle.rtr_payload.specs.Steps.{PrefixFault, header_fault, header_step, length_step, lengths_fault, frame_fault, first_of, first_unit, taken, rule_of, refuse, refusal_report}
+use Rattle.rtr_payload.specs.Steps.{header_fault, header_step, length_step, lengths_fault, frame_fault, first_of, first_unit, taken, rule_of, refuse, refusal_report}
 use Rattle.rtr_payload.specs.Units.{Fields, HasFields}
 use Rattle.rtr_payload.proofs.Frames.{Whole, behind_header, same_step, shape_fault, shape_cut}
 
@@ -67,5 +68,5 @@ header_refused h f l e = λ r.
 
 -- ---- prefix lengths that are refused
 
-pub prefix_refused : (b : List ℕ) (u : Fields) (f : PrefixFault) → HasFields b u → rule_of u ≡ Some f → IsRefused b (refused (refusal_report b f))
+pub prefix_refused : (b : List ℕ) (u : Fields) (f : PrefixRule) → HasFields b u → rule_of u ≡ Some f → IsRefused b (refused (refusal_report b f))
 prefix_refused b u f h e = λ r. (shape_fault b r u h ∙ ap (refuse b) e, (shape_cut b r u h).1)

@@ -10,7 +10,7 @@ use Rattle.rtr_units.specs.Causes.{Refusal}
 use Rattle.rtr_units.specs.Header.{version_field, type_field, length_field}
 use Rattle.rtr_units.proofs.Headers.{same_header}
 use Rattle.rtr_payload.specs.Steps.{header_fault, header_step, lengths_fault, frame_fault, first_fault, first_unit, BeginsShape, BeginsUnit, BeginsEnd, broken_rule, rule_of, refuse}
-use Rattle.rtr_payload.specs.Units.{Fields, prefix, router_key, providers, LengthsAgree, meaning}
+use Rattle.rtr_payload.specs.Units.{Fields, prefix_unit, key_unit, aspa_unit, LengthsAgree, meaning}
 use Rattle.rtr_payload.proofs.Wholes.{whole_is}
 use Rattle.rtr_payload.proofs.Frames.{Whole, InFrame, none_in_frame, first_none, same_step, shape_fault, end_fault}
 
@@ -52,14 +52,14 @@ unfolding broken_rule
 rule_from w l x h = grind (arith, nat_tests)
 
 pub agree_kept : (u : Fields) → LengthsAgree u → rule_of u ≡ None
-agree_kept (prefix f v s g l x z a n) h = rule_kept (width f) l x h
-agree_kept (router_key v g z i n k) h = refl
-agree_kept (providers v g z c ps) h = refl
+agree_kept (prefix_unit u) h = rule_kept (width u.origin.family) u.origin.prefix_len u.origin.max_len h
+agree_kept (key_unit u) h = refl
+agree_kept (aspa_unit u) h = refl
 
-agree_from : (u : Fields) → rule_of u ≡ None → LengthsAgree u
-agree_from (prefix f v s g l x z a n) h = rule_from (width f) l x h
-agree_from (router_key v g z i n k) h = tt
-agree_from (providers v g z c ps) h = tt
+pub agree_from : (u : Fields) → rule_of u ≡ None → LengthsAgree u
+agree_from (prefix_unit u) h = rule_from (width u.origin.family) u.origin.prefix_len u.origin.max_len h
+agree_from (key_unit u) h = tt
+agree_from (aspa_unit u) h = tt
 
 refuse_none : (b : List ℕ) (o : _) → refuse b o ≡ None → o ≡ None
 refuse_none b None e = refl

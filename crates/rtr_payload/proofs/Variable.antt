@@ -12,7 +12,9 @@ use Rattle.rtr_units.specs.Reading.{IsWhole, AsksAfter, Stops}
 use Rattle.rtr_units.proofs.UnitsRead.{ByHeader, rest_stops, rest_whole}
 use Rattle.rtr_payload.specs.PrivateCalls.{StopsInFrame}
 use Rattle.rtr_payload.specs.UnitKinds.{variable_unit}
-use Rattle.rtr_payload.specs.Places.{key_fields, aspa_fields}
+use Rattle.rtr_payload.specs.KeyUnits.{key_at}
+use Rattle.rtr_payload.specs.Units.{key_unit, aspa_unit}
+use Rattle.rtr_payload.specs.AspaUnits.{aspa_at}
 use Rattle.rtr_payload.specs.Steps.{header_fault}
 use Rattle.rtr_payload.specs.Units.{HasFields}
 use Rattle.rtr_payload.proofs.FieldsRead.{key_has, aspa_has}
@@ -82,14 +84,14 @@ is_read : (k : ℕ) (h t : List ℕ) → AreBytes 8 h → IsBytes t → (variabl
 is_read k h t (l, hb) tb e size = rest_whole (variable_unit k) (variable_by k) (length t) h l e size t (IsBytes-append h t hb tb) refl
 
 pub key_read : (h t : List ℕ) → AreBytes 8 h → IsBytes t → 32 ≤ length_field h → length_field h ≤ 65535 → length_field h ≡ 8 + length t
-    → IsWhole (variable_unit 9) (h ++ t) × (type_field h ≡ 9 → HasFields (h ++ t) (key_fields (h ++ t)))
+    → IsWhole (variable_unit 9) (h ++ t) × (type_field h ≡ 9 → HasFields (h ++ t) (key_unit (key_at (h ++ t))))
 key_read h t hb tb low high size =
     let r = is_read 9 h t hb tb (nine_in_order _ _ _ low high) size in
     let same = same_header h t (omega (arith, hb.0)) in
     (r, λ kind. key_has (h ++ t) r.are_bytes (omega (arith, r.size, same.size)) (omega (arith, r.size, same.size)) (same.kind ∙ kind) (sym r.size))
 
 pub aspa_read : (h t : List ℕ) → AreBytes 8 h → IsBytes t → 12 ≤ length_field h → length_field h ≤ 65535 → length_field h % 4 ≡ 0 → (length_field h ≡ 12 → get_or h 2 0 % 2 ≢ 1) → length_field h ≡ 8 + length t
-    → IsWhole (variable_unit 11) (h ++ t) × (type_field h ≡ 11 → HasFields (h ++ t) (aspa_fields (h ++ t)))
+    → IsWhole (variable_unit 11) (h ++ t) × (type_field h ≡ 11 → HasFields (h ++ t) (aspa_unit (aspa_at (h ++ t))))
 aspa_read h t hb tb low high by_four named size =
     let r = is_read 11 h t hb tb (eleven_in_order _ _ _ low high by_four named) size in
     let same = same_header h t (omega (arith, hb.0)) in

@@ -5,11 +5,14 @@ use Rattle.std.proofs.lemmas.List.{length-append}
 use Rattle.rtr_base.specs.Addresses.{Family, v4, v6}
 use Rattle.rtr_base.specs.Bytes.{IsBytes}
 use Rattle.rtr_units.specs.End.{EndMeaning, End, untimed_meaning, timed_meaning}
-use Rattle.rtr_units.specs.FixedUnits.{prefix_type, prefix_size}
+use Rattle.rtr_units.specs.PrefixUnits.{prefix_type, prefix_size}
 use Rattle.rtr_units.specs.Header.{version_field, type_field, length_field}
 use Rattle.rtr_units.proofs.Headers.{same_header}
 use Rattle.rtr_units.proofs.EndsRead.{untimed_has, timed_has}
-use Rattle.rtr_payload.specs.Places.{prefix_fields, key_fields, aspa_fields}
+use Rattle.rtr_units.specs.PrefixUnits.{prefix_at}
+use Rattle.rtr_payload.specs.Units.{prefix_unit, key_unit, aspa_unit}
+use Rattle.rtr_payload.specs.KeyUnits.{key_at}
+use Rattle.rtr_payload.specs.AspaUnits.{aspa_at}
 use Rattle.rtr_payload.specs.Steps.{header_fault, header_step}
 use Rattle.rtr_payload.specs.Units.{Fields, HasFields}
 use Rattle.rtr_payload.proofs.FieldsRead.{prefix_has, key_has, aspa_has}
@@ -50,17 +53,17 @@ aspa_said v g n h = grind (arith, nat_tests)
 step_of : (b : List ℕ) (t : ℕ) → Whole b → type_field b ≡ t → header_fault (version_field b) t (get_or b 2 0) (length_field b) ≡ None
 step_of b t w e = rw e at w.in_order
 
-pub prefix_whole : (f : Family) (b : List ℕ) → IsBytes b → Whole b → type_field b ≡ prefix_type f → HasFields b (prefix_fields f b)
+pub prefix_whole : (f : Family) (b : List ℕ) → IsBytes b → Whole b → type_field b ≡ prefix_type f → HasFields b (prefix_unit (prefix_at f b))
 prefix_whole f b h w t =
     let n = prefix_said f (version_field b) (get_or b 2 0) (length_field b) (step_of b (prefix_type f) w t) in
     prefix_has f b h (sym w.size ∙ n) t n
 
-pub key_whole : (b : List ℕ) → IsBytes b → Whole b → type_field b ≡ 9 → HasFields b (key_fields b)
+pub key_whole : (b : List ℕ) → IsBytes b → Whole b → type_field b ≡ 9 → HasFields b (key_unit (key_at b))
 key_whole b h w t =
     let n = key_said (version_field b) (get_or b 2 0) (length_field b) (step_of b 9 w t) in
     key_has b h (omega (arith, w.size)) (omega (arith, w.size)) t w.size
 
-pub aspa_whole : (b : List ℕ) → IsBytes b → Whole b → type_field b ≡ 11 → HasFields b (aspa_fields b)
+pub aspa_whole : (b : List ℕ) → IsBytes b → Whole b → type_field b ≡ 11 → HasFields b (aspa_unit (aspa_at b))
 aspa_whole b h w t =
     let n = aspa_said (version_field b) (get_or b 2 0) (length_field b) (step_of b 11 w t) in
     aspa_has b h (omega (arith, w.size)) (omega (arith, w.size)) (rw (← w.size) n.2) (λ e. n.3 (w.size ∙ e)) t w.size
@@ -73,8 +76,8 @@ end_whole b h w t = elim (end_said (version_field b) (get_or b 2 0) (length_fiel
 
 pub whole_is : (b : List ℕ) → IsBytes b → Whole b → ((u : Fields) × HasFields b u) ⊎ ((e : EndMeaning) × End b e)
 whole_is b h w = elim (kinds (version_field b) (type_field b) (get_or b 2 0) (length_field b) w.in_order) [
-  | inl x ↦ inl (prefix_fields x.0 b, prefix_whole x.0 b h w x.1)
+  | inl x ↦ inl (prefix_unit (prefix_at x.0 b), prefix_whole x.0 b h w x.1)
   | inr (inl t) ↦ inr (end_whole b h w t)
-  | inr (inr (inl t)) ↦ inl (key_fields b, key_whole b h w t)
-  | inr (inr (inr t)) ↦ inl (aspa_fields b, aspa_whole b h w t)
+  | inr (inr (inl t)) ↦ inl (key_unit (key_at b), key_whole b h w t)
+  | inr (inr (inr t)) ↦ inl (aspa_unit (aspa_at b), aspa_whole b h w t)
 ]

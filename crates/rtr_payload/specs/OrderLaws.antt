@@ -8,7 +8,8 @@ use Rattle.std.specs.Ordering.{eq_by_cmp, ordering_then, ordering_reverse}
 use Rattle.std.specs.Cmp.{Equal-is}
 use Rattle.std.specs.Cmp.Lexicographic.{slice_cmp}
 use Rattle.std.proofs.lemmas.Map.Lookups.{exact_bytes}
-use Rattle.rtr_base.specs.Addresses.{v4, v6}
+use Rattle.rtr_base.specs.Addresses.{Family, v4, v6}
+use Rattle.rtr_units.specs.PrefixUnits.{prefix_type}
 use Rattle.rtr_payload.specs.Payloads.{Payload, origin, key, aspa}
 use Rattle.rtr_payload.specs.Orders.{list_cmp, parts, payload_cmp, payload_total}
 
@@ -27,19 +28,42 @@ lists_exact (x ∷ xs) (y ∷ ys) e =
     let g = lists_exact xs ys t.1 in
     λ i. h i ∷ g i
 
+family_same : (f g : Family) → prefix_type f ≡ prefix_type g → f ≡ g
+family_same v4 v4 e = refl
+family_same v4 v6 e = absurd cc
+family_same v6 v4 e = absurd cc
+family_same v6 v6 e = refl
+
 parts_same : (p q : Payload) → parts p ≡ parts q → p ≡ q
-parts_same (origin v4 a l x n) (origin v4 b m y k) e = cc
-parts_same (origin v4 a l x n) (origin v6 b m y k) e = absurd cc
-parts_same (origin v6 a l x n) (origin v4 b m y k) e = absurd cc
-parts_same (origin v6 a l x n) (origin v6 b m y k) e = cc
-parts_same (origin f a l x n) (key i m k) e = absurd cc
-parts_same (origin f a l x n) (aspa c ps) e = absurd cc
-parts_same (key i n k) (origin f a l x m) e = absurd cc
-parts_same (key i n k) (key j m h) e = cc
-parts_same (key i n k) (aspa c ps) e = absurd cc
-parts_same (aspa c ps) (origin f a l x n) e = absurd cc
-parts_same (aspa c ps) (key i n k) e = absurd cc
-parts_same (aspa c ps) (aspa d qs) e = cc
+parts_same (origin o) (origin p) e =
+    let family : prefix_type o.family ≡ prefix_type p.family = cc in
+    let same = family_same o.family p.family family in
+    let address : o.address ≡ p.address = cc in
+    let prefix_len : o.prefix_len ≡ p.prefix_len = cc in
+    let max_len : o.max_len ≡ p.max_len = cc in
+    let asn : o.asn ≡ p.asn = cc in
+    λ i. origin (record {
+      family = same i;
+      address = address i;
+      prefix_len = prefix_len i;
+      max_len = max_len i;
+      asn = asn i;
+    })
+parts_same (origin o) (key k) e = absurd cc
+parts_same (origin o) (aspa a) e = absurd cc
+parts_same (key k) (origin o) e = absurd cc
+parts_same (key k) (key j) e =
+    let identifier : k.identifier ≡ j.identifier = cc in
+    let asn : k.asn ≡ j.asn = cc in
+    let info : k.info ≡ j.info = cc in
+    λ i. key (record { identifier = identifier i; asn = asn i; info = info i })
+parts_same (key k) (aspa a) e = absurd cc
+parts_same (aspa a) (origin o) e = absurd cc
+parts_same (aspa a) (key k) e = absurd cc
+parts_same (aspa a) (aspa b) e =
+    let customer : a.customer ≡ b.customer = cc in
+    let providers : a.providers ≡ b.providers = cc in
+    λ i. aspa (record { customer = customer i; providers = providers i })
 
 payload_exact : (p q : Payload) → payload_cmp p q ≡ Equal → p ≡ q
 payload_exact p q e = parts_same p q (lists_exact (parts p) (parts q) e)

@@ -5,8 +5,8 @@ use Rattle.std.specs.declared.cmp.Ordering.{Ordering}
 use Rattle.std.specs.Ordering.{nat_cmp}
 use Rattle.std.specs.Cmp.{IsTotalOrder, on_total}
 use Rattle.std.specs.Cmp.Lexicographic.{slice_cmp, nat_list_cmp_total, lists_total}
-use Rattle.rtr_units.specs.FixedUnits.{prefix_type}
-use Rattle.rtr_payload.specs.Payloads.{Payload, origin, key, aspa}
+use Rattle.rtr_units.specs.PrefixUnits.{prefix_type}
+use Rattle.rtr_payload.specs.Payloads.{Payload, origin, key, aspa, kind_number}
 
 -- the first differing member decides; a proper prefix is less
 abbrev pub list_cmp : List ℕ → List ℕ → Ordering
@@ -15,10 +15,11 @@ list_cmp xs ys = slice_cmp nat_cmp xs ys
 -- what of a payload is compared in turn: origins, then keys, then ASPAs; the parts of an origin
 -- (IPv4 before IPv6), of a key and of an ASPA as they stand
 abbrev pub parts : Payload → List (List ℕ)
-parts (origin f a l x n) =
-    (0 ∷ []) ∷ (prefix_type f ∷ []) ∷ (a ∷ []) ∷ (l ∷ []) ∷ (x ∷ []) ∷ (n ∷ []) ∷ []
-parts (key i n k) = (1 ∷ []) ∷ i ∷ (n ∷ []) ∷ k ∷ []
-parts (aspa c ps) = (2 ∷ []) ∷ (c ∷ []) ∷ ps ∷ []
+parts (origin o) =
+    (kind_number (origin o) ∷ []) ∷ (prefix_type o.family ∷ []) ∷ (o.address ∷ []) ∷
+    (o.prefix_len ∷ []) ∷ (o.max_len ∷ []) ∷ (o.asn ∷ []) ∷ []
+parts (key k) = (kind_number (key k) ∷ []) ∷ k.identifier ∷ (k.asn ∷ []) ∷ k.info ∷ []
+parts (aspa a) = (kind_number (aspa a) ∷ []) ∷ (a.customer ∷ []) ∷ a.providers ∷ []
 
 -- the first differing part decides
 abbrev pub payload_cmp : Payload → Payload → Ordering

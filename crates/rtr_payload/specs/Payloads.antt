@@ -1,16 +1,17 @@
--- What a payload unit means: route origins (RFC 8210 sections 5.6 and 5.7), router keys (RFC 8210
--- section 5.10) and ASPAs (as in the Rust crate).
-use Rattle.std.specs.Prelude.{◌≡◌, ℕ, ◌%◌, ◌-◌, ◌^◌, ◌<◌, ◌≤◌, List, length}
-use Rattle.std.specs.List.{AllByRecursion}
+-- What a payload unit means, over all kinds.
+use Rattle.std.specs.Prelude.{ℕ}
 use Rattle.rtr_base.specs.declared.payload.Action.{Action}
-use Rattle.rtr_base.specs.Addresses.{Family, width}
+use Rattle.rtr_units.specs.PrefixUnits.{OriginParts}
+use Rattle.rtr_payload.specs.AspaUnits.{AspaParts, IsAspa}
+use Rattle.rtr_payload.specs.KeyUnits.{KeyParts, IsKey}
+use Rattle.rtr_payload.specs.RouteOrigins.{IsOrigin}
 
--- a route origin: family, address, prefix length, max length and ASN; a router key: identifier, ASN
--- and key info; an ASPA: customer and providers
+-- a route origin (RFC 8210 sections 5.6 and 5.7), a router key (RFC 8210 section 5.10) or an ASPA
+-- (as in the Rust crate)
 pub data Payload : Type 0 where
-  origin : Family → ℕ → ℕ → ℕ → ℕ → Payload
-  key : List ℕ → ℕ → List ℕ → Payload
-  aspa : ℕ → List ℕ → Payload
+  origin : OriginParts → Payload
+  key : KeyParts → Payload
+  aspa : AspaParts → Payload
 
 -- what a unit means: its free bytes, the session of its header and all flag bits but the lowest
 -- mean nothing (RFC 8210 section 5.1)
@@ -19,36 +20,21 @@ pub record Meaning : Type 0 where
   pub action : Action
   pub payload : Payload
 
--- The lengths are in order, and the bits of the address after the prefix length are clear. An
--- address of 32 or 128 bits (RFC 8210 sections 5.6 and 5.7).
-pub record IsOrigin (f : Family) (a l x n : ℕ) : Type 0 where
-  pub len : l ≤ x
-  pub max_len : x ≤ width f
-  pub address : a < 2 ^ width f
-  pub host_bits : a % 2 ^ (width f - l) ≡ 0
-  pub asn : n < 2 ^ 32
-
--- an identifier of 20 bytes, and key info whose length, with the 32 bytes before it, fits a length
--- field of four bytes (RFC 8210 section 5.10)
-pub record IsKey (i : List ℕ) (n : ℕ) (k : List ℕ) : Type 0 where
-  pub identifier : length i ≡ 20
-  pub asn : n < 2 ^ 32
-  pub info : length k ≤ 4294967263
-
--- as many providers as the Rust crate allows: with them the unit has 65532 bytes
-pub record IsAspa (c : ℕ) (ps : List ℕ) : Type 0 where
-  pub customer : c < 2 ^ 32
-  pub count : length ps ≤ 16380
-  pub providers : AllByRecursion (λ p. p < 2 ^ 32) ps
-
+-- its parts are in their ranges (RFC 8210 sections 5.6, 5.7 and 5.10; ASPAs as in the Rust crate)
 abbrev pub IsPayload : Payload → Type 0
-IsPayload (origin f a l x n) = IsOrigin f a l x n
-IsPayload (key i n k) = IsKey i n k
-IsPayload (aspa c ps) = IsAspa c ps
+IsPayload (origin o) = IsOrigin o
+IsPayload (key k) = IsKey k
+IsPayload (aspa a) = IsAspa a
 
 -- the smallest protocol version that has the payload (origins RFC 6810, router keys RFC 8210; ASPAs
 -- as in the Rust crate)
 abbrev pub smallest_version : Payload → ℕ
-smallest_version (origin f a l x n) = 0
-smallest_version (key i n k) = 1
-smallest_version (aspa c ps) = 2
+smallest_version (origin o) = 0
+smallest_version (key k) = 1
+smallest_version (aspa a) = 2
+
+-- origins come before keys, and keys before ASPAs (this library's own)
+abbrev pub kind_number : Payload → ℕ
+kind_number (origin o) = 0
+kind_number (key k) = 1
+kind_number (aspa a) = 2

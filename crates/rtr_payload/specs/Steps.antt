@@ -10,21 +10,18 @@
 --   8  the lengths of a prefix break their rule
 use Rattle.std.specs.Prelude.{codes, ◌≡◌, ℕ, ◌%◌, Bool, not, ◌&&◌, ◌||◌, List, ◌++◌, length, take}
 use Rattle.std.specs.Prelude.{slice_index, Option, Some, None, nat_lt, nat_le, ◌==◌, if◌then◌else◌}
-use Rattle.rtr_base.specs.Addresses.{width}
+use Rattle.rtr_base.specs.Addresses.{width, v4, v6}
+use Rattle.rtr_units.specs.PrefixUnits.{prefix_at}
 use Rattle.rtr_units.specs.Header.{version_field, type_field, length_field}
 use Rattle.rtr_units.specs.End.{EndMeaning, End}
 use Rattle.rtr_units.specs.Report.{report}
 use Rattle.rtr_units.specs.Causes.{Refusal, short, unit_type, unit_version, too_long, unit_length}
 use Rattle.rtr_units.specs.Causes.{empty_providers, refused}
 use Rattle.rtr_payload.specs.Payloads.{Meaning}
-use Rattle.rtr_payload.specs.Units.{Fields, prefix, router_key, providers, IsUnit, Shape}
-
--- how the lengths of a prefix break their rule: the prefix length is above that of an address, or
--- the max length is, or it is below the prefix length
-pub data PrefixFault : Type 0 where
-  len_overflow : PrefixFault
-  max_overflow : PrefixFault
-  max_underflow : PrefixFault
+use Rattle.rtr_payload.specs.Units.{Fields, prefix_unit, key_unit, aspa_unit, IsUnit, Shape}
+use Rattle.rtr_payload.specs.declared.prefix_rule.PrefixRule.{PrefixRule}
+use Rattle.rtr_payload.specs.declared.prefix_rule.PrefixRule.TheVariants.{LenOverflow, MaxOverflow}
+use Rattle.rtr_payload.specs.declared.prefix_rule.PrefixRule.TheVariants.{MaxUnderflow}
 
 -- prefixes, ends of data, router keys (RFC 8210 sections 5.6 to 5.8 and 5.10) and ASPA units
 abbrev pub is_known : ℕ → Bool
@@ -39,11 +36,12 @@ suits t v n = if t == 4 then n == 20
     else if t == 9 then nat_le 32 n
     else nat_le 12 n && (n % 4 == 0)
 
--- how lengths l and x break the rule, for an address of w bits
-unfoldable pub broken_rule : ℕ → ℕ → ℕ → Option PrefixFault
-broken_rule w l x = if nat_lt w l then Some len_overflow
-    else if nat_lt w x then Some max_overflow
-    else if nat_lt x l then Some max_underflow
+-- how these lengths break the rule, for an address of as many bits as its width (this library's own
+-- order)
+unfoldable pub broken_rule : (width prefix_len max_len : ℕ) → Option PrefixRule
+broken_rule width prefix_len max_len = if nat_lt width prefix_len then Some LenOverflow
+    else if nat_lt width max_len then Some MaxOverflow
+    else if nat_lt max_len prefix_len then Some MaxUnderflow
     else None
 
 -- steps 2 to 6, by the version v, the type t, byte 2 and the length field n
@@ -57,35 +55,35 @@ header_fault v t g n =
     else None
 
 -- the text of the report (this library's own)
-abbrev pub text_of : PrefixFault → List ℕ
-text_of len_overflow = codes "prefix length too large"
-text_of max_overflow = codes "max-length too large"
-text_of max_underflow = codes "max-length smaller than prefix length"
+abbrev pub text_of : PrefixRule → List ℕ
+text_of LenOverflow = codes "prefix length too large"
+text_of MaxOverflow = codes "max-length too large"
+text_of MaxUnderflow = codes "max-length smaller than prefix length"
 
 -- the report on the unit u, in its version and with error code 0, corrupt data (RFC 8210 section
 -- 12)
-abbrev pub refusal_report : List ℕ → PrefixFault → List ℕ
+abbrev pub refusal_report : List ℕ → PrefixRule → List ℕ
 refusal_report u f = report (version_field u) 0 u (text_of f)
 
 -- the unit at the front of r, by its length field
 abbrev pub first_unit : List ℕ → List ℕ
 first_unit r = take (length_field r) r
 
-abbrev pub refuse : List ℕ → Option PrefixFault → Option Refusal
+abbrev pub refuse : List ℕ → Option PrefixRule → Option Refusal
 refuse u None = None
 refuse u (Some f) = Some (refused (refusal_report u f))
 
+-- how the fields of a unit break the rule on the lengths of a prefix (RFC 8210 section 5.6)
+abbrev pub rule_of : Fields → Option PrefixRule
+rule_of (prefix_unit u) = broken_rule (width u.origin.family) u.origin.prefix_len u.origin.max_len
+rule_of (key_unit u) = None
+rule_of (aspa_unit u) = None
+
 -- step 8, for a unit u of type t
 abbrev pub lengths_fault : ℕ → List ℕ → Option Refusal
-lengths_fault t u = if t == 4 then refuse u (broken_rule 32 (slice_index u 9) (slice_index u 10))
-    else if t == 6 then refuse u (broken_rule 128 (slice_index u 9) (slice_index u 10))
+lengths_fault t u = if t == 4 then refuse u (rule_of (prefix_unit (prefix_at v4 u)))
+    else if t == 6 then refuse u (rule_of (prefix_unit (prefix_at v6 u)))
     else None
-
--- how the fields of a unit break the rule
-abbrev pub rule_of : Fields → Option PrefixFault
-rule_of (prefix f v s g l x z a n) = broken_rule (width f) l x
-rule_of (router_key v g z i n k) = None
-rule_of (providers v g z c ps) = None
 
 -- the earlier of two steps
 abbrev pub first_of : Option Refusal → Option Refusal → Option Refusal

@@ -1,18 +1,21 @@
 -- What the values of payload units are: their bytes, and the fields that stand in them.
-use Rattle.std.specs.Prelude.{◌≡◌, ◌≤◌, slice_index, List, [], ℕ, Option, Some, None, Result, Ok, Err}
+use Rattle.std.specs.Prelude.{◌≡◌, ◌≤◌, List, [], ℕ, Option, Some, None, Result, Ok, Err}
 use Rattle.std.specs.Prelude.{IsSome}
 use Rattle.rtr_base.specs.Addresses.{v4, v6}
 use Rattle.rtr_base.specs.declared.payload.Action.{Action}
 use Rattle.rtr_units.specs.Causes.{refused, Cause, no_memory, wrong}
 use Rattle.rtr_units.specs.End.{End}
 use Rattle.rtr_units.specs.Header.{version_field}
-use Rattle.rtr_units.specs.Units.{ipv4_bytes, ipv6_bytes}
+use Rattle.rtr_units.specs.PrefixUnits.{ipv4_bytes, ipv6_bytes, prefix_at}
 use Rattle.rtr_units.specs.Ends.{end_bytes, end_meaning}
 use Rattle.rtr_units.specs.declared.end.EndOfData.{EndOfData}
-use Rattle.rtr_payload.specs.Places.{prefix_fields, key_fields, aspa_fields}
-use Rattle.rtr_payload.specs.Steps.{PrefixFault, rule_of, refusal_report}
-use Rattle.rtr_payload.specs.Units.{Fields, HasFields, LengthsAgree, form, meaning, written}
+use Rattle.rtr_payload.specs.AspaUnits.{aspa_at}
+use Rattle.rtr_payload.specs.KeyUnits.{key_at}
+use Rattle.rtr_payload.specs.Steps.{rule_of, refusal_report}
+use Rattle.rtr_payload.specs.Units.{Fields, prefix_unit, key_unit, aspa_unit, HasFields}
+use Rattle.rtr_payload.specs.Units.{LengthsAgree, form, meaning, written}
 use Rattle.rtr_payload.specs.Values.{payload_of}
+use Rattle.rtr_payload.specs.declared.prefix_rule.PrefixRule.{PrefixRule}
 use Rattle.rtr_payload.specs.declared.payload.Payload.{Payload as Value}
 use Rattle.rtr_payload.specs.declared.payload.Payload.TheVariants as values
 use Rattle.rtr_payload.specs.declared.payload.PayloadRef.{PayloadRef}
@@ -29,10 +32,10 @@ unit_bytes (units.Aspa u) = u
 
 -- by the variant, whatever the bytes of type and length say
 abbrev pub unit_fields : Payload → Fields
-unit_fields (units.V4 u) = prefix_fields v4 (ipv4_bytes u)
-unit_fields (units.V6 u) = prefix_fields v6 (ipv6_bytes u)
-unit_fields (units.RouterKey u) = key_fields u
-unit_fields (units.Aspa u) = aspa_fields u
+unit_fields (units.V4 u) = prefix_unit (prefix_at v4 (ipv4_bytes u))
+unit_fields (units.V6 u) = prefix_unit (prefix_at v6 (ipv6_bytes u))
+unit_fields (units.RouterKey u) = key_unit (key_at u)
+unit_fields (units.Aspa u) = aspa_unit (aspa_at u)
 
 -- The unit u is the written form of the payload p with version v and flags f, in its bytes and in
 -- its fields.
@@ -71,16 +74,16 @@ pub record MeansPayload (u : Payload) (action : Action) (p : Value) : Type 0 whe
 -- the units whose payload asks for memory: the bytes of keys and providers are shared, and a report
 -- is made of a prefix that breaks its rule (this library's own)
 abbrev pub NeedsMemory : Payload → Type 0
-NeedsMemory (units.V4 u) = IsSome (rule_of (prefix_fields v4 (ipv4_bytes u)))
-NeedsMemory (units.V6 u) = IsSome (rule_of (prefix_fields v6 (ipv6_bytes u)))
+NeedsMemory (units.V4 u) = IsSome (rule_of (prefix_unit (prefix_at v4 (ipv4_bytes u))))
+NeedsMemory (units.V6 u) = IsSome (rule_of (prefix_unit (prefix_at v6 (ipv6_bytes u))))
 NeedsMemory (units.RouterKey u) = Unit {0}
 NeedsMemory (units.Aspa u) = Unit {0}
 
 -- Why the unit has no payload: its prefix breaks a rule (RFC 8210 section 5.6), of which the report
 -- tells, or memory was refused (this library's own).
 abbrev pub HasNoPayload : Payload → Cause → Type 0
-HasNoPayload u (wrong (refused report)) = (f : PrefixFault) × (rule_of (unit_fields u) ≡ Some f) ×
-    (report ≡ refusal_report (unit_bytes u) f)
+HasNoPayload u (wrong (refused report)) = (rule : PrefixRule) ×
+    (rule_of (unit_fields u) ≡ Some rule) × (report ≡ refusal_report (unit_bytes u) rule)
 HasNoPayload u no_memory = NeedsMemory u
 HasNoPayload u c = ⊥
 
@@ -102,10 +105,10 @@ partial_len (units.Aspa u) = 12
 
 -- where the flags stand (RFC 8210 sections 5.6, 5.7 and 5.10; ASPA units as in the Rust crate)
 abbrev pub flags_in : Payload → ℕ
-flags_in (units.V4 u) = slice_index (ipv4_bytes u) 8
-flags_in (units.V6 u) = slice_index (ipv6_bytes u) 8
-flags_in (units.RouterKey u) = slice_index u 2
-flags_in (units.Aspa u) = slice_index u 2
+flags_in (units.V4 u) = (prefix_at v4 (ipv4_bytes u)).flags
+flags_in (units.V6 u) = (prefix_at v6 (ipv6_bytes u)).flags
+flags_in (units.RouterKey u) = (key_at u).flags
+flags_in (units.Aspa u) = (aspa_at u).flags
 
 abbrev pub IsOriginRef : PayloadRef → Type 0
 IsOriginRef (lent.Origin o) = Unit {0}

@@ -1,78 +1,73 @@
--- Payload units as lists of bytes, what they mean, and how a meaning is written.
-use Rattle.std.specs.Prelude.{◌≡◌, ℕ, ◌+◌, ◌*◌, ◌^◌, ◌<◌, ◌≤◌, List, [], ◌∷◌, ◌++◌, length}
-use Rattle.std.specs.List.{AllByRecursion}
+-- Payload units over all kinds: their lists of bytes, what they mean, and how a meaning is written.
+use Rattle.std.specs.Prelude.{◌≡◌, ℕ, ◌≤◌, List, length}
 use Rattle.rtr_base.specs.declared.payload.Action.{Action}
-use Rattle.rtr_base.specs.declared.payload.Action.TheVariants.{Announce, Withdraw}
-use Rattle.rtr_base.specs.Bytes.{be, words, IsBytes}
-use Rattle.rtr_base.specs.Addresses.{Family, width, cleared}
-use Rattle.rtr_units.specs.FixedUnits.{prefix_list}
-use Rattle.rtr_payload.specs.Payloads.{Payload, origin, key, aspa, Meaning}
 use Rattle.rtr_base.specs.Actions.{act, flags_of}
+use Rattle.rtr_base.specs.Bytes.{IsBytes}
+use Rattle.rtr_units.specs.PrefixUnits.{PrefixFields, prefix_list, prefix_at}
+use Rattle.rtr_payload.specs.AspaUnits.{AspaFields, aspa_list, aspa_at, IsAspa, HasProviders}
+use Rattle.rtr_payload.specs.AspaUnits.{meant_aspa}
+use Rattle.rtr_payload.specs.KeyUnits.{KeyFields, key_list, key_at, IsKey}
+use Rattle.rtr_payload.specs.Payloads.{Payload, origin, key, aspa, Meaning}
+use Rattle.rtr_payload.specs.RouteOrigins.{LengthsInOrder, PrefixFits, meant_origin}
 
--- The fields of a unit as they stand in it: version v, session s, flags g, prefix length l, max
--- length x, address a, ASN n of a prefix (RFC 8210 sections 5.6 and 5.7); identifier i and key info
--- k of a router key (section 5.10); customer c and providers ps of an ASPA (as in the Rust crate).
--- The byte z is free in each.
+-- the fields of a unit of any kind (prefixes RFC 8210 sections 5.6 and 5.7, router keys section
+-- 5.10; ASPA units as in the Rust crate)
 pub data Fields : Type 0 where
-  prefix : Family → (v s g l x z a n : ℕ) → Fields
-  router_key : (v g z : ℕ) → List ℕ → ℕ → List ℕ → Fields
-  providers : (v g z c : ℕ) → List ℕ → Fields
+  prefix_unit : PrefixFields → Fields
+  key_unit : KeyFields → Fields
+  aspa_unit : AspaFields → Fields
 
--- The bytes of a unit: a router key RFC 8210 section 5.10, an ASPA as in the Rust crate. Flags
--- stand where other units have the first byte of the session, and the length counts the whole unit
--- (section 5.1).
+-- the bytes of the unit (RFC 8210 sections 5.6, 5.7 and 5.10; ASPA units as in the Rust crate)
 abbrev pub unit_list : Fields → List ℕ
-unit_list (prefix f v s g l x z a n) = prefix_list f v s g l x z a n
-unit_list (router_key v g z i n k) = v ∷ 9 ∷ g ∷ z ∷ be (32 + length k) 4 ++ i ++ be n 4 ++ k
-unit_list (providers v g z c ps) = v ∷ 11 ∷ g ∷ z ∷ be (12 + 4 * length ps) 4 ++ be c 4 ++ words ps
+unit_list (prefix_unit u) = prefix_list u
+unit_list (key_unit u) = key_list u
+unit_list (aspa_unit u) = aspa_list u
 
--- an announcement names a provider (as in the Rust crate), and a withdrawal need not (this
--- library's own)
-abbrev pub HasProviders : Action → List ℕ → Type 0
-HasProviders Announce ps = 1 ≤ length ps
-HasProviders Withdraw ps = Unit {0}
+-- the fields of a unit of the kind that is given, read off its bytes at their places
+abbrev pub fields_like : Fields → List ℕ → Fields
+fields_like (prefix_unit u) b = prefix_unit (prefix_at u.origin.family b)
+fields_like (key_unit u) b = key_unit (key_at b)
+fields_like (aspa_unit u) b = aspa_unit (aspa_at b)
 
 -- each number fits its place, and each list its length (the places of RFC 8210 sections 5.6, 5.7
 -- and 5.10)
 abbrev pub Fit : Fields → Type 0
-Fit (prefix f v s g l x z a n) = (s < 2 ^ 16) × (a < 2 ^ width f) × (n < 2 ^ 32)
-Fit (router_key v g z i n k) = (length i ≡ 20) × (n < 2 ^ 32) × (length k ≤ 4294967263)
-Fit (providers v g z c ps) = (c < 2 ^ 32) × AllByRecursion (λ p. p < 2 ^ 32) ps ×
-    (length ps ≤ 16380)
+Fit (prefix_unit u) = PrefixFits u
+Fit (key_unit u) = IsKey u.key
+Fit (aspa_unit u) = IsAspa u.aspa
 
--- what is read of keys and providers: lengths go up to 65535 (as in the Rust crate)
+-- what is read of keys and ASPAs: units of at most 65535 bytes, and in an announcement a provider
+-- (as in the Rust crate)
 abbrev pub WithinLimits : Fields → Type 0
-WithinLimits (prefix f v s g l x z a n) = Unit {0}
-WithinLimits (router_key v g z i n k) = length k ≤ 65503
-WithinLimits (providers v g z c ps) = HasProviders (act g) ps
+WithinLimits (prefix_unit u) = Unit {0}
+WithinLimits (key_unit u) = length u.key.info ≤ 65503
+WithinLimits (aspa_unit u) = HasProviders (act u.flags) u.aspa.providers
 
--- the rule on the lengths of a prefix: the max length is not below the prefix length, nor above
--- that of the address (RFC 8210 section 5.6)
+-- the lengths of a prefix are in order (RFC 8210 section 5.6)
 abbrev pub LengthsAgree : Fields → Type 0
-LengthsAgree (prefix f v s g l x z a n) = (l ≤ x) × (x ≤ width f)
-LengthsAgree (router_key v g z i n k) = Unit {0}
-LengthsAgree (providers v g z c ps) = Unit {0}
+LengthsAgree (prefix_unit u) = LengthsInOrder u.origin
+LengthsAgree (key_unit u) = Unit {0}
+LengthsAgree (aspa_unit u) = Unit {0}
 
--- the providers count on an announcement alone (as in the Rust crate)
-abbrev pub named : Action → List ℕ → List ℕ
-named Announce ps = ps
-named Withdraw ps = []
-
--- what the fields mean: an address with the bits after the prefix length cleared, and of the flags
--- the lowest bit (RFC 8210 sections 5.1 and 5.6)
+-- what the fields mean: of the flags the lowest bit counts (RFC 8210 section 5.1)
 abbrev pub meaning : Fields → Meaning
-meaning (prefix f v s g l x z a n) =
-    record { version = v; action = act g; payload = origin f (cleared (width f) l a) l x n }
-meaning (router_key v g z i n k) = record { version = v; action = act g; payload = key i n k }
-meaning (providers v g z c ps) =
-    record { version = v; action = act g; payload = aspa c (named (act g) ps) }
+meaning (prefix_unit u) =
+    record { version = u.version; action = act u.flags; payload = origin (meant_origin u.origin) }
+meaning (key_unit u) =
+    record { version = u.version; action = act u.flags; payload = key u.key }
+meaning (aspa_unit u) =
+    record {
+      version = u.version;
+      action = act u.flags;
+      payload = aspa (meant_aspa (act u.flags) u.aspa);
+    }
 
 -- a payload with an action: of an ASPA that is withdrawn only the customer counts (as in the Rust
 -- crate)
 abbrev pub stripped : Action → Payload → Payload
-stripped a (origin f b l x n) = origin f b l x n
-stripped a (key i n k) = key i n k
-stripped a (aspa c ps) = aspa c (named a ps)
+stripped action (origin o) = origin o
+stripped action (key k) = key k
+stripped action (aspa a) = aspa (meant_aspa action a)
 
 -- these are the bytes of a unit with these fields
 pub record HasFields (b : List ℕ) (u : Fields) : Type 0 where
@@ -94,16 +89,17 @@ pub record IsUnit (b : List ℕ) (m : Meaning) : Type 0 where
   pub lengths : LengthsAgree fields
   pub means : m ≡ meaning fields
 
--- the fields of the written form with flags f: every free byte and the session are zero (RFC 8210
--- section 5.1: a sender sets what is free to zero)
-abbrev pub written : ℕ → ℕ → Payload → Fields
-written v f (origin fam a l x n) = prefix fam v 0 f l x 0 a n
-written v f (key i n k) = router_key v f 0 i n k
-written v f (aspa c ps) = providers v f 0 c ps
+-- the fields of the written form with this version and these flags: the session and the free byte
+-- are zero (RFC 8210 section 5.1: a sender sets what is free to zero)
+abbrev pub written : (version flags : ℕ) → Payload → Fields
+written v f (origin o) =
+    prefix_unit (record { version = v; session = 0; flags = f; free = 0; origin = o })
+written v f (key k) = key_unit (record { version = v; flags = f; free = 0; key = k })
+written v f (aspa a) = aspa_unit (record { version = v; flags = f; free = 0; aspa = a })
 
--- the written form of a payload with version v and flags f
-abbrev pub form : ℕ → ℕ → Payload → List ℕ
-form v f p = unit_list (written v f p)
+-- the written form of a payload with this version and these flags
+abbrev pub form : (version flags : ℕ) → Payload → List ℕ
+form version flags p = unit_list (written version flags p)
 
 -- the written form of a meaning
 abbrev pub form_of : Meaning → List ℕ

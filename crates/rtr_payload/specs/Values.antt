@@ -14,14 +14,21 @@ use Rattle.rtr_payload.specs.declared.payload.PayloadRef.TheVariants as lent
 
 -- an origin without a max length means the same as one whose max length is its prefix length
 abbrev pub origin_of : RouteOrigin → Meant
-origin_of o = origin o.prefix.prefix.family o.prefix.prefix.address o.prefix.prefix.len
-    (resolved_len o.prefix) o.asn
+origin_of o =
+    origin (record {
+      family = o.prefix.prefix.family;
+      address = o.prefix.prefix.address;
+      prefix_len = o.prefix.prefix.len;
+      max_len = resolved_len o.prefix;
+      asn = o.asn;
+    })
 
 abbrev pub key_of : RouterKey → Meant
-key_of k = key k.key_identifier k.asn k.key_info
+key_of k =
+    key (record { identifier = k.key_identifier; asn = k.asn; info = k.key_info })
 
 abbrev pub aspa_of : Aspa → Meant
-aspa_of a = aspa a.customer a.providers
+aspa_of a = aspa (record { customer = a.customer; providers = a.providers })
 
 abbrev pub payload_of : Payload → Meant
 payload_of (payloads.Origin o) = origin_of o

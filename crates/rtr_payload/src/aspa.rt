@@ -1,19 +1,19 @@
 //! The ASPA unit (as in the Rust crate).
 
-ghost use Rattle.std.specs.Prelude.{◌≡◌, ◌≤◌, ◌+◌, ◌%◌, ◌++◌, length, take, drop, slice_index};
+ghost use Rattle.std.specs.Prelude.{◌≡◌, ◌≤◌, ◌+◌, ◌%◌, ◌++◌, length, take, drop};
 ghost use Rattle.std.specs.Prelude.{nat_eq, IfOk, not, []};
 ghost use Rattle.std.specs.Cmp.{partial_equiv_from_equiv};
 ghost use Rattle.std.specs.Cmp.Lexicographic.{bytes_decides, nat_list_eq_equiv, pointwise};
 ghost use Rattle.std.specs.Hash as fed;
-ghost use Rattle.rtr_base.specs.Bytes.{IsBytes, value};
+ghost use Rattle.rtr_base.specs.Bytes.{IsBytes};
 ghost use Rattle.rtr_units.specs.Header.{version_field, type_field};
 ghost use Rattle.rtr_units.specs.Reading.{Reads, ReadsAfter, by_bytes, of_type};
 ghost use Rattle.rtr_units.specs.Stream.{PutsForm, count_after, is_reader_fault, is_writer_fault};
 ghost use Rattle.rtr_units.specs.Views.{header_bytes};
-ghost use Rattle.rtr_payload.specs.Payloads.{aspa, IsPayload};
-ghost use Rattle.rtr_payload.specs.Places.{aspa_fields, words_of};
+ghost use Rattle.rtr_payload.specs.AspaUnits.{aspa_at, IsAspa};
+ghost use Rattle.rtr_payload.specs.Payloads.{aspa};
 ghost use Rattle.rtr_payload.specs.UnitKinds.{variable_unit};
-ghost use Rattle.rtr_payload.specs.Units.{form, HasFields};
+ghost use Rattle.rtr_payload.specs.Units.{aspa_unit, form, HasFields};
 
 use crate::frame::{MAX_SIZE, asn_at, read_frame};
 use crate::providers::ProviderAsns;
@@ -55,8 +55,9 @@ impl Aspa {
 
     /// The unit with these fields.
     pub fn new(version: u8, flags: u8, customer: Asn, providers: ProviderAsns) -> Self
-        ensures form { result ≡ form version flags (aspa customer providers) }
-        ensures valid { IsPayload (aspa customer providers) }
+        ensures form { result ≡ form version flags
+            (aspa (record { customer = customer; providers = providers })) }
+        ensures valid { IsAspa (record { customer = customer; providers = providers }) }
     {
         let size = FIXED + providers.len() as u32;
         let mut fixed = [0; 12];
@@ -73,7 +74,7 @@ impl Aspa {
     pub fn read<R: Source>(alloc: Global, reader: &mut R) -> Result<Self, Fault>
         ensures bytes { Reads (of_type 11 (variable_unit 11)) [] (by_bytes (λ u. u) result)
             (R.remaining reader.old) (R.remaining reader.new) }
-        ensures fields { IfOk result (λ u. HasFields u (aspa_fields u)) }
+        ensures fields { IfOk result (λ u. HasFields u (aspa_unit (aspa_at u))) }
         ensures count { R.failures reader.new ≡
             count_after (R.failures reader.old) (not (is_reader_fault result)) }
     {
@@ -100,10 +101,10 @@ impl Aspa {
         header: Header,
         reader: &mut R,
     ) -> Result<Self, Fault>
-        ensures bytes { ReadsAfter (variable_unit 11) (header_bytes header) (by_bytes (λ u. u) result)
-            (R.remaining reader.old) (R.remaining reader.new) }
+        ensures bytes { ReadsAfter (variable_unit 11) (header_bytes header)
+            (by_bytes (λ u. u) result) (R.remaining reader.old) (R.remaining reader.new) }
         ensures fields { IfOk result
-            (λ u. type_field (header_bytes header) ≡ 11 → HasFields u (aspa_fields u)) }
+            (λ u. type_field (header_bytes header) ≡ 11 → HasFields u (aspa_unit (aspa_at u))) }
         ensures count { R.failures reader.new ≡
             count_after (R.failures reader.old) (not (is_reader_fault result)) }
     {
@@ -162,14 +163,14 @@ impl Aspa {
     /// The flags, of which the lowest bit says whether the ASPA is announced.
     #[inline(always)]
     pub fn flags(&self) -> u8
-        ensures { result ≡ slice_index self.now 2 }
+        ensures { result ≡ (aspa_at self.now).flags }
     {
         self.fixed[2]
     }
 
     /// The customer: the autonomous system whose providers these are.
     pub fn customer(&self) -> Asn
-        ensures { result ≡ value (take 4 (drop 8 self.now)) }
+        ensures { result ≡ (aspa_at self.now).aspa.customer }
     {
         asn_at(&self.fixed, 8)
     }
@@ -177,14 +178,14 @@ impl Aspa {
     /// The providers.
     #[inline(always)]
     pub fn providers(&self) -> &ProviderAsns
-        ensures { result.now ≡ words_of (drop 12 self.now) }
+        ensures { result.now ≡ (aspa_at self.now).aspa.providers }
     {
         &self.providers
     }
 
     /// The providers, by value.
     pub fn into_providers(self) -> ProviderAsns
-        ensures { result ≡ words_of (drop 12 self) }
+        ensures { result ≡ (aspa_at self).aspa.providers }
     {
         self.providers
     }

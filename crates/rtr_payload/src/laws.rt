@@ -3,12 +3,11 @@
 ghost use Rattle.std.specs.Prelude.{◌≡◌, ◌++◌, ◌↔◌, ◌<◌, ◌^◌, ◌⊎◌, ℕ, List, None, IsSome};
 ghost use Rattle.rtr_base.specs.Bytes.{IsBytes, words};
 ghost use Rattle.rtr_payload.specs.Steps.{BeginsShape, BeginsUnit, BeginsEnd, frame_fault};
-ghost use Rattle.rtr_payload.specs.Steps.{first_fault};
+ghost use Rattle.rtr_payload.specs.Steps.{first_fault, rule_of};
 ghost use Rattle.std.specs.Cmp.{IsTotalOrder};
 ghost use Rattle.std.specs.List.{AllByRecursion};
 ghost use Rattle.std.specs.declared.cmp.Ordering.TheVariants.{Equal};
 ghost use Rattle.rtr_payload.specs.Orders.{list_cmp, payload_cmp};
-ghost use Rattle.rtr_payload.specs.Places.{fields_like};
 ghost use Rattle.rtr_payload.specs.Payloads.{Payload, IsPayload, Meaning};
 ghost use Rattle.rtr_base.specs.Actions.{act};
 ghost use Rattle.rtr_base.specs.declared.payload.Action.{Action};
@@ -19,7 +18,8 @@ ghost use Rattle.rtr_payload.specs.UnitValues.{HasNoPayload, IsPrefixUnit};
 ghost use Rattle.rtr_payload.specs.Values.{payload_of};
 ghost use Rattle.rtr_payload.specs.declared.payload.Payload.{Payload as Value};
 ghost use Rattle.rtr_payload.specs.declared.pdu_payload.Payload.{Payload as Unit};
-ghost use Rattle.rtr_payload.specs.Units.{IsUnit, form, form_of, meaning, written, stripped};
+ghost use Rattle.rtr_payload.specs.Units.{Fields, fields_like, LengthsAgree, IsUnit, meaning};
+ghost use Rattle.rtr_payload.specs.Units.{form, form_of, written, stripped};
 
 use crate::aspa::Aspa;
 use crate::frame::MAX_SIZE;
@@ -75,6 +75,12 @@ pub fn exactly_one()
     ensures unit { (r : List ℕ) → BeginsUnit r → first_fault r ≡ None }
     ensures end { (r : List ℕ) → BeginsEnd r → first_fault r ≡ None }
     ensures apart { (r : List ℕ) → BeginsUnit r → BeginsEnd r → ⊥ }
+{}
+
+/// The rule on the lengths of a prefix that is computed, with the part of it that is broken, is the
+/// one that is stated.
+pub fn prefix_lengths()
+    ensures { (u : Fields) → (rule_of u ≡ None) ↔ LengthsAgree u }
 {}
 
 /// The order of payloads is total, and payloads that compare as equal are one.

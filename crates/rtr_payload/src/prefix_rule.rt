@@ -3,7 +3,6 @@
 ghost use Rattle.std.specs.Prelude.{◌≡◌, ◌≤◌, Some, None, IfOk, IfErr};
 ghost use Rattle.rtr_base.specs.Addresses.{v4, v6, width, cleared};
 ghost use Rattle.rtr_payload.specs.Steps.{broken_rule, text_of};
-ghost use Rattle.rtr_payload.specs.PrefixRules.{fault_of};
 
 use rtr_base::addr::{MaxLenError, MaxLenPrefix, Prefix};
 
@@ -21,7 +20,7 @@ pub enum PrefixRule {
 impl PrefixRule {
     /// The text of a report on the broken rule.
     pub fn text(self) -> &'static [u8]
-        ensures { result.now ≡ text_of (fault_of self) }
+        ensures { result.now ≡ text_of self }
     {
         match self {
             PrefixRule::LenOverflow => b"prefix length too large",
@@ -41,7 +40,7 @@ pub fn ipv4_prefix(bits: u32, len: u8, max_len: u8) -> Result<MaxLenPrefix, Pref
           max_len = Some max_len;
         }) }
     ensures kept { IfOk result (λ _. broken_rule 32 len max_len ≡ None) }
-    ensures broken { IfErr result (λ r. broken_rule 32 len max_len ≡ Some (fault_of r)) }
+    ensures broken { IfErr result (λ r. broken_rule 32 len max_len ≡ Some r) }
 {
     match Prefix::from_v4_bits(bits, len) {
         Ok(prefix) => with_max_len(prefix, max_len),
@@ -59,7 +58,7 @@ pub fn ipv6_prefix(bits: u128, len: u8, max_len: u8) -> Result<MaxLenPrefix, Pre
           max_len = Some max_len;
         }) }
     ensures kept { IfOk result (λ _. broken_rule 128 len max_len ≡ None) }
-    ensures broken { IfErr result (λ r. broken_rule 128 len max_len ≡ Some (fault_of r)) }
+    ensures broken { IfErr result (λ r. broken_rule 128 len max_len ≡ Some r) }
 {
     match Prefix::from_v6_bits(bits, len) {
         Ok(prefix) => with_max_len(prefix, max_len),
@@ -75,7 +74,7 @@ fn with_max_len(prefix: Prefix, max_len: u8) -> Result<MaxLenPrefix, PrefixRule>
     ensures ok { IfOk result (λ p. p ≡ record { prefix = prefix; max_len = Some max_len }) }
     ensures kept { IfOk result (λ _. broken_rule (width prefix.family) prefix.len max_len ≡ None) }
     ensures broken { IfErr result
-        (λ r. broken_rule (width prefix.family) prefix.len max_len ≡ Some (fault_of r)) }
+        (λ r. broken_rule (width prefix.family) prefix.len max_len ≡ Some r) }
 {
     match MaxLenPrefix::new(prefix, Some(max_len)) {
         Ok(prefix) => Ok(prefix),

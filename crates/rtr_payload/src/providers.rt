@@ -27,7 +27,7 @@ pub struct ProviderAsns(Bytes);
 
 impl Model for ProviderAsns {
     ghost use Rattle.std.specs.Prelude.{ℕ, List};
-    ghost use Rattle.rtr_payload.specs.Places.{words_of};
+    ghost use Rattle.rtr_payload.specs.Providers.{words_of};
 
     ghost Value = { List ℕ };
 
@@ -55,7 +55,7 @@ pub enum ProviderIterError {
 }
 
 impl ProviderAsns {
-    ghost use Rattle.rtr_payload.specs.Places.{words_of};
+    ghost use Rattle.rtr_payload.specs.Providers.{words_of};
     ghost use Rattle.rtr_payload.specs.Providers.{AreProviderBytes};
 
     /// The most providers that an ASPA names: with them its length is 65532 bytes.
@@ -252,7 +252,7 @@ pub struct ProviderIter<'a> {
 
 impl<'a> Model for ProviderIter<'a> {
     ghost use Rattle.std.specs.Prelude.{ℕ, List};
-    ghost use Rattle.rtr_payload.specs.Places.{words_of};
+    ghost use Rattle.rtr_payload.specs.Providers.{words_of};
 
     ghost Value = { List ℕ };
 

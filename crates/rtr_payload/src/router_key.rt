@@ -1,21 +1,20 @@
 //! The router key (RFC 8210 section 5.10).
 
-ghost use Rattle.std.specs.Prelude.{◌≡◌, ◌≤◌, ◌+◌, ◌++◌, length, take, drop, slice_index, nat_eq};
+ghost use Rattle.std.specs.Prelude.{◌≡◌, ◌≤◌, ◌+◌, ◌++◌, length, take, drop, nat_eq};
 ghost use Rattle.std.specs.Prelude.{IfOk, not, []};
 ghost use Rattle.std.proofs.Common.{rules};
 ghost use Rattle.std.specs.Cmp.{partial_equiv_from_equiv};
 ghost use Rattle.std.specs.Cmp.Lexicographic.{bytes_decides, nat_list_eq_equiv, pointwise};
 ghost use Rattle.std.specs.Cmp.Rules.{hashing};
 ghost use Rattle.std.specs.Hash as fed;
-ghost use Rattle.rtr_base.specs.Bytes.{value};
 ghost use Rattle.rtr_units.specs.Header.{version_field, type_field};
 ghost use Rattle.rtr_units.specs.Reading.{Reads, ReadsAfter, by_bytes, of_type};
 ghost use Rattle.rtr_units.specs.Stream.{PutsForm, count_after, is_reader_fault, is_writer_fault};
 ghost use Rattle.rtr_units.specs.Views.{header_bytes};
-ghost use Rattle.rtr_payload.specs.Payloads.{key, IsPayload};
-ghost use Rattle.rtr_payload.specs.Places.{key_fields};
+ghost use Rattle.rtr_payload.specs.KeyUnits.{key_at, IsKey};
+ghost use Rattle.rtr_payload.specs.Payloads.{key};
 ghost use Rattle.rtr_payload.specs.UnitKinds.{variable_unit};
-ghost use Rattle.rtr_payload.specs.Units.{form, HasFields};
+ghost use Rattle.rtr_payload.specs.Units.{key_unit, form, HasFields};
 
 use crate::frame::{MAX_SIZE, asn_at, read_frame};
 use crate::key_info::{MAX_LEN, RouterKeyInfo};
@@ -69,8 +68,12 @@ impl RouterKey {
         asn: Asn,
         key_info: RouterKeyInfo,
     ) -> Self
-        ensures form { result ≡ form version flags (key key_identifier asn key_info) }
-        ensures valid { IsPayload (key key_identifier asn key_info) }
+        ensures form { result ≡ form version flags (key (record {
+          identifier = key_identifier;
+          asn = asn;
+          info = key_info;
+        })) }
+        ensures valid { IsKey (record { identifier = key_identifier; asn = asn; info = key_info }) }
     {
         let size = FIXED + key_info.len() as u32;
         let mut fixed = [0; 32];
@@ -88,7 +91,7 @@ impl RouterKey {
     pub fn read<R: Source>(alloc: Global, reader: &mut R) -> Result<Self, Fault>
         ensures bytes { Reads (of_type 9 (variable_unit 9)) [] (by_bytes (λ u. u) result)
             (R.remaining reader.old) (R.remaining reader.new) }
-        ensures fields { IfOk result (λ u. HasFields u (key_fields u)) }
+        ensures fields { IfOk result (λ u. HasFields u (key_unit (key_at u))) }
         ensures count { R.failures reader.new ≡
             count_after (R.failures reader.old) (not (is_reader_fault result)) }
     {
@@ -114,10 +117,10 @@ impl RouterKey {
         header: Header,
         reader: &mut R,
     ) -> Result<Self, Fault>
-        ensures bytes { ReadsAfter (variable_unit 9) (header_bytes header) (by_bytes (λ u. u) result)
-            (R.remaining reader.old) (R.remaining reader.new) }
+        ensures bytes { ReadsAfter (variable_unit 9) (header_bytes header)
+            (by_bytes (λ u. u) result) (R.remaining reader.old) (R.remaining reader.new) }
         ensures fields { IfOk result
-            (λ u. type_field (header_bytes header) ≡ 9 → HasFields u (key_fields u)) }
+            (λ u. type_field (header_bytes header) ≡ 9 → HasFields u (key_unit (key_at u))) }
         ensures count { R.failures reader.new ≡
             count_after (R.failures reader.old) (not (is_reader_fault result)) }
     {
@@ -171,14 +174,14 @@ impl RouterKey {
     /// The flags, of which the lowest bit says whether the key is announced.
     #[inline(always)]
     pub fn flags(&self) -> u8
-        ensures { result ≡ slice_index self.now 2 }
+        ensures { result ≡ (key_at self.now).flags }
     {
         self.fixed[2]
     }
 
     /// The subject key identifier.
     pub fn key_identifier(&self) -> [u8; 20]
-        ensures value { result ≡ take 20 (drop 8 self.now) }
+        ensures value { result ≡ (key_at self.now).key.identifier }
         ensures size { length result ≡ 20 }
     {
         let mut identifier = [0; 20];
@@ -188,7 +191,7 @@ impl RouterKey {
 
     /// The autonomous system that the key belongs to.
     pub fn asn(&self) -> Asn
-        ensures { result ≡ value (take 4 (drop 28 self.now)) }
+        ensures { result ≡ (key_at self.now).key.asn }
     {
         asn_at(&self.fixed, 28)
     }
@@ -196,14 +199,14 @@ impl RouterKey {
     /// The key info.
     #[inline(always)]
     pub fn key_info(&self) -> &RouterKeyInfo
-        ensures { result.now ≡ drop 32 self.now }
+        ensures { result.now ≡ (key_at self.now).key.info }
     {
         &self.key_info
     }
 
     /// The key info, by value.
     pub fn into_key_info(self) -> RouterKeyInfo
-        ensures { result ≡ drop 32 self }
+        ensures { result ≡ (key_at self).key.info }
     {
         self.key_info
     }

@@ -4,19 +4,22 @@ use crate::expect_equal;
 use crate::made::ascending;
 use rtr_payload::payload::Payload;
 use rtr_support::hash_of;
+use std::cmp::Ordering;
 use std::process::Abort;
 use std::test::Fail;
 
-/// Asserts how the payload at this place of an ascending list compares with each of the list.
+/// How two values compare, by `cmp`, `partial_cmp` and `==`.
+fn compared<T: Ord>(left: &T, right: &T) -> (Ordering, Option<Ordering>, bool) {
+    (left.cmp(right), left.partial_cmp(right), left == right)
+}
+
+/// Asserts how the payload at this place of an ascending list compares with each of the list, and
+/// so when both are lent.
 fn expect_place(rt: &impl Abort, payloads: &[Payload], i: usize, left: &Payload) {
     for (j, right) in payloads.iter().enumerate() {
-        assert_eq!(rt; left.cmp(right), i.cmp(&j), "at {i} and {j}");
-        expect_equal(rt, left.partial_cmp(right), Some(i.cmp(&j)));
-        assert_eq!(rt; left == right, i == j, "at {i} and {j}");
-        let (left, right) = (left.as_ref(), right.as_ref());
-        assert_eq!(rt; left.cmp(&right), i.cmp(&j), "at {i} and {j}, lent");
-        expect_equal(rt, left.partial_cmp(&right), Some(i.cmp(&j)));
-        assert_eq!(rt; left == right, i == j, "at {i} and {j}, lent");
+        let want = (i.cmp(&j), Some(i.cmp(&j)), i == j);
+        expect_equal(rt, compared(left, right), want);
+        expect_equal(rt, compared(&left.as_ref(), &right.as_ref()), want);
     }
 }
 

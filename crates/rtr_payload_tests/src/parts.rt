@@ -73,10 +73,6 @@ fn clones_are_equal(rt: HostRuntime) -> Result<(), Fail> {
         assert!(rt; clone == *payload);
         expect_equal(&rt, hash_of(&clone), hash_of(payload));
     }
-    let key = key(&rt, 1, 65551, &[21, 22, 23, 24])?;
-    assert!(rt; key.clone()? == key);
-    let aspa = aspa(&rt, 65551, &[65549, 65550])?;
-    assert!(rt; aspa.clone()? == aspa);
     Ok(())
 }
 

@@ -5,9 +5,9 @@
 //! Words that stand for bytes are names, hex digits, `..N` for N bytes that count up, and `WORD*N`
 //! for N times those of a word. A second `=>` says which answers may come where a growth is
 //! refused, in their order and with `;` between; they must come, unless they begin with `?`.
-//! With an argument the program marks each call by a growth of that many bytes before it and after it,
-//! so that `.ci/growth` can refuse the growths between. Then each row prints `whole`, or `refused` and
-//! which of its answers that is.
+//! With an argument the program marks each call by a growth of that many bytes before it and after
+//! it, so that `.ci/growth` can refuse the growths between. Then each row prints `whole`, or
+//! `refused` and which of its answers that is.
 #![tactic(auto)]
 
 mod answer;

@@ -13,6 +13,7 @@ pub fn answer(row: &Row<'_>) -> Option<Answer> {
         "to_payload" => Some(to_payload(row)),
         "into_payload" => Some(into_payload(row)),
         "payload_clone" => Some(clone(row)),
+        "part_clone" => Some(clone_part(row)),
         "withdraw" => Some(withdraw(row)),
         "new" => Some(new(row)),
         "from_payload" => Some(from_payload(row)),
@@ -53,13 +54,14 @@ fn tell_payload(seen: &mut Answer, payload: &payload::Payload) {
 }
 
 /// Tells a meaning: action and payload, or the fault with the report.
-fn tell_meaning(
-    seen: &mut Answer,
-    answer: &Result<(Action, payload::Payload), Fault>,
-) {
+fn tell_meaning(seen: &mut Answer, answer: &Result<(Action, payload::Payload), Fault>) {
     match answer {
         Ok((action, payload)) => {
-            seen.word(if action.is_announce() { "announce" } else { "withdraw" });
+            seen.word(if action.is_announce() {
+                "announce"
+            } else {
+                "withdraw"
+            });
             tell_payload(seen, payload)
         }
         Err(fault) => {
@@ -103,17 +105,16 @@ fn meaning(row: &Row<'_>) -> Option<payload::Payload> {
     Some(payload)
 }
 
-/// `payload::Payload::clone` of the row's meaning, and that meaning as it is then.
-fn clone(row: &Row<'_>) -> Answer {
-    let Some(payload) = meaning(row) else {
-        return row.no_unit();
-    };
-    row.ready();
-    let copy = payload.clone();
+/// Tells a clone of the row's meaning, and that meaning as it is then.
+fn told_clone(
+    row: &Row<'_>,
+    payload: &payload::Payload,
+    copy: &Result<payload::Payload, AllocError>,
+) -> Answer {
     let mut seen = row.answer();
-    match &copy {
+    match copy {
         Ok(copy) => {
-            if *copy != payload {
+            if *copy != *payload {
                 seen.word("another");
             }
             tell_payload(&mut seen, copy);
@@ -121,8 +122,32 @@ fn clone(row: &Row<'_>) -> Answer {
         Err(_) => seen.word("Memory"),
     }
     seen.word("of");
-    tell_payload(&mut seen, &payload);
+    tell_payload(&mut seen, payload);
     seen
+}
+
+/// `payload::Payload::clone` of the row's meaning.
+fn clone(row: &Row<'_>) -> Answer {
+    let Some(payload) = meaning(row) else {
+        return row.no_unit();
+    };
+    row.ready();
+    let copy = payload.clone();
+    told_clone(row, &payload, &copy)
+}
+
+/// `payload::RouterKey::clone` or `payload::Aspa::clone` of the row's meaning.
+fn clone_part(row: &Row<'_>) -> Answer {
+    let Some(payload) = meaning(row) else {
+        return row.no_unit();
+    };
+    row.ready();
+    let copy = match &payload {
+        payload::Payload::Origin(_) => return row.no_unit(),
+        payload::Payload::RouterKey(key) => key.clone().map(payload::Payload::RouterKey),
+        payload::Payload::Aspa(aspa) => aspa.clone().map(payload::Payload::Aspa),
+    };
+    told_clone(row, &payload, &copy)
 }
 
 /// `payload::Aspa::withdraw` of the row's meaning, and that meaning as it is then.
@@ -149,18 +174,14 @@ fn withdraw(row: &Row<'_>) -> Answer {
 }
 
 /// Tells a unit that was made, or that there was no memory for it.
-fn tell_made(
-    seen: &mut Answer,
-    row: &Row<'_>,
-    made: &Result<Payload, AllocError>,
-) {
+fn tell_made(seen: &mut Answer, row: &Row<'_>, made: &Result<Payload, AllocError>) {
     match made {
         Ok(unit) => tell_unit(seen, row, unit),
         Err(_) => seen.word("Memory"),
     }
 }
 
-/// `pdu::Payload::new` of the row's meaning in a version with flags, and that meaning as it is then.
+/// `pdu::Payload::new` of the row's meaning in a version with flags, and that meaning then.
 fn new(row: &Row<'_>) -> Answer {
     let Some(payload) = meaning(row) else {
         return row.no_unit();

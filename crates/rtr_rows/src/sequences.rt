@@ -24,12 +24,7 @@ pub fn answer(row: &Row<'_>, way: Way) -> Option<Answer> {
 
 /// Tells an answer of `normalise`: the number of units or the fault, how many bytes were taken, or
 /// `unasked` where the reader was never called, what was written, and the report.
-fn tell(
-    seen: &mut Answer,
-    answer: &Result<u64, Fault>,
-    reader: &Pieces<'_>,
-    writer: &Recorder,
-) {
+fn tell(seen: &mut Answer, answer: &Result<u64, Fault>, reader: &Pieces<'_>, writer: &Recorder) {
     match answer {
         Ok(units) => seen.word(format_args!("Ok({units})")),
         Err(fault) => seen.fault(fault),
@@ -115,11 +110,7 @@ fn tell_slice(
 
 /// Tells an answer of `normalise_slice`: the numbers of units and bytes, or the fault, and what was
 /// written.
-fn tell_sliced(
-    seen: &mut Answer,
-    answer: &Result<(u64, usize), ViewFault>,
-    writer: &Recorder,
-) {
+fn tell_sliced(seen: &mut Answer, answer: &Result<(u64, usize), ViewFault>, writer: &Recorder) {
     match answer {
         Ok((units, taken)) => seen.word(format_args!("Ok({units}) {taken}")),
         Err(fault) => seen.view_fault(fault),
@@ -148,7 +139,12 @@ fn normalised_for(row: &Row<'_>, way: Way) -> Answer {
     row.ready();
     let answer = normalise_for(row.alloc, &mut reader, &mut writer, limit, version);
     let mut seen = row.answer();
-    tell(&mut seen, &answer, &reader.into_inner(), &writer.into_inner());
+    tell(
+        &mut seen,
+        &answer,
+        &reader.into_inner(),
+        &writer.into_inner(),
+    );
     seen
 }
 
@@ -166,7 +162,12 @@ fn normalised_twice(row: &Row<'_>, way: Way) -> Answer {
     seen.bytes(first.into_inner().held());
     seen.word("then");
     let answer = normalise(row.alloc, &mut reader, &mut second, limit);
-    tell(&mut seen, &answer, &reader.into_inner(), &second.into_inner());
+    tell(
+        &mut seen,
+        &answer,
+        &reader.into_inner(),
+        &second.into_inner(),
+    );
     seen
 }
 
@@ -181,7 +182,12 @@ fn after_a_response(row: &Row<'_>, way: Way) -> Answer {
     }
     seen.word("then");
     let answer = normalise(row.alloc, &mut reader, &mut writer, LIMIT);
-    tell(&mut seen, &answer, &reader.into_inner(), &writer.into_inner());
+    tell(
+        &mut seen,
+        &answer,
+        &reader.into_inner(),
+        &writer.into_inner(),
+    );
     seen
 }
 

@@ -22,11 +22,7 @@ pub fn answer(row: &Row<'_>, way: Way) -> Option<Answer> {
 }
 
 /// Tells a router key: its size and bytes, or the fault.
-fn tell_key(
-    seen: &mut Answer,
-    row: &Row<'_>,
-    answer: &Result<RouterKey, Fault>,
-) {
+fn tell_key(seen: &mut Answer, row: &Row<'_>, answer: &Result<RouterKey, Fault>) {
     match answer {
         Ok(unit) => {
             seen.word(unit.size());

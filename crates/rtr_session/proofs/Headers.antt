@@ -1,33 +1,32 @@
--- What is wrong with a header does not change by what follows it.
-use Rattle.std.proofs.Common.{◌≡◌, ℕ, ◌+◌, ◌<◌, ◌≤◌, List, [], ◌++◌, length, Option, Some, None, refl, sym, ap, ◌∙◌, append-nil, arith, length-append}
-use Rattle.std.specs.Prelude.{if◌then◌else◌, ◌==◌}
-use Rattle.rtr_units.specs.Causes.{Refusal, short, unit_type, unit_version, too_long, unit_length, empty_providers, refused, Cause, by_reader, by_writer, too_many, no_memory, wrong, cause_of}
-use Rattle.rtr_units.specs.Header.{type_field, length_field}
-use Rattle.rtr_units.specs.Stream.{StopsReading}
-use Rattle.rtr_units.specs.declared.fault.Fault.{Fault}
-use Rattle.rtr_units.specs.declared.fault.Fault.TheVariants.{Reader, Short}
+-- Where reading an error report stops, by its header and by what follows it.
+use Rattle.std.proofs.Common.{◌≡◌, ℕ, ◌+◌, eqb, cond, List, ◌++◌, length, Option, Some, None, refl}
+use Rattle.rtr_units.specs.Causes.{unit_type, Cause, by_reader, by_writer, too_many, no_memory, wrong}
+use Rattle.rtr_units.specs.Header.{length_field}
+use Rattle.rtr_units.specs.Stream.{FallsShort}
 use Rattle.rtr_units.proofs.Headers.{same_header}
-use Rattle.rtr_payload.specs.Frames.{IsPart}
-use Rattle.rtr_session.specs.Headers.{any_header_fault, any_fault, report_fault, report_length}
+use Rattle.rtr_units.proofs.UnitsRead.{ByHeader, rest_stops, header_stops}
+use Rattle.rtr_session.specs.Headers.{report_unit, report_length}
 use Rattle.rtr_session.specs.Reports.{StopsInReport}
 
-pub same_any : (h t : List ℕ) → 8 ≤ length h → any_fault (h ++ t) ≡ any_fault h
-same_any h t l = let s = same_header h t l in λ i. any_header_fault (s.version i) (s.kind i) (s.flags i) (s.size i)
+pub report_by : ByHeader report_unit
+report_by = record {
+  fault = λ h t l. (λ i. let s = same_header h t l in cond (eqb (s.kind i) 10) (report_length (s.size i)) (Some (unit_type (s.kind i))));
+  asks = λ h t l. refl;
+}
 
-pub same_report : (h t : List ℕ) → 8 ≤ length h → report_fault (h ++ t) ≡ report_fault h
-same_report h t l = let s = same_header h t l in λ i. (if s.kind i == 10 then report_length (s.size i) else Some (unit_type (s.kind i)))
+-- the rest of a report was to be read after its header h, and less came
+module _ (n : ℕ) (h : List ℕ) (eight : length h ≡ 8) (order : report_unit.fault h ≡ None) (size : length_field h ≡ 8 + n) where
+  pub report_stops : (c : Cause) (t : List ℕ) (left : Option (List ℕ)) → FallsShort n c t left → StopsInReport c (h ++ t) left
+  report_stops by_reader t left s = rest_stops report_unit report_by n h eight order size by_reader t left s
+  report_stops by_writer t left s = s
+  report_stops too_many t left s = s
+  report_stops no_memory t left s = absurd s
+  report_stops (wrong f) t left s = rest_stops report_unit report_by n h eight order size (wrong f) t left s
 
-module _ (fault : List ℕ → Option Refusal) (same : (h t : List ℕ) → 8 ≤ length h → fault (h ++ t) ≡ fault h) where
-  -- nothing is wrong with the header h, and less follows than it says
-  pub part_after : (h t : List ℕ) → length h ≡ 8 → fault h ≡ None → 8 + length t < length_field h → IsPart fault (h ++ t)
-  part_after h t l e less = λ _. (same h t (omega arith) ∙ e, omega (arith, (same_header h t (omega arith)).size, length-append h t))
-
-  -- the header h is refused, and nothing was read after it
-  pub refused_after : (h t : List ℕ) (f : Refusal) → length h ≡ 8 → fault h ≡ Some f → t ≡ [] → (length (h ++ t) ≡ 8) × (fault (h ++ t) ≡ Some f)
-  refused_after h t f l e none = (omega (arith, length-append h t, ap length none), same h t (omega arith) ∙ e)
-
--- the rest of a report was to be read, and fewer bytes came
-pub report_stops : (h t : List ℕ) (e : Fault) (left : Option (List ℕ)) → length h ≡ 8 → report_fault h ≡ None → 8 + length t < length_field h → StopsReading e left → StopsInReport (cause_of e) (h ++ t) left
-report_stops h t Short left l ok less stop = (part_after report_fault same_report h t l ok less, stop)
-report_stops h t (Reader x) left l ok less stop = part_after report_fault same_report h t l ok less
-report_stops h t e left l ok less stop = absurd stop
+-- no whole header came
+pub report_header : (c : Cause) (t : List ℕ) (left : Option (List ℕ)) → FallsShort 8 c t left → StopsInReport c t left
+report_header by_reader t left s = header_stops report_unit by_reader t left s
+report_header by_writer t left s = s
+report_header too_many t left s = s
+report_header no_memory t left s = absurd s
+report_header (wrong f) t left s = header_stops report_unit (wrong f) t left s

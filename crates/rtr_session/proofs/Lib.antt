@@ -3,3 +3,4 @@ mod Headers
 mod Reports
 mod Stops
 mod Units
+mod Wholes

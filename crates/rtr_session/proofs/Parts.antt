@@ -1,12 +1,11 @@
 -- The unit and the text inside an error report, by their lengths.
-use Rattle.std.proofs.Common.{◌≡◌, ℕ, ◌+◌, ◌<◌, ◌≤◌, List, [], ◌∷◌, ◌++◌, length, take, drop, Option, Some, None, refl, sym, ap, subst, ◌∙◌, append-nil, append_assoc, arith, length-append}
+use Rattle.std.proofs.Common.{◌≡◌, ℕ, ◌+◌, ◌<◌, ◌≤◌, List, [], ◌∷◌, ◌++◌, length, take, drop, Option, None, refl, sym, ap, subst, ◌∙◌, append-nil, append_assoc, arith, length-append}
 use Rattle.std.specs.Prelude.{MatchOption, true, false, ◌==◌}
 use Rattle.std.proofs.lemmas.List.{take_at, drop_at, take-append-drop, length-take-le, append_cancel_left, nil_from_length}
 use Rattle.std.proofs.lemmas.Bool.Decides.{nat_tests}
 use Rattle.rtr_base.specs.Bytes.{be, value, IsBytes}
 use Rattle.rtr_base.proofs.Numbers.{be-value, value-be, IsBytes-take, IsBytes-drop}
-use Rattle.rtr_units.specs.Header.{header, version_field, type_field, session_field, length_field}
-use Rattle.rtr_units.specs.Report.{report}
+use Rattle.rtr_units.specs.Header.{header, version_field, session_field, length_field}
 use Rattle.rtr_units.proofs.Headers.{header_read}
 use Rattle.rtr_session.specs.Reports.{IsReport, HasParts, IsCounted, IsCutShort}
 
@@ -82,3 +81,15 @@ module _ (u : List ℕ) (is : IsReport u) where
 
   pub none_more : (x r y s : List ℕ) → IsCounted (drop 8 u) x r → IsCounted r y s → (s ≡ [] → ⊥) → (p t : List ℕ) → HasParts u p t → ⊥
   none_more x r y s first second more p t has = let small = parts_small p t has in more (counted_one t [] y s small.1 (rw (second_is x r first p t has) at second)).1
+
+counted_made : (x r : List ℕ) → length x < 65536 → IsCounted (be (length x) 4 ++ (x ++ r)) x r
+counted_made x r small = (omega arith, value-be (length x) 4 (omega arith), refl)
+
+pub parts_one : (u : List ℕ) → IsReport u → (p t q s : List ℕ) → HasParts u p t → HasParts u q s → (p ≡ q) × (t ≡ s)
+parts_one u is p t q s has other =
+    let small = parts_small u is q s other in
+    let same : be (length p) 4 ++ (p ++ (be (length t) 4 ++ (t ++ []))) ≡ be (length q) 4 ++ (q ++ (be (length s) 4 ++ (s ++ []))) = sym (body_of u is p t has) ∙ body_of u is q s other in
+    let small_p = parts_small u is p t has in
+    let first = counted_one q _ p _ small.0 (subst (λ l. IsCounted l p (be (length t) 4 ++ (t ++ []))) same (counted_made p _ small_p.0)) in
+    let second = counted_one s [] t [] small.1 (subst (λ l. IsCounted l t []) first.1 (counted_made t [] small_p.1)) in
+    (first.0, second.0)

@@ -1,5 +1,5 @@
 -- Error reports that are read: a header and the frame after it.
-use Rattle.std.proofs.Common.{◌≡◌, ℕ, ◌+◌, ◌<◌, ◌≤◌, List, [], ◌++◌, length, take, drop, Option, Some, None, refl, sym, ap, ◌∙◌, arith, length-append}
+use Rattle.std.proofs.Common.{◌≡◌, ℕ, ◌+◌, ◌<◌, ◌≤◌, List, ◌++◌, length, take, drop, Some, None, ap, ◌∙◌, arith, length-append}
 use Rattle.std.proofs.lemmas.Bool.Decides.{nat_tests}
 use Rattle.std.proofs.lemmas.List.{take_at}
 use Rattle.rtr_base.specs.Bytes.{IsBytes}
@@ -8,13 +8,13 @@ use Rattle.rtr_units.specs.Causes.{unit_length}
 use Rattle.rtr_units.specs.Header.{type_field, length_field}
 use Rattle.rtr_units.specs.Views.{AreBytes}
 use Rattle.rtr_units.proofs.Headers.{same_header}
-use Rattle.rtr_session.specs.Headers.{report_fault, report_length}
+use Rattle.rtr_session.specs.Headers.{report_unit}
 use Rattle.rtr_session.specs.Reports.{IsReport}
 
-pub report_in_order : (h : List ℕ) → type_field h ≡ 10 → 16 ≤ length_field h → length_field h ≤ 65535 → report_fault h ≡ None
+pub report_in_order : (h : List ℕ) → type_field h ≡ 10 → 16 ≤ length_field h → length_field h ≤ 65535 → report_unit.fault h ≡ None
 report_in_order h kind least most = grind (arith, nat_tests)
 
-pub report_too_short : (h : List ℕ) → type_field h ≡ 10 → length_field h < 16 → report_fault h ≡ Some unit_length
+pub report_too_short : (h : List ℕ) → type_field h ≡ 10 → length_field h < 16 → report_unit.fault h ≡ Some unit_length
 report_too_short h kind less = grind (arith, nat_tests)
 
 pub report_read : (h t : List ℕ) → AreBytes 8 h → IsBytes t → type_field h ≡ 10 → 16 ≤ length_field h → length_field h ≤ 65535 → length t + 8 ≡ length_field h → IsReport (h ++ t)

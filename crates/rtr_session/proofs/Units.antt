@@ -1,21 +1,22 @@
 -- Units that were read after their header have the fields that stand at their places.
-use Rattle.std.proofs.Common.{◌≡◌, ℕ, ◌+◌, ◌<◌, ◌≤◌, ◌⊎◌, List, [], ◌++◌, length, take, drop, Option, Some, None, refl, sym, ap, subst, ◌∙◌, arith, inl, inr, length-drop}
-use Rattle.std.specs.Prelude.{Ok}
+use Rattle.std.proofs.Common.{◌≡◌, ℕ, ◌+◌, ◌<◌, List, [], ◌++◌, length, drop, Option, Some, None, Ok, refl, sym, ap, subst, ◌∙◌, arith, inl, inr, length-drop}
 use Rattle.rtr_base.specs.declared.payload.Timing.{Timing}
 use Rattle.rtr_base.specs.Addresses.{Family}
 use Rattle.rtr_base.specs.Bytes.{be, IsBytes}
 use Rattle.rtr_base.proofs.Cuts.{cut_number, cut_end, number_fits}
 use Rattle.rtr_base.proofs.Numbers.{IsBytes-append, IsBytes-be}
 use Rattle.rtr_units.specs.End.{EndMeaning, End, HasTimingOf, timed_list}
-use Rattle.rtr_units.specs.Ends.{end_bytes, end_meaning, ReadsEnd}
+use Rattle.rtr_units.specs.Ends.{end_bytes, end_meaning, end_unit}
 use Rattle.rtr_units.specs.declared.end.EndOfData.{EndOfData}
 use Rattle.rtr_units.specs.FixedUnits.{bare_list, serial_list, prefix_type, prefix_size}
 use Rattle.rtr_units.specs.Header.{header, version_field, type_field, session_field, length_field}
-use Rattle.rtr_units.specs.Reads.{Takes, ReadsRest}
+use Rattle.rtr_units.specs.Reading.{Kind, of_size, Takes, ReadsAfter}
+use Rattle.rtr_units.proofs.UnitsRead.{sized_from}
 use Rattle.rtr_units.specs.Units.{serial_field}
 use Rattle.rtr_units.specs.Views.{AreBytes}
 use Rattle.rtr_units.proofs.Headers.{header_read, header_bytes, same_header, session_fits}
 use Rattle.rtr_payload.specs.Places.{prefix_fields}
+use Rattle.rtr_payload.specs.UnitKinds.{variable_unit}
 use Rattle.rtr_payload.specs.Units.{Fields, HasFields}
 use Rattle.rtr_payload.proofs.FieldsRead.{prefix_has}
 use Rattle.rtr_session.specs.Fields.{AnyFields, serial_notify, serial_query, reset_query, cache_response, payload, end_of_data, cache_reset, error_report, HasAnyFields}
@@ -30,10 +31,15 @@ pub record Sized (n k : ℕ) (u : List ℕ) : Type 0 where
   pub kind : type_field u ≡ k
   pub size : length_field u ≡ n
 
-rest_sized : (n k : ℕ) (h u : List ℕ) (old left : Option (List ℕ)) → type_field h ≡ k → ReadsRest n h u old left → Sized n k u
-rest_sized n k h u old left kind (size, head, all, (t, taken, is)) =
-    let same = same_header h t (omega (arith, head.0)) in
-    record { bytes = all; kind = ap type_field is ∙ same.kind ∙ kind; size = ap length_field is ∙ same.size ∙ size }
+rest_sized : (n k : ℕ) (h u : List ℕ) (old left : Option (List ℕ)) → type_field h ≡ k → ReadsAfter (of_size n) h (Ok u) old left → Sized n k u
+rest_sized n k h u old left kind (is, ((t, took, parts), whole)) =
+    let same = same_header h t (omega (arith, is.0)) in
+    let size : length_field u ≡ n = sized_from n u whole.in_order in
+    record { bytes = (whole.size ∙ size, whole.are_bytes); kind = ap type_field parts ∙ same.kind ∙ kind; size = size }
+
+-- what was taken is the rest of the unit
+taken_rest : (kind : Kind) (h u : List ℕ) (old left : Option (List ℕ)) → ReadsAfter kind h (Ok u) old left → Takes old left (λ t. u ≡ h ++ t)
+taken_rest kind h u old left (is, (takes, whole)) = takes
 
 serial_is : (k : ℕ) (u : List ℕ) → Sized 12 k u → u ≡ serial_list (version_field u) k (session_field u) (serial_field u)
 serial_is k u s =
@@ -49,11 +55,11 @@ bare_is k u s =
 
 module _ (h u : List ℕ) (old left : Option (List ℕ)) where
   module _ (k : ℕ) (kind : type_field h ≡ k) where
-    pub serial_reads : (f : ℕ → ℕ → ℕ → AnyFields) → ReadsRest 12 h u old left → (Sized 12 k u → HasAnyFields u (serial_of f u)) → Takes old left (λ t. u ≡ h ++ t) × HasAnyFields u (serial_of f u)
-    serial_reads f r has = (r.3, has (rest_sized 12 k h u old left kind r))
+    pub serial_reads : (f : ℕ → ℕ → ℕ → AnyFields) → ReadsAfter (of_size 12) h (Ok u) old left → (Sized 12 k u → HasAnyFields u (serial_of f u)) → Takes old left (λ t. u ≡ h ++ t) × HasAnyFields u (serial_of f u)
+    serial_reads f r has = (taken_rest (of_size 12) h u old left r, has (rest_sized 12 k h u old left kind r))
 
-    pub bare_reads : (f : ℕ → ℕ → AnyFields) → ReadsRest 8 h u old left → (Sized 8 k u → HasAnyFields u (bare_of f u)) → Takes old left (λ t. u ≡ h ++ t) × HasAnyFields u (bare_of f u)
-    bare_reads f r has = (r.3, has (rest_sized 8 k h u old left kind r))
+    pub bare_reads : (f : ℕ → ℕ → AnyFields) → ReadsAfter (of_size 8) h (Ok u) old left → (Sized 8 k u → HasAnyFields u (bare_of f u)) → Takes old left (λ t. u ≡ h ++ t) × HasAnyFields u (bare_of f u)
+    bare_reads f r has = (taken_rest (of_size 8) h u old left r, has (rest_sized 8 k h u old left kind r))
 
 module _ (u : List ℕ) where
   pub notify_has : Sized 12 0 u → HasAnyFields u (serial_of serial_notify u)
@@ -76,11 +82,15 @@ module _ (u : List ℕ) where
 pub payload_has : (u : List ℕ) (f : Fields) → HasFields u f → HasAnyFields u (payload f)
 payload_has u f has = record { fits = (has.fits, has.limits); bytes = has.bytes; are_bytes = has.are_bytes }
 
-pub prefix_reads : (f : Family) (h u : List ℕ) (old left : Option (List ℕ)) → type_field h ≡ prefix_type f → ReadsRest (prefix_size f) h u old left
+pub prefix_reads : (f : Family) (h u : List ℕ) (old left : Option (List ℕ)) → type_field h ≡ prefix_type f → ReadsAfter (of_size (prefix_size f)) h (Ok u) old left
     → Takes old left (λ t. u ≡ h ++ t) × HasAnyFields u (payload (prefix_fields f u))
 prefix_reads f h u old left kind r =
     let s = rest_sized (prefix_size f) (prefix_type f) h u old left kind r in
-    (r.3, payload_has u (prefix_fields f u) (prefix_has f u s.bytes.1 s.bytes.0 s.kind s.size))
+    (taken_rest (of_size (prefix_size f)) h u old left r, payload_has u (prefix_fields f u) (prefix_has f u s.bytes.1 s.bytes.0 s.kind s.size))
+
+pub variable_reads : (k : ℕ) (h u : List ℕ) (old left : Option (List ℕ)) (f : Fields) → ReadsAfter (variable_unit k) h (Ok u) old left → HasFields u f
+    → Takes old left (λ t. u ≡ h ++ t) × HasAnyFields u (payload f)
+variable_reads k h u old left f r has = (taken_rest (variable_unit k) h u old left r, payload_has u f has)
 
 -- ---- ends of data
 
@@ -99,9 +109,9 @@ end_has b e is =
     let bytes : IsBytes b = subst IsBytes (sym is.bytes) (timed_bytes e.version e.session e.serial e.timing (version_small e.version e.timing is.fits.timing)) in
     record { fits = is.fits; bytes = is.bytes; are_bytes = bytes }
 
-pub end_reads : (h : List ℕ) (e : EndOfData) (old left : Option (List ℕ)) → type_field h ≡ 7 → ReadsEnd h e old left
+pub end_reads : (h : List ℕ) (e : EndOfData) (old left : Option (List ℕ)) → ReadsAfter end_unit h (Ok (end_bytes e)) old left → End (end_bytes e) (end_meaning e)
     → Takes old left (λ t. end_bytes e ≡ h ++ t) × HasAnyFields (end_bytes e) (end_of_data (end_meaning e))
-end_reads h e old left kind (has, takes, version, end) = (takes, end_has (end_bytes e) (end_meaning e) (end kind))
+end_reads h e old left r end = (taken_rest end_unit h (end_bytes e) old left r, end_has (end_bytes e) (end_meaning e) end)
 
 -- ---- error reports
 

@@ -1,14 +1,15 @@
--- What is wrong with the header of a unit, of any type and of an error report alone. The order of
--- the refusals is this library's own.
-use Rattle.std.specs.Prelude.{ℕ, List, slice_index, Option, Some, None, Bool, not, ◌||◌, ◌==◌}
-use Rattle.std.specs.Prelude.{nat_lt, if◌then◌else◌}
-use Rattle.rtr_units.specs.Causes.{Refusal, unit_type, too_long, unit_length}
+-- The kinds of units of a session: any, and error reports alone. The order of the faults, and that
+-- an error report is read into memory, are this library's own.
+use Rattle.std.specs.Prelude.{ℕ, true, slice_index, Option, Some, None, ◌||◌, ◌==◌, nat_lt}
+use Rattle.std.specs.Prelude.{if◌then◌else◌}
+use Rattle.rtr_units.specs.Causes.{Refusal, too_long, unit_length}
 use Rattle.rtr_units.specs.Header.{version_field, type_field, length_field}
+use Rattle.rtr_units.specs.Reading.{Kind, of_type}
 use Rattle.rtr_payload.specs.Steps.{header_fault}
 
 -- the length field n has to be m
 abbrev pub sized : ℕ → ℕ → Option Refusal
-sized m n = if not (n == m) then Some unit_length else None
+sized m n = if n == m then None else Some unit_length
 
 -- the length field n of an error report: a header and two lengths at least (RFC 8210 section 5.11),
 -- and at most 65535 (that limit as in the Rust crate)
@@ -28,12 +29,18 @@ any_header_fault v t g n =
     else if t == 10 then report_length n
     else header_fault v t g n
 
--- what is wrong with the header that u begins with, where any type may come
-abbrev pub any_fault : List ℕ → Option Refusal
-any_fault u =
-    any_header_fault (version_field u) (type_field u) (slice_index u 2) (length_field u)
+-- units of any type
+abbrev pub session_unit : Kind
+session_unit = record {
+  fault = λ u.
+      any_header_fault (version_field u) (type_field u) (slice_index u 2) (length_field u);
+  asks = λ u. (type_field u == 9) || (type_field u == 10) || (type_field u == 11);
+}
 
--- what is wrong with the header that u begins with, where an error report has to come
-abbrev pub report_fault : List ℕ → Option Refusal
-report_fault u = if type_field u == 10 then report_length (length_field u)
-    else Some (unit_type (type_field u))
+-- units that are as long as an error report may be, whatever type they name
+abbrev pub report_sized : Kind
+report_sized = record { fault = λ u. report_length (length_field u); asks = λ u. true }
+
+-- error reports, whose type is checked first
+abbrev pub report_unit : Kind
+report_unit = of_type 10 report_sized

@@ -1,32 +1,27 @@
 -- What reading a unit of any type leaves, by the bytes that were taken. The order of refusals and
 -- the places where memory is asked for are this library's own.
-use Rattle.std.specs.Prelude.{◌≡◌, ◌⊎◌, ℕ, ◌<◌, List, [], ◌++◌, length, Option, Some, None}
+use Rattle.std.specs.Prelude.{◌≡◌, ℕ, ◌<◌, List, [], ◌++◌, length, Option, Some, None}
 use Rattle.std.specs.Prelude.{Result, Ok, Err}
 use Rattle.std.specs.Io.KnownBytes.{Consumes, IsAtEnd}
 use Rattle.rtr_units.specs.declared.fault.Fault.{Fault}
 use Rattle.rtr_units.specs.declared.header.Header.{Header}
 use Rattle.rtr_units.specs.Causes.{short, Cause, no_memory, wrong, cause_of}
 use Rattle.rtr_units.specs.Header.{type_field}
-use Rattle.rtr_units.specs.Reads.{Takes}
+use Rattle.rtr_units.specs.Reading.{Stops, Takes}
 use Rattle.rtr_units.specs.Views.{header_bytes}
-use Rattle.rtr_payload.specs.Frames.{StopsInUnit}
 use Rattle.rtr_session.specs.Fields.{HasAnyFields}
-use Rattle.rtr_session.specs.Headers.{any_fault}
+use Rattle.rtr_session.specs.Headers.{session_unit}
 use Rattle.rtr_session.specs.Values.{any_bytes, any_fields}
 use Rattle.rtr_session.specs.declared.any_unit.AnyUnit.{AnyUnit}
 
--- Memory is asked for where a router key or an ASPA unit is read, and for an error report right
--- after its header.
-abbrev pub AsksForMemory : List ℕ → Type 0
-AsksForMemory t = (type_field t ≡ 9) ⊎ ((type_field t ≡ 11) ⊎
-    ((type_field t ≡ 10) × (length t ≡ 8)))
-
 -- Why reading a unit of any type stopped where the bytes t of it were there; `left` is what the
--- reader then has. At the end of input it stopped inside the unit: a byte of it was there.
+-- reader then has. At the end of input it stopped inside the unit, of which a byte was there; and
+-- memory is asked for once where an error report is read, right after its header.
 abbrev pub StopsInAny : Cause → List ℕ → Option (List ℕ) → Type 0
-StopsInAny no_memory t left = StopsInUnit any_fault no_memory t left × AsksForMemory t
-StopsInAny (wrong short) t left = StopsInUnit any_fault (wrong short) t left × (0 < length t)
-StopsInAny cause t left = StopsInUnit any_fault cause t left
+StopsInAny no_memory t left =
+    Stops session_unit no_memory t left × (type_field t ≡ 10 → length t ≡ 8)
+StopsInAny (wrong short) t left = Stops session_unit (wrong short) t left × (0 < length t)
+StopsInAny cause t left = Stops session_unit cause t left
 
 -- not a byte was left
 abbrev pub HasEnded : Option (List ℕ) → Option (List ℕ) → Type 0

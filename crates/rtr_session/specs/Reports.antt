@@ -6,10 +6,9 @@ use Rattle.rtr_base.specs.Bytes.{IsBytes, value}
 use Rattle.rtr_units.specs.declared.fault.Fault.{Fault}
 use Rattle.rtr_units.specs.Causes.{Cause, no_memory, cause_of}
 use Rattle.rtr_units.specs.Header.{version_field, type_field, session_field, length_field}
-use Rattle.rtr_units.specs.Reads.{Takes}
+use Rattle.rtr_units.specs.Reading.{Stops, Takes}
 use Rattle.rtr_units.specs.Report.{report}
-use Rattle.rtr_payload.specs.Frames.{StopsInUnit}
-use Rattle.rtr_session.specs.Headers.{report_fault}
+use Rattle.rtr_session.specs.Headers.{report_unit}
 
 -- these are the bytes of an error report, whatever the lengths inside it say: a header and two
 -- lengths at least, and at most 65535 bytes (that limit as in the Rust crate)
@@ -36,8 +35,8 @@ IsCutShort b = 4 ≤ length b → length (drop 4 b) < value (take 4 b)
 -- Why reading an error report stopped where the bytes t of it were there; `left` is what the reader
 -- then has. Memory is asked for once, right after the header.
 abbrev pub StopsInReport : Cause → List ℕ → Option (List ℕ) → Type 0
-StopsInReport no_memory t left = StopsInUnit report_fault no_memory t left × (length t ≡ 8)
-StopsInReport cause t left = StopsInUnit report_fault cause t left
+StopsInReport no_memory t left = Stops report_unit no_memory t left × (length t ≡ 8)
+StopsInReport cause t left = Stops report_unit cause t left
 
 -- an error report was read, or reading stopped
 abbrev pub ReadsReport : Result (List ℕ) Fault → Option (List ℕ) → Option (List ℕ) → Type 0

@@ -3,6 +3,7 @@
 #![tactic(auto)]
 
 mod any_unit;
+pub mod laws;
 mod report;
 
 pub use any_unit::AnyUnit;

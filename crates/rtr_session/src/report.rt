@@ -25,10 +25,10 @@ use std::hash::{Hash, Hasher};
 use std::marker::Model;
 
 /// The bytes of the smallest report: a header and two lengths.
-const MIN_SIZE: u32 = 16;
+pub(crate) const MIN_SIZE: u32 = 16;
 
 /// The most bytes that a report that is read has, header included, as in the Rust crate `rpki`.
-const MAX_SIZE: u32 = 65535;
+pub(crate) const MAX_SIZE: u32 = 65535;
 
 /// An error report that was read, seen as the list of its bytes: 16 to 65535, as many as its length
 /// field says.

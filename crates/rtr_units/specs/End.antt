@@ -4,7 +4,9 @@ use Rattle.std.specs.Prelude.{◌≡◌, ℕ, ◌^◌, ◌<◌, ◌⊎◌, List,
 use Rattle.rtr_base.specs.declared.payload.Timing.{Timing}
 use Rattle.rtr_base.specs.Bytes.{be, value}
 use Rattle.rtr_units.specs.Header.{header, version_field, session_field}
-use Rattle.rtr_units.specs.FixedUnits.{serial_list}
+use Rattle.rtr_units.specs.Queries.{serial_list, serial_field}
+use Rattle.rtr_units.specs.declared.fixed.EndOfDataV0.{EndOfDataV0}
+use Rattle.rtr_units.specs.declared.fixed.EndOfDataV1.{EndOfDataV1}
 
 -- what an end of data means: in version 0 without timings
 pub record EndMeaning : Type 0 where
@@ -54,7 +56,7 @@ untimed_meaning b =
     record {
       version = 0;
       session = session_field b;
-      serial = value (take 4 (drop 8 b));
+      serial = serial_field b;
       timing = None;
     }
 
@@ -64,6 +66,14 @@ timed_meaning b =
     record {
       version = version_field b;
       session = session_field b;
-      serial = value (take 4 (drop 8 b));
+      serial = serial_field b;
       timing = Some (timing_fields b);
     }
+
+-- ---- the values of these units as the lists of their bytes
+
+abbrev pub end_v0_bytes : EndOfDataV0 → List ℕ
+end_v0_bytes u = u.cells.bytes
+
+abbrev pub end_v1_bytes : EndOfDataV1 → List ℕ
+end_v1_bytes u = u.cells.bytes

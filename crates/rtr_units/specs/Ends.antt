@@ -4,9 +4,9 @@
 use Rattle.std.specs.Prelude.{ℕ, Bool, true, false, List, Some, nat_lt, ◌==◌, if◌then◌else◌}
 use Rattle.rtr_units.specs.Causes.{unit_version}
 use Rattle.rtr_units.specs.End.{EndMeaning, untimed_meaning, timed_meaning}
+use Rattle.rtr_units.specs.End.{end_v0_bytes, end_v1_bytes}
 use Rattle.rtr_units.specs.Header.{version_field}
 use Rattle.rtr_units.specs.Reading.{Kind, of_size}
-use Rattle.rtr_units.specs.Units.{end_v0_bytes, end_v1_bytes}
 use Rattle.rtr_units.specs.declared.end.EndOfData.{EndOfData}
 use Rattle.rtr_units.specs.declared.end.EndOfData.TheVariants.{V0, V1}
 

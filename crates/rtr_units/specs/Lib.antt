@@ -2,15 +2,15 @@ pub mod Causes
 pub mod Codes
 pub mod End
 pub mod Ends
-pub mod FixedUnits
 pub mod Header
 pub mod Lending
 pub mod LendingEnd
 pub mod LendingError
 pub mod LendingUnits
+pub mod PrefixUnits
+pub mod Queries
 pub mod Reading
 pub mod Report
 pub mod Stream
 pub mod Tallies
-pub mod Units
 pub mod Views

@@ -4,11 +4,9 @@ ghost use Rattle.std.specs.Prelude.{◌≡◌, ℕ, List, length, replicate, Som
 ghost use Rattle.std.proofs.Common.{rules};
 ghost use Rattle.std.specs.Net.Addr.{ipv4_bits, ipv6_bits};
 ghost use Rattle.rtr_base.specs.Addresses.{v4, v6};
-ghost use Rattle.rtr_units.specs.End.{timed_list, timing_fields};
-ghost use Rattle.rtr_units.specs.FixedUnits.{serial_list, prefix_list};
-ghost use Rattle.rtr_units.specs.Units.{ipv4_bytes, ipv6_bytes, end_v0_bytes, end_v1_bytes};
-ghost use Rattle.rtr_units.specs.Units.{serial_field, flags_field, prefix_len_field, max_len_field};
-ghost use Rattle.rtr_units.specs.Units.{ipv4_field, ipv4_asn_field, ipv6_field, ipv6_asn_field};
+ghost use Rattle.rtr_units.specs.End.{timed_list, timing_fields, end_v0_bytes, end_v1_bytes};
+ghost use Rattle.rtr_units.specs.PrefixUnits.{ipv4_bytes, ipv6_bytes, prefix_list, prefix_at};
+ghost use Rattle.rtr_units.specs.Queries.{serial_list, serial_field};
 
 use crate::cells::Cells;
 use crate::numbers::{u32_at, u128_at, u128_bytes};
@@ -78,8 +76,19 @@ impl Ipv4Prefix {
         prefix: Ipv4Addr,
         asn: Asn,
     ) -> Self
-        ensures { ipv4_bytes result ≡
-            prefix_list v4 version 0 flags prefix_len max_len 0 (ipv4_bits prefix) asn }
+        ensures { ipv4_bytes result ≡ prefix_list (record {
+          version = version;
+          session = 0;
+          flags = flags;
+          free = 0;
+          origin = record {
+            family = v4;
+            address = ipv4_bits prefix;
+            prefix_len = prefix_len;
+            max_len = max_len;
+            asn = asn;
+          };
+        }) }
     {
         Ipv4Prefix::from_bits(version, flags, prefix_len, max_len, prefix.to_bits(), asn)
     }
@@ -94,8 +103,19 @@ impl Ipv4Prefix {
         prefix: u32,
         asn: Asn,
     ) -> Self
-        ensures { ipv4_bytes result ≡
-            prefix_list v4 version 0 flags prefix_len max_len 0 prefix asn }
+        ensures { ipv4_bytes result ≡ prefix_list (record {
+          version = version;
+          session = 0;
+          flags = flags;
+          free = 0;
+          origin = record {
+            family = v4;
+            address = prefix;
+            prefix_len = prefix_len;
+            max_len = max_len;
+            asn = asn;
+          };
+        }) }
     {
         let mut bytes = [0; 20];
         let front = [version, 4, 0, 0, 0, 0, 0, 20, flags, prefix_len, max_len, 0];
@@ -110,7 +130,7 @@ impl Ipv4Prefix {
     /// The flags, of which the lowest bit announces.
     #[inline(always)]
     pub fn flags(&self) -> u8
-        ensures { result ≡ flags_field (ipv4_bytes self.now) }
+        ensures { result ≡ (prefix_at v4 (ipv4_bytes self.now)).flags }
     {
         self.as_ref()[8]
     }
@@ -118,7 +138,7 @@ impl Ipv4Prefix {
     /// The length of the prefix.
     #[inline(always)]
     pub fn prefix_len(&self) -> u8
-        ensures { result ≡ prefix_len_field (ipv4_bytes self.now) }
+        ensures { result ≡ (prefix_at v4 (ipv4_bytes self.now)).origin.prefix_len }
     {
         self.as_ref()[9]
     }
@@ -126,7 +146,7 @@ impl Ipv4Prefix {
     /// The greatest length of a prefix that is meant.
     #[inline(always)]
     pub fn max_len(&self) -> u8
-        ensures { result ≡ max_len_field (ipv4_bytes self.now) }
+        ensures { result ≡ (prefix_at v4 (ipv4_bytes self.now)).origin.max_len }
     {
         self.as_ref()[10]
     }
@@ -135,7 +155,7 @@ impl Ipv4Prefix {
     #[inline(always)]
     #[tactic(auto, using(crate::proofs::Addresses::ipv4_of_bits))]
     pub fn prefix(&self) -> Ipv4Addr
-        ensures { ipv4_bits result ≡ ipv4_field (ipv4_bytes self.now) }
+        ensures { ipv4_bits result ≡ (prefix_at v4 (ipv4_bytes self.now)).origin.address }
     {
         Ipv4Addr::from_bits(self.prefix_bits())
     }
@@ -143,7 +163,7 @@ impl Ipv4Prefix {
     /// The address as a number, host bits included.
     #[inline(always)]
     pub fn prefix_bits(&self) -> u32
-        ensures { result ≡ ipv4_field (ipv4_bytes self.now) }
+        ensures { result ≡ (prefix_at v4 (ipv4_bytes self.now)).origin.address }
     {
         u32_at(self.as_ref(), 12)
     }
@@ -151,7 +171,7 @@ impl Ipv4Prefix {
     /// The autonomous system.
     #[inline(always)]
     pub fn asn(&self) -> Asn
-        ensures { result ≡ ipv4_asn_field (ipv4_bytes self.now) }
+        ensures { result ≡ (prefix_at v4 (ipv4_bytes self.now)).origin.asn }
     {
         Asn::from_u32(u32_at(self.as_ref(), 16))
     }
@@ -217,8 +237,19 @@ impl Ipv6Prefix {
         prefix: Ipv6Addr,
         asn: Asn,
     ) -> Self
-        ensures { ipv6_bytes result ≡
-            prefix_list v6 version 0 flags prefix_len max_len 0 (ipv6_bits prefix) asn }
+        ensures { ipv6_bytes result ≡ prefix_list (record {
+          version = version;
+          session = 0;
+          flags = flags;
+          free = 0;
+          origin = record {
+            family = v6;
+            address = ipv6_bits prefix;
+            prefix_len = prefix_len;
+            max_len = max_len;
+            asn = asn;
+          };
+        }) }
     {
         Ipv6Prefix::from_bits(version, flags, prefix_len, max_len, prefix.to_bits(), asn)
     }
@@ -233,8 +264,19 @@ impl Ipv6Prefix {
         prefix: u128,
         asn: Asn,
     ) -> Self
-        ensures { ipv6_bytes result ≡
-            prefix_list v6 version 0 flags prefix_len max_len 0 prefix asn }
+        ensures { ipv6_bytes result ≡ prefix_list (record {
+          version = version;
+          session = 0;
+          flags = flags;
+          free = 0;
+          origin = record {
+            family = v6;
+            address = prefix;
+            prefix_len = prefix_len;
+            max_len = max_len;
+            asn = asn;
+          };
+        }) }
     {
         let mut bytes = [0; 32];
         let front = [version, 6, 0, 0, 0, 0, 0, 32, flags, prefix_len, max_len, 0];
@@ -249,7 +291,7 @@ impl Ipv6Prefix {
     /// The flags, of which the lowest bit announces.
     #[inline(always)]
     pub fn flags(&self) -> u8
-        ensures { result ≡ flags_field (ipv6_bytes self.now) }
+        ensures { result ≡ (prefix_at v6 (ipv6_bytes self.now)).flags }
     {
         self.as_ref()[8]
     }
@@ -257,7 +299,7 @@ impl Ipv6Prefix {
     /// The length of the prefix.
     #[inline(always)]
     pub fn prefix_len(&self) -> u8
-        ensures { result ≡ prefix_len_field (ipv6_bytes self.now) }
+        ensures { result ≡ (prefix_at v6 (ipv6_bytes self.now)).origin.prefix_len }
     {
         self.as_ref()[9]
     }
@@ -265,7 +307,7 @@ impl Ipv6Prefix {
     /// The greatest length of a prefix that is meant.
     #[inline(always)]
     pub fn max_len(&self) -> u8
-        ensures { result ≡ max_len_field (ipv6_bytes self.now) }
+        ensures { result ≡ (prefix_at v6 (ipv6_bytes self.now)).origin.max_len }
     {
         self.as_ref()[10]
     }
@@ -274,7 +316,7 @@ impl Ipv6Prefix {
     #[inline(always)]
     #[tactic(auto, using(crate::proofs::Addresses::ipv6_of_bits))]
     pub fn prefix(&self) -> Ipv6Addr
-        ensures { ipv6_bits result ≡ ipv6_field (ipv6_bytes self.now) }
+        ensures { ipv6_bits result ≡ (prefix_at v6 (ipv6_bytes self.now)).origin.address }
     {
         Ipv6Addr::from_bits(self.prefix_bits())
     }
@@ -282,7 +324,7 @@ impl Ipv6Prefix {
     /// The address as a number, host bits included.
     #[inline(always)]
     pub fn prefix_bits(&self) -> u128
-        ensures { result ≡ ipv6_field (ipv6_bytes self.now) }
+        ensures { result ≡ (prefix_at v6 (ipv6_bytes self.now)).origin.address }
     {
         u128_at(self.as_ref(), 12)
     }
@@ -290,7 +332,7 @@ impl Ipv6Prefix {
     /// The autonomous system.
     #[inline(always)]
     pub fn asn(&self) -> Asn
-        ensures { result ≡ ipv6_asn_field (ipv6_bytes self.now) }
+        ensures { result ≡ (prefix_at v6 (ipv6_bytes self.now)).origin.asn }
     {
         Asn::from_u32(u32_at(self.as_ref(), 28))
     }

@@ -7,14 +7,14 @@ ghost use Rattle.std.specs.Borrow.{sem};
 ghost use Rattle.std.specs.Io.KnownBytes.{Consumes};
 ghost use Rattle.rtr_base.specs.Bytes.{be, value, IsBytes};
 ghost use Rattle.rtr_units.specs.Causes.{cause_of};
-ghost use Rattle.rtr_units.specs.FixedUnits.{bare_list, serial_list};
+ghost use Rattle.rtr_units.specs.Queries.{bare_list, serial_list};
 ghost use Rattle.rtr_units.specs.Header.{session_field};
 ghost use Rattle.rtr_units.specs.Reading.{Takes};
 ghost use Rattle.rtr_units.specs.Stream.{FallsShort, PutsForm, count_after, is_reader_fault};
 ghost use Rattle.rtr_units.specs.Stream.{is_writer_fault};
-ghost use Rattle.rtr_units.specs.Units.{notify_bytes, query_bytes, reset_query_bytes};
-ghost use Rattle.rtr_units.specs.Units.{response_bytes, cache_reset_bytes, query_payload_bytes};
-ghost use Rattle.rtr_units.specs.Units.{serial_field};
+ghost use Rattle.rtr_units.specs.Queries.{notify_bytes, query_bytes, reset_query_bytes};
+ghost use Rattle.rtr_units.specs.Queries.{response_bytes, cache_reset_bytes, query_payload_bytes};
+ghost use Rattle.rtr_units.specs.Queries.{serial_field};
 ghost use Rattle.rtr_units.specs.Views.{AreBytes};
 
 use crate::cells::Cells;

@@ -15,7 +15,7 @@ use rtr_units::header::Header;
 use rtr_units::session::{
     CacheReset, CacheResponse, ResetQuery, SerialNotify, SerialQuery, SerialQueryPayload,
 };
-use rtr_units::source::{Counted, SliceSource, Source};
+use rtr_units::source::{Counted, SliceSource};
 use rtr_units::unit::Unit;
 use std::alloc::Global;
 use std::hash::Hash;

@@ -5,8 +5,8 @@
 use rtr_wire::base::{Asn, MaxLenPrefix, ParseMaxLenPrefixError};
 use rtr_wire::payload::{Action, Aspa, Payload, RouteOrigin, Timing};
 use rtr_wire::pdu::{
-    CacheResponse, EndOfData, Error, Fault, Header, ResetQuery, Sink, Source, Unit, UnitView,
-    ViewFault,
+    CacheResponse, EndOfData, Error, ErrorCode, Fault, Header, ResetQuery, Sink, Source, Unit,
+    UnitView, ViewFault,
 };
 use rtr_wire::state::State;
 use rtr_wire::{normalise, pdu, same_meaning};
@@ -33,6 +33,19 @@ pub fn take_response<R: Source, W: Sink>(
     let response = CacheResponse::read(reader)?;
     let count = normalise(alloc, reader, writer, MOST_UNITS)?;
     Ok((response.session(), count))
+}
+
+/// Takes a cache response, or in its place the code of an error report, whose rest is passed over.
+pub fn response_or_code<R: Source>(
+    reader: &mut R,
+) -> Result<Result<CacheResponse, ErrorCode>, Fault> {
+    match CacheResponse::try_read(reader)? {
+        Ok(response) => Ok(Ok(response)),
+        Err(header) => {
+            Error::skip_payload(header, reader)?;
+            Ok(Err(ErrorCode(header.session())))
+        }
+    }
 }
 
 /// Whether two recorded sequences mean the same.
@@ -145,19 +158,39 @@ pub fn report_on(
 pub fn list<W: io::Write>(input: &[u8], lines: &mut W) -> Result<(), Unlisted> {
     let mut rest = input;
     for _ in 0..input.len() {
-        let (unit, size) = UnitView::first(rest).map_err(Unlisted::Unit)?;
-        let written = match unit {
-            UnitView::Origin(view) => writeln!(lines, "{}", view.origin()),
-            UnitView::RouterKey(view) => writeln!(lines, "router key of {}", view.asn()),
-            UnitView::Aspa(view) => writeln!(lines, "ASPA of {}", view.customer()),
-            UnitView::End(end) => return writeln!(lines, "serial {}", end.serial()).map_err(
-                Unlisted::Line,
-            ),
+        let (unit, size) = match UnitView::first(rest) {
+            Ok(first) => first,
+            Err(fault) => return Err(Unlisted::Unit(fault)),
         };
-        written.map_err(Unlisted::Line)?;
+        write_line(&unit, lines).map_err(Unlisted::Line)?;
+        if matches!(unit, UnitView::End(_)) {
+            return Ok(());
+        }
         rest = &rest[size..];
     }
     Err(Unlisted::Unit(ViewFault::Short))
+}
+
+/// The line of one unit.
+fn write_line<W: io::Write>(unit: &UnitView<'_>, lines: &mut W) -> io::Result<()> {
+    match unit {
+        UnitView::Origin(view) => {
+            let origin = view.origin();
+            writeln!(lines, "{origin}")
+        }
+        UnitView::RouterKey(view) => {
+            let asn = view.asn();
+            writeln!(lines, "router key of {asn}")
+        }
+        UnitView::Aspa(view) => {
+            let customer = view.customer();
+            writeln!(lines, "ASPA of {customer}")
+        }
+        UnitView::End(end) => {
+            let serial = end.serial();
+            writeln!(lines, "serial {serial}")
+        }
+    }
 }
 
 /// Why a sequence wasn't listed to its end.

@@ -1,11 +1,12 @@
 //! The uses, over units written out by hand.
 
 use super::{
-    Data, Unlisted, answer_reset, compare, list, origin, report_on, take_response, withdrawal,
+    Data, Unlisted, answer_reset, compare, list, origin, report_on, response_or_code,
+    take_response, withdrawal,
 };
 use rtr_wire::base::Asn;
 use rtr_wire::payload::{Action, Payload};
-use rtr_wire::pdu::{Counted, ErrorCode, Fault, Header, ViewFault};
+use rtr_wire::pdu::{Counted, ErrorCode, Fault, Header, Unit, ViewFault};
 use rtr_wire::state::{Serial, State};
 use std::io;
 use std::test::Fail;
@@ -35,6 +36,10 @@ const OTHER_ASPA: &[u8] = &[
 #[rattlefmt::skip]
 const ASPA_WITHDRAWN: &[u8] = &[2, 11, 0, 0, 0, 0, 0, 12, 0, 0, 0xfb, 0xf0];
 
+/// Reports that there are no data: no unit, and the text "no".
+#[rattlefmt::skip]
+const REPORT: &[u8] = &[2, 10, 0, 2, 0, 0, 0, 18, 0, 0, 0, 0, 0, 0, 0, 2, b'n', b'o'];
+
 /// An end of data with serial number 5 and the recommended timings.
 #[rattlefmt::skip]
 const END: &[u8] = &[
@@ -61,7 +66,23 @@ fn a_response_is_taken(rt: HostRuntime) -> Result<(), Fail> {
     assert!(rt; reader.into_inner() == RESPONSE);
     let form = writer.into_inner();
     assert_eq!(rt; form.len(), ORIGIN.len() + END.len());
-    assert!(rt; compare(rt.alloc(), form.as_slice(), &input.as_slice()[8..])?);
+    let sequence = joined(&rt, &[ORIGIN, END])?;
+    assert!(rt; compare(rt.alloc(), form.as_slice(), sequence.as_slice())?);
+    Ok(())
+}
+
+#[test]
+fn a_report_is_taken(rt: HostRuntime) -> Result<(), Fail> {
+    let input = joined(&rt, &[RESPONSE, REPORT, ORIGIN])?;
+    let mut reader = Counted::new(input.as_slice());
+    match response_or_code(&mut reader)? {
+        Ok(response) => assert_eq!(rt; response.session(), 0x1234),
+        Err(code) => assert_eq!(rt; code, ErrorCode(65535), "no response"),
+    }
+    let code = response_or_code(&mut reader)?.err();
+    assert_eq!(rt; code, Some(ErrorCode::NO_DATA_AVAILABLE));
+    let refused = response_or_code(&mut reader);
+    assert!(rt; matches!(&refused, Err(Fault::UnitType(4))));
     Ok(())
 }
 
@@ -133,7 +154,8 @@ fn reset_queries_are_answered(rt: HostRuntime) -> Result<(), Fail> {
         assert_eq!(rt; answer.len(), size, "at version {version}");
         assert!(rt; answer.iter().take(2).eq([version, 3].iter()));
         if version == 2 {
-            assert!(rt; compare(alloc, &answer.as_slice()[8..], input.as_slice())?);
+            let sequence = answer.as_slice().get(8..).ok_or("no sequence")?;
+            assert!(rt; compare(alloc, sequence, input.as_slice())?);
         }
     }
     Ok(())

@@ -1,29 +1,32 @@
 -- The written forms of what views show, by the bytes of the units.
-use Rattle.std.proofs.Common.{◌≡◌, ℕ, ◌+◌, ◌*◌, List, [], ◌∷◌, ◌++◌, length, take, drop, get_or, sym, ap, ◌∙◌, append-nil, append_assoc, arith}
-use Rattle.std.proofs.lemmas.List.{take-append-drop, drop-drop, length-take-le, length-drop}
+use Rattle.std.proofs.Common.{◌≡◌, ℕ, ◌+◌, ◌*◌, List, ◌∷◌, ◌++◌, length, take, drop, get_or, sym, ap, ◌∙◌, append-nil, arith}
+use Rattle.std.proofs.lemmas.List.{length-take-le, length-drop}
 use Rattle.rtr_base.specs.declared.payload.Action.{Action}
 use Rattle.rtr_base.specs.declared.payload.Action.TheVariants.{Announce, Withdraw}
 use Rattle.rtr_base.specs.Actions.{act, flags_of}
 use Rattle.rtr_base.specs.Bytes.{be, value}
 use Rattle.rtr_base.proofs.Numbers.{be-value, length-words, IsBytes-take, IsBytes-drop}
 use Rattle.rtr_units.specs.Header.{version_field}
-use Rattle.rtr_payload.specs.Places.{key_fields, aspa_fields, words_of}
-use Rattle.rtr_payload.specs.Units.{providers, HasFields, unit_list, named, meaning, form, form_of}
+use Rattle.rtr_payload.specs.KeyUnits.{key_at}
+use Rattle.rtr_payload.specs.Units.{key_unit, aspa_unit}
+use Rattle.rtr_payload.specs.AspaUnits.{AspaFields, aspa_list, aspa_at, meant_aspa}
+use Rattle.rtr_payload.specs.Providers.{words_of}
+use Rattle.rtr_payload.specs.Units.{HasFields, meaning, form, form_of}
 use Rattle.rtr_payload.specs.Values.{origin_of}
 use Rattle.rtr_payload.proofs.FieldsRead.{key_has, aspa_has}
 use Rattle.rtr_views.specs.Origins.{origin_meaning}
 use Rattle.rtr_views.specs.Wholes.{IsWholeKey, IsWholeAspa}
 use Rattle.rtr_views.specs.declared.origin.OriginView.{OriginView}
 
-pub whole_key : (u : List ℕ) → IsWholeKey u → HasFields u (key_fields u)
+pub whole_key : (u : List ℕ) → IsWholeKey u → HasFields u (key_unit (key_at u))
 whole_key u h = key_has u h.are_bytes h.least h.most h.kind h.field
 
-pub whole_aspa : (u : List ℕ) → IsWholeAspa u → HasFields u (aspa_fields u)
+pub whole_aspa : (u : List ℕ) → IsWholeAspa u → HasFields u (aspa_unit (aspa_at u))
 whole_aspa u h = aspa_has u h.are_bytes h.least h.most h.fours h.named h.kind h.field
 
 -- the form of a key, by its header and what follows it
 pub key_form : (u rest : List ℕ) (v : ℕ) (a : Action) → IsWholeKey u → v ≡ version_field u → a ≡ act (get_or u 2 0) → rest ≡ drop 8 u
-    → (v ∷ 9 ∷ flags_of a ∷ 0 ∷ be (8 + length rest) 4) ++ rest ≡ form_of (meaning (key_fields u))
+    → (v ∷ 9 ∷ flags_of a ∷ 0 ∷ be (8 + length rest) 4) ++ rest ≡ form_of (meaning (key_unit (key_at u)))
 key_form u rest v a h ev ea er =
     let has = whole_key u h in
     let front = λ (n : ℕ). version_field u ∷ 9 ∷ flags_of (act (get_or u 2 0)) ∷ 0 ∷ be n 4 in
@@ -35,10 +38,10 @@ key_form u rest v a h ev ea er =
 -- ---- ASPA units
 
 -- the providers count by the action
-by_action : (u : List ℕ) (a : Action) → act (get_or u 2 0) ≡ a → form_of (meaning (aspa_fields u)) ≡ unit_list (providers (version_field u) (flags_of a) 0 (value (take 4 (drop 8 u))) (named a (words_of (drop 12 u))))
-by_action u a e = ap (λ b. unit_list (providers (version_field u) (flags_of b) 0 (value (take 4 (drop 8 u))) (named b (words_of (drop 12 u))))) e
+by_action : (u : List ℕ) (a : Action) → act (get_or u 2 0) ≡ a → form_of (meaning (aspa_unit (aspa_at u))) ≡ aspa_list (record { version = version_field u; flags = flags_of a; free = 0; aspa = meant_aspa a (aspa_at u).aspa })
+by_action u a e = ap (λ b. let written : AspaFields = record { version = version_field u; flags = flags_of b; free = 0; aspa = meant_aspa b (aspa_at u).aspa } in aspa_list written) e
 
-announced_form : (u : List ℕ) → IsWholeAspa u → act (get_or u 2 0) ≡ Announce → (version_field u ∷ 11 ∷ 1 ∷ 0 ∷ be (8 + length (drop 8 u)) 4) ++ drop 8 u ≡ form_of (meaning (aspa_fields u))
+announced_form : (u : List ℕ) → IsWholeAspa u → act (get_or u 2 0) ≡ Announce → (version_field u ∷ 11 ∷ 1 ∷ 0 ∷ be (8 + length (drop 8 u)) 4) ++ drop 8 u ≡ form_of (meaning (aspa_unit (aspa_at u)))
 announced_form u h e =
     let has = whole_aspa u h in
     let ps = words_of (drop 12 u) in
@@ -49,7 +52,7 @@ announced_form u h e =
     ∙ ap (λ (l : List ℕ). front (12 + 4 * length ps) ++ l) (ap (drop 8) has.bytes)
     ∙ sym (by_action u Announce e)
 
-withdrawn_form : (u : List ℕ) → IsWholeAspa u → act (get_or u 2 0) ≡ Withdraw → (version_field u ∷ 11 ∷ 0 ∷ 0 ∷ be (8 + length (take 4 (drop 8 u))) 4) ++ take 4 (drop 8 u) ≡ form_of (meaning (aspa_fields u))
+withdrawn_form : (u : List ℕ) → IsWholeAspa u → act (get_or u 2 0) ≡ Withdraw → (version_field u ∷ 11 ∷ 0 ∷ 0 ∷ be (8 + length (take 4 (drop 8 u))) 4) ++ take 4 (drop 8 u) ≡ form_of (meaning (aspa_unit (aspa_at u)))
 withdrawn_form u h e =
     let whole : length (take 4 (drop 8 u)) ≡ 4 = length-take-le 4 (drop 8 u) (omega (arith, length-drop 8 u, h.least)) in
     let customer : be (value (take 4 (drop 8 u))) 4 ≡ take 4 (drop 8 u) = be-value (take 4 (drop 8 u)) 4 (IsBytes-take 4 (drop 8 u) (IsBytes-drop 8 u h.are_bytes)) whole in
@@ -64,7 +67,7 @@ kept_rest Withdraw u = take 4 (drop 8 u)
 
 -- the form of an ASPA unit, by its header and what follows it
 pub aspa_form : (u rest : List ℕ) (v : ℕ) (a : Action) → IsWholeAspa u → v ≡ version_field u → a ≡ act (get_or u 2 0) → rest ≡ kept_rest a u
-    → (v ∷ 11 ∷ flags_of a ∷ 0 ∷ be (8 + length rest) 4) ++ rest ≡ form_of (meaning (aspa_fields u))
+    → (v ∷ 11 ∷ flags_of a ∷ 0 ∷ be (8 + length rest) 4) ++ rest ≡ form_of (meaning (aspa_unit (aspa_at u)))
 aspa_form u rest v Announce h ev ea er = (λ i. (ev i ∷ 11 ∷ 1 ∷ 0 ∷ be (8 + length (er i)) 4) ++ er i) ∙ announced_form u h (sym ea)
 aspa_form u rest v Withdraw h ev ea er = (λ i. (ev i ∷ 11 ∷ 0 ∷ 0 ∷ be (8 + length (er i)) 4) ++ er i) ∙ withdrawn_form u h (sym ea)
 

@@ -6,14 +6,18 @@ use Rattle.rtr_base.specs.Addresses.{Family, v4, v6}
 use Rattle.rtr_base.specs.Bytes.{IsBytes}
 use Rattle.rtr_base.proofs.Numbers.{IsBytes-take}
 use Rattle.rtr_units.specs.Causes.{Refusal, unit_type, unit_version, too_long, unit_length, empty_providers, refused}
-use Rattle.rtr_units.specs.FixedUnits.{prefix_type, prefix_size}
+use Rattle.rtr_units.specs.PrefixUnits.{prefix_type, prefix_size}
 use Rattle.rtr_units.specs.Header.{version_field, type_field, length_field}
 use Rattle.rtr_units.specs.End.{End, untimed_meaning, timed_meaning}
 use Rattle.rtr_units.proofs.EndUnits.{end_with_timing}
 use Rattle.rtr_units.proofs.EndsRead.{untimed_has}
 use Rattle.rtr_units.proofs.Headers.{same_header}
-use Rattle.rtr_payload.specs.Places.{prefix_fields, key_fields, aspa_fields}
-use Rattle.rtr_payload.specs.Steps.{PrefixFault, first_fault, first_of, first_unit, header_fault, header_step, length_step, lengths_fault, rule_of, refusal_report}
+use Rattle.rtr_units.specs.PrefixUnits.{prefix_at}
+use Rattle.rtr_payload.specs.declared.prefix_rule.PrefixRule.{PrefixRule}
+use Rattle.rtr_payload.specs.Units.{prefix_unit, key_unit, aspa_unit}
+use Rattle.rtr_payload.specs.KeyUnits.{key_at}
+use Rattle.rtr_payload.specs.AspaUnits.{aspa_at}
+use Rattle.rtr_payload.specs.Steps.{first_fault, first_of, first_unit, header_fault, header_step, length_step, lengths_fault, rule_of, refusal_report}
 use Rattle.rtr_payload.specs.Units.{HasFields}
 use Rattle.rtr_payload.proofs.FieldsRead.{prefix_has}
 use Rattle.rtr_payload.proofs.Frames.{behind_header, eleven_in_order}
@@ -63,15 +67,15 @@ unfolding header_fault
 prefix_in_order v4 v g n h = grind (arith, nat_tests)
 prefix_in_order v6 v g n h = grind (arith, nat_tests)
 
-pub prefix_front : (f : Family) (r u : List ℕ) → IsBytes r → type_field r ≡ prefix_type f → length_field r ≡ prefix_size f → IsFirstUnit r u → HasFields u (prefix_fields f u)
+pub prefix_front : (f : Family) (r u : List ℕ) → IsBytes r → type_field r ≡ prefix_type f → length_field r ≡ prefix_size f → IsFirstUnit r u → HasFields u (prefix_unit (prefix_at f u))
 prefix_front f r u h kind field is =
     prefix_has f u (rw is.cut (IsBytes-take (length_field r) r h)) (is.size ∙ field) (is.kind ∙ kind) (is.field ∙ field)
 
 -- the prefix at the front breaks its rule
-pub prefix_broken : (f : Family) (r u : List ℕ) (fault : PrefixFault) → HasFields u (prefix_fields f u) → IsFirstUnit r u → rule_of (prefix_fields f u) ≡ Some fault → first_fault r ≡ Some (refused (refusal_report (first_unit r) fault))
+pub prefix_broken : (f : Family) (r u : List ℕ) (fault : PrefixRule) → HasFields u (prefix_unit (prefix_at f u)) → IsFirstUnit r u → rule_of (prefix_unit (prefix_at f u)) ≡ Some fault → first_fault r ≡ Some (refused (refusal_report (first_unit r) fault))
 prefix_broken f r u fault shape is broken =
     let all : u ++ drop (length_field r) r ≡ r = ap (λ l. l ++ drop (length_field r) r) is.cut ∙ take-append-drop (length_field r) r in
-    sym (ap first_fault all) ∙ (prefix_refused u (prefix_fields f u) fault shape broken (drop (length_field r) r)).0 ∙ ap (λ l. Some (refused (refusal_report l fault))) is.cut
+    sym (ap first_fault all) ∙ (prefix_refused u (prefix_unit (prefix_at f u)) fault shape broken (drop (length_field r) r)).0 ∙ ap (λ l. Some (refused (refusal_report l fault))) is.cut
 
 -- ---- ends of data
 
@@ -121,11 +125,11 @@ end_front_1 r u h kind small later field is =
 unit_at : (r u w : List ℕ) → IsFirstUnit r u → w ≡ u → u ≡ take (length w) r
 unit_at r u w is same = is.cut ∙ ap (λ (n : ℕ). take n r) (sym is.size ∙ ap length (sym same))
 
-pub key_viewed : (r u w : List ℕ) → IsFirstUnit r u → IsWholeKey u → w ≡ u → (u ≡ take (length w) r) × HasFields (take (length w) r) (key_fields (take (length w) r))
-key_viewed r u w is whole same = let e = unit_at r u w is same in (e, subst (λ l. HasFields l (key_fields l)) e (whole_key u whole))
+pub key_viewed : (r u w : List ℕ) → IsFirstUnit r u → IsWholeKey u → w ≡ u → (u ≡ take (length w) r) × HasFields (take (length w) r) (key_unit (key_at (take (length w) r)))
+key_viewed r u w is whole same = let e = unit_at r u w is same in (e, subst (λ l. HasFields l (key_unit (key_at l))) e (whole_key u whole))
 
-pub aspa_viewed : (r u w : List ℕ) → IsFirstUnit r u → IsWholeAspa u → w ≡ u → (u ≡ take (length w) r) × HasFields (take (length w) r) (aspa_fields (take (length w) r))
-aspa_viewed r u w is whole same = let e = unit_at r u w is same in (e, subst (λ l. HasFields l (aspa_fields l)) e (whole_aspa u whole))
+pub aspa_viewed : (r u w : List ℕ) → IsFirstUnit r u → IsWholeAspa u → w ≡ u → (u ≡ take (length w) r) × HasFields (take (length w) r) (aspa_unit (aspa_at (take (length w) r)))
+aspa_viewed r u w is whole same = let e = unit_at r u w is same in (e, subst (λ l. HasFields l (aspa_unit (aspa_at l))) e (whole_aspa u whole))
 
 -- ---- ASPA units
 

@@ -2,7 +2,6 @@
 use Rattle.std.specs.Prelude.{◌≡◌, ℕ, ◌<◌, Bool, true, false, List, ◌++◌, length, Option, Some, Result, Err, MatchResult, ⊤}
 use Rattle.std.specs.Io.KnownBytes.{Appends}
 use Rattle.rtr_units.specs.Causes.{short, unit_type, unit_version, too_long, unit_length, empty_providers, refused}
-use Rattle.rtr_payload.specs.PrefixRules.{fault_of}
 use Rattle.rtr_payload.specs.Steps.{first_fault, first_unit, refusal_report}
 use Rattle.rtr_views.specs.declared.fault.ViewFault.{ViewFault}
 use Rattle.rtr_views.specs.declared.fault.ViewFault.TheVariants.{Writer, Short, UnitType, UnitLength, TooLong, EmptyProviders, UnitVersion, Prefix, TooMany}
@@ -18,7 +17,7 @@ IsFirstFault r TooLong = first_fault r ≡ Some too_long
 IsFirstFault r EmptyProviders = first_fault r ≡ Some empty_providers
 IsFirstFault r (UnitVersion v) = first_fault r ≡ Some (unit_version v)
 IsFirstFault r (Prefix rule) =
-    first_fault r ≡ Some (refused (refusal_report (first_unit r) (fault_of rule)))
+    first_fault r ≡ Some (refused (refusal_report (first_unit r) rule))
 IsFirstFault r TooMany = ⊥
 
 -- whether the writer gave the fault

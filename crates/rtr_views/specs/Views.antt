@@ -4,8 +4,9 @@ use Rattle.rtr_base.specs.Addresses.{Family}
 use Rattle.rtr_units.specs.End.{End}
 use Rattle.rtr_units.specs.Ends.{end_bytes, end_meaning}
 use Rattle.rtr_payload.specs.Payloads.{Meaning}
-use Rattle.rtr_payload.specs.Places.{key_fields, aspa_fields}
-use Rattle.rtr_payload.specs.Units.{HasFields, meaning, form_of}
+use Rattle.rtr_payload.specs.AspaUnits.{aspa_at}
+use Rattle.rtr_payload.specs.KeyUnits.{key_at}
+use Rattle.rtr_payload.specs.Units.{key_unit, aspa_unit, HasFields, meaning, form_of}
 use Rattle.rtr_views.specs.Origins.{IsOriginOf, origin_meaning}
 use Rattle.rtr_views.specs.declared.view.UnitView.{UnitView}
 use Rattle.rtr_views.specs.declared.view.UnitView.TheVariants as views
@@ -14,21 +15,21 @@ use Rattle.rtr_views.specs.declared.view.UnitView.TheVariants as views
 -- ASPA unit is its bytes, as they stand in the input, and shows the fields at their places.
 abbrev pub IsViewOf : UnitView → List ℕ → Type 0
 IsViewOf (views.Origin v) b = (f : Family) × IsOriginOf f v b
-IsViewOf (views.RouterKey v) b = (v.unit.now ≡ b) × HasFields b (key_fields b)
-IsViewOf (views.Aspa v) b = (v.unit.now ≡ b) × HasFields b (aspa_fields b)
+IsViewOf (views.RouterKey v) b = (v.unit.now ≡ b) × HasFields b (key_unit (key_at b))
+IsViewOf (views.Aspa v) b = (v.unit.now ≡ b) × HasFields b (aspa_unit (aspa_at b))
 IsViewOf (views.End e) b = (end_bytes e ≡ b) × End b (end_meaning e)
 
 -- what is viewed is a payload unit, and means this
 abbrev pub ViewMeans : UnitView → Meaning → Type 0
 ViewMeans (views.Origin v) m = m ≡ origin_meaning v
-ViewMeans (views.RouterKey v) m = m ≡ meaning (key_fields v.unit.now)
-ViewMeans (views.Aspa v) m = m ≡ meaning (aspa_fields v.unit.now)
+ViewMeans (views.RouterKey v) m = m ≡ meaning (key_unit (key_at v.unit.now))
+ViewMeans (views.Aspa v) m = m ≡ meaning (aspa_unit (aspa_at v.unit.now))
 ViewMeans (views.End e) m = ⊥
 
 -- the written form of what is viewed: of a payload unit that of its meaning, and of an end of data
 -- its bytes
 abbrev pub view_form : UnitView → List ℕ
 view_form (views.Origin v) = form_of (origin_meaning v)
-view_form (views.RouterKey v) = form_of (meaning (key_fields v.unit.now))
-view_form (views.Aspa v) = form_of (meaning (aspa_fields v.unit.now))
+view_form (views.RouterKey v) = form_of (meaning (key_unit (key_at v.unit.now)))
+view_form (views.Aspa v) = form_of (meaning (aspa_unit (aspa_at v.unit.now)))
 view_form (views.End e) = end_bytes e

@@ -1,12 +1,11 @@
 //! Views of ASPA units (as in the Rust crate).
 
-ghost use Rattle.std.specs.Prelude.{◌≡◌, ◌≤◌, length, take, drop, slice_index};
+ghost use Rattle.std.specs.Prelude.{◌≡◌, ◌≤◌, length, take, drop};
 ghost use Rattle.std.specs.Prelude.{IfOk, IfErr, not};
-ghost use Rattle.rtr_base.specs.Bytes.{value};
 ghost use Rattle.rtr_units.specs.Header.{version_field, type_field};
 ghost use Rattle.rtr_units.specs.Stream.{count_after};
-ghost use Rattle.rtr_payload.specs.Places.{aspa_fields};
-ghost use Rattle.rtr_payload.specs.Units.{meaning, form_of};
+ghost use Rattle.rtr_payload.specs.AspaUnits.{aspa_at};
+ghost use Rattle.rtr_payload.specs.Units.{aspa_unit, meaning, form_of};
 ghost use Rattle.rtr_views.specs.Wholes.{IsFirstUnit, IsWholeAspa};
 ghost use Rattle.rtr_views.specs.Faults.{IsFirstFault, PutsPiece, is_view_writer_fault};
 
@@ -20,12 +19,12 @@ use rtr_units::numbers::u32_at;
 use rtr_units::source::Sink;
 
 /// The bytes of an ASPA unit before its providers.
-const FIXED: usize = 12;
+pub(crate) const FIXED: usize = 12;
 
 /// An ASPA unit that lies in a slice.
 #[derive(Clone, Copy, Debug)]
 pub struct AspaView<'a> {
-    unit: &'a [u8],
+    pub(crate) unit: &'a [u8],
     ghost whole: { IsWholeAspa unit.now },
 }
 
@@ -41,7 +40,7 @@ impl<'a> AspaView<'a> {
     /// The flags, of which the lowest bit says whether the ASPA is announced.
     #[inline(always)]
     pub fn flags(&self) -> u8
-        ensures { result ≡ slice_index self.now.unit.now 2 }
+        ensures { result ≡ (aspa_at self.now.unit.now).flags }
     {
         self.unit[2]
     }
@@ -49,7 +48,7 @@ impl<'a> AspaView<'a> {
     /// The customer: the autonomous system whose providers these are.
     #[inline(always)]
     pub fn customer(&self) -> Asn
-        ensures { result ≡ value (take 4 (drop 8 self.now.unit.now)) }
+        ensures { result ≡ (aspa_at self.now.unit.now).aspa.customer }
     {
         Asn::from_u32(u32_at(self.unit, 8))
     }
@@ -100,7 +99,7 @@ impl<'a> AspaView<'a> {
     #[inline(always)]
     pub(crate) fn write_form<W: Sink>(&self, writer: &mut W) -> Result<(), ViewFault>
         ensures bytes { PutsPiece result (W.contents writer.old) (W.contents writer.new)
-            (form_of (meaning (aspa_fields self.now.unit.now))) }
+            (form_of (meaning (aspa_unit (aspa_at self.now.unit.now)))) }
         ensures count { W.failures writer.new
             ≡ count_after (W.failures writer.old) (not (is_view_writer_fault result)) }
     {

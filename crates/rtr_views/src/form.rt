@@ -30,7 +30,7 @@ pub fn put_piece<W: Sink>(writer: &mut W, piece: &[u8]) -> Result<(), ViewFault>
 
 /// The header of a router key or an ASPA unit, which holds flags where others have a session.
 #[inline(always)]
-fn flagged_header(version: u8, pdu: u8, action: Action, size: u32) -> [u8; 8]
+pub fn flagged_header(version: u8, pdu: u8, action: Action, size: u32) -> [u8; 8]
     ensures { result ≡ version ∷ pdu ∷ flags_of action ∷ 0 ∷ be size 4 }
 {
     let mut header = [0; 8];
@@ -39,8 +39,8 @@ fn flagged_header(version: u8, pdu: u8, action: Action, size: u32) -> [u8; 8]
     header
 }
 
-/// Writes a router key or an ASPA unit: a header that is made of the fields, and then `rest`, which
-/// is what follows the header.
+/// Writes a router key or an ASPA unit: a header that is made of the fields, and then what follows
+/// it, `rest`.
 #[inline(always)]
 pub fn put_flagged<W: Sink>(
     writer: &mut W,

@@ -8,5 +8,6 @@ pub mod fault;
 mod form;
 pub mod laws;
 pub mod origin;
+pub mod placing;
 pub mod router_key;
 pub mod view;

@@ -4,10 +4,9 @@ ghost use Rattle.std.specs.Prelude.{◌≡◌, ◌≤◌, Some, length, IfOk, If
 ghost use Rattle.rtr_base.specs.Addresses.{v4, v6};
 ghost use Rattle.rtr_units.specs.Header.{type_field, length_field};
 ghost use Rattle.rtr_units.specs.Stream.{count_after};
-ghost use Rattle.rtr_payload.specs.Places.{prefix_fields};
-ghost use Rattle.rtr_payload.specs.PrefixRules.{fault_of};
+ghost use Rattle.rtr_units.specs.PrefixUnits.{prefix_at};
 ghost use Rattle.rtr_payload.specs.Steps.{first_unit, rule_of};
-ghost use Rattle.rtr_payload.specs.Units.{LengthsAgree, form_of};
+ghost use Rattle.rtr_payload.specs.Units.{prefix_unit, LengthsAgree, form_of};
 ghost use Rattle.rtr_views.specs.Faults.{IsFirstFault, PutsPiece, is_view_writer_fault};
 ghost use Rattle.rtr_views.specs.Origins.{IsOriginOf, ShowsOrigin, origin_meaning};
 
@@ -105,9 +104,9 @@ impl OriginView {
     #[inline(always)]
     fn of_ipv4(unit: &[u8]) -> Result<Self, PrefixRule>
         requires { length unit.now ≡ 20 }
-        ensures view { IfOk result (λ v. ShowsOrigin v (prefix_fields v4 unit.now)) }
-        ensures lengths { IfOk result (λ _. LengthsAgree (prefix_fields v4 unit.now)) }
-        ensures rule { IfErr result (λ r. rule_of (prefix_fields v4 unit.now) ≡ Some (fault_of r)) }
+        ensures view { IfOk result (λ v. ShowsOrigin v (prefix_at v4 unit.now)) }
+        ensures lengths { IfOk result (λ _. LengthsAgree (prefix_unit (prefix_at v4 unit.now))) }
+        ensures rule { IfErr result (λ r. rule_of (prefix_unit (prefix_at v4 unit.now)) ≡ Some r) }
     {
         match ipv4_prefix(u32_at(unit, 12), unit[9], unit[10]) {
             Ok(prefix) => Ok(OriginView {
@@ -123,9 +122,9 @@ impl OriginView {
     #[inline(always)]
     fn of_ipv6(unit: &[u8]) -> Result<Self, PrefixRule>
         requires { length unit.now ≡ 32 }
-        ensures view { IfOk result (λ v. ShowsOrigin v (prefix_fields v6 unit.now)) }
-        ensures lengths { IfOk result (λ _. LengthsAgree (prefix_fields v6 unit.now)) }
-        ensures rule { IfErr result (λ r. rule_of (prefix_fields v6 unit.now) ≡ Some (fault_of r)) }
+        ensures view { IfOk result (λ v. ShowsOrigin v (prefix_at v6 unit.now)) }
+        ensures lengths { IfOk result (λ _. LengthsAgree (prefix_unit (prefix_at v6 unit.now))) }
+        ensures rule { IfErr result (λ r. rule_of (prefix_unit (prefix_at v6 unit.now)) ≡ Some r) }
     {
         match ipv6_prefix(u128_at(unit, 12), unit[9], unit[10]) {
             Ok(prefix) => Ok(OriginView {

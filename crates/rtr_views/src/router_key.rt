@@ -1,12 +1,11 @@
 //! Views of router keys (RFC 8210 section 5.10).
 
-ghost use Rattle.std.specs.Prelude.{◌≡◌, ◌≤◌, length, take, drop, slice_index};
+ghost use Rattle.std.specs.Prelude.{◌≡◌, ◌≤◌, length, take, drop};
 ghost use Rattle.std.specs.Prelude.{IfOk, IfErr, not};
-ghost use Rattle.rtr_base.specs.Bytes.{value};
 ghost use Rattle.rtr_units.specs.Header.{version_field, type_field};
 ghost use Rattle.rtr_units.specs.Stream.{count_after};
-ghost use Rattle.rtr_payload.specs.Places.{key_fields};
-ghost use Rattle.rtr_payload.specs.Units.{meaning, form_of};
+ghost use Rattle.rtr_payload.specs.KeyUnits.{key_at};
+ghost use Rattle.rtr_payload.specs.Units.{key_unit, meaning, form_of};
 ghost use Rattle.rtr_views.specs.Wholes.{IsFirstUnit, IsWholeKey};
 ghost use Rattle.rtr_views.specs.Faults.{IsFirstFault, PutsPiece, is_view_writer_fault};
 
@@ -25,7 +24,7 @@ const FIXED: usize = 32;
 /// A router key that lies in a slice.
 #[derive(Clone, Copy, Debug)]
 pub struct RouterKeyView<'a> {
-    unit: &'a [u8],
+    pub(crate) unit: &'a [u8],
     ghost whole: { IsWholeKey unit.now },
 }
 
@@ -41,7 +40,7 @@ impl<'a> RouterKeyView<'a> {
     /// The flags, of which the lowest bit says whether the key is announced.
     #[inline(always)]
     pub fn flags(&self) -> u8
-        ensures { result ≡ slice_index self.now.unit.now 2 }
+        ensures { result ≡ (key_at self.now.unit.now).flags }
     {
         self.unit[2]
     }
@@ -49,7 +48,7 @@ impl<'a> RouterKeyView<'a> {
     /// The subject key identifier.
     #[inline(always)]
     pub fn key_identifier(&self) -> [u8; 20]
-        ensures { result ≡ take 20 (drop 8 self.now.unit.now) }
+        ensures { result ≡ (key_at self.now.unit.now).key.identifier }
     {
         let mut identifier = [0; 20];
         identifier.copy_from_slice(&self.unit[8..28]);
@@ -59,7 +58,7 @@ impl<'a> RouterKeyView<'a> {
     /// The autonomous system that the key belongs to.
     #[inline(always)]
     pub fn asn(&self) -> Asn
-        ensures { result ≡ value (take 4 (drop 28 self.now.unit.now)) }
+        ensures { result ≡ (key_at self.now.unit.now).key.asn }
     {
         Asn::from_u32(u32_at(self.unit, 28))
     }
@@ -67,7 +66,7 @@ impl<'a> RouterKeyView<'a> {
     /// The key info, as it stands in the input.
     #[inline(always)]
     pub fn key_info(&self) -> &'a [u8]
-        ensures { result.now ≡ drop 32 self.now.unit.now }
+        ensures { result.now ≡ (key_at self.now.unit.now).key.info }
     {
         let (_, key_info) = self.unit.split_at(32);
         key_info
@@ -107,7 +106,7 @@ impl<'a> RouterKeyView<'a> {
     #[inline(always)]
     pub(crate) fn write_form<W: Sink>(&self, writer: &mut W) -> Result<(), ViewFault>
         ensures bytes { PutsPiece result (W.contents writer.old) (W.contents writer.new)
-            (form_of (meaning (key_fields self.now.unit.now))) }
+            (form_of (meaning (key_unit (key_at self.now.unit.now)))) }
         ensures count { W.failures writer.new
             ≡ count_after (W.failures writer.old) (not (is_view_writer_fault result)) }
     {

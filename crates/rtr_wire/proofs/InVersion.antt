@@ -7,7 +7,7 @@ use Rattle.rtr_base.proofs.Numbers.{IsBytes-cons}
 use Rattle.rtr_units.specs.End.{EndMeaning, end_list}
 use Rattle.rtr_units.proofs.Ends.{end_made}
 use Rattle.rtr_payload.specs.Payloads.{Meaning, smallest_version}
-use Rattle.rtr_payload.specs.Units.{Fields, prefix, router_key, providers, unit_list, HasFields, LengthsAgree, IsUnit, meaning, form_of}
+use Rattle.rtr_payload.specs.Units.{Fields, prefix_unit, key_unit, aspa_unit, unit_list, HasFields, LengthsAgree, IsUnit, meaning, form_of}
 use Rattle.rtr_payload.proofs.Fields.{form_is_unit}
 use Rattle.rtr_wire.specs.Run.{Run}
 use Rattle.rtr_wire.specs.Sequences.{AreUnits, IsSequence, everything, for_version, forms, sequence_form, in_version, units_for, end_for}
@@ -21,29 +21,29 @@ module _ (v : ℕ) (byte : v < 256) (b : List ℕ) (m : Meaning) where
   byte_first w rest is all = let known = subst (λ l. IsBytes l) is all in IsBytes-cons v rest byte (λ i. known (suc i))
 
   by_fields : (u : Fields) → HasFields b u → LengthsAgree u → m ≡ meaning u → (c : List ℕ) × IsUnit c (in_version v m)
-  by_fields (prefix f w s g l x z a n) shape agree is = (
-    unit_list (prefix f v s g l x z a n),
+  by_fields (prefix_unit u) shape agree is = (
+    unit_list (prefix_unit (record u { version = v })),
     record {
-      fields = prefix f v s g l x z a n;
-      shape = record { fits = shape.fits; limits = shape.limits; bytes = refl; are_bytes = byte_first w _ shape.bytes shape.are_bytes };
+      fields = prefix_unit (record u { version = v });
+      shape = record { fits = shape.fits; limits = shape.limits; bytes = refl; are_bytes = byte_first u.version _ shape.bytes shape.are_bytes };
       lengths = agree;
       means = ap (in_version v) is;
     },
   )
-  by_fields (router_key w g z i n k) shape agree is = (
-    unit_list (router_key v g z i n k),
+  by_fields (key_unit u) shape agree is = (
+    unit_list (key_unit (record u { version = v })),
     record {
-      fields = router_key v g z i n k;
-      shape = record { fits = shape.fits; limits = shape.limits; bytes = refl; are_bytes = byte_first w _ shape.bytes shape.are_bytes };
+      fields = key_unit (record u { version = v });
+      shape = record { fits = shape.fits; limits = shape.limits; bytes = refl; are_bytes = byte_first u.version _ shape.bytes shape.are_bytes };
       lengths = agree;
       means = ap (in_version v) is;
     },
   )
-  by_fields (providers w g z c ps) shape agree is = (
-    unit_list (providers v g z c ps),
+  by_fields (aspa_unit u) shape agree is = (
+    unit_list (aspa_unit (record u { version = v })),
     record {
-      fields = providers v g z c ps;
-      shape = record { fits = shape.fits; limits = shape.limits; bytes = refl; are_bytes = byte_first w _ shape.bytes shape.are_bytes };
+      fields = aspa_unit (record u { version = v });
+      shape = record { fits = shape.fits; limits = shape.limits; bytes = refl; are_bytes = byte_first u.version _ shape.bytes shape.are_bytes };
       lengths = agree;
       means = ap (in_version v) is;
     },

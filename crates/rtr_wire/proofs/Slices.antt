@@ -10,8 +10,9 @@ use Rattle.rtr_units.specs.Causes.{Refusal, short, unit_type, unit_version, too_
 use Rattle.rtr_units.specs.Ends.{end_meaning}
 use Rattle.rtr_units.specs.Stream.{count_after}
 use Rattle.rtr_payload.specs.Payloads.{Meaning}
-use Rattle.rtr_payload.specs.Places.{key_fields, aspa_fields}
-use Rattle.rtr_payload.specs.PrefixRules.{fault_of}
+use Rattle.rtr_payload.specs.KeyUnits.{key_at}
+use Rattle.rtr_payload.specs.Units.{key_unit, aspa_unit}
+use Rattle.rtr_payload.specs.AspaUnits.{aspa_at}
 use Rattle.rtr_payload.specs.Steps.{first_fault, first_unit, refusal_report, taken}
 use Rattle.rtr_payload.specs.Units.{meaning, form_of}
 use Rattle.rtr_views.specs.Faults.{IsFirstFault, WritesPiecePart, is_view_writer_fault}
@@ -40,15 +41,15 @@ unit_step v m r b left held holds is means parts wrote = (b, view_form v, parts,
 
 pub view_step : (v : UnitView) (r b left : List ℕ) (held holds : Option (List ℕ)) → IsViewOf v b → r ≡ b ++ left → Appends held holds (view_form v) → Steps everything (Ok (passed (is_payload_unit v))) (Some r) (Some left) held holds
 view_step (views.Origin v) r b left held holds is parts wrote = unit_step (views.Origin v) (origin_meaning v) r b left held holds is refl parts wrote
-view_step (views.RouterKey v) r b left held holds is parts wrote = unit_step (views.RouterKey v) (meaning (key_fields v.unit.now)) r b left held holds is refl parts wrote
-view_step (views.Aspa v) r b left held holds is parts wrote = unit_step (views.Aspa v) (meaning (aspa_fields v.unit.now)) r b left held holds is refl parts wrote
+view_step (views.RouterKey v) r b left held holds is parts wrote = unit_step (views.RouterKey v) (meaning (key_unit (key_at v.unit.now))) r b left held holds is refl parts wrote
+view_step (views.Aspa v) r b left held holds is parts wrote = unit_step (views.Aspa v) (meaning (aspa_unit (aspa_at v.unit.now))) r b left held holds is refl parts wrote
 view_step (views.End e) r b left held holds (is, end) parts wrote = (b, view_form (views.End e), parts, wrote, (end_meaning e, end, is ∙ end.bytes))
 
 -- a part of the form was written
 part_of_view : (v : UnitView) (b t others : List ℕ) → IsViewOf v b → view_form v ≡ t ++ others → 0 < length others → IsPartOfForm everything b t
 part_of_view (views.Origin v) b t others is e some = let m = origin_meaning v in inl (m, view_means (views.Origin v) b m is refl, (others, append-nil (form_of m) ∙ e, some))
-part_of_view (views.RouterKey v) b t others is e some = let m = meaning (key_fields v.unit.now) in inl (m, view_means (views.RouterKey v) b m is refl, (others, append-nil (form_of m) ∙ e, some))
-part_of_view (views.Aspa v) b t others is e some = let m = meaning (aspa_fields v.unit.now) in inl (m, view_means (views.Aspa v) b m is refl, (others, append-nil (form_of m) ∙ e, some))
+part_of_view (views.RouterKey v) b t others is e some = let m = meaning (key_unit (key_at v.unit.now)) in inl (m, view_means (views.RouterKey v) b m is refl, (others, append-nil (form_of m) ∙ e, some))
+part_of_view (views.Aspa v) b t others is e some = let m = meaning (aspa_unit (aspa_at v.unit.now)) in inl (m, view_means (views.Aspa v) b m is refl, (others, append-nil (form_of m) ∙ e, some))
 part_of_view (views.End d) b t others (is, end) e some = inr (end_meaning d, end, (others, sym end.bytes ∙ sym is ∙ e, some))
 
 pub not_written : (v : UnitView) (e : ViewFault) (r b left : List ℕ) (held holds : Option (List ℕ)) → IsViewOf v b → r ≡ b ++ left → WritesPiecePart e held holds (view_form v) → StopsStep e r held holds
@@ -97,8 +98,8 @@ not_viewed TooLong r held h e = let s = stopped_at r too_long h e in (s.last, s.
 not_viewed EmptyProviders r held h e = let s = stopped_at r empty_providers h e in (s.last, s.left, [], s.parts, Appends-nil held, s.ends)
 not_viewed (UnitVersion v) r held h e = let s = stopped_at r (unit_version v) h e in (s.last, s.left, [], s.parts, Appends-nil held, s.ends)
 not_viewed (Prefix rule) r held h e =
-    let s = stopped_at r (refused (refusal_report (first_unit r) (fault_of rule))) h e in
-    (s.last, s.left, [], s.parts, Appends-nil held, subst (λ u. Ends everything (Err (wrong (refused (refusal_report u (fault_of rule))))) s.last s.left []) s.takes s.ends)
+    let s = stopped_at r (refused (refusal_report (first_unit r) rule)) h e in
+    (s.last, s.left, [], s.parts, Appends-nil held, subst (λ u. Ends everything (Err (wrong (refused (refusal_report u rule)))) s.last s.left []) s.takes s.ends)
 not_viewed TooMany r held h e = absurd e
 
 -- ---- the whole run

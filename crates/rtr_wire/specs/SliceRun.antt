@@ -4,7 +4,6 @@ use Rattle.std.specs.Prelude.{◌≡◌, ℕ, Bool, true, false, not, List, ◌+
 use Rattle.std.specs.Io.KnownBytes.{Appends}
 use Rattle.rtr_units.specs.Causes.{short, unit_type, unit_version, too_long, unit_length, empty_providers, refused, Cause, by_writer, too_many, wrong}
 use Rattle.rtr_units.specs.Stream.{count_after}
-use Rattle.rtr_payload.specs.PrefixRules.{fault_of}
 use Rattle.rtr_payload.specs.Steps.{refusal_report}
 use Rattle.rtr_views.specs.Faults.{is_view_writer_fault}
 use Rattle.rtr_views.specs.declared.fault.ViewFault.{ViewFault}
@@ -27,7 +26,7 @@ view_cause u UnitLength = wrong unit_length
 view_cause u TooLong = wrong too_long
 view_cause u EmptyProviders = wrong empty_providers
 view_cause u (UnitVersion v) = wrong (unit_version v)
-view_cause u (Prefix rule) = wrong (refused (refusal_report u (fault_of rule)))
+view_cause u (Prefix rule) = wrong (refused (refusal_report u rule))
 view_cause u TooMany = too_many
 
 -- the answer as one of `normalise`, with each fault by its cause: the number of units alone

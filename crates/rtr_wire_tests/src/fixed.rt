@@ -2,7 +2,9 @@
 
 use crate::expect_equal;
 use rtr_support::bytes;
-use rtr_wire::pdu::{Counted, Header, SerialNotify, SerialQuery, SerialQueryPayload, SliceSource, Unit};
+use rtr_wire::pdu::{
+    Counted, Header, SerialNotify, SerialQuery, SerialQueryPayload, SliceSource, Unit,
+};
 use rtr_wire::state::{Serial, State};
 use std::test::Fail;
 

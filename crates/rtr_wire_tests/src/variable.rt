@@ -3,8 +3,8 @@
 use crate::expect_equal;
 use rtr_support::{IPV4, KEY, bytes};
 use rtr_wire::base::{Asn, KeyIdentifier, MaxLenPrefix, Prefix};
-use rtr_wire::pdu::{Counted, Payload, ProviderAsns, RouterKeyInfo, SliceSource};
 use rtr_wire::payload;
+use rtr_wire::pdu::{Counted, Payload, ProviderAsns, RouterKeyInfo, SliceSource};
 use std::alloc::Global;
 use std::net::Ipv4Addr;
 use std::process::Abort;

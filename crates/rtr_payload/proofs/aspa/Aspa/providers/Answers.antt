@@ -1,7 +1,7 @@
 use Rattle.std.proofs.Common.{sym, ap, ◌∙◌}
 use Rattle.std.proofs.lemmas.List.{drop_at}
 use Rattle.rtr_base.specs.Bytes.{words}
-use Rattle.rtr_payload.specs.Places.{words_of}
+use Rattle.rtr_payload.specs.Providers.{words_of}
 use Rattle.rtr_payload.proofs.FieldsRead.{words_of-words}
 use Rattle.rtr_payload.proofs.aspa.Aspa.providers.Goals as goal
 

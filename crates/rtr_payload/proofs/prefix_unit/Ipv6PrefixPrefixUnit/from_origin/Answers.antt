@@ -1,6 +1,7 @@
 use Rattle.std.proofs.Common.{sym, ap, ◌∙◌, rules}
-use Rattle.rtr_units.specs.Units.{ipv6_bytes}
-use Rattle.rtr_payload.specs.Places.{prefix_fields}
+use Rattle.rtr_units.specs.PrefixUnits.{ipv6_bytes}
+use Rattle.rtr_units.specs.PrefixUnits.{prefix_at}
+use Rattle.rtr_payload.specs.Units.{prefix_unit}
 use Rattle.rtr_payload.specs.Values.{origin_of}
 use Rattle.rtr_payload.proofs.FieldsRead.{form_fields, IsOrigin-of}
 use Rattle.rtr_payload.proofs.prefix_unit.Ipv6PrefixPrefixUnit.from_origin.Goals as goal
@@ -9,4 +10,4 @@ pub returns-clause-fields : goal.returns-clause-fields
 returns-clause-fields c =
     let a = c.args in
     let unit = ipv6_bytes c.from_bits.result in
-    ap (λ f. prefix_fields f unit) (sym c.requires) ∙ form_fields unit a.version a.flags (origin_of a.origin) (IsOrigin-of a.origin c.prefix_len-len.ensures.valid c.into_u32-asn.ensures.range) (search rules)
+    ap (λ f. (prefix_unit (prefix_at f unit))) (sym c.requires) ∙ form_fields unit a.version a.flags (origin_of a.origin) (IsOrigin-of a.origin c.prefix_len-len.ensures.valid c.into_u32-asn.ensures.range) (search rules)

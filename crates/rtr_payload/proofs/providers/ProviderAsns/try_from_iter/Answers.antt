@@ -1,6 +1,6 @@
 use Rattle.std.proofs.Common.{ℕ, ◌^◌, ◌<◌, [], ◌∷◌, ◌++◌, length, ap, arith, ◌∙◌, length-append}
 use Rattle.rtr_base.specs.Bytes.{be}
-use Rattle.rtr_payload.specs.Places.{words_of}
+use Rattle.rtr_payload.specs.Providers.{words_of}
 use Rattle.rtr_payload.proofs.ProviderBytes.{provider_push, Yields-more}
 use Rattle.rtr_payload.proofs.providers.ProviderAsns.try_from_iter.Goals as goal
 

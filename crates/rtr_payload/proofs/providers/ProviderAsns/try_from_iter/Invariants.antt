@@ -1,6 +1,6 @@
 use Rattle.std.proofs.Common.{◌≡◌, length}
 use Rattle.std.specs.Iterator.{Yields}
-use Rattle.rtr_payload.specs.Places.{words_of}
+use Rattle.rtr_payload.specs.Providers.{words_of}
 use Rattle.rtr_payload.specs.Providers.{AreProviderBytes}
 use Rattle.rtr_payload.proofs.providers.ProviderAsns.try_from_iter.Given as goal
 

@@ -1,52 +1,54 @@
-use Rattle.std.proofs.Common.{◌≡◌, ◌+◌, ◌<◌, ◌≤◌, ◌++◌, ◌∙◌, ℕ, List, [], length, sym, ap, subst, arith, rules, None, refl}
+use Rattle.std.proofs.Common.{◌≡◌, ◌+◌, ◌<◌, ◌∙◌, [], length, sym, ap, subst, arith, rules, refl}
 use Rattle.std.proofs.KnownBytes.{Consumes-nil}
 use Rattle.std.specs.Vec.{vec_len}
-use Rattle.rtr_units.specs.Causes.{unit_length}
+use Rattle.rtr_units.specs.Causes.{unit_length, cause_of}
 use Rattle.rtr_units.specs.Header.{type_field, length_field}
 use Rattle.rtr_units.specs.Views.{AreBytes, header_bytes}
-use Rattle.rtr_session.specs.Headers.{report_fault}
+use Rattle.rtr_units.proofs.UnitsRead.{at_header}
+use Rattle.rtr_session.specs.Headers.{report_unit}
 use Rattle.rtr_session.specs.Reports.{IsReport}
-use Rattle.rtr_session.proofs.Headers.{same_report, refused_after, report_stops}
+use Rattle.rtr_session.proofs.Headers.{report_stops}
 use Rattle.rtr_session.proofs.Reports.{report_in_order, report_too_short, report_read, frame_is}
 use Rattle.rtr_session.proofs.report.Report.read_payload.Goals as goal
 
 pub returns-then-size-lt-MIN_SIZE-clause-bytes : goal.returns-then-size-lt-MIN_SIZE-clause-bytes
 returns-then-size-lt-MIN_SIZE-clause-bytes g c =
     let h = header_bytes c.args.header in
-    let l : length h ≡ 8 = search rules in
-    let kind : type_field h ≡ 10 = sym c.pdu.ensures ∙ c.if-pdu-ne-PDU.false in
-    ([], Consumes-nil _, refused_after report_fault same_report h [] unit_length l (report_too_short h kind (omega (arith, c.length-size.ensures))) refl)
+    let l : length h ≡ 8 = c.pdu.ensures.header.0 in
+    let kind : type_field h ≡ 10 = sym c.pdu.ensures.value ∙ c.if-pdu-ne-PDU.false in
+    ([], Consumes-nil _, at_header report_unit unit_length h l (report_too_short h kind (omega (arith, c.length-size.ensures.value))))
 
 pub invariant_of-result : goal.invariant_of-result
 invariant_of-result g c =
     let h = header_bytes c.args.header in
     let t = c.fill.new.piece in
-    let kind : type_field h ≡ 10 = sym c.pdu.ensures ∙ c.if-pdu-ne-PDU.false in
+    let kind : type_field h ≡ 10 = sym c.pdu.ensures.value ∙ c.if-pdu-ne-PDU.false in
     let lent : AreBytes 8 c.as_ref.result.now = (c.as_ref.ensures.size, c.as_ref.ensures.range) in
     let bytes : AreBytes 8 h = subst (AreBytes 8) c.as_ref.ensures.bytes lent in
     let room : vec_len c.resize.new.self ≡ c.length-size.result = rw c.if-is_err.ensures.negation at c.resize.ensures.len in
     let size : length t + 8 ≡ c.length-size.result = omega (arith, c.fill.auto.piece, c.split_at_mut-front.ensures.back_len, c.as_mut_slice.ensures.len, room) in
     let is = frame_is (vec_len c.resize.new.self) h c.copy_from_slice.new.self t c.resize.new.self.items (c.copy_from_slice.ensures.after ∙ c.as_ref.ensures.bytes) bytes.0 (size ∙ sym room) in
-    subst IsReport (sym is) (report_read h t bytes c.fill.ensures.range kind (omega (arith, c.length-size.ensures)) (omega (arith, c.length-size.ensures)) (size ∙ c.length-size.ensures))
+    subst IsReport (sym is) (report_read h t bytes c.fill.ensures.range kind (omega (arith, c.length-size.ensures.value)) (omega (arith, c.length-size.ensures.value)) (size ∙ c.length-size.ensures.value))
 
 pub returns-in-Ok-clause-bytes : goal.returns-in-Ok-clause-bytes
 returns-in-Ok-clause-bytes g c =
     let h = header_bytes c.args.header in
     let t = c.fill.new.piece in
-    let kind : type_field h ≡ 10 = sym c.pdu.ensures ∙ c.if-pdu-ne-PDU.false in
+    let kind : type_field h ≡ 10 = sym c.pdu.ensures.value ∙ c.if-pdu-ne-PDU.false in
     let lent : AreBytes 8 c.as_ref.result.now = (c.as_ref.ensures.size, c.as_ref.ensures.range) in
     let bytes : AreBytes 8 h = subst (AreBytes 8) c.as_ref.ensures.bytes lent in
     let room : vec_len c.resize.new.self ≡ c.length-size.result = rw c.if-is_err.ensures.negation at c.resize.ensures.len in
     let size : length t + 8 ≡ c.length-size.result = omega (arith, c.fill.auto.piece, c.split_at_mut-front.ensures.back_len, c.as_mut_slice.ensures.len, room) in
     let is = frame_is (vec_len c.resize.new.self) h c.copy_from_slice.new.self t c.resize.new.self.items (c.copy_from_slice.ensures.after ∙ c.as_ref.ensures.bytes) bytes.0 (size ∙ sym room) in
-    ((t, c.in-Ok.ensures.bytes, is), subst IsReport (sym is) (report_read h t bytes c.fill.ensures.range kind (omega (arith, c.length-size.ensures)) (omega (arith, c.length-size.ensures)) (size ∙ c.length-size.ensures)))
+    ((t, c.in-Ok.ensures.bytes, is), subst IsReport (sym is) (report_read h t bytes c.fill.ensures.range kind (omega (arith, c.length-size.ensures.value)) (omega (arith, c.length-size.ensures.value)) (size ∙ c.length-size.ensures.value)))
 
 pub returns-in-Err-clause-bytes : goal.returns-in-Err-clause-bytes
 returns-in-Err-clause-bytes g c =
     let h = header_bytes c.args.header in
-    let (t, taken, less, stop) = c.in-Err.ensures.bytes in
-    let kind : type_field h ≡ 10 = sym c.pdu.ensures ∙ c.if-pdu-ne-PDU.false in
-    let l : length h ≡ 8 = ap length (sym c.as_ref.ensures.bytes) ∙ c.as_ref.ensures.size in
+    let (t, taken, s) = c.in-Err.ensures.bytes in
+    let kind : type_field h ≡ 10 = sym c.pdu.ensures.value ∙ c.if-pdu-ne-PDU.false in
+    let l : length h ≡ 8 = c.pdu.ensures.header.0 in
     let room : vec_len c.resize.new.self ≡ c.length-size.result = rw c.if-is_err.ensures.negation at c.resize.ensures.len in
-    let size : 8 + length t < length_field h = omega (arith, less, c.fill.auto.piece, c.split_at_mut-front.ensures.back_len, c.as_mut_slice.ensures.len, room, c.length-size.ensures) in
-    (t, taken, report_stops h t c.in-Err.e _ l (report_in_order h kind (omega (arith, c.length-size.ensures)) (omega (arith, c.length-size.ensures))) size stop)
+    let size : length_field h ≡ 8 + length c.fill.new.piece = omega (arith, c.fill.auto.piece, c.split_at_mut-front.ensures.back_len, c.as_mut_slice.ensures.len, room, c.length-size.ensures.value) in
+    let order = report_in_order h kind (omega (arith, c.length-size.ensures.value)) (omega (arith, c.length-size.ensures.value)) in
+    (t, taken, report_stops (length c.fill.new.piece) h l order size (cause_of c.in-Err.e) t _ s)

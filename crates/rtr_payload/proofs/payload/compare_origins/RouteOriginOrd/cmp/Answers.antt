@@ -24,7 +24,7 @@ by_prefix p q m n =
     let l = p.prefix in
     let r = q.prefix in
     regrouped (family_cmp l.family r.family) (nat_cmp l.address r.address) (nat_cmp l.len r.len) (nat_cmp (resolved_len p) (resolved_len q)) (nat_cmp m n)
-    ∙ sym (origin_chain l.family r.family l.address r.address l.len r.len (resolved_len p) (resolved_len q) m n)
+    ∙ sym (origin_chain (record { family = l.family; address = l.address; prefix_len = l.len; max_len = resolved_len p; asn = m }) (record { family = r.family; address = r.address; prefix_len = r.len; max_len = resolved_len q; asn = n }))
 
 pub returns : goal.returns
 returns c =

@@ -1,0 +1,179 @@
+/* Payload units and sequences of the RPKI to Router protocol (RFC 6810, RFC 8210), in memory.
+ *
+ * The functions are proved: the contracts stand in crates/rtr_c, and docs/PROTOCOL.md says in
+ * prose what is accepted, in which order faults come, and what the written form is. This header is
+ * not proved; `.ci/bindings` checks its layout and runs its examples.
+ *
+ * What the caller owes, for each call:
+ *   - a slice crosses as a pointer and a number of bytes. No pointer is null, even with 0 bytes;
+ *   - the slice that is written to, and what the last pointer points at, overlap nothing else;
+ *   - rtr_same_meaning, which asks malloc for memory, isn't called from a signal handler.
+ * Then no call crashes, reads or writes a byte outside of what it is given, keeps a pointer or a
+ * state of its own, or waits. Several threads may call at once. All calls but rtr_same_meaning ask
+ * for no memory.
+ */
+#ifndef RTR_H
+#define RTR_H
+
+#include <stdbool.h>
+#include <stddef.h>
+#include <stdint.h>
+
+#ifdef __cplusplus
+extern "C" {
+#endif
+
+/* How a call ended. The faults of a unit are 1 to 7, and come in the order of docs/PROTOCOL.md. */
+enum rtr_status {
+    RTR_OK = 0,
+    RTR_SHORT = 1,           /* the input ends inside a unit, or before one */
+    RTR_UNIT_TYPE = 2,       /* `detail` is a type that is not allowed here */
+    RTR_UNIT_VERSION = 3,    /* `detail` is a version that is not allowed here */
+    RTR_TOO_LONG = 4,        /* a router key or an ASPA of more than 65535 bytes */
+    RTR_UNIT_LENGTH = 5,     /* a length that doesn't suit the type */
+    RTR_EMPTY_PROVIDERS = 6, /* an ASPA that is announced without providers */
+    RTR_PREFIX = 7,          /* `detail`, an rtr_prefix_rule, is broken by a prefix */
+    RTR_TOO_MANY = 8,        /* as many units as were allowed were taken */
+    RTR_NO_ROOM = 9,         /* the output has no room for what is to be written next */
+    RTR_NO_FORM = 10,        /* rtr_write_unit: an action, a family or a part that is none */
+    RTR_NO_MEMORY = 11       /* rtr_same_meaning: malloc refused */
+};
+
+enum rtr_prefix_rule {
+    RTR_LENGTH_OVER = 1,     /* the prefix length is above 32 for IPv4 or 128 for IPv6 */
+    RTR_MAX_LENGTH_OVER = 2, /* the max length is */
+    RTR_MAX_LENGTH_UNDER = 3 /* the max length is below the prefix length */
+};
+
+/* The kinds of units, by their type. */
+enum rtr_kind {
+    RTR_IPV4_PREFIX = 4, /* RFC 8210 section 5.6 */
+    RTR_IPV6_PREFIX = 6, /* RFC 8210 section 5.7 */
+    RTR_END_OF_DATA = 7, /* RFC 6810 and RFC 8210 section 5.8 */
+    RTR_ROUTER_KEY = 9,  /* RFC 8210 section 5.10 */
+    RTR_ASPA = 11
+};
+
+/* How a call that normalises came out. */
+struct rtr_answer {
+    uint64_t units; /* payload units that were taken from the input */
+    uint64_t forms; /* those of them that were written; fewer than `units` only for one version */
+    size_t taken;   /* bytes of the input that were taken: whole units, and the end of data */
+    size_t written; /* bytes of the output that were written, from its front */
+    uint8_t status; /* an rtr_status, as the call returns it */
+    uint8_t detail; /* see there; else 0 */
+};
+
+/* A payload unit or an end of data. Fields that its kind doesn't have are 0. */
+struct rtr_unit {
+    size_t size;        /* bytes of the unit in the input, header included */
+    size_t part_start;  /* where the key info of a router key, or the providers of an ASPA, begin:
+                           counted from the front of the unit */
+    size_t part_length; /* how many bytes they have; a provider has 4, in network order */
+    uint32_t asn;       /* of a prefix or a router key */
+    uint32_t customer;  /* of an ASPA */
+    uint32_t serial;    /* of an end of data */
+    uint32_t refresh;   /* of an end of data, in seconds; 0 in version 0 */
+    uint32_t retry;
+    uint32_t expire;
+    uint16_t session;   /* of an end of data */
+    uint8_t kind;       /* an rtr_kind */
+    uint8_t version;    /* of the protocol */
+    uint8_t action;     /* 1 where the payload is announced, 0 where it is withdrawn */
+    uint8_t family;     /* 4 or 6 for a prefix */
+    uint8_t prefix_length;
+    uint8_t max_length;
+    uint8_t address[16];        /* in network order, the bits after the prefix length clear; the
+                                   first 4 bytes in IPv4 */
+    uint8_t key_identifier[20]; /* the subject key identifier of a router key */
+    uint8_t detail;             /* where rtr_next refuses: see rtr_status */
+};
+
+/* Normalises the sequence that the input begins with: reads payload units up to an end of data,
+ * and writes the form of what each means, and the end of data, to the front of the output.
+ *
+ * At most `limit` units are taken, the end of data included. RTR_OK says that all of the sequence
+ * was taken and written; what follows it is left. Else the call stopped before a unit, none of
+ * whose bytes count as taken: output[0 .. written) is the form of input[0 .. taken), whole units,
+ * and the rest of the output is as it was. RTR_TOO_MANY comes first, then RTR_SHORT to RTR_PREFIX,
+ * then RTR_NO_ROOM. After RTR_NO_ROOM and RTR_TOO_MANY, and after RTR_SHORT once more bytes are
+ * there, a caller goes on at input + taken, with the limit less by `units`.
+ *
+ * The output always suffices where it is at least as long as the input: RTR_NO_ROOM doesn't come
+ * then. Two sequences have the same form exactly where they mean the same. */
+uint8_t rtr_normalise_slice(const uint8_t *input, size_t input_length,
+                            uint8_t *output, size_t output_length,
+                            uint64_t limit, struct rtr_answer *answer);
+
+/* The same for clients of one version of the protocol: units that the version doesn't have are
+ * checked and counted in `units` but not written, and all others, and the end of data, are written
+ * in this version. Version 0 has prefixes, version 1 router keys too, version 2 ASPAs too.
+ *
+ * An end of data has 12 bytes in version 0 and 24 in versions 1 and 2, so that one that came in
+ * version 0 grows: the output always suffices where it is at least 12 bytes longer than the input.
+ *
+ * RTR_UNIT_VERSION comes first for a version above 2, with nothing taken or written. */
+uint8_t rtr_normalise_for_slice(const uint8_t *input, size_t input_length,
+                                uint8_t *output, size_t output_length,
+                                uint64_t limit, uint8_t version, struct rtr_answer *answer);
+
+/* Shows the payload unit or the end of data that the input begins with. The next one begins `size`
+ * bytes later. Nothing is copied but fixed fields: key info and providers are
+ * input[part_start .. part_start + part_length), as they stand, on a withdrawal too.
+ *
+ * RTR_OK, or RTR_SHORT to RTR_PREFIX, with all fields 0 but `detail`. */
+uint8_t rtr_next(const uint8_t *input, size_t input_length, struct rtr_unit *unit);
+
+/* Writes the written form of the unit to the front of the output, and its length to `written`. Key
+ * info and providers are input[part_start .. part_start + part_length). An address is written with the
+ * bits after the prefix length clear, a withdrawn ASPA without providers, and an end of data of
+ * version 0 without timings. `size`, `detail` and what the kind doesn't have are not looked at.
+ *
+ * RTR_OK; or, with nothing written and `written` 0, in this order:
+ *   RTR_UNIT_TYPE        `kind` is none
+ *   RTR_NO_FORM          `action` is above 1, or above 0 for an end of data; `family` isn't that
+ *                        of the kind; key info or providers lie outside of the input
+ *   RTR_PREFIX           the lengths of a prefix break their rule
+ *   RTR_TOO_LONG         more than 65503 bytes of key info or, announced, 65520 of providers
+ *   RTR_UNIT_LENGTH      providers, announced, that aren't 4 bytes each
+ *   RTR_EMPTY_PROVIDERS  an ASPA is announced without providers
+ *   RTR_UNIT_VERSION     an end of data of a version above 2
+ *   RTR_NO_ROOM          the output is shorter than the form */
+uint8_t rtr_write_unit(const struct rtr_unit *unit, const uint8_t *input, size_t input_length,
+                       uint8_t *output, size_t output_length, size_t *written);
+
+/* Whether both inputs begin with sequences that mean the same, of fewer than `limit` payload units
+ * each.
+ *
+ * RTR_OK with the answer in `same`. Else `same` is as it was: RTR_SHORT to RTR_PREFIX or
+ * RTR_TOO_MANY of the left input, or of the right one where the left is accepted; or
+ * RTR_NO_MEMORY. */
+uint8_t rtr_same_meaning(const uint8_t *left, size_t left_length,
+                         const uint8_t *right, size_t right_length,
+                         uint64_t limit, bool *same);
+
+/* A text for a status. */
+static inline const char *rtr_status_text(uint8_t status)
+{
+    static const char *const texts[] = {
+        "accepted",
+        "unexpected end of input",
+        "unit type is not allowed here",
+        "version is not supported here",
+        "unit is longer than 65535 bytes",
+        "invalid unit length",
+        "ASPA unit has no providers",
+        "prefix fields are not allowed",
+        "too many units",
+        "no room in the output",
+        "no unit has these fields",
+        "out of memory",
+    };
+    return status < sizeof texts / sizeof texts[0] ? texts[status] : "unknown status";
+}
+
+#ifdef __cplusplus
+}
+#endif
+
+#endif

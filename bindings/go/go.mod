@@ -1,0 +1,3 @@
+module fishreef/rtr
+
+go 1.17

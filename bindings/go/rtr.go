@@ -1,0 +1,181 @@
+// Package rtr reads and writes units and sequences of the RPKI to Router protocol (RFC 6810, RFC 8210)
+// in memory, over the proved library rtr_c. What the functions promise is proved; this package is not.
+package rtr
+
+/*
+#cgo CFLAGS: -I${SRCDIR}/../c
+#cgo amd64 LDFLAGS: -L${SRCDIR}/../lib/x86_64 -lrtr_c
+#cgo arm64 LDFLAGS: -L${SRCDIR}/../lib/aarch64 -lrtr_c
+#include "rtr.h"
+*/
+import "C"
+
+import (
+	"fmt"
+	"unsafe"
+)
+
+// Status says how a call ended; each but OK is an error.
+type Status uint8
+
+// The numbers are those of rtr.h.
+const (
+	OK Status = iota
+	Short
+	UnitType
+	UnitVersion
+	TooLong
+	UnitLength
+	EmptyProviders
+	PrefixRule
+	TooMany
+	NoRoom
+	NoForm
+	NoMemory
+)
+
+// Fault is an error with what it tells of: a type, a version or a rule on prefix lengths, else 0.
+type Fault struct {
+	Status Status
+	Detail uint8
+}
+
+func (f *Fault) Error() string {
+	text := C.GoString(C.rtr_status_text(C.uint8_t(f.Status)))
+	if f.Detail == 0 {
+		return text
+	}
+	return fmt.Sprintf("%s (%d)", text, f.Detail)
+}
+
+func fault(status, detail C.uint8_t) error {
+	if status == 0 {
+		return nil
+	}
+	return &Fault{Status(status), uint8(detail)}
+}
+
+// Progress says how far a call came that normalises: whole units, and the end of data where it was
+// accepted.
+type Progress struct {
+	Units, Forms   uint64
+	Taken, Written int
+}
+
+// The place of a slice, which is never nil, and its length.
+func place(b []byte) (*C.uint8_t, C.size_t) {
+	if len(b) == 0 {
+		var none [1]byte
+		return (*C.uint8_t)(unsafe.Pointer(&none[0])), 0
+	}
+	return (*C.uint8_t)(unsafe.Pointer(&b[0])), C.size_t(len(b))
+}
+
+func progress(a *C.struct_rtr_answer) Progress {
+	return Progress{uint64(a.units), uint64(a.forms), int(a.taken), int(a.written)}
+}
+
+// Normalise normalises the sequence that input begins with, into the front of output. At most limit
+// units are taken, the end of data included. An output as long as the input always suffices.
+func Normalise(input, output []byte, limit uint64) (Progress, error) {
+	var a C.struct_rtr_answer
+	in, n := place(input)
+	out, room := place(output)
+	status := C.rtr_normalise_slice(in, n, out, room, C.uint64_t(limit), &a)
+	return progress(&a), fault(status, a.detail)
+}
+
+// NormaliseFor is Normalise for clients of one protocol version, 0, 1 or 2. An output 12 bytes longer
+// than the input always suffices.
+func NormaliseFor(input, output []byte, limit uint64, version uint8) (Progress, error) {
+	var a C.struct_rtr_answer
+	in, n := place(input)
+	out, room := place(output)
+	status := C.rtr_normalise_for_slice(in, n, out, room, C.uint64_t(limit), C.uint8_t(version), &a)
+	return progress(&a), fault(status, a.detail)
+}
+
+// SameMeaning says whether both inputs begin with sequences that mean the same.
+func SameMeaning(left, right []byte, limit uint64) (bool, error) {
+	var same C.bool
+	l, n := place(left)
+	r, m := place(right)
+	status := C.rtr_same_meaning(l, n, r, m, C.uint64_t(limit), &same)
+	return bool(same), fault(status, 0)
+}
+
+// The kinds of units.
+const (
+	IPv4Prefix = 4
+	IPv6Prefix = 6
+	EndOfData  = 7
+	RouterKey  = 9
+	ASPA       = 11
+)
+
+// Unit is a payload unit or an end of data. Fields that its kind doesn't have are zero.
+type Unit struct {
+	Kind, Version                  uint8
+	Announce                       bool
+	PrefixLength, MaxLength        uint8
+	Address                        [16]byte
+	ASN, Customer                  uint32
+	KeyIdentifier                  [20]byte
+	Session                        uint16
+	Serial, Refresh, Retry, Expire uint32
+	// The key info of a router key or the providers of an ASPA, four bytes each, within the input.
+	Part []byte
+}
+
+// Next gives the unit that input begins with, and what follows it.
+func Next(input []byte) (Unit, []byte, error) {
+	var u C.struct_rtr_unit
+	in, n := place(input)
+	if status := C.rtr_next(in, n, &u); status != 0 {
+		return Unit{}, input, fault(status, u.detail)
+	}
+	unit := Unit{
+		Kind: uint8(u.kind), Version: uint8(u.version), Announce: u.action == 1,
+		PrefixLength: uint8(u.prefix_length), MaxLength: uint8(u.max_length),
+		ASN: uint32(u.asn), Customer: uint32(u.customer), Session: uint16(u.session),
+		Serial: uint32(u.serial), Refresh: uint32(u.refresh), Retry: uint32(u.retry),
+		Expire: uint32(u.expire),
+		Part:   input[u.part_start : u.part_start+u.part_length],
+	}
+	for i, b := range u.address {
+		unit.Address[i] = byte(b)
+	}
+	for i, b := range u.key_identifier {
+		unit.KeyIdentifier[i] = byte(b)
+	}
+	return unit, input[u.size:], nil
+}
+
+// Write writes the written form of the unit to the front of output, and gives its length.
+func (unit *Unit) Write(output []byte) (int, error) {
+	u := C.struct_rtr_unit{
+		part_length: C.size_t(len(unit.Part)), asn: C.uint32_t(unit.ASN),
+		customer: C.uint32_t(unit.Customer), serial: C.uint32_t(unit.Serial),
+		refresh: C.uint32_t(unit.Refresh), retry: C.uint32_t(unit.Retry),
+		expire: C.uint32_t(unit.Expire), session: C.uint16_t(unit.Session),
+		kind: C.uint8_t(unit.Kind), version: C.uint8_t(unit.Version),
+		prefix_length: C.uint8_t(unit.PrefixLength), max_length: C.uint8_t(unit.MaxLength),
+	}
+	if unit.Announce {
+		u.action = 1
+	}
+	if unit.Kind == IPv4Prefix || unit.Kind == IPv6Prefix {
+		u.family = C.uint8_t(unit.Kind)
+	}
+	for i, b := range unit.Address {
+		u.address[i] = C.uint8_t(b)
+	}
+	for i, b := range unit.KeyIdentifier {
+		u.key_identifier[i] = C.uint8_t(b)
+	}
+	var written C.size_t
+	in, n := place(unit.Part)
+	out, room := place(output)
+	status := C.rtr_write_unit(&u, in, n, out, room, &written)
+	return int(written), fault(status, 0)
+}

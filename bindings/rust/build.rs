@@ -1,0 +1,11 @@
+//! Links the archive that `bindings/build` made, from `bindings/lib` or where `RTR_LIB_DIR` says.
+
+fn main() {
+    let here = std::env::var("CARGO_MANIFEST_DIR").expect("cargo names the folder");
+    let arch = std::env::var("CARGO_CFG_TARGET_ARCH").expect("cargo names the target");
+    let lib = std::env::var("RTR_LIB_DIR").unwrap_or_else(|_| format!("{here}/../lib/{arch}"));
+    println!("cargo:rustc-link-search=native={lib}");
+    println!("cargo:rustc-link-lib=static=rtr_c");
+    println!("cargo:rerun-if-env-changed=RTR_LIB_DIR");
+    println!("cargo:rerun-if-changed={lib}/librtr_c.a");
+}

@@ -1,0 +1,19 @@
+//! Prints the units of the sequence on standard input, and how long its form is.
+
+use rtr_wire::{normalise, Units};
+use std::io::Read;
+
+fn main() -> Result<(), Box<dyn std::error::Error>> {
+    let mut input = Vec::new();
+    std::io::stdin().read_to_end(&mut input)?;
+    for unit in Units::new(&input) {
+        println!("{:?}", unit?);
+    }
+    let mut form = vec![0; input.len()];
+    let progress = normalise(&input, &mut form, u32::MAX.into())?;
+    println!(
+        "{} payload units, form of {} bytes",
+        progress.units, progress.written
+    );
+    Ok(())
+}

@@ -1,0 +1,387 @@
+//! Units and sequences of the RPKI to Router protocol (RFC 6810, RFC 8210) in memory, over the
+//! proved library `rtr_c`.
+//!
+//! What the functions promise is proved; this wrapper and the declarations in it are not.
+#![deny(unsafe_op_in_unsafe_fn)]
+
+mod sys;
+
+use std::fmt;
+use std::net::{IpAddr, Ipv4Addr, Ipv6Addr};
+
+/// Why a call was refused, in the order in which faults of a unit come.
+#[derive(Clone, Copy, Debug, PartialEq, Eq)]
+pub enum Fault {
+    /// The input ends inside a unit, or before one.
+    Short,
+    /// A unit of this type is not allowed here.
+    UnitType(u8),
+    /// A unit of this protocol version is not allowed here.
+    UnitVersion(u8),
+    /// A router key or an ASPA has more than 65535 bytes.
+    TooLong,
+    /// The length does not suit the type of the unit.
+    UnitLength,
+    /// An ASPA is announced without providers.
+    EmptyProviders,
+    /// The lengths of a prefix break this part of their rule.
+    Prefix(PrefixRule),
+    /// As many units as were allowed were taken.
+    TooMany,
+    /// The output has no room for what is to be written next.
+    NoRoom,
+    /// No unit has these fields.
+    NoForm,
+    /// Memory was refused.
+    Memory,
+}
+
+/// The part of the rule on the lengths of a prefix that is broken.
+#[derive(Clone, Copy, Debug, PartialEq, Eq)]
+pub enum PrefixRule {
+    /// The prefix length is above that of an address.
+    LengthOver,
+    /// The max length is above that of an address.
+    MaxLengthOver,
+    /// The max length is below the prefix length.
+    MaxLengthUnder,
+}
+
+impl Fault {
+    /// The fault of a status other than 0, with its detail.
+    fn of(status: u8, detail: u8) -> Self {
+        match status {
+            1 => Fault::Short,
+            2 => Fault::UnitType(detail),
+            3 => Fault::UnitVersion(detail),
+            4 => Fault::TooLong,
+            5 => Fault::UnitLength,
+            6 => Fault::EmptyProviders,
+            7 => Fault::Prefix(match detail {
+                1 => PrefixRule::LengthOver,
+                2 => PrefixRule::MaxLengthOver,
+                _ => PrefixRule::MaxLengthUnder,
+            }),
+            8 => Fault::TooMany,
+            9 => Fault::NoRoom,
+            10 => Fault::NoForm,
+            _ => Fault::Memory,
+        }
+    }
+}
+
+impl fmt::Display for Fault {
+    fn fmt(&self, f: &mut fmt::Formatter<'_>) -> fmt::Result {
+        match self {
+            Fault::Short => f.write_str("unexpected end of input"),
+            Fault::UnitType(kind) => write!(f, "unit type {kind} is not allowed here"),
+            Fault::UnitVersion(version) => write!(f, "version {version} is not supported here"),
+            Fault::TooLong => f.write_str("unit is longer than 65535 bytes"),
+            Fault::UnitLength => f.write_str("invalid unit length"),
+            Fault::EmptyProviders => f.write_str("ASPA unit has no providers"),
+            Fault::Prefix(_) => f.write_str("prefix fields are not allowed"),
+            Fault::TooMany => f.write_str("too many units"),
+            Fault::NoRoom => f.write_str("no room in the output"),
+            Fault::NoForm => f.write_str("no unit has these fields"),
+            Fault::Memory => f.write_str("out of memory"),
+        }
+    }
+}
+
+impl std::error::Error for Fault {}
+
+/// How far a call came that normalises: whole units, and the end of data where it was accepted.
+#[derive(Clone, Copy, Debug, Default, PartialEq, Eq)]
+pub struct Progress {
+    /// Payload units that were taken from the input.
+    pub units: u64,
+    /// Those of them that were written.
+    pub forms: u64,
+    /// Bytes of the input that were taken.
+    pub taken: usize,
+    /// Bytes of the output that were written.
+    pub written: usize,
+}
+
+/// A call that normalises stopped before an end of data: how far it came, and why.
+#[derive(Clone, Copy, Debug, PartialEq, Eq)]
+pub struct Stopped {
+    /// What was taken and written until then.
+    pub progress: Progress,
+    /// Why it stopped.
+    pub fault: Fault,
+}
+
+impl fmt::Display for Stopped {
+    fn fmt(&self, f: &mut fmt::Formatter<'_>) -> fmt::Result {
+        write!(f, "{} after {} bytes", self.fault, self.progress.taken)
+    }
+}
+
+impl std::error::Error for Stopped {}
+
+/// Normalises the sequence that the input begins with, into the front of the output. At most
+/// `limit` units are taken, the end of data included. An output as long as the input always
+/// suffices.
+pub fn normalise(input: &[u8], output: &mut [u8], limit: u64) -> Result<Progress, Stopped> {
+    sys::normalise(input, output, limit)
+}
+
+/// As `normalise`, for clients of one protocol version, 0, 1 or 2. An output 12 bytes longer than
+/// the input always suffices.
+pub fn normalise_for(
+    input: &[u8],
+    output: &mut [u8],
+    limit: u64,
+    version: u8,
+) -> Result<Progress, Stopped> {
+    sys::normalise_for(input, output, limit, version)
+}
+
+/// Whether both inputs begin with sequences that mean the same, of fewer than `limit` payload
+/// units. The fault is that of the left input, or of the right one where the left is accepted.
+pub fn same_meaning(left: &[u8], right: &[u8], limit: u64) -> Result<bool, Fault> {
+    sys::same_meaning(left, right, limit)
+}
+
+/// The refresh, retry and expire intervals of an end of data, in seconds.
+#[derive(Clone, Copy, Debug, PartialEq, Eq)]
+pub struct Timing {
+    pub refresh: u32,
+    pub retry: u32,
+    pub expire: u32,
+}
+
+/// What a unit says. Key info and providers are lent from the input.
+#[derive(Clone, Copy, Debug, PartialEq, Eq)]
+pub enum Content<'a> {
+    /// A route origin (RFC 8210 sections 5.6 and 5.7), its address with the host bits cleared.
+    Origin {
+        announce: bool,
+        address: IpAddr,
+        length: u8,
+        max_length: u8,
+        asn: u32,
+    },
+    /// A router key (RFC 8210 section 5.10).
+    RouterKey {
+        announce: bool,
+        identifier: [u8; 20],
+        asn: u32,
+        key_info: &'a [u8],
+    },
+    /// An ASPA. The providers stand as they came, four bytes each, on a withdrawal too.
+    Aspa {
+        announce: bool,
+        customer: u32,
+        providers: &'a [u8],
+    },
+    /// An end of data (RFC 6810 and RFC 8210 section 5.8), in version 0 without timings.
+    EndOfData {
+        session: u16,
+        serial: u32,
+        timing: Option<Timing>,
+    },
+}
+
+/// A payload unit or an end of data.
+#[derive(Clone, Copy, Debug, PartialEq, Eq)]
+pub struct Unit<'a> {
+    /// The version of the protocol.
+    pub version: u8,
+    /// What it says.
+    pub content: Content<'a>,
+}
+
+impl<'a> Unit<'a> {
+    /// The unit that the input begins with, and what follows it.
+    pub fn first(input: &'a [u8]) -> Result<(Self, &'a [u8]), Fault> {
+        let shown = sys::next(input)?;
+        let (bytes, rest) = input.split_at(shown.size);
+        Ok((
+            Unit {
+                version: shown.version,
+                content: Content::of(&shown, bytes),
+            },
+            rest,
+        ))
+    }
+
+    /// Writes the written form to the front of the output, and answers its length in bytes. Host
+    /// bits of an address are cleared, and a withdrawn ASPA is written without providers.
+    ///
+    /// Faults, in this order: `Prefix`, `TooLong`, `UnitLength`, `EmptyProviders`, `UnitVersion`
+    /// for an end of data; at last `NoRoom`. Nothing is written then.
+    pub fn write(&self, output: &mut [u8]) -> Result<usize, Fault> {
+        let (said, part) = self.said();
+        sys::write(&said, part, output)
+    }
+
+    /// The unit in numbers, and its key info or providers.
+    fn said(&self) -> (sys::Unit, &'a [u8]) {
+        let mut said = sys::Unit {
+            version: self.version,
+            ..sys::Unit::default()
+        };
+        let mut part: &[u8] = &[];
+        match self.content {
+            Content::Origin {
+                announce,
+                address,
+                length,
+                max_length,
+                asn,
+            } => {
+                said.action = announce.into();
+                said.prefix_length = length;
+                said.max_length = max_length;
+                said.asn = asn;
+                match address {
+                    IpAddr::V4(v4) => {
+                        (said.kind, said.family) = (IPV4_PREFIX, 4);
+                        said.address[..4].copy_from_slice(&v4.octets());
+                    }
+                    IpAddr::V6(v6) => {
+                        (said.kind, said.family) = (IPV6_PREFIX, 6);
+                        said.address = v6.octets();
+                    }
+                }
+            }
+            Content::RouterKey {
+                announce,
+                identifier,
+                asn,
+                key_info,
+            } => {
+                said.kind = ROUTER_KEY;
+                said.action = announce.into();
+                said.key_identifier = identifier;
+                said.asn = asn;
+                part = key_info;
+            }
+            Content::Aspa {
+                announce,
+                customer,
+                providers,
+            } => {
+                said.kind = ASPA;
+                said.action = announce.into();
+                said.customer = customer;
+                part = providers;
+            }
+            Content::EndOfData {
+                session,
+                serial,
+                timing,
+            } => {
+                let timing = timing.unwrap_or(NO_TIMING);
+                said.kind = END_OF_DATA;
+                said.session = session;
+                said.serial = serial;
+                (said.refresh, said.retry, said.expire) =
+                    (timing.refresh, timing.retry, timing.expire);
+            }
+        }
+        said.part_length = part.len();
+        (said, part)
+    }
+}
+
+/// The types of units.
+const IPV4_PREFIX: u8 = 4;
+const IPV6_PREFIX: u8 = 6;
+const END_OF_DATA: u8 = 7;
+const ROUTER_KEY: u8 = 9;
+const ASPA: u8 = 11;
+
+/// What an end of data says that has no timings.
+const NO_TIMING: Timing = Timing {
+    refresh: 0,
+    retry: 0,
+    expire: 0,
+};
+
+impl<'a> Content<'a> {
+    /// What a unit of these bytes says that is shown so.
+    fn of(shown: &sys::Unit, bytes: &'a [u8]) -> Self {
+        let announce = shown.action == 1;
+        let part = &bytes[shown.part_start..shown.part_start + shown.part_length];
+        match shown.kind {
+            ROUTER_KEY => Content::RouterKey {
+                announce,
+                identifier: shown.key_identifier,
+                asn: shown.asn,
+                key_info: part,
+            },
+            ASPA => Content::Aspa {
+                announce,
+                customer: shown.customer,
+                providers: part,
+            },
+            END_OF_DATA => Content::EndOfData {
+                session: shown.session,
+                serial: shown.serial,
+                timing: (shown.version > 0).then_some(Timing {
+                    refresh: shown.refresh,
+                    retry: shown.retry,
+                    expire: shown.expire,
+                }),
+            },
+            _ => {
+                let [a, b, c, d, ..] = shown.address;
+                Content::Origin {
+                    announce,
+                    address: match shown.family {
+                        4 => Ipv4Addr::new(a, b, c, d).into(),
+                        _ => Ipv6Addr::from(shown.address).into(),
+                    },
+                    length: shown.prefix_length,
+                    max_length: shown.max_length,
+                    asn: shown.asn,
+                }
+            }
+        }
+    }
+}
+
+/// The units of an input, one after the other, up to and with the end of data; or to the first
+/// fault.
+#[derive(Clone, Debug)]
+pub struct Units<'a> {
+    rest: &'a [u8],
+    ended: bool,
+}
+
+impl<'a> Units<'a> {
+    /// The units that this input begins with.
+    pub fn new(input: &'a [u8]) -> Self {
+        Units {
+            rest: input,
+            ended: false,
+        }
+    }
+
+    /// What follows the units that were given.
+    pub fn rest(&self) -> &'a [u8] {
+        self.rest
+    }
+}
+
+impl<'a> Iterator for Units<'a> {
+    type Item = Result<Unit<'a>, Fault>;
+
+    fn next(&mut self) -> Option<Self::Item> {
+        if self.ended {
+            return None;
+        }
+        let first = Unit::first(self.rest);
+        self.ended = match &first {
+            Ok((unit, _)) => matches!(unit.content, Content::EndOfData { .. }),
+            Err(_) => true,
+        };
+        Some(first.map(|(unit, rest)| {
+            self.rest = rest;
+            unit
+        }))
+    }
+}

@@ -1,0 +1,68 @@
+-- What C is told of a call, in numbers (this library's own).
+use Rattle.std.specs.Prelude.{◌≡◌, ℕ, Bool, Result, Ok, Err}
+use Rattle.rtr_payload.specs.declared.prefix_rule.PrefixRule.{PrefixRule}
+use Rattle.rtr_payload.specs.declared.prefix_rule.PrefixRule.TheVariants.{LenOverflow}
+use Rattle.rtr_payload.specs.declared.prefix_rule.PrefixRule.TheVariants.{MaxOverflow, MaxUnderflow}
+use Rattle.rtr_views.specs.declared.fault.ViewFault.{ViewFault}
+use Rattle.rtr_views.specs.declared.fault.ViewFault.TheVariants.{Writer, Short, UnitType, UnitLength}
+use Rattle.rtr_views.specs.declared.fault.ViewFault.TheVariants.{TooLong, EmptyProviders, UnitVersion, Prefix}
+use Rattle.rtr_views.specs.declared.fault.ViewFault.TheVariants as faults
+use Rattle.rtr_wire.specs.declared.into.IntoFault.{IntoFault}
+use Rattle.rtr_wire.specs.declared.into.IntoFault.TheVariants.{NoRoom, TooMany, Refused}
+use Rattle.rtr_wire.specs.declared.into.Progress.{Progress}
+use Rattle.rtr_c.specs.declared.answer.RtrAnswer.{RtrAnswer}
+
+-- the part of the rule on the lengths of a prefix
+abbrev pub rule_number : PrefixRule → ℕ
+rule_number LenOverflow = 1
+rule_number MaxOverflow = 2
+rule_number MaxUnderflow = 3
+
+-- the status of a fault of one unit
+abbrev pub fault_status : ViewFault → ℕ
+fault_status Short = 1
+fault_status (UnitType t) = 2
+fault_status (UnitVersion v) = 3
+fault_status TooLong = 4
+fault_status UnitLength = 5
+fault_status EmptyProviders = 6
+fault_status (Prefix rule) = 7
+fault_status faults.TooMany = 8
+fault_status (Writer e) = 255
+
+-- the type or the version that is refused, or the rule that is broken
+abbrev pub fault_detail : ViewFault → ℕ
+fault_detail (UnitType t) = t
+fault_detail (UnitVersion v) = v
+fault_detail (Prefix rule) = rule_number rule
+fault_detail _ = 0
+
+-- the status of why a run stopped
+abbrev pub stop_status : IntoFault → ℕ
+stop_status (Refused e) = fault_status e
+stop_status TooMany = 8
+stop_status NoRoom = 9
+
+abbrev pub stop_detail : IntoFault → ℕ
+stop_detail (Refused e) = fault_detail e
+stop_detail _ = 0
+
+-- the status and the detail of a run, 0 where it came to the end of data
+abbrev pub run_status : Result Unit IntoFault → ℕ
+run_status (Ok done) = 0
+run_status (Err f) = stop_status f
+
+abbrev pub run_detail : Result Unit IntoFault → ℕ
+run_detail (Ok done) = 0
+run_detail (Err f) = stop_detail f
+
+-- a run is told: how far it came and how it ended
+pub record Tells (p : Progress) (r : Result Unit IntoFault) (a : RtrAnswer) (code : ℕ)
+    : Type 0 where
+  pub units : a.units ≡ p.units
+  pub forms : a.forms ≡ p.forms
+  pub taken : a.taken ≡ p.taken
+  pub written : a.written ≡ p.written
+  pub status : a.status ≡ run_status r
+  pub detail : a.detail ≡ run_detail r
+  pub answered : code ≡ run_status r

@@ -1,0 +1,4 @@
+pub mod Answers
+pub mod Shown
+pub mod Said
+pub mod Compared

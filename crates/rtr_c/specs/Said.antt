@@ -1,0 +1,102 @@
+-- What a unit in numbers says, and what is written for it (this library's own order of refusals;
+-- the forms are those of RFC 8210 sections 5.6 to 5.8 and 5.10, of an ASPA as in the Rust crate).
+use Rattle.std.specs.Prelude.{◌≡◌, ℕ, ◌+◌, ◌%◌, ◌||◌, not, List, [], ◌++◌, length, take, drop}
+use Rattle.std.specs.Prelude.{Option, Some, None, Result, Ok}
+use Rattle.std.specs.Prelude.{Err, nat_lt, nat_le, ◌==◌, if◌then◌else◌}
+use Rattle.std.specs.Borrow.{Bor}
+use Rattle.rtr_base.specs.Addresses.{Family, v4, v6, width, cleared}
+use Rattle.rtr_base.specs.Bytes.{value}
+use Rattle.rtr_base.specs.declared.payload.Timing.{Timing}
+use Rattle.rtr_units.specs.End.{timed_list}
+use Rattle.rtr_units.specs.FixedUnits.{address_bytes}
+use Rattle.rtr_payload.specs.Payloads.{origin, key, aspa}
+use Rattle.rtr_payload.specs.Places.{words_of}
+use Rattle.rtr_payload.specs.Steps.{PrefixFault, broken_rule}
+use Rattle.rtr_payload.specs.Units.{form}
+use Rattle.rtr_views.specs.Placing.{Places}
+use Rattle.rtr_c.specs.Shown.{family_number}
+use Rattle.rtr_c.specs.declared.unit.RtrUnit.{RtrUnit}
+
+-- the key info or the providers that the unit says, where they lie in the input
+abbrev pub part_said : RtrUnit → List ℕ → Option (List ℕ)
+part_said u input =
+    if nat_le (u.part_start + u.part_length) (length input)
+    then Some (take u.part_length (drop u.part_start input))
+    else None
+
+-- a form, where the rule on prefix lengths is kept
+abbrev pub unless_broken : Option PrefixFault → List ℕ → Result (List ℕ) ℕ
+unless_broken None f = Ok f
+unless_broken (Some fault) f = Err 7
+
+-- the form of a prefix with its address cleared, or the status that refuses it
+abbrev pub prefix_said : Family → RtrUnit → Result (List ℕ) ℕ
+prefix_said f u =
+    if nat_lt 1 u.action || not (u.family == family_number f) then Err 10
+    else unless_broken (broken_rule (width f) u.prefix_length u.max_length)
+    (form u.version u.action (origin f
+    (cleared (width f) u.prefix_length (value (take (address_bytes f) u.address)))
+    u.prefix_length u.max_length u.asn))
+
+-- the form of a router key
+abbrev pub key_said : RtrUnit → Option (List ℕ) → Result (List ℕ) ℕ
+key_said u None = Err 10
+key_said u (Some info) =
+    if nat_lt 1 u.action then Err 10
+    else if nat_lt 65503 (length info) then Err 4
+    else Ok (form u.version u.action (key u.key_identifier u.asn info))
+
+-- the form of an ASPA unit, without providers where it is withdrawn
+abbrev pub aspa_said : RtrUnit → Option (List ℕ) → Result (List ℕ) ℕ
+aspa_said u None = Err 10
+aspa_said u (Some providers) =
+    if nat_lt 1 u.action then Err 10
+    else if u.action == 0 then Ok (form u.version u.action (aspa u.customer []))
+    else if nat_lt 65520 (length providers) then Err 4
+    else if not (length providers % 4 == 0) then Err 5
+    else if length providers == 0 then Err 6
+    else Ok (form u.version u.action (aspa u.customer (words_of providers)))
+
+-- the timings of an end of data, which has none in version 0
+abbrev pub timing_said : RtrUnit → Option Timing
+timing_said u =
+    if u.version == 0 then None
+    else Some (record { refresh = u.refresh; retry = u.retry; expire = u.expire })
+
+-- an end of data
+abbrev pub end_said : RtrUnit → Result (List ℕ) ℕ
+end_said u =
+    if nat_lt 0 u.action then Err 10
+    else if nat_lt 2 u.version then Err 3
+    else Ok (timed_list u.version u.session u.serial (timing_said u))
+
+-- the form of the unit, or the status that refuses it
+abbrev pub said : RtrUnit → List ℕ → Result (List ℕ) ℕ
+said u input =
+    if u.kind == 4 then prefix_said v4 u
+    else if u.kind == 6 then prefix_said v6 u
+    else if u.kind == 7 then end_said u
+    else if u.kind == 9 then key_said u (part_said u input)
+    else if u.kind == 11 then aspa_said u (part_said u input)
+    else Err 2
+
+-- the part was found, or lies outside
+abbrev pub Part : Option (Bor (List ℕ)) → Option (List ℕ) → Type 0
+Part (Some part) is = is ≡ Some part.now
+Part None is = is ≡ None
+
+-- A form is written where there is room for it, or refused with status 9; what has none is refused
+-- with its status.
+abbrev pub Writes : Result (List ℕ) ℕ → Result ℕ ℕ → (before after : List ℕ) → Type 0
+Writes (Ok f) (Ok n) before after = Places (Some n) f before after
+Writes (Ok f) (Err s) before after = (s ≡ 9) × Places None f before after
+Writes (Err t) (Ok n) before after = ⊥
+Writes (Err t) (Err s) before after = (s ≡ t) × (after ≡ before)
+
+abbrev pub Told : Result ℕ ℕ → (n code : ℕ) → Type 0
+Told (Ok k) n code = (n ≡ k) × (code ≡ 0)
+Told (Err s) n code = (n ≡ 0) × (code ≡ s)
+
+-- the same, told by a status and the number of bytes that were written
+abbrev pub TellsWritten : Result (List ℕ) ℕ → (before after : List ℕ) → (n code : ℕ) → Type 0
+TellsWritten is before after n code = (r : Result ℕ ℕ) × Writes is r before after × Told r n code

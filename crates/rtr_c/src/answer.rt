@@ -1,0 +1,118 @@
+//! How a call ended, in numbers.
+
+ghost use Rattle.std.specs.Prelude.{◌≡◌};
+ghost use Rattle.rtr_c.specs.Answers.{rule_number, fault_status, fault_detail};
+ghost use Rattle.rtr_c.specs.Answers.{stop_status, stop_detail};
+
+use rtr_wire::IntoFault;
+use rtr_wire::pdu::{PrefixRule, ViewFault};
+
+/// The call did all that it is for.
+pub(crate) const ACCEPTED: u8 = 0;
+/// The input ended inside a unit, or before one.
+pub(crate) const SHORT: u8 = 1;
+/// A unit of this type is not allowed here.
+pub(crate) const UNIT_TYPE: u8 = 2;
+/// A unit of this protocol version is not allowed here.
+pub(crate) const UNIT_VERSION: u8 = 3;
+/// The length field is over 65535.
+pub(crate) const TOO_LONG: u8 = 4;
+/// The length field does not suit the type of the unit.
+pub(crate) const UNIT_LENGTH: u8 = 5;
+/// An ASPA unit that announces has no providers.
+pub(crate) const EMPTY_PROVIDERS: u8 = 6;
+/// The lengths of a prefix break their rule.
+pub(crate) const PREFIX: u8 = 7;
+/// As many units as were allowed were taken.
+pub(crate) const TOO_MANY: u8 = 8;
+/// The output has no room for what is to be written next.
+pub(crate) const NO_ROOM: u8 = 9;
+/// What is to be written has no form.
+pub(crate) const NO_FORM: u8 = 10;
+/// A growth of memory was refused.
+pub(crate) const NO_MEMORY: u8 = 11;
+/// A reader or a writer failed, as none here does.
+pub(crate) const WRITER: u8 = 255;
+
+/// How a call ended that writes.
+#[repr(C)]
+#[derive(Drop)]
+pub struct RtrAnswer {
+    /// Payload units that were taken.
+    pub units: u64,
+    /// Those of them that were written.
+    pub forms: u64,
+    /// Bytes of the input that were taken.
+    pub taken: usize,
+    /// Bytes of the output that were written.
+    pub written: usize,
+    /// How the call ended.
+    pub status: u8,
+    /// With `UNIT_TYPE` the type and with `UNIT_VERSION` the version that is refused; with
+    /// `PREFIX` 1 where the prefix length is above that of an address, 2 where the max length is,
+    /// 3 where the max length is below the prefix length; else 0.
+    pub detail: u8,
+}
+
+// The fields stand one after the other, and six bytes are left at the end.
+const _: () = prove!(size_of::<RtrAnswer>() == 40);
+
+/// The number of a part of the rule on the lengths of a prefix.
+pub(crate) fn rule_number(rule: PrefixRule) -> u8
+    ensures { result ≡ rule_number rule }
+{
+    match rule {
+        PrefixRule::LenOverflow => 1,
+        PrefixRule::MaxOverflow => 2,
+        PrefixRule::MaxUnderflow => 3,
+    }
+}
+
+/// The status of a fault.
+pub(crate) fn fault_status(fault: &ViewFault) -> u8
+    ensures { result ≡ fault_status fault.now }
+{
+    match fault {
+        ViewFault::Writer(_) => WRITER,
+        ViewFault::Short => SHORT,
+        ViewFault::UnitType(_) => UNIT_TYPE,
+        ViewFault::UnitLength => UNIT_LENGTH,
+        ViewFault::TooLong => TOO_LONG,
+        ViewFault::EmptyProviders => EMPTY_PROVIDERS,
+        ViewFault::UnitVersion(_) => UNIT_VERSION,
+        ViewFault::Prefix(_) => PREFIX,
+        ViewFault::TooMany => TOO_MANY,
+    }
+}
+
+/// The type, the version or the broken rule that a fault tells of, or 0.
+pub(crate) fn fault_detail(fault: &ViewFault) -> u8
+    ensures { result ≡ fault_detail fault.now }
+{
+    match fault {
+        ViewFault::UnitType(n) | ViewFault::UnitVersion(n) => *n,
+        ViewFault::Prefix(rule) => rule_number(*rule),
+        _ => 0,
+    }
+}
+
+/// The status of why a run stopped.
+pub(crate) fn stop_status(stop: &IntoFault) -> u8
+    ensures { result ≡ stop_status stop.now }
+{
+    match stop {
+        IntoFault::NoRoom => NO_ROOM,
+        IntoFault::TooMany => TOO_MANY,
+        IntoFault::Refused(fault) => fault_status(fault),
+    }
+}
+
+/// The type, the version or the broken rule that stopped a run, or 0.
+pub(crate) fn stop_detail(stop: &IntoFault) -> u8
+    ensures { result ≡ stop_detail stop.now }
+{
+    match stop {
+        IntoFault::Refused(fault) => fault_detail(fault),
+        _ => 0,
+    }
+}

@@ -1,0 +1,82 @@
+//! One unit, in numbers.
+
+ghost use Rattle.std.specs.Prelude.{◌≡◌};
+ghost use Rattle.rtr_c.specs.Shown.{none};
+
+/// A payload unit or an end of data. What its kind has not is zero.
+#[repr(C)]
+#[derive(Drop)]
+pub struct RtrUnit {
+    /// Bytes of the unit in the input.
+    pub size: usize,
+    /// Where the key info of a router key or the providers of an ASPA begin in the input.
+    pub part_start: usize,
+    /// How many bytes they have: four for each provider.
+    pub part_length: usize,
+    /// The autonomous system of a prefix or a router key.
+    pub asn: u32,
+    /// The customer of an ASPA.
+    pub customer: u32,
+    /// The serial number of an end of data.
+    pub serial: u32,
+    /// The refresh interval of an end of data, in seconds; 0 in version 0.
+    pub refresh: u32,
+    /// The retry interval, as the refresh interval.
+    pub retry: u32,
+    /// The expire interval, as the refresh interval.
+    pub expire: u32,
+    /// The session of an end of data.
+    pub session: u16,
+    /// The type of the unit: 4 and 6 for a prefix, 7 for an end of data, 9 for a router key, 11
+    /// for an ASPA.
+    pub kind: u8,
+    /// The version of the protocol.
+    pub version: u8,
+    /// 1 where the payload is announced, 0 where it is withdrawn, and 0 for an end of data.
+    pub action: u8,
+    /// 4 for IPv4 and 6 for IPv6.
+    pub family: u8,
+    /// The prefix length.
+    pub prefix_length: u8,
+    /// The max length.
+    pub max_length: u8,
+    /// The address, whose first four bytes count in IPv4. The bits after the prefix length are
+    /// clear.
+    pub address: [u8; 16],
+    /// The subject key identifier of a router key.
+    pub key_identifier: [u8; 20],
+    /// Where a unit is refused, what the status tells of.
+    pub detail: u8,
+}
+
+// The fields stand one after the other, and three bytes are left at the end.
+const _: () = prove!(size_of::<RtrUnit>() == 96);
+
+impl RtrUnit {
+    /// A unit of no kind.
+    pub(crate) fn none() -> Self
+        ensures { result ≡ none }
+    {
+        RtrUnit {
+            size: 0,
+            part_start: 0,
+            part_length: 0,
+            asn: 0,
+            customer: 0,
+            serial: 0,
+            refresh: 0,
+            retry: 0,
+            expire: 0,
+            session: 0,
+            kind: 0,
+            version: 0,
+            action: 0,
+            family: 0,
+            prefix_length: 0,
+            max_length: 0,
+            address: [0; 16],
+            key_identifier: [0; 20],
+            detail: 0,
+        }
+    }
+}

@@ -1,0 +1,209 @@
+//! Units written from what they say.
+
+ghost use Rattle.std.specs.Prelude.{◌≡◌, ◌∷◌, ◌++◌, Ok, IfSome};
+ghost use Rattle.rtr_base.specs.Addresses.{v4, v6};
+ghost use Rattle.rtr_base.specs.Bytes.{be, IsBytes};
+ghost use Rattle.rtr_c.specs.Said.{Writes, TellsWritten, Part, said, part_said};
+ghost use Rattle.rtr_c.specs.Said.{prefix_said, key_said, aspa_said, end_said};
+
+use crate::answer::{
+    ACCEPTED, EMPTY_PROVIDERS, NO_FORM, NO_ROOM, PREFIX, TOO_LONG, UNIT_LENGTH, UNIT_TYPE,
+    UNIT_VERSION,
+};
+use crate::unit::RtrUnit;
+use rtr_payload::pdu::PrefixUnit;
+use rtr_payload::prefix_rule::{ipv4_prefix, ipv6_prefix};
+use rtr_units::numbers::{u32_at, u128_at};
+use rtr_views::placing::place;
+use rtr_wire::base::Asn;
+use rtr_wire::payload::{RouteOrigin, Timing};
+use rtr_wire::pdu::{Aspa, EndOfData, Ipv4Prefix, Ipv6Prefix, RouterKey, Unit};
+use rtr_wire::state::{Serial, State};
+
+/// The most bytes of key info that a router key has that is read.
+const MAX_KEY_INFO: usize = 65503;
+/// The most bytes of providers that an ASPA unit has.
+const MAX_PROVIDERS: usize = 65520;
+
+/// Writes the written form of the unit to the front of the output; key info and providers stand in
+/// the input, where the unit says.
+///
+/// Statuses, in this order: `UNIT_TYPE` for no kind of unit; `NO_FORM` for an action that is none,
+/// a family that isn't that of the kind, or key info or providers outside the input; then
+/// `PREFIX`; `TOO_LONG` for more than 65503 bytes of key info or 65520 of providers; `UNIT_LENGTH`
+/// for providers that aren't four bytes each; `EMPTY_PROVIDERS`; `UNIT_VERSION` for an end of
+/// data; at last `NO_ROOM`. Nothing is written then.
+#[unsafe(no_mangle)]
+pub extern "C" fn rtr_write_unit(
+    unit: &RtrUnit,
+    input: &[u8],
+    output: &mut [u8],
+    written: &mut usize,
+) -> u8
+    ensures { TellsWritten (said unit.now input.now) output.old output.new written.new result }
+{
+    let end = match unit.kind {
+        Ipv4Prefix::PDU => write_ipv4(unit, output),
+        Ipv6Prefix::PDU => write_ipv6(unit, output),
+        EndOfData::PDU => write_end(unit, output),
+        RouterKey::PDU => write_key(unit, input, output),
+        Aspa::PDU => write_aspa(unit, input, output),
+        _ => Err(UNIT_TYPE),
+    };
+    match end {
+        Ok(size) => {
+            *written = size;
+            ACCEPTED
+        }
+        Err(status) => {
+            *written = 0;
+            status
+        }
+    }
+}
+
+/// Writes the form of an IPv4 prefix, and answers its length.
+fn write_ipv4(unit: &RtrUnit, output: &mut [u8]) -> Result<usize, u8>
+    ensures { Writes (prefix_said v4 unit.now) result output.old output.new }
+{
+    if unit.action > 1 || unit.family != 4 {
+        return Err(NO_FORM);
+    }
+    let bits = u32_at(&unit.address, 0);
+    let Ok(prefix) = ipv4_prefix(bits, unit.prefix_length, unit.max_length) else {
+        return Err(PREFIX);
+    };
+    let origin = RouteOrigin::new(prefix, Asn::from_u32(unit.asn));
+    let form = Ipv4Prefix::from_origin(unit.version, unit.action, origin);
+    placed(form.as_ref(), &[], output)
+}
+
+/// Writes the form of an IPv6 prefix, and answers its length.
+fn write_ipv6(unit: &RtrUnit, output: &mut [u8]) -> Result<usize, u8>
+    ensures { Writes (prefix_said v6 unit.now) result output.old output.new }
+{
+    if unit.action > 1 || unit.family != 6 {
+        return Err(NO_FORM);
+    }
+    let bits = u128_at(&unit.address, 0);
+    let Ok(prefix) = ipv6_prefix(bits, unit.prefix_length, unit.max_length) else {
+        return Err(PREFIX);
+    };
+    let origin = RouteOrigin::new(prefix, Asn::from_u32(unit.asn));
+    let form = Ipv6Prefix::from_origin(unit.version, unit.action, origin);
+    placed(form.as_ref(), &[], output)
+}
+
+/// Writes an end of data, and answers its length.
+fn write_end(unit: &RtrUnit, output: &mut [u8]) -> Result<usize, u8>
+    ensures { Writes (end_said unit.now) result output.old output.new }
+{
+    if unit.action > 0 {
+        return Err(NO_FORM);
+    }
+    if unit.version > 2 {
+        return Err(UNIT_VERSION);
+    }
+    let state = State::from_parts(unit.session, Serial(unit.serial));
+    let timing = Timing {
+        refresh: unit.refresh,
+        retry: unit.retry,
+        expire: unit.expire,
+    };
+    let end = EndOfData::new(unit.version, state, timing);
+    placed(end.as_ref(), &[], output)
+}
+
+/// Writes the form of a router key, and answers its length.
+fn write_key(unit: &RtrUnit, input: &[u8], output: &mut [u8]) -> Result<usize, u8>
+    ensures { Writes (key_said unit.now (part_said unit.now input.now)) result
+        output.old output.new }
+{
+    let Some(info) = part_of(unit, input) else {
+        return Err(NO_FORM);
+    };
+    if unit.action > 1 {
+        return Err(NO_FORM);
+    }
+    if info.len() > MAX_KEY_INFO {
+        return Err(TOO_LONG);
+    }
+    placed(&key_front(unit, 32 + info.len() as u32), info, output)
+}
+
+/// What the form of a router key of this size has before the key info.
+fn key_front(unit: &RtrUnit, size: u32) -> [u8; 32]
+    ensures { result ≡ (unit.now.version ∷ 9 ∷ unit.now.action ∷ 0 ∷ be size 4)
+        ++ (unit.now.key_identifier ++ be unit.now.asn 4) }
+{
+    let mut front = [0; 32];
+    front[..4].copy_from_slice(&[unit.version, RouterKey::PDU, unit.action, 0]);
+    front[4..8].copy_from_slice(&size.to_be_bytes());
+    front[8..28].copy_from_slice(&unit.key_identifier);
+    front[28..].copy_from_slice(&unit.asn.to_be_bytes());
+    front
+}
+
+/// Writes the form of an ASPA unit, and answers its length.
+fn write_aspa(unit: &RtrUnit, input: &[u8], output: &mut [u8]) -> Result<usize, u8>
+    ensures { Writes (aspa_said unit.now (part_said unit.now input.now)) result
+        output.old output.new }
+{
+    let Some(providers) = part_of(unit, input) else {
+        return Err(NO_FORM);
+    };
+    if unit.action > 1 {
+        return Err(NO_FORM);
+    }
+    if unit.action == 0 {
+        return placed(&aspa_front(unit, 12), &[], output);
+    }
+    if providers.len() > MAX_PROVIDERS {
+        return Err(TOO_LONG);
+    }
+    if providers.len() % 4 != 0 {
+        return Err(UNIT_LENGTH);
+    }
+    if providers.is_empty() {
+        return Err(EMPTY_PROVIDERS);
+    }
+    placed(
+        &aspa_front(unit, 12 + providers.len() as u32),
+        providers,
+        output,
+    )
+}
+
+/// What the form of an ASPA unit of this size has before the providers.
+fn aspa_front(unit: &RtrUnit, size: u32) -> [u8; 12]
+    ensures { result ≡ unit.now.version ∷ 11 ∷ unit.now.action ∷ 0 ∷ be size 4
+        ++ be unit.now.customer 4 }
+{
+    let mut front = [0; 12];
+    front[..4].copy_from_slice(&[unit.version, Aspa::PDU, unit.action, 0]);
+    front[4..8].copy_from_slice(&size.to_be_bytes());
+    front[8..].copy_from_slice(&unit.customer.to_be_bytes());
+    front
+}
+
+/// The key info or the providers, where they lie in the input.
+fn part_of<'a>(unit: &RtrUnit, input: &'a [u8]) -> Option<&'a [u8]>
+    ensures part { Part result (part_said unit.now input.now) }
+    ensures bytes { IfSome result (λ part. IsBytes part.now) }
+{
+    if unit.part_start > input.len() || unit.part_length > input.len() - unit.part_start {
+        return None;
+    }
+    Some(&input[unit.part_start..unit.part_start + unit.part_length])
+}
+
+/// Writes the two pieces, or nothing where there is no room for them.
+#[inline(always)]
+fn placed(front: &[u8], back: &[u8], output: &mut [u8]) -> Result<usize, u8>
+    ensures { Writes (Ok (front.now ++ back.now)) result output.old output.new }
+{
+    match place(front, back, output) {
+        Some(size) => Ok(size),
+        None => Err(NO_ROOM),
+    }
+}

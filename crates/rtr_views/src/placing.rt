@@ -1,0 +1,135 @@
+//! Forms of views, written into a slice.
+
+ghost use Rattle.std.specs.Prelude.{◌≡◌, ◌+◌, ◌<◌, ◌^◌, ◌∷◌, ◌++◌, length};
+ghost use Rattle.rtr_base.specs.Actions.{flags_of};
+ghost use Rattle.rtr_base.specs.Bytes.{be};
+ghost use Rattle.rtr_payload.specs.Payloads.{Meaning};
+ghost use Rattle.rtr_payload.specs.Places.{key_fields, aspa_fields};
+ghost use Rattle.rtr_payload.specs.Units.{meaning, form_of};
+ghost use Rattle.rtr_views.specs.Origins.{origin_meaning};
+ghost use Rattle.rtr_views.specs.Placing.{Places};
+ghost use Rattle.rtr_views.specs.Views.{ViewMeans, view_form};
+
+use crate::aspa::{AspaView, FIXED};
+use crate::form::flagged_header;
+use crate::origin::OriginView;
+use crate::router_key::RouterKeyView;
+use crate::view::UnitView;
+use rtr_base::payload::Action;
+use rtr_payload::pdu::{Aspa, PrefixUnit, RouterKey};
+use rtr_units::fixed::{Ipv4Prefix, Ipv6Prefix};
+use rtr_units::unit::Unit;
+
+/// Writes two pieces to the front of the output, the second after the first, and answers their
+/// length in bytes. Where the output is shorter it answers nothing and leaves the output as it
+/// was.
+#[inline(always)]
+pub fn place(front: &[u8], back: &[u8], output: &mut [u8]) -> Option<usize>
+    ensures { Places result (front.now ++ back.now) output.old output.new }
+{
+    let size = front.len() + back.len();
+    if output.len() < size {
+        return None;
+    }
+    output[..front.len()].copy_from_slice(front);
+    output[front.len()..size].copy_from_slice(back);
+    Some(size)
+}
+
+/// Writes a router key or an ASPA unit: a header that is made of the fields, and then `rest`,
+/// which is what follows the header.
+#[inline(always)]
+fn place_flagged(
+    version: u8,
+    pdu: u8,
+    action: Action,
+    rest: &[u8],
+    output: &mut [u8],
+) -> Option<usize>
+    requires size { 8 + length rest.now < 2 ^ 32 }
+    ensures form { Places result
+        ((version ∷ pdu ∷ flags_of action ∷ 0 ∷ be (8 + length rest.now) 4) ++ rest.now)
+        output.old output.new }
+{
+    let size = 8 + rest.len() as u32;
+    place(&flagged_header(version, pdu, action, size), rest, output)
+}
+
+impl OriginView {
+    /// Writes the form of what the unit means.
+    #[inline(always)]
+    fn place_form(&self, output: &mut [u8]) -> Option<usize>
+        ensures { Places result (form_of (origin_meaning self.now)) output.old output.new }
+    {
+        let flags = Action::from_flags(self.flags()).into_flags();
+        let origin = self.origin();
+        let prefix = origin.prefix.prefix();
+        if prefix.is_v4() {
+            let unit = Ipv4Prefix::from_origin(self.version(), flags, origin);
+            place(unit.as_ref(), &[], output)
+        } else {
+            let unit = Ipv6Prefix::from_origin(self.version(), flags, origin);
+            place(unit.as_ref(), &[], output)
+        }
+    }
+}
+
+impl<'a> RouterKeyView<'a> {
+    /// Writes the form of what the unit means.
+    #[inline(always)]
+    fn place_form(&self, output: &mut [u8]) -> Option<usize>
+        ensures { Places result (form_of (meaning (key_fields self.now.unit.now)))
+            output.old output.new }
+    {
+        let action = Action::from_flags(self.flags());
+        let rest = &self.unit[8..];
+        place_flagged(self.version(), RouterKey::PDU, action, rest, output)
+    }
+}
+
+impl<'a> AspaView<'a> {
+    /// Writes the form of what the unit means: of a withdrawal without its providers.
+    #[inline(always)]
+    fn place_form(&self, output: &mut [u8]) -> Option<usize>
+        ensures { Places result (form_of (meaning (aspa_fields self.now.unit.now)))
+            output.old output.new }
+    {
+        let action = Action::from_flags(self.flags());
+        let kept = match action {
+            Action::Announce => self.unit.len(),
+            Action::Withdraw => FIXED,
+        };
+        let rest = &self.unit[8..kept];
+        place_flagged(self.version(), Aspa::PDU, action, rest, output)
+    }
+}
+
+impl<'a> UnitView<'a> {
+    /// The version of the protocol: 0 for an end of data without timing parameters.
+    #[inline(always)]
+    pub fn version(&self) -> u8
+        ensures { (m : Meaning) → ViewMeans self.now m → result ≡ m.version }
+    {
+        match self {
+            UnitView::Origin(view) => view.version(),
+            UnitView::RouterKey(view) => view.version(),
+            UnitView::Aspa(view) => view.version(),
+            UnitView::End(end) => end.version(),
+        }
+    }
+
+    /// Writes the form to the front of the output, as `write_form` does to a writer, and answers
+    /// its length in bytes. Where the output is shorter it answers nothing and leaves the output
+    /// as it was.
+    #[inline(always)]
+    pub fn place_form(&self, output: &mut [u8]) -> Option<usize>
+        ensures { Places result (view_form self.now) output.old output.new }
+    {
+        match self {
+            UnitView::Origin(view) => view.place_form(output),
+            UnitView::RouterKey(view) => view.place_form(output),
+            UnitView::Aspa(view) => view.place_form(output),
+            UnitView::End(end) => place(end.as_ref(), &[], output),
+        }
+    }
+}

@@ -1,0 +1,94 @@
+-- What a run from a slice into another writes and answers (this library's own).
+use Rattle.std.specs.Prelude.{◌≡◌, ℕ, ◌+◌, ◌<◌, ◌≤◌, ◌⊎◌, List, [], ◌∷◌, ◌++◌, length, drop}
+use Rattle.std.specs.Prelude.{Option, Some, Result, Ok, Err}
+use Rattle.rtr_units.specs.End.{EndMeaning, End, end_list}
+use Rattle.rtr_payload.specs.Payloads.{Meaning}
+use Rattle.rtr_payload.specs.Units.{IsUnit, form_of}
+use Rattle.rtr_views.specs.Faults.{IsFirstFault}
+use Rattle.rtr_views.specs.Placing.{Places}
+use Rattle.rtr_views.specs.declared.fault.ViewFault.TheVariants.{UnitVersion}
+use Rattle.rtr_wire.specs.Outcome.{StepTells}
+use Rattle.rtr_wire.specs.Sequences.{AreUnits, Written, forms, in_version}
+use Rattle.rtr_wire.specs.declared.into.IntoFault.{IntoFault}
+use Rattle.rtr_wire.specs.declared.into.IntoFault.TheVariants.{NoRoom, TooMany, Refused}
+use Rattle.rtr_wire.specs.declared.into.Progress.{Progress}
+use Rattle.rtr_wire.specs.declared.into.Step.{Step}
+
+-- the next unit or end of data is there, and what is to be written for it has more bytes than this
+abbrev pub LacksRoom : Written → List ℕ → ℕ → Type 0
+LacksRoom what rest room = (next left : List ℕ) × (rest ≡ next ++ left)
+    × (((m : Meaning) × IsUnit next m × (room < length (forms (what.units (m ∷ [])))))
+    ⊎ ((e : EndMeaning) × End next e × (room < length (end_list (what.end e)))))
+
+-- why a call stopped after units with these meanings, at the rest of the input, with this room
+-- left in the output
+abbrev pub WhyStopped : Written → ℕ → IntoFault → List Meaning → List ℕ → ℕ → Type 0
+WhyStopped what limit NoRoom ms rest room = (length ms < limit) × LacksRoom what rest room
+WhyStopped what limit TooMany ms rest room = length ms ≡ limit
+WhyStopped what limit (Refused e) ms rest room = (length ms < limit) × IsFirstFault rest e
+
+-- what a call did after units with these meanings, of n bytes: it took the end of data and wrote
+-- the form of what is written for it, or it stopped
+abbrev pub EndsInto : Written → ℕ → Result Unit IntoFault → List Meaning → ℕ → List ℕ → ℕ
+    → List ℕ → ℕ → Type 0
+EndsInto what limit (Ok done) ms n rest room written taken =
+    (e : EndMeaning) × (last left : List ℕ) × (rest ≡ last ++ left) × End last e
+    × (length ms < limit) × (taken ≡ n + length last)
+    × (written ≡ forms (what.units ms) ++ end_list (what.end e))
+EndsInto what limit (Err f) ms n rest room written taken =
+    (taken ≡ n) × (written ≡ forms (what.units ms)) × WhyStopped what limit f ms rest room
+
+-- the whole promise of a run from the input into the output
+pub record FillsInto (what : Written) (limit : ℕ) (result : Result Unit IntoFault)
+    (input before after : List ℕ) (p : Progress) : Type 0 where
+  -- units at the front of the input, with these meanings, and what follows them
+  pub us : List ℕ
+  pub ms : List Meaning
+  pub rest : List ℕ
+  pub parts : input ≡ us ++ rest
+  pub are_units : AreUnits us ms
+  pub units : p.units ≡ length ms
+  pub forms : p.forms ≡ length (what.units ms)
+  -- what was written stands at the front of the output, and what follows is as it was
+  pub form : List ℕ
+  pub written : p.written ≡ length form
+  pub fits : p.written ≤ length before
+  pub output : after ≡ form ++ drop p.written before
+  -- how the run ended
+  pub room : ℕ
+  pub room_is : p.written + room ≡ length before
+  pub ends : EndsInto what limit result ms (length us) rest room form p.taken
+
+-- the version is refused, with nothing taken or written
+pub record refuses_version (version : ℕ) (p : Progress) (result : Result Unit IntoFault)
+    (before after : List ℕ) : Type 0 where
+  pub progress : p ≡ record { units = 0; forms = 0; taken = 0; written = 0 }
+  pub fault : result ≡ Err (Refused (UnitVersion version))
+  pub output : after ≡ before
+
+-- ---- one step
+
+-- the form of m in version v is written where there is room for it
+abbrev pub PlacesUnit : ℕ → Meaning → Option ℕ → List ℕ → List ℕ → Type 0
+PlacesUnit v m placed before after = Places placed (form_of (in_version v m)) before after
+
+-- one unit was taken, and what is to be written for it was written; or an end of data
+pub record Stepped (what : Written) (s : Step) (rest before after : List ℕ) : Type 0 where
+  pub took : List ℕ
+  pub wrote : List ℕ
+  pub parts : rest ≡ took ++ drop s.taken rest
+  pub taken : s.taken ≡ length took
+  pub written : s.written ≡ length wrote
+  pub fits : s.written ≤ length before
+  pub output : after ≡ wrote ++ drop s.written before
+  pub tells : StepTells what (Ok s.passed) took wrote (Some (drop s.taken rest))
+
+abbrev pub StopsStepInto : Written → IntoFault → List ℕ → ℕ → Type 0
+StopsStepInto what NoRoom rest room = LacksRoom what rest room
+StopsStepInto what TooMany rest room = ⊥
+StopsStepInto what (Refused e) rest room = IsFirstFault rest e
+
+abbrev pub StepsInto : Written → Result Step IntoFault → (rest before after : List ℕ) → Type 0
+StepsInto what (Ok s) rest before after = Stepped what s rest before after
+StepsInto what (Err f) rest before after =
+    (after ≡ before) × StopsStepInto what f rest (length before)

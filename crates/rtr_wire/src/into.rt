@@ -1,0 +1,250 @@
+//! Runs from a slice into another, without memory.
+
+ghost use Rattle.std.specs.Prelude.{◌≡◌, ◌≢◌, ◌+◌, ◌≤◌, ◌<◌, ℕ, List, length, Err, IfErr};
+ghost use Rattle.rtr_payload.specs.Payloads.{Meaning, smallest_version as smallest};
+ghost use Rattle.rtr_views.specs.Placing.{Places};
+ghost use Rattle.rtr_views.specs.Views.{ViewMeans};
+ghost use Rattle.rtr_wire.specs.Into.{FillsInto, StepsInto, PlacesUnit, refuses_version};
+ghost use Rattle.rtr_wire.specs.Sequences.{everything, for_version};
+
+use crate::run::{LAST_VERSION, Passed};
+use crate::writing::{Everything, ForVersion, Writing};
+use rtr_payload::pdu::{Aspa, RouterKey};
+use rtr_units::fixed::{Ipv4Prefix, Ipv6Prefix};
+use rtr_units::unit::Unit;
+use rtr_views::fault::ViewFault;
+use rtr_views::placing::place;
+use rtr_views::view::UnitView;
+
+/// How far a call came: whole units taken from the front of the input, and what is written of them
+/// at the front of the output.
+#[derive(Clone, Copy, Debug, PartialEq, Eq)]
+pub struct Progress {
+    /// Payload units that were taken.
+    pub units: u64,
+    /// Those of them that were written.
+    pub forms: u64,
+    /// Bytes that were taken.
+    pub taken: usize,
+    /// Bytes that were written.
+    pub written: usize,
+}
+
+/// Why a call stopped before an end of data.
+#[derive(Debug, Drop)]
+pub enum IntoFault {
+    /// The output has no room for what is to be written next.
+    NoRoom,
+    /// As many units as were allowed were taken.
+    TooMany,
+    /// What follows in the input is refused.
+    Refused(ViewFault),
+}
+
+/// As `normalise_slice`, into a slice. It says how far it came, also where it stops early: what it
+/// wrote then is the form of the whole units before the one that it stopped at, none of whose
+/// bytes count as taken. What follows in the output is as it was.
+///
+/// At most `limit` units are viewed, the end of data included: `TooMany` comes before the next
+/// one. Then `Refused`, with the faults of `UnitView::first`, and then `NoRoom`, which never comes
+/// where the output is at least as long as the input.
+pub fn normalise_into(
+    input: &[u8],
+    output: &mut [u8],
+    limit: u64,
+) -> (Progress, Result<(), IntoFault>)
+    ensures fills { FillsInto everything limit result.1 input.now output.old output.new result.0 }
+    ensures room { length input.now ≤ length output.old → result.1 ≢ Err IntoFault.NoRoom }
+{
+    run(Everything, input, output, limit)
+}
+
+/// As `normalise_for`, from a slice into a slice, as `normalise_into`. An end of data of version 0
+/// has 12 bytes and one of another version 24, so that the output suffices where it is at least 12
+/// bytes longer than the input.
+///
+/// `Refused` with `UnitVersion` comes first for a version above 2, with nothing taken or written.
+pub fn normalise_for_into(
+    input: &[u8],
+    output: &mut [u8],
+    limit: u64,
+    version: u8,
+) -> (Progress, Result<(), IntoFault>)
+    ensures known { version ≤ 2 →
+        FillsInto (for_version version) limit result.1 input.now output.old output.new result.0 }
+    ensures room { version ≤ 2 → length input.now + 12 ≤ length output.old →
+        result.1 ≢ Err IntoFault.NoRoom }
+    ensures unknown { 2 < version →
+        refuses_version version result.0 result.1 output.old output.new }
+{
+    if version > LAST_VERSION {
+        let none = Progress {
+            units: 0,
+            forms: 0,
+            taken: 0,
+            written: 0,
+        };
+        return (
+            none,
+            Err(IntoFault::Refused(ViewFault::UnitVersion(version))),
+        );
+    }
+    run(ForVersion { version }, input, output, limit)
+}
+
+/// Takes units from the input up to an end of data, and writes for each, and for the end of data,
+/// what is to be written.
+#[inline(always)]
+fn run<S: Writing>(
+    writing: S,
+    input: &[u8],
+    output: &mut [u8],
+    limit: u64,
+) -> (Progress, Result<(), IntoFault>)
+    ensures { FillsInto (S.what writing) limit result.1 input.now output.old output.new result.0 }
+{
+    let (mut left_out, mut taken, mut written) = (0, 0, 0);
+    for units in 0..limit {
+        match take_step(writing, &input[taken..], &mut output[written..]) {
+            Ok(step) => {
+                taken += step.taken;
+                written += step.written;
+                match step.passed {
+                    Passed::Written => {}
+                    Passed::LeftOut => left_out += 1,
+                    Passed::End => {
+                        let forms = units - left_out;
+                        return (
+                            Progress {
+                                units,
+                                forms,
+                                taken,
+                                written,
+                            },
+                            Ok(()),
+                        );
+                    }
+                }
+            }
+            Err(e) => {
+                let forms = units - left_out;
+                return (
+                    Progress {
+                        units,
+                        forms,
+                        taken,
+                        written,
+                    },
+                    Err(e),
+                );
+            }
+        }
+    }
+    let forms = limit - left_out;
+    (
+        Progress {
+            units: limit,
+            forms,
+            taken,
+            written,
+        },
+        Err(IntoFault::TooMany),
+    )
+}
+
+/// One step of a run.
+#[derive(Clone, Copy)]
+struct Step {
+    /// What it passed.
+    passed: Passed,
+    /// How many bytes it took.
+    taken: usize,
+    /// How many bytes it wrote.
+    written: usize,
+}
+
+/// Views one unit, and writes what is to be written for it.
+///
+/// Each type goes its own way, on which the compiler knows the kind of the view at each step.
+#[inline(always)]
+fn take_step<S: Writing>(writing: S, rest: &[u8], output: &mut [u8]) -> Result<Step, IntoFault>
+    ensures { StepsInto (S.what writing) result rest.now output.old output.new }
+{
+    let unit_type = if rest.len() < 8 { 0 } else { rest[1] };
+    match unit_type {
+        Ipv4Prefix::PDU => view_step::<4, S>(writing, rest, output),
+        Ipv6Prefix::PDU => view_step::<6, S>(writing, rest, output),
+        RouterKey::PDU => view_step::<9, S>(writing, rest, output),
+        Aspa::PDU => view_step::<11, S>(writing, rest, output),
+        _ => view_step::<0, S>(writing, rest, output),
+    }
+}
+
+/// The step for units of one type, or of any other: the type is named so that each has code of its
+/// own.
+#[inline(always)]
+fn view_step<const TYPE: u8, S: Writing>(
+    writing: S,
+    rest: &[u8],
+    output: &mut [u8],
+) -> Result<Step, IntoFault>
+    ensures { StepsInto (S.what writing) result rest.now output.old output.new }
+{
+    let (view, taken) = match UnitView::first(rest) {
+        Ok(first) => first,
+        Err(e) => return Err(IntoFault::Refused(e)),
+    };
+    match view {
+        UnitView::End(end) => match place(writing.end(end).as_ref(), &[], output) {
+            Some(written) => Ok(Step {
+                passed: Passed::End,
+                taken,
+                written,
+            }),
+            None => Err(IntoFault::NoRoom),
+        },
+        _ => {
+            if !writing.writes(smallest_version(&view)) {
+                return Ok(Step {
+                    passed: Passed::LeftOut,
+                    taken,
+                    written: 0,
+                });
+            }
+            match place_unit(writing, &view, output) {
+                Some(written) => Ok(Step {
+                    passed: Passed::Written,
+                    taken,
+                    written,
+                }),
+                None => Err(IntoFault::NoRoom),
+            }
+        }
+    }
+}
+
+/// Writes the form of the unit, in the version in which it is to be written.
+#[inline(always)]
+fn place_unit<S: Writing>(writing: S, view: &UnitView<'_>, output: &mut [u8]) -> Option<usize>
+    ensures { (m : Meaning) → ViewMeans view.now m →
+        PlacesUnit (S.version_for writing m.version) m result output.old output.new }
+{
+    let version = writing.version(view.version());
+    let size = view.place_form(output)?;
+    if let Some(first) = output.first_mut() {
+        *first = version;
+    }
+    Some(size)
+}
+
+/// The version of the protocol that the payload of the unit came with.
+#[inline(always)]
+fn smallest_version(view: &UnitView<'_>) -> u8
+    ensures { (m : Meaning) → ViewMeans view.now m → result ≡ smallest m.payload }
+{
+    match view {
+        UnitView::Origin(_) => 0,
+        UnitView::RouterKey(_) => 1,
+        UnitView::Aspa(_) | UnitView::End(_) => 2,
+    }
+}
