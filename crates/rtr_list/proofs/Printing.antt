@@ -1,0 +1,58 @@
+-- Lines that are written one after the other.
+use Rattle.std.proofs.Common.{◌≡◌, ℕ, ◌+◌, false, List, [], ◌∷◌, ◌++◌, length, Option}
+use Rattle.std.proofs.Common.{Ok, refl, sym, ap, subst, ◌∙◌, append-nil, arith}
+use Rattle.std.specs.List.{AllByRecursion, concat}
+use Rattle.std.proofs.lemmas.List.{length-append}
+use Rattle.std.proofs.lemmas.List.Folds.{concat-append}
+use Rattle.std.specs.Io.KnownBytes.{Appends}
+use Rattle.std.proofs.KnownBytes.{Appends-trans}
+use Rattle.rtr_list.specs.Lines.{IsLine, PutsLine}
+use Rattle.rtr_list.specs.Listing.{AreLines, Prints}
+use Rattle.rtr_list.specs.declared.run.Wanted.TheVariants.{Text, Json}
+
+pub all_append : {X : Type 0} (P : X → Type 0) (xs ys : List X) → AllByRecursion P xs →
+    AllByRecursion P ys → AllByRecursion P (xs ++ ys)
+all_append P [] ys h k = k
+all_append P (x ∷ xs) ys h k = (h.0, all_append P xs ys h.1 k)
+
+pub concat_push : (xs : List (List ℕ)) (x : List ℕ) → concat (xs ++ x ∷ []) ≡ concat xs ++ x
+concat_push xs x = concat-append xs (x ∷ []) ∙ ap (λ l. concat xs ++ l) (append-nil x)
+
+-- the lines that were written so far
+pub record SoFar (n : ℕ) (held holds : Option (List ℕ)) : Type 0 where
+  pub lines : List (List ℕ)
+  pub are_lines : AreLines lines
+  pub wrote : Appends held holds (concat lines)
+  pub counted : length lines ≡ n
+
+pub goes_on : (x : Unit {0}) (n : ℕ) (a b c : Option (List ℕ)) → SoFar n a b →
+    PutsLine (Ok x) b c → SoFar (n + 1) a c
+goes_on x n a b c p (line, is, wrote) = record {
+  lines = p.lines ++ line ∷ [];
+  are_lines = all_append IsLine p.lines (line ∷ []) p.are_lines (is, tt);
+  wrote = subst (Appends a c) (sym (concat_push p.lines line)) (Appends-trans a b c
+      (concat p.lines) line p.wrote wrote);
+  counted = omega (arith, length-append p.lines (line ∷ []), p.counted);
+}
+
+-- ---- the line of a listed unit
+
+pub text_line : (x : Unit {0}) (a b : Option (List ℕ)) → PutsLine (Ok x) a b →
+    Prints Text (Ok false) a b
+text_line x a b (line, is, wrote) = (
+  line ∷ [],
+  (is, tt),
+  subst (Appends a b) (sym
+      (append-nil line)) wrote,
+  (refl, refl),
+)
+
+pub json_line : (x : Unit {0}) (a b : Option (List ℕ)) → PutsLine (Ok x) a b →
+    Prints Json (Ok false) a b
+json_line x a b (line, is, wrote) = (
+  line ∷ [],
+  (is, tt),
+  subst (Appends a b) (sym
+      (append-nil line)) wrote,
+  (refl, refl),
+)

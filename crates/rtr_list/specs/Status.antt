@@ -1,0 +1,37 @@
+-- How the program ends: this program's own.
+use Rattle.std.specs.Prelude.{◌≡◌, ℕ, Bool, true, false, Result, Ok, Err}
+use Rattle.std.specs.Io.KnownBytes.{Keeps}
+use Rattle.rtr_units.specs.declared.fault.Fault.{Fault}
+use Rattle.rtr_units.specs.Causes.{Cause, by_reader, by_writer, too_many, no_memory, wrong}
+use Rattle.rtr_units.specs.Stream.{count_after}
+use Rattle.rtr_list.specs.Listing.{Lists, Sides, by_cause}
+use Rattle.rtr_list.specs.declared.run.Wanted.{Wanted}
+
+-- the status by the answer, where the flush after it succeeded: 0 at the end of the input where no
+-- rule was found broken, 1 where one was and at a fault of the input, 3 otherwise
+abbrev pub status_of : Result Bool Cause → ℕ
+status_of (Ok false) = 0
+status_of (Ok true) = 1
+status_of (Err by_reader) = 3
+status_of (Err by_writer) = 3
+status_of (Err too_many) = 3
+status_of (Err no_memory) = 3
+status_of (Err (wrong fault)) = 1
+
+-- the status by the answer, and by whether the flush after it succeeded
+abbrev pub status_after : Result Bool Cause → Bool → ℕ
+status_after answer true = status_of answer
+status_after answer false = 3
+
+-- one flush of the writer, and nothing else: what it holds stays, and a failure is counted
+pub record Flushes (flushed : Bool) (mid end : Sides) : Type 0 where
+  pub left : end.left ≡ mid.left
+  pub held : Keeps mid.held end.held
+  pub reads : end.reads_failed ≡ mid.reads_failed
+  pub writes : end.writes_failed ≡ count_after mid.writes_failed flushed
+
+-- a run of what is asked for, then one flush of the output, and both decide the status
+abbrev pub Runs : Wanted → ℕ → Sides → Sides → Type 0
+Runs what status before after = (answer : Result Bool Fault) × (flushed : Bool) × (mid : Sides)
+    × Lists what answer before mid × Flushes flushed mid after
+    × (status ≡ status_after (by_cause answer) flushed)

@@ -1,0 +1,217 @@
+//! One run of the program, over any reader and writers.
+
+ghost use Rattle.std.specs.Prelude.{◌≡◌, drop, IsNone, IfSome, None};
+ghost use Rattle.std.specs.Process.{exit_status};
+ghost use Rattle.rtr_list.specs.Listing.{Lists, Sides, by_cause};
+ghost use Rattle.rtr_list.specs.Status.{Runs, status_of};
+ghost use Rattle.rtr_list.specs.Words.{asked, asked_word};
+
+use crate::printer::Printer;
+use rtr_session::AnyUnit;
+use rtr_units::fault::Fault;
+use rtr_units::source::{Sink, Source};
+use std::alloc::Global;
+use std::io::Write;
+use std::process::ExitCode;
+
+/// The status where a rule was found broken, and at a fault of the input.
+const BROKEN: u8 = 1;
+
+/// The status where reading, writing or memory failed.
+const FAILED: u8 = 3;
+
+/// Runs the program with the words that it was started with, its name first, and answers the code
+/// to end with, which is the status of `run`. Where there are no words, since they can't be had as
+/// texts, it prints how it is called.
+pub fn program<R: Source, W: Sink, F: Write>(
+    alloc: Global,
+    words: Option<Vec<String>>,
+    input: &mut R,
+    output: &mut W,
+    faults: &mut F,
+) -> ExitCode
+    // Without words nothing is read or written.
+    ensures no_words { IsNone words →
+        (exit_status result ≡ 2) × (input.new ≡ input.old) × (output.new ≡ output.old) }
+    // Nor is it with words after the program's name that ask for nothing.
+    ensures usage { IfSome words (λ all. asked (drop 1 all.items) ≡ None →
+        (exit_status result ≡ 2) × (input.new ≡ input.old) × (output.new ≡ output.old)) }
+    // Where it succeeds no line is printed on `faults`.
+    ensures quiet { exit_status result ≡ 0 → faults.new ≡ faults.old }
+    // Otherwise what they ask for is printed of the input, and then the output flushed once.
+    ensures lists { IfSome words (λ all. IfSome (asked (drop 1 all.items)) (λ what.
+        Runs what (exit_status result)
+        (record {
+          left = R.remaining input.old;
+          held = W.contents output.old;
+          reads_failed = R.failures input.old;
+          writes_failed = W.failures output.old;
+        })
+        (record {
+          left = R.remaining input.new;
+          held = W.contents output.new;
+          reads_failed = R.failures input.new;
+          writes_failed = W.failures output.new;
+        }))) }
+{
+    let status = match words {
+        Some(words) => run(alloc, words_after_name(&words), input, output, faults),
+        None => usage(faults),
+    };
+    ExitCode::from(status)
+}
+
+/// The words after the first one, which is the program's name.
+fn words_after_name(words: &[String]) -> &[String]
+    ensures { result.now ≡ drop 1 words.now }
+{
+    words.get(1..).unwrap_or(&[])
+}
+
+/// What a run is asked to print.
+#[derive(Clone, Copy)]
+pub enum Wanted {
+    /// A line for people of each unit.
+    Text,
+    /// A JSON object of each unit.
+    Json,
+    /// A line of each rule that a unit breaks.
+    Findings,
+}
+
+/// What the words after the program's name ask for.
+fn form_wanted(words: &[String]) -> Option<Wanted>
+    ensures { result ≡ asked words.now }
+{
+    match words {
+        [] => Some(Wanted::Text),
+        [word] => form_named(word.as_str()),
+        _ => None,
+    }
+}
+
+/// What the word asks for.
+fn form_named(word: &str) -> Option<Wanted>
+    ensures { result ≡ asked_word word.now }
+{
+    match word {
+        "--json" => Some(Wanted::Json),
+        "--check" => Some(Wanted::Findings),
+        _ => None,
+    }
+}
+
+/// Reads units up to the end of the input and prints what the words ask for of each, flushes the
+/// output once, and answers the status to end with: 0 where all that succeeded and no rule was
+/// found broken; 1 where one was, or at a fault of the input; 2 where there are words other than
+/// `--json` or `--check`; 3 where reading, writing, flushing or memory failed. At a fault and at
+/// statuses 2 and 3 there is a line on `faults`; one that can't be written changes nothing.
+pub fn run<R: Source, W: Sink, F: Write>(
+    alloc: Global,
+    args: &[String],
+    input: &mut R,
+    output: &mut W,
+    faults: &mut F,
+) -> u8
+    // With words that ask for nothing, nothing is read or written.
+    ensures usage { asked args.now ≡ None →
+        (result ≡ 2) × (input.new ≡ input.old) × (output.new ≡ output.old) }
+    // Where it succeeds no line is printed on `faults`.
+    ensures quiet { result ≡ 0 → faults.new ≡ faults.old }
+    // Otherwise what they ask for is printed of the input, and then the output flushed once.
+    ensures lists { IfSome (asked args.now) (λ what. Runs what result
+        (record {
+          left = R.remaining input.old;
+          held = W.contents output.old;
+          reads_failed = R.failures input.old;
+          writes_failed = W.failures output.old;
+        })
+        (record {
+          left = R.remaining input.new;
+          held = W.contents output.new;
+          reads_failed = R.failures input.new;
+          writes_failed = W.failures output.new;
+        })) }
+{
+    let Some(wanted) = form_wanted(args) else {
+        return usage(faults);
+    };
+    let mut printer = Printer::new(alloc);
+    let answer = list(alloc, wanted, &mut printer, input, output);
+    let flushed = output.flush().is_ok();
+    let status = tell(answer, printer.offset(), faults);
+    if flushed {
+        return status;
+    }
+    if status != FAILED {
+        let _ = writeln!(faults, "write failed");
+    }
+    FAILED
+}
+
+/// Prints how the program is called, and answers status 2.
+pub fn usage<F: Write>(faults: &mut F) -> u8
+    ensures { result ≡ 2 }
+{
+    let _ = writeln!(faults, "usage: rtr_list [--json | --check]");
+    2
+}
+
+/// Prints the fault, where there is one, with the place of its unit where it is the input's, and
+/// answers the status to end with.
+fn tell<F: Write>(answer: Result<bool, Fault>, offset: u64, faults: &mut F) -> u8
+    ensures status { result ≡ status_of (by_cause answer) }
+    ensures quiet { result ≡ 0 → faults.new ≡ faults.old }
+{
+    let fault = match answer {
+        Ok(false) => return 0,
+        Ok(true) => return BROKEN,
+        Err(fault) => fault,
+    };
+    match fault {
+        Fault::Reader(_) | Fault::Writer(_) | Fault::TooMany | Fault::Memory => {
+            let _ = writeln!(faults, "{fault}");
+            FAILED
+        }
+        _ => {
+            let _ = writeln!(faults, "offset {offset}: {fault}");
+            BROKEN
+        }
+    }
+}
+
+/// Prints what is wanted of each unit, and answers whether a rule was found broken.
+fn list<R: Source, W: Sink>(
+    alloc: Global,
+    wanted: Wanted,
+    printer: &mut Printer,
+    input: &mut R,
+    output: &mut W,
+) -> Result<bool, Fault>
+    ensures { Lists wanted result
+        (record {
+          left = R.remaining input.old;
+          held = W.contents output.old;
+          reads_failed = R.failures input.old;
+          writes_failed = W.failures output.old;
+        })
+        (record {
+          left = R.remaining input.new;
+          held = W.contents output.new;
+          reads_failed = R.failures input.new;
+          writes_failed = W.failures output.new;
+        }) }
+{
+    let mut found = false;
+    for count in 0..u64::MAX {
+        match AnyUnit::read(alloc, input) {
+            Ok(Some(unit)) => match printer.print(wanted, &unit, output) {
+                Ok(more) => found |= more,
+                Err(fault) => return Err(fault),
+            },
+            Ok(None) => return Ok(found),
+            Err(fault) => return Err(fault),
+        }
+    }
+    Err(Fault::TooMany)
+}
