@@ -15,17 +15,30 @@
 
 #define RUNS 41
 
-static uint32_t get32(const uint8_t *at)
+static inline uint32_t get32(const uint8_t *at)
 {
-    return (uint32_t)at[0] << 24 | (uint32_t)at[1] << 16 | (uint32_t)at[2] << 8 | at[3];
+    uint32_t value;
+    memcpy(&value, at, 4);
+    return __builtin_bswap32(value);
 }
 
-static void put32(uint8_t *at, uint32_t value)
+static inline void put32(uint8_t *at, uint32_t value)
 {
-    at[0] = (uint8_t)(value >> 24);
-    at[1] = (uint8_t)(value >> 16);
-    at[2] = (uint8_t)(value >> 8);
-    at[3] = (uint8_t)value;
+    value = __builtin_bswap32(value);
+    memcpy(at, &value, 4);
+}
+
+static inline uint64_t get64(const uint8_t *at)
+{
+    uint64_t value;
+    memcpy(&value, at, 8);
+    return __builtin_bswap64(value);
+}
+
+static inline void put64(uint8_t *at, uint64_t value)
+{
+    value = __builtin_bswap64(value);
+    memcpy(at, &value, 8);
 }
 
 /* Clears the bits after so many of an address of so many bytes. */
@@ -35,18 +48,15 @@ static inline void put_cleared(uint8_t *to, const uint8_t *from, unsigned size, 
         put32(to, bits ? get32(from) >> (32 - bits) << (32 - bits) : 0);
         return;
     }
-    uint64_t high = (uint64_t)get32(from) << 32 | get32(from + 4);
-    uint64_t low = (uint64_t)get32(from + 8) << 32 | get32(from + 12);
+    uint64_t high = get64(from), low = get64(from + 8);
     if (bits <= 64) {
         low = 0;
         high = bits ? high >> (64 - bits) << (64 - bits) : 0;
     } else {
         low = low >> (128 - bits) << (128 - bits);
     }
-    put32(to, (uint32_t)(high >> 32));
-    put32(to + 4, (uint32_t)high);
-    put32(to + 8, (uint32_t)(low >> 32));
-    put32(to + 12, (uint32_t)low);
+    put64(to, high);
+    put64(to + 8, low);
 }
 
 /* The status of the unit or the end of data at the front, and its length; or what is refused. */
