@@ -100,8 +100,8 @@ struct rtr_unit {
  *
  * At most `limit` units are taken, the end of data included; UINT64_MAX allows all. RTR_OK comes
  * exactly where the input begins with fewer than `limit` acceptable payload units and an end of
- * data, and the output has room: then all of that was taken and its form was written, and what
- * follows in the input is left.
+ * data, and the output is at least as long as their form: then all of that was taken and its form
+ * was written, and what follows in the input is left.
  *
  * Else the call stopped before a unit, none of whose bytes count as taken: output[0 .. written) is
  * the form of input[0 .. taken), whole units. RTR_TOO_MANY comes first, then RTR_SHORT to

@@ -1,5 +1,6 @@
 -- What C is told of a call, in numbers (this library's own).
-use Rattle.std.specs.Prelude.{◌≡◌, ◌≢◌, ◌<◌, ℕ, List, ◌++◌, length, drop, Result, Ok, Err}
+use Rattle.std.specs.Prelude.{◌≡◌, ◌<◌, ◌≤◌, ◌⊎◌, ℕ, List, ◌++◌, length, drop}
+use Rattle.std.specs.Prelude.{Result, Ok, Err}
 use Rattle.rtr_units.specs.End.{EndMeaning}
 use Rattle.rtr_payload.specs.Payloads.{Meaning}
 use Rattle.rtr_payload.specs.declared.prefix_rule.PrefixRule.{PrefixRule}
@@ -77,17 +78,22 @@ pub record TellsSequence (what : Written) (b : List ℕ) (ms : List Meaning) (e 
   pub forms : a.forms ≡ length (what.units ms)
   pub taken : a.taken ≡ length b
   pub written : a.written ≡ length (sequence_form (what.units ms) (what.end e))
+  pub fits : a.written ≤ length before
   pub output : after ≡ sequence_form (what.units ms) (what.end e) ++ drop a.written before
   pub status : a.status ≡ 0
   pub detail : a.detail ≡ 0
   pub answered : code ≡ 0
 
--- an input that begins with a sequence of fewer than limit units has status 0, unless the output
--- has no room
-abbrev pub Succeeds : Written → ℕ → (input before after : List ℕ) → RtrAnswer → ℕ → Type 0
-Succeeds what limit input before after a code =
-    (b : List ℕ) (ms : List Meaning) (e : EndMeaning) → Accepts input b ms e →
-    length ms < limit → code ≢ 9 → TellsSequence what b ms e before after a code
+-- An input that begins with a sequence of fewer than limit units has status 0, where the output is
+-- as long as what is written, or has this many bytes, which are enough for all inputs of that
+-- length.
+abbrev pub Succeeds : Written → (limit enough : ℕ) → (input before after : List ℕ) → RtrAnswer → ℕ
+    → Type 0
+Succeeds what limit enough input before after a code =
+    (b : List ℕ) (ms : List Meaning) (e : EndMeaning) → Accepts input b ms e → length ms < limit →
+    (enough ≤ length before)
+    ⊎ (length (sequence_form (what.units ms) (what.end e)) ≤ length before) →
+    TellsSequence what b ms e before after a code
 
 -- no other input has status 0
 abbrev pub SucceedsOnly : Written → ℕ → (input before after : List ℕ) → RtrAnswer → ℕ → Type 0
