@@ -105,8 +105,9 @@ struct rtr_unit {
  *
  * Else the call stopped before a unit, none of whose bytes count as taken: output[0 .. written) is
  * the form of input[0 .. taken), whole units. RTR_TOO_MANY comes first, then RTR_SHORT to
- * RTR_PREFIX, then RTR_NO_ROOM. After RTR_NO_ROOM and RTR_TOO_MANY, and after RTR_SHORT once more
- * bytes are there, a caller goes on at input + taken, with the limit less by `units`.
+ * RTR_PREFIX, then RTR_NO_ROOM. After RTR_NO_ROOM with more room, and after RTR_SHORT with more
+ * input, a caller goes on at input + taken with the limit less by `units`; after RTR_TOO_MANY with
+ * another limit.
  *
  * The rest of the output is as it was. The output always suffices where it is at least as long as
  * the input: RTR_NO_ROOM doesn't come then. Two sequences have the same form exactly where they
@@ -129,8 +130,8 @@ uint8_t rtr_normalise_for_slice(const uint8_t *input, size_t input_length,
                                 uint64_t limit, uint8_t version, struct rtr_answer *answer);
 
 /* Shows the payload unit or the end of data that the input begins with. The next one begins `size`
- * bytes later; what follows doesn't count. Nothing is copied but fixed fields: key info and providers
- * are input[part_start .. part_start + part_length), as they stand, on a withdrawal too.
+ * bytes later; what follows doesn't count. Nothing is copied but fixed fields: key info and
+ * providers are input[part_start .. part_start + part_length), as they stand, on a withdrawal too.
  *
  * RTR_OK; or, with all fields 0 but `detail`, RTR_SHORT to RTR_PREFIX. */
 uint8_t rtr_next(const uint8_t *input, size_t input_length, struct rtr_unit *unit);

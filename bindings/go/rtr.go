@@ -87,10 +87,11 @@ func progress(a *C.struct_rtr_answer) Progress {
 // units are taken, the end of data included.
 //
 // It succeeds exactly where input begins with fewer than limit acceptable payload units and an end of
-// data, and output has room, as one as long as the input always has. What follows in the input is left.
+// data, and output is at least as long as their form, as one as long as the input always is. What follows
+// in the input is left.
 //
 // Errors, in this order: TooMany; Short to PrefixRule; NoRoom. Then Progress says which whole units were
-// taken before, whose form is written; a caller goes on after them with more room, more input or a higher
+// taken before, whose form is written; a caller goes on after them with more room, more input or another
 // limit.
 func Normalise(input, output []byte, limit uint64) (Progress, error) {
 	var a C.struct_rtr_answer

@@ -120,17 +120,17 @@ impl fmt::Display for Stopped {
 
 impl std::error::Error for Stopped {}
 
-/// Normalises the sequence that the input begins with: reads payload units up to an end of data, and
-/// writes the form of what each means, and the end of data, to the front of the output. At most
+/// Normalises the sequence that the input begins with: reads payload units up to an end of data,
+/// and writes the form of what each means, and the end of data, to the front of the output. At most
 /// `limit` units are taken, the end of data included. It asks for no memory.
 ///
 /// It succeeds exactly where the input begins with fewer than `limit` acceptable payload units and
-/// an end of data, and the output has room, as one as long as the input always has. What follows in
-/// the input is left.
+/// an end of data, and the output is at least as long as their form, as one as long as the input
+/// always is. What follows in the input is left.
 ///
 /// Faults, in this order: `TooMany`; `Short` to `Prefix`; `NoRoom`. Then `progress` says which whole
 /// units were taken before, whose form is written; a caller goes on after them with more room, more
-/// input or a higher limit.
+/// input or another limit.
 pub fn normalise(input: &[u8], output: &mut [u8], limit: u64) -> Result<Progress, Stopped> {
     sys::normalise(input, output, limit)
 }
@@ -150,8 +150,8 @@ pub fn normalise_for(
     sys::normalise_for(input, output, limit, version)
 }
 
-/// Whether both inputs begin with sequences that mean the same, of fewer than `limit` payload units
-/// each. It asks C's `malloc` for the room of both forms, and gives it back.
+/// Whether both inputs begin with sequences that mean the same, of fewer than `limit` payload
+/// units each. It asks C's `malloc` for the room of both forms, and gives it back.
 ///
 /// The fault is that of the left input, or of the right one where the left is accepted: `Short` to
 /// `TooMany`; or `Memory`.
