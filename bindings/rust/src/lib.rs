@@ -128,9 +128,9 @@ impl std::error::Error for Stopped {}
 /// an end of data, and the output is at least as long as their form, as one as long as the input
 /// always is. What follows in the input is left.
 ///
-/// Faults, in this order: `TooMany`; `Short` to `Prefix`; `NoRoom`. Then `progress` says which whole
-/// units were taken before, whose form is written; a caller goes on after them with more room, more
-/// input or another limit.
+/// Faults, in this order: `TooMany`; `Short` to `Prefix`; `NoRoom`. Then `progress` says which
+/// whole units were taken before, whose form is written; a caller goes on after them with more
+/// room, more input or another limit.
 pub fn normalise(input: &[u8], output: &mut [u8], limit: u64) -> Result<Progress, Stopped> {
     sys::normalise(input, output, limit)
 }
