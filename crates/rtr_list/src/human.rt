@@ -71,7 +71,7 @@ fn describe_ipv4(line: &mut Line, unit: &Ipv4Prefix) -> Result<(), AllocError> {
 
 fn describe_ipv6(line: &mut Line, unit: &Ipv6Prefix) -> Result<(), AllocError> {
     line.text(" ")?;
-    line.show(unit.prefix())?;
+    line.ipv6(unit.prefix())?;
     line.labelled("/", u64::from(unit.prefix_len()))?;
     line.labelled("-", u64::from(unit.max_len()))?;
     asn(line, unit.asn())

@@ -110,7 +110,7 @@ fn ipv4_fields(line: &mut Line, unit: &Ipv4Prefix, reserved: u8) -> Result<(), A
 fn ipv6_fields(line: &mut Line, unit: &Ipv6Prefix, reserved: u8) -> Result<(), AllocError> {
     two_zeros(line, unit.session(), reserved)?;
     line.text(r#","prefix":""#)?;
-    line.show(unit.prefix())?;
+    line.ipv6(unit.prefix())?;
     line.labelled(r#"","prefix_length":"#, u64::from(unit.prefix_len()))?;
     line.labelled(r#","max_length":"#, u64::from(unit.max_len()))?;
     line.labelled(r#","asn":"#, u64::from(unit.asn().into_u32()))

@@ -2,8 +2,6 @@
 
 ghost use Rattle.std.specs.Prelude.{◌≡◌, ◌≤◌, ◌++◌, [], OnOk, not, false, decimal};
 ghost use Rattle.std.specs.List.{All};
-ghost use Rattle.std.specs.Net.Addr.{ipv4_octets};
-ghost use Rattle.std.specs.Net.Text.{ipv4_text};
 ghost use Rattle.rtr_units.specs.Stream.{count_after, is_reader_fault, is_writer_fault};
 ghost use Rattle.rtr_list.specs.Lines.{IsLine, PutsLine};
 
@@ -16,7 +14,6 @@ use std::alloc::{AllocError, Global};
 use std::fmt;
 use std::fmt::Display;
 use std::marker::Model;
-use std::net::Ipv4Addr;
 
 /// The first character that is no control character.
 const SPACE: u8 = b' ';
@@ -50,12 +47,20 @@ impl Line {
         self.bytes.clear();
     }
 
+    /// Adds bytes of a text.
+    #[inline(always)]
+    pub fn bytes(&mut self, text: &[u8]) -> Result<(), AllocError>
+        ensures { OnOk result (self.new ≡ self.old ++ text.now) }
+    {
+        self.bytes.extend_from_slice(text)
+    }
+
     /// Adds a text.
     #[inline(always)]
     pub fn text(&mut self, text: &str) -> Result<(), AllocError>
         ensures { OnOk result (self.new ≡ self.old ++ text.now) }
     {
-        self.bytes.extend_from_slice(text.as_bytes())
+        self.bytes(text.as_bytes())
     }
 
     /// Adds a number.
@@ -71,17 +76,6 @@ impl Line {
     {
         self.text(label)?;
         self.number(number)
-    }
-
-    /// Adds an address.
-    pub fn ipv4(&mut self, address: Ipv4Addr) -> Result<(), AllocError>
-        ensures { OnOk result (self.new ≡ self.old ++ ipv4_text (ipv4_octets address)) }
-    {
-        let [first, second, third, fourth] = address.octets();
-        self.number(u64::from(first))?;
-        self.labelled(".", u64::from(second))?;
-        self.labelled(".", u64::from(third))?;
-        self.labelled(".", u64::from(fourth))
     }
 
     /// Adds a value's text.
