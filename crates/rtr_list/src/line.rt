@@ -1,6 +1,6 @@
 //! Lines.
 
-ghost use Rattle.std.specs.Prelude.{◌≡◌, ◌≤◌, ◌++◌, [], OnOk, not, false, decimal};
+ghost use Rattle.std.specs.Prelude.{◌≡◌, ◌≤◌, ◌+◌, ◌<◌, ◌++◌, [], ◌∷◌, OnOk, not, false, decimal};
 ghost use Rattle.std.specs.List.{All};
 ghost use Rattle.rtr_units.specs.Stream.{count_after, is_reader_fault, is_writer_fault};
 ghost use Rattle.rtr_list.specs.Lines.{IsLine, PutsLine};
@@ -63,11 +63,32 @@ impl Line {
         self.bytes(text.as_bytes())
     }
 
-    /// Adds a number.
+    /// Adds a number. Most have up to three digits, which are faster one by one.
     pub fn number(&mut self, number: u64) -> Result<(), AllocError>
         ensures { OnOk result (self.new ≡ self.old ++ decimal number) }
     {
+        if number < 10 {
+            return self.digit(number);
+        }
+        if number < 100 {
+            self.digit(number / 10)?;
+            return self.digit(number % 10);
+        }
+        if number < 1000 {
+            self.digit(number / 100)?;
+            self.digit(number / 10 % 10)?;
+            return self.digit(number % 10);
+        }
         self.text(Buffer::new().format(number))
+    }
+
+    #[inline(always)]
+    fn digit(&mut self, digit: u64) -> Result<(), AllocError>
+        requires { digit < 10 }
+        ensures { OnOk result (self.new ≡ self.old ++ (48 + digit) ∷ []) }
+    {
+        self.bytes.push(b'0' + digit as u8)?;
+        Ok(())
     }
 
     /// Adds a label and a number after it.
