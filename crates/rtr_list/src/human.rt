@@ -30,7 +30,10 @@ pub fn describe(
             line.labelled(" serial ", u64::from(unit.serial().0))
         }
         AnyUnit::ResetQuery(_) => line.text(" reset query"),
-        AnyUnit::CacheResponse(unit) => line.labelled(" cache response session ", u64::from(unit.session())),
+        AnyUnit::CacheResponse(unit) => line.labelled(
+            " cache response session ",
+            u64::from(unit.session()),
+        ),
         AnyUnit::Payload(unit) => describe_payload(alloc, line, unit),
         AnyUnit::EndOfData(unit) => describe_end(line, unit),
         AnyUnit::CacheReset(_) => line.text(" cache reset"),

@@ -37,7 +37,9 @@ impl Line {
     pub fn new(alloc: Global) -> Line
         ensures { result ≡ [] }
     {
-        Line { bytes: Vec::new(alloc) }
+        Line {
+            bytes: Vec::new(alloc),
+        }
     }
 
     /// Takes all pieces away.

@@ -1,9 +1,10 @@
 //! Lines of units, one unit after the other.
 
-ghost use Rattle.std.specs.Prelude.{◌≡◌, ℕ, List, Option, false, not};
+ghost use Rattle.std.specs.Prelude.{◌≡◌, ℕ, List, length, Option, OnOk, OnErr, false, not};
 ghost use Rattle.rtr_units.specs.Stream.{count_after, is_reader_fault, is_writer_fault};
 ghost use Rattle.rtr_list.specs.Lines.{PutsLine};
-ghost use Rattle.rtr_list.specs.Listing.{Prints};
+ghost use Rattle.rtr_list.specs.Listing.{Prints, PrintsEach, offset_after};
+ghost use Rattle.rtr_session.specs.Values.{any_bytes};
 ghost use Rattle.rtr_list.specs.declared.run.Wanted.TheVariants.{Text, Json, Findings};
 
 use crate::check::Checker;
@@ -15,8 +16,10 @@ use rtr_session::AnyUnit;
 use rtr_units::fault::Fault;
 use rtr_units::source::Sink;
 use std::alloc::{AllocError, Global};
+use std::marker::Model;
 
 /// What is printed of units that come one after the other, in memory that it uses again for each.
+/// It is seen as the number of bytes of the units before.
 #[derive(Drop)]
 pub struct Printer {
     alloc: Global,
@@ -26,9 +29,19 @@ pub struct Printer {
     line: Line,
 }
 
+impl Model for Printer {
+    ghost use Rattle.std.specs.Prelude.{ℕ};
+
+    ghost Value = { ℕ };
+
+    ghost view = { λ printer. printer.offset };
+}
+
 impl Printer {
     /// A printer that has printed nothing.
-    pub fn new(alloc: Global) -> Printer {
+    pub fn new(alloc: Global) -> Printer
+        ensures { result ≡ 0 }
+    {
         Printer {
             alloc,
             offset: 0,
@@ -38,7 +51,9 @@ impl Printer {
     }
 
     /// The number of bytes of the units that were printed.
-    pub fn offset(&self) -> u64 {
+    pub fn offset(&self) -> u64
+        ensures { result ≡ self.now }
+    {
         self.offset
     }
 
@@ -54,6 +69,8 @@ impl Printer {
         ensures no_reader { is_reader_fault result ≡ false }
         ensures count { W.failures output.new ≡
             count_after (W.failures output.old) (not (is_writer_fault result)) }
+        ensures moves { OnOk result (self.new ≡ offset_after self.old (any_bytes unit.now)) }
+        ensures stays { OnErr result (self.new ≡ self.old) }
     {
         let answer = self.print_lines(wanted, unit, output);
         if answer.is_ok() {
@@ -73,6 +90,7 @@ impl Printer {
         ensures no_reader { is_reader_fault result ≡ false }
         ensures count { W.failures output.new ≡
             count_after (W.failures output.old) (not (is_writer_fault result)) }
+        ensures offset { self.new ≡ self.old }
     {
         match wanted {
             Wanted::Text => listed(self.print_text(unit, output)),
@@ -86,6 +104,7 @@ impl Printer {
         ensures no_reader { is_reader_fault result ≡ false }
         ensures count { W.failures output.new ≡
             count_after (W.failures output.old) (not (is_writer_fault result)) }
+        ensures offset { self.new ≡ self.old }
     {
         self.line.clear();
         match human::describe(self.alloc, &mut self.line, self.offset, unit) {
@@ -99,6 +118,7 @@ impl Printer {
         ensures no_reader { is_reader_fault result ≡ false }
         ensures count { W.failures output.new ≡
             count_after (W.failures output.old) (not (is_writer_fault result)) }
+        ensures offset { self.new ≡ self.old }
     {
         self.line.clear();
         match json_line::describe(self.alloc, &mut self.line, self.offset, unit) {
@@ -112,6 +132,7 @@ impl Printer {
         ensures no_reader { is_reader_fault result ≡ false }
         ensures count { W.failures output.new ≡
             count_after (W.failures output.old) (not (is_writer_fault result)) }
+        ensures offset { self.new ≡ self.old }
     {
         match self.checker.check(unit) {
             Ok(findings) => put_findings(findings, self.offset, &mut self.line, output),
@@ -142,7 +163,8 @@ fn put_findings<W: Sink>(
     line: &mut Line,
     output: &mut W,
 ) -> Result<bool, Fault>
-    ensures bytes { Prints Findings result (W.contents output.old) (W.contents output.new) }
+    ensures bytes { PrintsEach (length findings.now) result (W.contents output.old)
+        (W.contents output.new) }
     ensures no_reader { is_reader_fault result ≡ false }
     ensures count { W.failures output.new ≡
         count_after (W.failures output.old) (not (is_writer_fault result)) }
