@@ -1,2 +1,3 @@
+mod Digits
 mod Printing
 mod Runs
