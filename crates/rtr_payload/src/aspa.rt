@@ -54,6 +54,7 @@ impl Aspa {
     pub const PDU: u8 = 11;
 
     /// The unit with these fields.
+    #[inline(always)]
     pub fn new(version: u8, flags: u8, customer: Asn, providers: ProviderAsns) -> Self
         ensures form { result ≡ form version flags
             (aspa (record { customer = customer; providers = providers })) }
@@ -96,6 +97,7 @@ impl Aspa {
     /// read and no memory asked for; `Memory`, with nothing read, where there is no room for the
     /// frame that the rest is read into; `Short` or `Reader` inside the unit; `Memory`, with the
     /// whole unit read, where the frame can't be shared. The providers are cut from it.
+    #[inline(always)]
     pub fn read_payload<R: Source>(
         alloc: Global,
         header: Header,
@@ -126,6 +128,7 @@ impl Aspa {
     }
 
     /// The unit of a header and the frame that follows it.
+    #[inline(always)]
     fn from_frame(head: &[u8], mut frame: Bytes) -> Self
         requires head { length head.now ≡ 8 }
         requires range { IsBytes frame }
