@@ -68,6 +68,15 @@ impl Aspa {
         Aspa { fixed, providers }
     }
 
+    /// A unit of zeros without providers, which asks for no memory.
+    #[inline(always)]
+    pub(crate) fn empty() -> Self {
+        Aspa {
+            fixed: [0; 12],
+            providers: ProviderAsns::none(),
+        }
+    }
+
     /// Reads an ASPA unit.
     ///
     /// Faults, in this order: `Short` or `Reader` inside the header; `UnitType` where its type

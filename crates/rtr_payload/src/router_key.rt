@@ -85,6 +85,15 @@ impl RouterKey {
         RouterKey { fixed, key_info }
     }
 
+    /// A unit of zeros without key info, which asks for no memory.
+    #[inline(always)]
+    pub(crate) fn empty() -> Self {
+        RouterKey {
+            fixed: [0; 32],
+            key_info: RouterKeyInfo::within_limit(Bytes::new()),
+        }
+    }
+
     /// Reads a router key.
     ///
     /// Faults, in this order: `Short` or `Reader` inside the header; `UnitType` where its type
