@@ -153,10 +153,10 @@ fn take_step<S: Writing>(writing: S, rest: &[u8], output: &mut [u8]) -> Result<S
 {
     let unit_type = if rest.len() < 8 { 0 } else { rest[1] };
     match unit_type {
-        Ipv4Prefix::PDU => view_step::<4, S>(writing, rest, output),
-        Ipv6Prefix::PDU => view_step::<6, S>(writing, rest, output),
-        RouterKey::PDU => view_step::<9, S>(writing, rest, output),
-        Aspa::PDU => view_step::<11, S>(writing, rest, output),
+        Ipv4Prefix::PDU => view_step::<{ Ipv4Prefix::PDU }, S>(writing, rest, output),
+        Ipv6Prefix::PDU => view_step::<{ Ipv6Prefix::PDU }, S>(writing, rest, output),
+        RouterKey::PDU => view_step::<{ RouterKey::PDU }, S>(writing, rest, output),
+        Aspa::PDU => view_step::<{ Aspa::PDU }, S>(writing, rest, output),
         _ => view_step::<0, S>(writing, rest, output),
     }
 }
