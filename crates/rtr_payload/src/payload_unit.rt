@@ -1,7 +1,6 @@
 //! What the four kinds of payload units have in common.
 
 ghost use Rattle.std.specs.Prelude.{◌≡◌, ℕ, IfOk, IfErr, IsOk, false, not, refl};
-ghost use Rattle.rtr_base.specs.Addresses.{v4, v6};
 ghost use Rattle.rtr_units.specs.Causes.{cause_of};
 ghost use Rattle.rtr_units.specs.Header.{type_field, version_field};
 ghost use Rattle.rtr_units.specs.Reading.{ReadsAfter, by_bytes};
@@ -28,7 +27,6 @@ use crate::router_key::RouterKey;
 use rtr_base::keys::KeyIdentifier;
 use rtr_base::payload::Action;
 use rtr_units::fault::Fault;
-use rtr_units::fixed::{Ipv4Prefix, Ipv6Prefix};
 use rtr_units::header::Header;
 use rtr_units::source::{Sink, Source};
 use rtr_units::unit::Unit;
@@ -121,16 +119,16 @@ pub trait PayloadUnit: Drop {
         smallest_version (payload_of (value m)) ≡ SMALLEST_VERSION };
 }
 
-impl PayloadUnit for Ipv4Prefix {
+impl<P: PrefixUnit> PayloadUnit for P {
     type Meaning = RouteOrigin;
 
-    ghost unit = { units.V4 };
+    ghost unit = { P.unit };
 
     ghost value = { payloads.Origin };
 
-    ghost holds = { λ o. o.prefix.prefix.family ≡ v4 };
+    ghost holds = { λ o. o.prefix.prefix.family ≡ P.family };
 
-    ghost kind = { 4 };
+    ghost kind = { P.PDU };
 
     ghost SMALLEST_VERSION = { 0 };
 
@@ -138,7 +136,7 @@ impl PayloadUnit for Ipv4Prefix {
 
     #[inline(always)]
     fn blank() -> Self {
-        Ipv4Prefix::zero()
+        P::zero()
     }
 
     #[inline(always)]
@@ -158,7 +156,7 @@ impl PayloadUnit for Ipv4Prefix {
 
     #[inline(always)]
     fn flags_of(&self) -> u8 {
-        self.flags()
+        self.as_ref()[8]
     }
 
     #[inline(always)]
@@ -168,7 +166,7 @@ impl PayloadUnit for Ipv4Prefix {
 
     #[inline(always)]
     fn from_meaning(version: u8, flags: u8, meaning: RouteOrigin) -> Self {
-        Ipv4Prefix::from_origin(version, flags, meaning)
+        P::from_origin(version, flags, meaning)
     }
 
     #[inline(always)]
@@ -178,75 +176,7 @@ impl PayloadUnit for Ipv4Prefix {
 
     #[inline(always)]
     fn into_unit(self) -> Payload {
-        Payload::V4(self)
-    }
-
-    #[inline(always)]
-    fn into_value(meaning: RouteOrigin) -> payload::Payload {
-        payload::Payload::Origin(meaning)
-    }
-
-    ghost versioned = { λ m. refl };
-}
-
-impl PayloadUnit for Ipv6Prefix {
-    type Meaning = RouteOrigin;
-
-    ghost unit = { units.V6 };
-
-    ghost value = { payloads.Origin };
-
-    ghost holds = { λ o. o.prefix.prefix.family ≡ v6 };
-
-    ghost kind = { 6 };
-
-    ghost SMALLEST_VERSION = { 0 };
-
-    const SMALLEST_VERSION: u8 = 0;
-
-    #[inline(always)]
-    fn blank() -> Self {
-        Ipv6Prefix::zero()
-    }
-
-    #[inline(always)]
-    fn fill_after<R: Source>(
-        &mut self,
-        _alloc: Global,
-        header: Header,
-        reader: &mut R,
-    ) -> Result<(), Fault> {
-        self.read_after(header, reader)
-    }
-
-    #[inline(always)]
-    fn version_of(&self) -> u8 {
-        self.version()
-    }
-
-    #[inline(always)]
-    fn flags_of(&self) -> u8 {
-        self.flags()
-    }
-
-    #[inline(always)]
-    fn into_meaning(self, alloc: Global) -> Result<(Action, RouteOrigin), Fault> {
-        self.to_origin(alloc)
-    }
-
-    #[inline(always)]
-    fn from_meaning(version: u8, flags: u8, meaning: RouteOrigin) -> Self {
-        Ipv6Prefix::from_origin(version, flags, meaning)
-    }
-
-    #[inline(always)]
-    fn put<W: Sink>(&self, writer: &mut W) -> Result<(), Fault> {
-        self.write(writer)
-    }
-
-    #[inline(always)]
-    fn into_unit(self) -> Payload {
-        Payload::V6(self)
+        self.to_unit()
     }
 
     #[inline(always)]
