@@ -9,7 +9,7 @@ use Rattle.rtr_units.specs.Causes.{Refusal, short, unit_type, too_long, unit_len
 use Rattle.rtr_units.specs.Causes.{Cause, by_reader, by_writer, too_many, no_memory, wrong}
 use Rattle.rtr_units.specs.Causes.{cause_of}
 use Rattle.rtr_units.specs.Header.{type_field, length_field}
-use Rattle.rtr_units.specs.Stream.{BeginsWithTaken}
+use Rattle.rtr_units.specs.Stream.{BeginsWithTaken, CountsReader, FallsShort, ReaderState}
 use Rattle.rtr_units.specs.Views.{AreBytes}
 use Rattle.rtr_units.specs.declared.fault.Fault.{Fault}
 
@@ -82,17 +82,30 @@ abbrev pub by_bytes : {T : Type 0} → (T → List ℕ) → Result T Fault → R
 by_bytes bytes (Ok x) = Ok (bytes x)
 by_bytes bytes (Err f) = Err (cause_of f)
 
+-- what a call that reads n bytes leaves in the reader, said by bytes
+abbrev pub FillsBytes : ℕ → Result (List ℕ) Cause → Option (List ℕ) → Option (List ℕ) → Type 0
+FillsBytes n (Ok piece) old left = Consumes old left piece × AreBytes n piece
+FillsBytes n (Err c) old left = Takes old left (λ t. FallsShort n c t left)
+
+-- what it leaves, said by the state of the reader
+abbrev pub Fills : ℕ → Result (List ℕ) Cause → ReaderState → ReaderState → Type 0
+Fills n answer old new = FillsBytes n answer old.left new.left × CountsReader answer old new
+
 -- A call read a unit, or stopped. The bytes `before` of the unit were taken before the call: none
 -- or its header.
-abbrev pub Reads : Kind → List ℕ → Result (List ℕ) Cause → Option (List ℕ) → Option (List ℕ) →
-    Type 0
-Reads kind before (Ok u) old left = Takes old left (λ t. u ≡ before ++ t) × IsWhole kind u
-Reads kind before (Err c) old left = Takes old left (λ t. Stops kind c (before ++ t) left)
+abbrev pub ReadsBytes : Kind → List ℕ → Result (List ℕ) Cause → Option (List ℕ) →
+    Option (List ℕ) → Type 0
+ReadsBytes kind before (Ok u) old left = Takes old left (λ t. u ≡ before ++ t) × IsWhole kind u
+ReadsBytes kind before (Err c) old left = Takes old left (λ t. Stops kind c (before ++ t) left)
+
+-- what such a call leaves, said by the state of the reader
+abbrev pub Reads : Kind → List ℕ → Result (List ℕ) Cause → ReaderState → ReaderState → Type 0
+Reads kind before answer old new =
+    ReadsBytes kind before answer old.left new.left × CountsReader answer old new
 
 -- A call read the rest of a unit after its header h, or stopped.
-abbrev pub ReadsAfter : Kind → List ℕ → Result (List ℕ) Cause → Option (List ℕ) →
-    Option (List ℕ) → Type 0
-ReadsAfter kind h r old left = AreBytes 8 h × Reads kind h r old left
+abbrev pub ReadsAfter : Kind → List ℕ → Result (List ℕ) Cause → ReaderState → ReaderState → Type 0
+ReadsAfter kind h answer old new = AreBytes 8 h × Reads kind h answer old new
 
 -- What is left of the unit u into which the rest after a header h was to be read, where reading
 -- stopped: at the length field the unit as it was, and inside the unit the header and then the
