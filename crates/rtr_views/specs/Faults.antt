@@ -1,7 +1,8 @@
 -- What a fault of a call on views says.
-use Rattle.std.specs.Prelude.{◌≡◌, ℕ, ◌<◌, Bool, true, false, List, ◌++◌, length, Option, Some, Result, Err, MatchResult, ⊤}
+use Rattle.std.specs.Prelude.{◌≡◌, ℕ, ◌<◌, Bool, true, false, List, ◌++◌, length, Option, Some, Result, Err, MatchResult, ⊤, not}
 use Rattle.std.specs.Io.KnownBytes.{Appends}
 use Rattle.rtr_units.specs.Causes.{short, unit_type, unit_version, too_long, unit_length, empty_providers, refused}
+use Rattle.rtr_units.specs.Stream.{WriterState, count_after}
 use Rattle.rtr_payload.specs.Steps.{first_fault, first_unit, refusal_report}
 use Rattle.rtr_views.specs.declared.fault.ViewFault.{ViewFault}
 use Rattle.rtr_views.specs.declared.fault.ViewFault.TheVariants.{Writer, Short, UnitType, UnitLength, TooLong, EmptyProviders, UnitVersion, Prefix, TooMany}
@@ -35,8 +36,18 @@ WritesPiecePart fault old new piece =
     (t others : List ℕ) × Appends old new t × (piece ≡ t ++ others) × (0 < length others)
     × IsWriterFault fault
 
--- what a call that writes this piece leaves
-abbrev pub PutsPiece :
+-- a call with this answer counted a failure of the writer exactly where it blames the writer
+abbrev pub CountsViewWriter : {T : Type 0} → Result T ViewFault → WriterState → WriterState → Type 0
+CountsViewWriter r old new = new.failed ≡ count_after old.failed (not (is_view_writer_fault r))
+
+-- what a call that writes this piece leaves in the writer, said by bytes
+abbrev pub PutsPieceBytes :
     {T : Type 0} → Result T ViewFault → Option (List ℕ) → Option (List ℕ) → List ℕ → Type 0
-PutsPiece r old new piece =
+PutsPieceBytes r old new piece =
     MatchResult r (λ _. Appends old new piece) (λ e. WritesPiecePart e old new piece)
+
+-- what it leaves, said by the state of the writer
+abbrev pub PutsPiece :
+    {T : Type 0} → Result T ViewFault → WriterState → WriterState → List ℕ → Type 0
+PutsPiece r old new piece =
+    PutsPieceBytes r old.held new.held piece × CountsViewWriter r old new
