@@ -2,7 +2,7 @@
 
 ghost use Rattle.std.specs.Prelude.{◌≡◌, ◌≤◌, OnOk, not, false};
 ghost use Rattle.std.specs.List.{All};
-ghost use Rattle.rtr_units.specs.Stream.{count_after, is_reader_fault, is_writer_fault};
+ghost use Rattle.rtr_units.specs.Causes.{blames_reader, by_cause};
 ghost use Rattle.rtr_list.specs.Lines.{IsLine, PutsLine};
 
 use rtr_units::fault::Fault;
@@ -34,10 +34,8 @@ fn end(line: &mut Vec<u8>) -> Result<(), AllocError>
 
 /// Ends the line and writes it. `Memory` says that nothing was written, `Writer` that a part was.
 pub fn put_line<W: Sink>(line: &mut Vec<u8>, writer: &mut W) -> Result<(), Fault>
-    ensures bytes { PutsLine result (W.contents writer.old) (W.contents writer.new) }
-    ensures no_reader { is_reader_fault result ≡ false }
-    ensures count { W.failures writer.new ≡
-        count_after (W.failures writer.old) (not (is_writer_fault result)) }
+    ensures bytes { PutsLine result (W.state writer.old) (W.state writer.new) }
+    ensures no_reader { blames_reader (by_cause result) ≡ false }
 {
     match end(line) {
         Ok(()) => put(writer, line.as_slice()),

@@ -1,7 +1,8 @@
 //! Lines of units, one unit after the other.
 
-ghost use Rattle.std.specs.Prelude.{◌≡◌, ℕ, List, Option, false, not};
-ghost use Rattle.rtr_units.specs.Stream.{count_after, is_reader_fault, is_writer_fault};
+ghost use Rattle.std.specs.Prelude.{◌≡◌, false};
+ghost use Rattle.rtr_units.specs.Causes.{blames_reader, by_cause};
+ghost use Rattle.rtr_units.specs.Stream.{WriterState};
 ghost use Rattle.rtr_list.specs.Lines.{PutsLine};
 ghost use Rattle.rtr_list.specs.Listing.{Prints};
 ghost use Rattle.rtr_list.specs.declared.run.Wanted.TheVariants.{Text, Json, Findings};
@@ -54,10 +55,8 @@ impl Printer {
         unit: &AnyUnit,
         output: &mut W,
     ) -> Result<bool, Fault>
-        ensures bytes { Prints wanted result (W.contents output.old) (W.contents output.new) }
-        ensures no_reader { is_reader_fault result ≡ false }
-        ensures count { W.failures output.new ≡
-            count_after (W.failures output.old) (not (is_writer_fault result)) }
+        ensures bytes { Prints wanted result (W.state output.old) (W.state output.new) }
+        ensures no_reader { blames_reader (by_cause result) ≡ false }
     {
         let answer = self.print_lines(wanted, unit, output);
         if answer.is_ok() {
@@ -73,10 +72,8 @@ impl Printer {
         unit: &AnyUnit,
         output: &mut W,
     ) -> Result<bool, Fault>
-        ensures bytes { Prints wanted result (W.contents output.old) (W.contents output.new) }
-        ensures no_reader { is_reader_fault result ≡ false }
-        ensures count { W.failures output.new ≡
-            count_after (W.failures output.old) (not (is_writer_fault result)) }
+        ensures bytes { Prints wanted result (W.state output.old) (W.state output.new) }
+        ensures no_reader { blames_reader (by_cause result) ≡ false }
     {
         match wanted {
             Wanted::Text => listed(self.print_text(unit, output)),
@@ -86,10 +83,8 @@ impl Printer {
     }
 
     fn print_text<W: Sink>(&mut self, unit: &AnyUnit, output: &mut W) -> Result<(), Fault>
-        ensures bytes { PutsLine result (W.contents output.old) (W.contents output.new) }
-        ensures no_reader { is_reader_fault result ≡ false }
-        ensures count { W.failures output.new ≡
-            count_after (W.failures output.old) (not (is_writer_fault result)) }
+        ensures bytes { PutsLine result (W.state output.old) (W.state output.new) }
+        ensures no_reader { blames_reader (by_cause result) ≡ false }
     {
         self.text.clear();
         if human::describe(self.alloc, &mut self.text, self.offset, unit).is_err() {
@@ -99,10 +94,8 @@ impl Printer {
     }
 
     fn print_json<W: Sink>(&mut self, unit: &AnyUnit, output: &mut W) -> Result<(), Fault>
-        ensures bytes { PutsLine result (W.contents output.old) (W.contents output.new) }
-        ensures no_reader { is_reader_fault result ≡ false }
-        ensures count { W.failures output.new ≡
-            count_after (W.failures output.old) (not (is_writer_fault result)) }
+        ensures bytes { PutsLine result (W.state output.old) (W.state output.new) }
+        ensures no_reader { blames_reader (by_cause result) ≡ false }
     {
         let mut line = mem::replace(&mut self.line, Vec::new(self.alloc));
         line.clear();
@@ -114,10 +107,8 @@ impl Printer {
     }
 
     fn print_findings<W: Sink>(&mut self, unit: &AnyUnit, output: &mut W) -> Result<bool, Fault>
-        ensures bytes { Prints Findings result (W.contents output.old) (W.contents output.new) }
-        ensures no_reader { is_reader_fault result ≡ false }
-        ensures count { W.failures output.new ≡
-            count_after (W.failures output.old) (not (is_writer_fault result)) }
+        ensures bytes { Prints Findings result (W.state output.old) (W.state output.new) }
+        ensures no_reader { blames_reader (by_cause result) ≡ false }
     {
         match self.checker.check(unit) {
             Ok(findings) => {
@@ -136,12 +127,11 @@ impl Printer {
 
 /// A listed unit breaks no rule that is looked for.
 fn listed(line: Result<(), Fault>) -> Result<bool, Fault>
-    ensures text { (held holds : Option (List ℕ)) → PutsLine line held holds →
+    ensures text { (held holds : WriterState) → PutsLine line held holds →
         Prints Text result held holds }
-    ensures json { (held holds : Option (List ℕ)) → PutsLine line held holds →
+    ensures json { (held holds : WriterState) → PutsLine line held holds →
         Prints Json result held holds }
-    ensures reader { is_reader_fault result ≡ is_reader_fault line }
-    ensures writer { is_writer_fault result ≡ is_writer_fault line }
+    ensures reader { blames_reader (by_cause result) ≡ blames_reader (by_cause line) }
 {
     match line {
         Ok(()) => Ok(false),
@@ -151,10 +141,8 @@ fn listed(line: Result<(), Fault>) -> Result<bool, Fault>
 
 /// Writes a line with the text.
 fn put_text<W: Sink>(text: &String, line: &mut Vec<u8>, output: &mut W) -> Result<(), Fault>
-    ensures bytes { PutsLine result (W.contents output.old) (W.contents output.new) }
-    ensures no_reader { is_reader_fault result ≡ false }
-    ensures count { W.failures output.new ≡
-        count_after (W.failures output.old) (not (is_writer_fault result)) }
+    ensures bytes { PutsLine result (W.state output.old) (W.state output.new) }
+    ensures no_reader { blames_reader (by_cause result) ≡ false }
 {
     line.clear();
     match line.extend_from_slice(text.as_bytes()) {
@@ -171,10 +159,8 @@ fn put_findings<W: Sink>(
     line: &mut Vec<u8>,
     output: &mut W,
 ) -> Result<bool, Fault>
-    ensures bytes { Prints Findings result (W.contents output.old) (W.contents output.new) }
-    ensures no_reader { is_reader_fault result ≡ false }
-    ensures count { W.failures output.new ≡
-        count_after (W.failures output.old) (not (is_writer_fault result)) }
+    ensures bytes { Prints Findings result (W.state output.old) (W.state output.new) }
+    ensures no_reader { blames_reader (by_cause result) ≡ false }
 {
     for finding in findings {
         text.clear();
