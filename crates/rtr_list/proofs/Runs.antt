@@ -14,7 +14,7 @@ use Rattle.rtr_units.specs.declared.fault.Fault.TheVariants.{TooMany}
 use Rattle.rtr_units.specs.Causes.{Cause, by_reader, by_writer, too_many, no_memory, wrong}
 use Rattle.rtr_units.specs.Causes.{cause_of}
 use Rattle.rtr_units.specs.Reading.{Takes}
-use Rattle.rtr_units.specs.Stream.{CountsReader, CountsWriter, ReaderState, WriterState}
+use Rattle.rtr_units.specs.Stream.{ReaderState, WriterState, reader_count, writer_count}
 use Rattle.rtr_session.specs.Reads.{HasEnded, StopsInAny}
 use Rattle.rtr_list.specs.Lines.{IsLine, StopsLine}
 use Rattle.rtr_list.specs.Listing.{IsUnit, AreUnits, AreLines, Shows, ShowsPart, PrintsBytes, Counts}
@@ -26,7 +26,7 @@ use Rattle.rtr_list.proofs.Printing.{all_append, concat_push}
 -- the counts of failures after this answer
 abbrev Counted : Result Bool Cause → (old new : ReaderState) (before after : WriterState) → Type 0
 Counted answer old new before after =
-    CountsReader answer old new × CountsWriter answer before after
+    (new.failed ≡ reader_count answer old.failed) × (after.failed ≡ writer_count answer before.failed)
 
 -- n units were read and printed
 pub record SoFar (what : Wanted) (found : Bool) (n : ℕ) (old new held holds : Option (List ℕ)) : Type 0 where

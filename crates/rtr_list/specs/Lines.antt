@@ -5,7 +5,7 @@ use Rattle.std.specs.Io.KnownBytes.{Appends}
 use Rattle.std.specs.List.{All}
 use Rattle.rtr_units.specs.declared.fault.Fault.{Fault}
 use Rattle.rtr_units.specs.Causes.{Cause, by_writer, no_memory, by_cause, cause_of}
-use Rattle.rtr_units.specs.Stream.{CountsWriter, WriterState}
+use Rattle.rtr_units.specs.Stream.{WriterState, writer_count}
 
 -- a text without control characters, and one line feed at its end
 abbrev pub IsLine : List ℕ → Type 0
@@ -28,4 +28,5 @@ PutsLineBytes (Err e) held holds = (part : List ℕ) × Appends held holds part 
     StopsLine (cause_of e) part
 
 abbrev pub PutsLine : Result (Unit {0}) Fault → WriterState → WriterState → Type 0
-PutsLine r old new = PutsLineBytes r old.held new.held × CountsWriter (by_cause r) old new
+PutsLine r old new =
+    PutsLineBytes r old.held new.held × (new.failed ≡ writer_count (by_cause r) old.failed)

@@ -10,7 +10,7 @@ use Rattle.std.specs.List.{AllByRecursion, concat}
 use Rattle.rtr_units.specs.declared.fault.Fault.{Fault}
 use Rattle.rtr_units.specs.Causes.{Cause, by_reader, by_writer, too_many, no_memory, wrong}
 use Rattle.rtr_units.specs.Causes.{by_cause, cause_of}
-use Rattle.rtr_units.specs.Stream.{CountsReader, CountsWriter, ReaderState, WriterState}
+use Rattle.rtr_units.specs.Stream.{ReaderState, WriterState, reader_count, writer_count}
 use Rattle.rtr_session.specs.Fields.{AnyFields, HasAnyFields}
 use Rattle.rtr_session.specs.Reads.{StopsInAny}
 use Rattle.rtr_list.specs.Lines.{IsLine, IsPartOfLine, StopsLine}
@@ -50,7 +50,8 @@ PrintsBytes what (Err e) held holds = (lines : List (List ℕ)) × (part : List 
     Appends held holds (concat lines ++ part) × StopsLine (cause_of e) part × ShowsPart what lines
 
 abbrev pub Prints : Wanted → Result Bool Fault → WriterState → WriterState → Type 0
-Prints what r old new = PrintsBytes what r old.held new.held × CountsWriter (by_cause r) old new
+Prints what r old new =
+    PrintsBytes what r old.held new.held × (new.failed ≡ writer_count (by_cause r) old.failed)
 
 -- ---- a run
 
@@ -111,5 +112,5 @@ pub record Lists (what : Wanted) (answer : Result Bool Fault) (old new : ReaderS
   pub ends : Ends (by_cause answer) units rest new.left part
   -- the reader is blamed exactly where its count of failures rose, and the writer where its count
   -- did
-  pub reader_failures : CountsReader (by_cause answer) old new
-  pub writer_failures : CountsWriter (by_cause answer) before after
+  pub reader_failures : new.failed ≡ reader_count (by_cause answer) old.failed
+  pub writer_failures : after.failed ≡ writer_count (by_cause answer) before.failed

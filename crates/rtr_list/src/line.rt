@@ -1,8 +1,8 @@
 //! Lines.
 
-ghost use Rattle.std.specs.Prelude.{◌≡◌, ◌≤◌, OnOk, not, false};
+ghost use Rattle.std.specs.Prelude.{◌≡◌, ◌≢◌, ◌≤◌, Err, OnOk};
 ghost use Rattle.std.specs.List.{All};
-ghost use Rattle.rtr_units.specs.Causes.{blames_reader, by_cause};
+ghost use Rattle.rtr_units.specs.Causes.{by_cause, by_reader};
 ghost use Rattle.rtr_list.specs.Lines.{IsLine, PutsLine};
 
 use rtr_units::fault::Fault;
@@ -35,7 +35,7 @@ fn end(line: &mut Vec<u8>) -> Result<(), AllocError>
 /// Ends the line and writes it. `Memory` says that nothing was written, `Writer` that a part was.
 pub fn put_line<W: Sink>(line: &mut Vec<u8>, writer: &mut W) -> Result<(), Fault>
     ensures bytes { PutsLine result (W.state writer.old) (W.state writer.new) }
-    ensures no_reader { blames_reader (by_cause result) ≡ false }
+    ensures no_reader { by_cause result ≢ Err by_reader }
 {
     match end(line) {
         Ok(()) => put(writer, line.as_slice()),

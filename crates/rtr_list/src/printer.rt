@@ -1,7 +1,7 @@
 //! Lines of units, one unit after the other.
 
-ghost use Rattle.std.specs.Prelude.{◌≡◌, false};
-ghost use Rattle.rtr_units.specs.Causes.{blames_reader, by_cause};
+ghost use Rattle.std.specs.Prelude.{◌≢◌, Err};
+ghost use Rattle.rtr_units.specs.Causes.{by_cause, by_reader};
 ghost use Rattle.rtr_units.specs.Stream.{WriterState};
 ghost use Rattle.rtr_list.specs.Lines.{PutsLine};
 ghost use Rattle.rtr_list.specs.Listing.{Prints};
@@ -56,7 +56,7 @@ impl Printer {
         output: &mut W,
     ) -> Result<bool, Fault>
         ensures bytes { Prints wanted result (W.state output.old) (W.state output.new) }
-        ensures no_reader { blames_reader (by_cause result) ≡ false }
+        ensures no_reader { by_cause result ≢ Err by_reader }
     {
         let answer = self.print_lines(wanted, unit, output);
         if answer.is_ok() {
@@ -73,7 +73,7 @@ impl Printer {
         output: &mut W,
     ) -> Result<bool, Fault>
         ensures bytes { Prints wanted result (W.state output.old) (W.state output.new) }
-        ensures no_reader { blames_reader (by_cause result) ≡ false }
+        ensures no_reader { by_cause result ≢ Err by_reader }
     {
         match wanted {
             Wanted::Text => listed(self.print_text(unit, output)),
@@ -84,7 +84,7 @@ impl Printer {
 
     fn print_text<W: Sink>(&mut self, unit: &AnyUnit, output: &mut W) -> Result<(), Fault>
         ensures bytes { PutsLine result (W.state output.old) (W.state output.new) }
-        ensures no_reader { blames_reader (by_cause result) ≡ false }
+        ensures no_reader { by_cause result ≢ Err by_reader }
     {
         self.text.clear();
         if human::describe(self.alloc, &mut self.text, self.offset, unit).is_err() {
@@ -95,7 +95,7 @@ impl Printer {
 
     fn print_json<W: Sink>(&mut self, unit: &AnyUnit, output: &mut W) -> Result<(), Fault>
         ensures bytes { PutsLine result (W.state output.old) (W.state output.new) }
-        ensures no_reader { blames_reader (by_cause result) ≡ false }
+        ensures no_reader { by_cause result ≢ Err by_reader }
     {
         let mut line = mem::replace(&mut self.line, Vec::new(self.alloc));
         line.clear();
@@ -108,7 +108,7 @@ impl Printer {
 
     fn print_findings<W: Sink>(&mut self, unit: &AnyUnit, output: &mut W) -> Result<bool, Fault>
         ensures bytes { Prints Findings result (W.state output.old) (W.state output.new) }
-        ensures no_reader { blames_reader (by_cause result) ≡ false }
+        ensures no_reader { by_cause result ≢ Err by_reader }
     {
         match self.checker.check(unit) {
             Ok(findings) => {
@@ -131,7 +131,7 @@ fn listed(line: Result<(), Fault>) -> Result<bool, Fault>
         Prints Text result held holds }
     ensures json { (held holds : WriterState) → PutsLine line held holds →
         Prints Json result held holds }
-    ensures reader { blames_reader (by_cause result) ≡ blames_reader (by_cause line) }
+    ensures reader { by_cause line ≢ Err by_reader → by_cause result ≢ Err by_reader }
 {
     match line {
         Ok(()) => Ok(false),
@@ -142,7 +142,7 @@ fn listed(line: Result<(), Fault>) -> Result<bool, Fault>
 /// Writes a line with the text.
 fn put_text<W: Sink>(text: &String, line: &mut Vec<u8>, output: &mut W) -> Result<(), Fault>
     ensures bytes { PutsLine result (W.state output.old) (W.state output.new) }
-    ensures no_reader { blames_reader (by_cause result) ≡ false }
+    ensures no_reader { by_cause result ≢ Err by_reader }
 {
     line.clear();
     match line.extend_from_slice(text.as_bytes()) {
@@ -160,7 +160,7 @@ fn put_findings<W: Sink>(
     output: &mut W,
 ) -> Result<bool, Fault>
     ensures bytes { Prints Findings result (W.state output.old) (W.state output.new) }
-    ensures no_reader { blames_reader (by_cause result) ≡ false }
+    ensures no_reader { by_cause result ≢ Err by_reader }
 {
     for finding in findings {
         text.clear();

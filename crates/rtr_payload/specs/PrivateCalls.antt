@@ -3,7 +3,7 @@ use Rattle.std.specs.Prelude.{◌≡◌, ◌⊎◌, ℕ, List, [], length, Optio
 use Rattle.std.specs.Io.KnownBytes.{Consumes}
 use Rattle.rtr_units.specs.Causes.{Cause, no_memory, wrong, refused}
 use Rattle.rtr_units.specs.Reading.{Takes}
-use Rattle.rtr_units.specs.Stream.{CountsReader, FallsShort, ReaderState}
+use Rattle.rtr_units.specs.Stream.{FallsShort, ReaderState, reader_count}
 
 -- Why reading a frame of n bytes, what follows the header of a variable unit, stopped where t of
 -- them had come. Memory is refused before the first byte, or after the last one.
@@ -18,7 +18,7 @@ ReadsFrameBytes n (Err c) old left = Takes old left (λ t. StopsInFrame n c t le
 
 abbrev pub ReadsFrame : ℕ → Result (List ℕ) Cause → ReaderState → ReaderState → Type 0
 ReadsFrame n answer old new =
-    ReadsFrameBytes n answer old.left new.left × CountsReader answer old new
+    ReadsFrameBytes n answer old.left new.left × (new.failed ≡ reader_count answer old.failed)
 
 -- a report, or no memory for it
 abbrev pub IsReport : Cause → List ℕ → Type 0

@@ -8,7 +8,7 @@ use Rattle.rtr_units.specs.declared.header.Header.{Header}
 use Rattle.rtr_units.specs.Causes.{short, Cause, no_memory, wrong, cause_of, by_cause}
 use Rattle.rtr_units.specs.Header.{type_field}
 use Rattle.rtr_units.specs.Reading.{Stops, Takes}
-use Rattle.rtr_units.specs.Stream.{CountsReader, ReaderState}
+use Rattle.rtr_units.specs.Stream.{ReaderState, reader_count}
 use Rattle.rtr_units.specs.Views.{header_bytes}
 use Rattle.rtr_session.specs.Fields.{HasAnyFields}
 use Rattle.rtr_session.specs.Headers.{session_unit}
@@ -36,7 +36,8 @@ ReadsHeaderBytes (Ok (Some h)) old left = Consumes old left (header_bytes h)
 ReadsHeaderBytes (Err e) old left = Takes old left (λ t. StopsInAny (cause_of e) t left)
 
 abbrev pub ReadsHeader : Result (Option Header) Fault → ReaderState → ReaderState → Type 0
-ReadsHeader r old new = ReadsHeaderBytes r old.left new.left × CountsReader (by_cause r) old new
+ReadsHeader r old new =
+    ReadsHeaderBytes r old.left new.left × (new.failed ≡ reader_count (by_cause r) old.failed)
 
 -- a unit was read, or there was none, or reading stopped
 abbrev pub ReadsAnyBytes : Result (Option AnyUnit) Fault → Option (List ℕ) → Option (List ℕ) → Type 0
@@ -46,7 +47,8 @@ ReadsAnyBytes (Ok (Some u)) old left = Consumes old left (any_bytes u) ×
 ReadsAnyBytes (Err e) old left = Takes old left (λ t. StopsInAny (cause_of e) t left)
 
 abbrev pub ReadsAny : Result (Option AnyUnit) Fault → ReaderState → ReaderState → Type 0
-ReadsAny r old new = ReadsAnyBytes r old.left new.left × CountsReader (by_cause r) old new
+ReadsAny r old new =
+    ReadsAnyBytes r old.left new.left × (new.failed ≡ reader_count (by_cause r) old.failed)
 
 -- what follows the header h was read, and the unit made of both, or reading stopped
 abbrev pub ReadsAnyAfterBytes :
@@ -58,4 +60,4 @@ ReadsAnyAfterBytes h (Err e) old left =
 
 abbrev pub ReadsAnyAfter : List ℕ → Result AnyUnit Fault → ReaderState → ReaderState → Type 0
 ReadsAnyAfter h r old new =
-    ReadsAnyAfterBytes h r old.left new.left × CountsReader (by_cause r) old new
+    ReadsAnyAfterBytes h r old.left new.left × (new.failed ≡ reader_count (by_cause r) old.failed)

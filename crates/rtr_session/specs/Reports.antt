@@ -8,7 +8,7 @@ use Rattle.rtr_units.specs.Causes.{Cause, no_memory, cause_of, by_cause}
 use Rattle.rtr_units.specs.Header.{version_field, type_field, session_field, length_field}
 use Rattle.rtr_units.specs.Reading.{Stops, Takes}
 use Rattle.rtr_units.specs.Report.{report}
-use Rattle.rtr_units.specs.Stream.{CountsReader, ReaderState}
+use Rattle.rtr_units.specs.Stream.{ReaderState, reader_count}
 use Rattle.rtr_session.specs.Headers.{report_unit}
 
 -- these are the bytes of an error report, whatever the lengths inside it say: a header and two
@@ -45,7 +45,8 @@ ReadsReportBytes (Ok u) old left = Consumes old left u × IsReport u
 ReadsReportBytes (Err e) old left = Takes old left (λ t. StopsInReport (cause_of e) t left)
 
 abbrev pub ReadsReport : Result (List ℕ) Fault → ReaderState → ReaderState → Type 0
-ReadsReport r old new = ReadsReportBytes r old.left new.left × CountsReader (by_cause r) old new
+ReadsReport r old new =
+    ReadsReportBytes r old.left new.left × (new.failed ≡ reader_count (by_cause r) old.failed)
 
 -- what follows the header h was read, and the report made of both, or reading stopped
 abbrev pub ReadsReportAfterBytes :
@@ -56,4 +57,4 @@ ReadsReportAfterBytes h (Err e) old left =
 
 abbrev pub ReadsReportAfter : List ℕ → Result (List ℕ) Fault → ReaderState → ReaderState → Type 0
 ReadsReportAfter h r old new =
-    ReadsReportAfterBytes h r old.left new.left × CountsReader (by_cause r) old new
+    ReadsReportAfterBytes h r old.left new.left × (new.failed ≡ reader_count (by_cause r) old.failed)

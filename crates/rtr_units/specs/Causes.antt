@@ -1,5 +1,5 @@
 -- Why a call on units stopped, apart from how the code keeps it. The causes are this library's own.
-use Rattle.std.specs.Prelude.{ℕ, List, Bool, true, false, Result, Ok, Err}
+use Rattle.std.specs.Prelude.{ℕ, List, Result, Ok, Err}
 use Rattle.rtr_units.specs.declared.fault.Fault.{Fault}
 use Rattle.rtr_units.specs.declared.fault.Fault.TheVariants.{Reader, Writer, Short, UnitType}
 use Rattle.rtr_units.specs.declared.fault.Fault.TheVariants.{UnitLength, TooLong, EmptyProviders}
@@ -44,21 +44,3 @@ cause_of Memory = no_memory
 abbrev pub by_cause : {T : Type 0} → Result T Fault → Result T Cause
 by_cause (Ok x) = Ok x
 by_cause (Err f) = Err (cause_of f)
-
--- whether the cause is the reader's failure, or the writer's
-abbrev pub is_by_reader : Cause → Bool
-is_by_reader by_reader = true
-is_by_reader cause = false
-
-abbrev pub is_by_writer : Cause → Bool
-is_by_writer by_writer = true
-is_by_writer cause = false
-
--- whether the answer blames the reader, or the writer
-abbrev pub blames_reader : {T : Type 0} → Result T Cause → Bool
-blames_reader (Ok x) = false
-blames_reader (Err c) = is_by_reader c
-
-abbrev pub blames_writer : {T : Type 0} → Result T Cause → Bool
-blames_writer (Ok x) = false
-blames_writer (Err c) = is_by_writer c

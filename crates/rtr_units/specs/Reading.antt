@@ -2,14 +2,14 @@
 -- and what follows it up to its length field (RFC 8210 section 5.1, RFC 6810 section 5.1). The order
 -- of the faults, and where memory is asked for, are this library's own.
 use Rattle.std.specs.Prelude.{◌≡◌, ◌⊎◌, ℕ, ◌<◌, ◌≤◌, Bool, false, List, ◌++◌, length, IsTrue, nat_lt}
-use Rattle.std.specs.Prelude.{Option, Some, None, Result, Ok, Err, ◌==◌, if◌then◌else◌}
+use Rattle.std.specs.Prelude.{MatchResult, Option, Some, None, Result, Ok, Err, ◌==◌, if◌then◌else◌}
 use Rattle.std.specs.Io.KnownBytes.{Consumes, IsAtEnd}
 use Rattle.rtr_base.specs.Bytes.{IsBytes}
 use Rattle.rtr_units.specs.Causes.{Refusal, short, unit_type, too_long, unit_length}
 use Rattle.rtr_units.specs.Causes.{Cause, by_reader, by_writer, too_many, no_memory, wrong}
 use Rattle.rtr_units.specs.Causes.{cause_of}
 use Rattle.rtr_units.specs.Header.{type_field, length_field}
-use Rattle.rtr_units.specs.Stream.{BeginsWithTaken, CountsReader, FallsShort, ReaderState}
+use Rattle.rtr_units.specs.Stream.{BeginsWithTaken, FallsShort, ReaderState, reader_count}
 use Rattle.rtr_units.specs.Views.{AreBytes}
 use Rattle.rtr_units.specs.declared.fault.Fault.{Fault}
 
@@ -82,14 +82,12 @@ abbrev pub by_bytes : {T : Type 0} → (T → List ℕ) → Result T Fault → R
 by_bytes bytes (Ok x) = Ok (bytes x)
 by_bytes bytes (Err f) = Err (cause_of f)
 
--- what a call that reads n bytes leaves in the reader, said by bytes
-abbrev pub FillsBytes : ℕ → Result (List ℕ) Cause → Option (List ℕ) → Option (List ℕ) → Type 0
-FillsBytes n (Ok piece) old left = Consumes old left piece × AreBytes n piece
-FillsBytes n (Err c) old left = Takes old left (λ t. FallsShort n c t left)
-
--- what it leaves, said by the state of the reader
-abbrev pub Fills : ℕ → Result (List ℕ) Cause → ReaderState → ReaderState → Type 0
-Fills n answer old new = FillsBytes n answer old.left new.left × CountsReader answer old new
+-- what a call that reads n bytes leaves
+abbrev pub FillsPiece : ℕ → Result (List ℕ) Cause → ReaderState → ReaderState → Type 0
+FillsPiece n answer old new =
+    MatchResult answer (λ piece. Consumes old.left new.left piece × AreBytes n piece)
+    (λ c. Takes old.left new.left (λ t. FallsShort n c t new.left))
+    × (new.failed ≡ reader_count answer old.failed)
 
 -- A call read a unit, or stopped. The bytes `before` of the unit were taken before the call: none
 -- or its header.
@@ -101,7 +99,8 @@ ReadsBytes kind before (Err c) old left = Takes old left (λ t. Stops kind c (be
 -- what such a call leaves, said by the state of the reader
 abbrev pub Reads : Kind → List ℕ → Result (List ℕ) Cause → ReaderState → ReaderState → Type 0
 Reads kind before answer old new =
-    ReadsBytes kind before answer old.left new.left × CountsReader answer old new
+    ReadsBytes kind before answer old.left new.left ×
+    (new.failed ≡ reader_count answer old.failed)
 
 -- A call read the rest of a unit after its header h, or stopped.
 abbrev pub ReadsAfter : Kind → List ℕ → Result (List ℕ) Cause → ReaderState → ReaderState → Type 0

@@ -8,7 +8,7 @@ ghost use Rattle.std.specs.Cmp.{partial_equiv_from_equiv};
 ghost use Rattle.std.specs.Cmp.Lexicographic.{nat_list_eq_equiv, pointwise};
 ghost use Rattle.std.specs.Cmp.Rules.{hashing};
 ghost use Rattle.std.specs.Hash as fed;
-ghost use Rattle.rtr_units.specs.Reading.{Fills, ReadsAfter, any_unit, by_bytes};
+ghost use Rattle.rtr_units.specs.Reading.{FillsPiece, ReadsAfter, any_unit, by_bytes};
 ghost use Rattle.rtr_units.specs.Report.{report};
 ghost use Rattle.rtr_units.specs.Stream.{PutsForm};
 ghost use Rattle.rtr_units.specs.Views.{header_bytes, AreBytes};
@@ -130,7 +130,7 @@ impl Error {
 
 /// Reads past this many bytes.
 fn skip<R: Source>(reader: &mut R, size: usize) -> Result<(), Fault>
-    ensures { (t : List ℕ) × Fills size (by_bytes (λ _. t) result) (R.state reader.old) (R.state reader.new) }
+    ensures { (t : List ℕ) × FillsPiece size (by_bytes (λ _. t) result) (R.state reader.old) (R.state reader.new) }
 {
     let mut buffer = [0; 1024];
     let mut left = size;

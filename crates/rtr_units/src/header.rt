@@ -7,7 +7,7 @@ ghost use Rattle.std.specs.Io.KnownBytes.{Consumes};
 ghost use Rattle.rtr_base.specs.Bytes.{IsBytes};
 ghost use Rattle.rtr_units.specs.Header.{header, version_field, type_field, session_field};
 ghost use Rattle.rtr_units.specs.Header.{length_field};
-ghost use Rattle.rtr_units.specs.Reading.{Fills, by_bytes};
+ghost use Rattle.rtr_units.specs.Reading.{FillsPiece, by_bytes};
 ghost use Rattle.rtr_units.specs.Stream.{PutsForm};
 ghost use Rattle.rtr_units.specs.Views.{header_bytes, AreBytes};
 
@@ -52,7 +52,7 @@ impl Header {
     /// Reads a header: eight bytes, which are not checked.
     #[inline(always)]
     pub fn read<R: Source>(reader: &mut R) -> Result<Self, Fault>
-        ensures { Fills 8 (by_bytes header_bytes result) (R.state reader.old) (R.state reader.new) }
+        ensures { FillsPiece 8 (by_bytes header_bytes result) (R.state reader.old) (R.state reader.new) }
     {
         let mut header = Header::default();
         match fill(reader, header.as_mut()) {

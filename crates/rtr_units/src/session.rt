@@ -8,7 +8,7 @@ ghost use Rattle.std.specs.Io.KnownBytes.{Consumes};
 ghost use Rattle.rtr_base.specs.Bytes.{be, value, IsBytes};
 ghost use Rattle.rtr_units.specs.Queries.{bare_list, serial_list};
 ghost use Rattle.rtr_units.specs.Header.{session_field};
-ghost use Rattle.rtr_units.specs.Reading.{Fills, by_bytes};
+ghost use Rattle.rtr_units.specs.Reading.{FillsPiece, by_bytes};
 ghost use Rattle.rtr_units.specs.Stream.{PutsForm};
 ghost use Rattle.rtr_units.specs.Queries.{notify_bytes, query_bytes, reset_query_bytes};
 ghost use Rattle.rtr_units.specs.Queries.{response_bytes, cache_reset_bytes, query_payload_bytes};
@@ -216,7 +216,7 @@ impl SerialQueryPayload {
     /// Reads four bytes.
     #[inline(always)]
     pub fn read<R: Source>(reader: &mut R) -> Result<Self, Fault>
-        ensures { Fills 4 (by_bytes query_payload_bytes result) (R.state reader.old) (R.state reader.new) }
+        ensures { FillsPiece 4 (by_bytes query_payload_bytes result) (R.state reader.old) (R.state reader.new) }
     {
         let mut payload = SerialQueryPayload::default();
         match fill(reader, payload.as_mut()) {

@@ -9,9 +9,9 @@ ghost use Rattle.std.specs.Io.KnownBytes.{Consumes};
 ghost use Rattle.rtr_base.specs.Bytes.{IsBytes};
 ghost use Rattle.rtr_units.specs.Causes.{by_cause, cause_of};
 ghost use Rattle.rtr_units.specs.Header.{version_field, type_field, session_field};
-ghost use Rattle.rtr_units.specs.Reading.{FillsBytes, LeavesUnit, Reads, ReadsAfter, ReadsBytes, Stops};
+ghost use Rattle.rtr_units.specs.Reading.{LeavesUnit, Reads, ReadsAfter, ReadsBytes, Stops};
 ghost use Rattle.rtr_units.specs.Reading.{Takes, by_bytes, of_size, of_type};
-ghost use Rattle.rtr_units.specs.Stream.{CountsReader, PutsForm};
+ghost use Rattle.rtr_units.specs.Stream.{PutsForm, reader_count};
 ghost use Rattle.rtr_units.specs.Views.{header_bytes, AreBytes};
 
 use crate::error::Error;
@@ -113,12 +113,13 @@ pub trait Unit: Drop + Copy {
             (λ answer. MatchResult answer
             (λ u. ReadsBytes (of_type PDU (of_size LENGTH)) [] (Ok (bytes u))
             (R.state reader.old).left (R.state reader.new).left × ¬ (PDU ≡ 10))
-            (λ h. FillsBytes 8 (Ok (header_bytes h))
-            (R.state reader.old).left (R.state reader.new).left × (type_field (header_bytes h) ≡ 10)))
+            (λ h. Consumes (R.state reader.old).left (R.state reader.new).left (header_bytes h) ×
+            AreBytes 8 (header_bytes h) × (type_field (header_bytes h) ≡ 10)))
             (λ e. Takes (R.state reader.old).left (R.state reader.new).left
             (λ t. Stops (of_type PDU (of_size LENGTH)) (cause_of e) t (R.state reader.new).left ×
             (8 ≤ length t → ¬ (type_field t ≡ 10)))) }
-        ensures count { CountsReader (by_cause result) (R.state reader.old) (R.state reader.new) }
+        ensures count { (R.state reader.new).failed ≡
+            reader_count (by_cause result) (R.state reader.old).failed }
     {
         let header = Header::read(reader)?;
         if header.pdu() == Error::PDU {

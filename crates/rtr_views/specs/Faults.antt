@@ -36,18 +36,10 @@ WritesPiecePart fault old new piece =
     (t others : List ℕ) × Appends old new t × (piece ≡ t ++ others) × (0 < length others)
     × IsWriterFault fault
 
--- a call with this answer counted a failure of the writer exactly where it blames the writer
-abbrev pub CountsViewWriter : {T : Type 0} → Result T ViewFault → WriterState → WriterState → Type 0
-CountsViewWriter r old new = new.failed ≡ count_after old.failed (not (is_view_writer_fault r))
-
--- what a call that writes this piece leaves in the writer, said by bytes
-abbrev pub PutsPieceBytes :
-    {T : Type 0} → Result T ViewFault → Option (List ℕ) → Option (List ℕ) → List ℕ → Type 0
-PutsPieceBytes r old new piece =
-    MatchResult r (λ _. Appends old new piece) (λ e. WritesPiecePart e old new piece)
-
--- what it leaves, said by the state of the writer
+-- what a call that writes this piece leaves
 abbrev pub PutsPiece :
     {T : Type 0} → Result T ViewFault → WriterState → WriterState → List ℕ → Type 0
 PutsPiece r old new piece =
-    PutsPieceBytes r old.held new.held piece × CountsViewWriter r old new
+    MatchResult r (λ _. Appends old.held new.held piece)
+    (λ e. WritesPiecePart e old.held new.held piece)
+    × (new.failed ≡ count_after old.failed (not (is_view_writer_fault r)))

@@ -11,7 +11,7 @@ returns-in-Err-write-clause-bytes g c =
     let version = c.version-version.ensures ∙ ap (g.S.Writing.version_for s) (c.version.ensures ∙ ap version_field (sym (g.met.P.PrefixUnit.told u).0)) in
     form_not_put (g.S.Writing.what s) (g.S.Writing.has s) (g.S.Writing.version_for s) (g.met.S.Writing.one s) (g.P.PrefixUnit.unit u) c.in-Ok.meaning.0 (Origin c.in-Ok.meaning.1) c.in-Ok.ensures.ok
     (g.P.Unit.bytes c.from_origin.result) c.version-version.result c.into_flags.result (g.met.S.Writing.origins s) version c.into_flags.ensures.flags c.from_origin.ensures.form
-    c.in-Err-write.e _ _ c.in-Err-write.ensures.bytes
+    c.in-Err-write.e _ _ c.in-Err-write.ensures.0
 
 pub returns-in-Ok-write-clause-bytes : goal.returns-in-Ok-write-clause-bytes
 returns-in-Ok-write-clause-bytes g c =
@@ -20,4 +20,4 @@ returns-in-Ok-write-clause-bytes g c =
     let version = c.version-version.ensures ∙ ap (g.S.Writing.version_for s) (c.version.ensures ∙ ap version_field (sym (g.met.P.PrefixUnit.told u).0)) in
     form_put (g.S.Writing.what s) (g.S.Writing.has s) (g.S.Writing.version_for s) (g.met.S.Writing.one s) (g.P.PrefixUnit.unit u) c.in-Ok.meaning.0 (Origin c.in-Ok.meaning.1) c.in-Ok.ensures.ok
     (g.P.Unit.bytes c.from_origin.result) c.version-version.result c.into_flags.result (g.met.S.Writing.origins s) version c.into_flags.ensures.flags c.from_origin.ensures.form
-    _ _ c.in-Ok-write.ensures.bytes
+    _ _ c.in-Ok-write.ensures.0
