@@ -1,6 +1,6 @@
 -- What the clauses `bytes` and `count` of calls that read or write said when a reader and a writer
 -- had no state, shown from what these calls say now.
-use Rattle.std.proofs.Common.{◌≡◌, ℕ, Bool, true, false, not, List, ◌++◌, length, Option, Result, Ok, Err, refl, ap, ◌∙◌}
+use Rattle.std.proofs.Common.{◌≡◌, ℕ, Bool, true, false, not, List, ◌++◌, length, Option, Result, Ok, Err, refl, ◌∙◌}
 use Rattle.std.specs.Prelude.{MatchResult}
 use Rattle.std.specs.Io.KnownBytes.{Consumes, Appends}
 use Rattle.rtr_units.specs.Causes.{Cause, cause_of, by_cause}

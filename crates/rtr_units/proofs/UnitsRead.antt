@@ -12,9 +12,8 @@ use Rattle.rtr_units.specs.declared.fault.Fault.{Fault}
 use Rattle.std.specs.Prelude.{IsTrue}
 use Rattle.rtr_units.specs.Ends.{end_length, end_unit}
 use Rattle.rtr_units.specs.Header.{version_field, type_field, length_field}
-use Rattle.rtr_units.specs.Reading.{Kind, of_size, of_type, any_unit, IsWhole, IsPart, Stops, Takes, FillsPiece, Reads, ReadsAfter, ReadsBytes, by_bytes}
+use Rattle.rtr_units.specs.Reading.{Kind, of_size, of_type, any_unit, IsWhole, IsPart, Stops, FillsPiece, Reads, ReadsAfter, ReadsBytes, by_bytes}
 use Rattle.rtr_units.specs.Stream.{FallsShort, ReaderState, reader_count, writer_count}
-use Rattle.rtr_units.specs.Views.{AreBytes}
 use Rattle.rtr_units.proofs.Headers.{same_header}
 
 -- ---- kinds
