@@ -6,7 +6,8 @@ use Rattle.std.proofs.lemmas.List.{length-append}
 use Rattle.std.proofs.lemmas.List.Folds.{concat-append}
 use Rattle.std.specs.Io.KnownBytes.{Appends}
 use Rattle.std.proofs.KnownBytes.{Appends-trans}
-use Rattle.rtr_list.specs.Lines.{IsLine, PutsLine}
+use Rattle.rtr_units.specs.Stream.{WriterState}
+use Rattle.rtr_list.specs.Lines.{IsLine, PutsLine, PutsLineBytes}
 use Rattle.rtr_list.specs.Listing.{AreLines, Prints}
 use Rattle.rtr_list.specs.declared.run.Wanted.TheVariants.{Text, Json}
 
@@ -26,7 +27,7 @@ pub record SoFar (n : ℕ) (held holds : Option (List ℕ)) : Type 0 where
   pub counted : length lines ≡ n
 
 pub goes_on : (x : Unit {0}) (n : ℕ) (a b c : Option (List ℕ)) → SoFar n a b →
-    PutsLine (Ok x) b c → SoFar (n + 1) a c
+    PutsLineBytes (Ok x) b c → SoFar (n + 1) a c
 goes_on x n a b c p (line, is, wrote) = record {
   lines = p.lines ++ line ∷ [];
   are_lines = all_append IsLine p.lines (line ∷ []) p.are_lines (is, tt);
@@ -37,22 +38,22 @@ goes_on x n a b c p (line, is, wrote) = record {
 
 -- ---- the line of a listed unit
 
-pub text_line : (x : Unit {0}) (a b : Option (List ℕ)) → PutsLine (Ok x) a b →
+pub text_line : (x : Unit {0}) (a b : WriterState) → PutsLine (Ok x) a b →
     Prints Text (Ok false) a b
-text_line x a b (line, is, wrote) = (
+text_line x a b ((line, is, wrote), counts) = ((
   line ∷ [],
   (is, tt),
-  subst (Appends a b) (sym
+  subst (Appends a.held b.held) (sym
       (append-nil line)) wrote,
   (refl, refl),
-)
+), counts)
 
-pub json_line : (x : Unit {0}) (a b : Option (List ℕ)) → PutsLine (Ok x) a b →
+pub json_line : (x : Unit {0}) (a b : WriterState) → PutsLine (Ok x) a b →
     Prints Json (Ok false) a b
-json_line x a b (line, is, wrote) = (
+json_line x a b ((line, is, wrote), counts) = ((
   line ∷ [],
   (is, tt),
-  subst (Appends a b) (sym
+  subst (Appends a.held b.held) (sym
       (append-nil line)) wrote,
   (refl, refl),
-)
+), counts)

@@ -14,20 +14,19 @@ use Rattle.rtr_units.specs.declared.fault.Fault.TheVariants.{TooMany}
 use Rattle.rtr_units.specs.Causes.{Cause, by_reader, by_writer, too_many, no_memory, wrong}
 use Rattle.rtr_units.specs.Causes.{cause_of}
 use Rattle.rtr_units.specs.Reading.{Takes}
-use Rattle.rtr_units.specs.Stream.{count_after, is_reader_fault, is_writer_fault}
+use Rattle.rtr_units.specs.Stream.{ReaderState, WriterState, reader_count, writer_count}
 use Rattle.rtr_session.specs.Reads.{HasEnded, StopsInAny}
 use Rattle.rtr_list.specs.Lines.{IsLine, StopsLine}
-use Rattle.rtr_list.specs.Listing.{IsUnit, AreUnits, AreLines, Shows, ShowsPart, Prints, Counts}
-use Rattle.rtr_list.specs.Listing.{OneEach, Ends, Sides, Lists}
+use Rattle.rtr_list.specs.Listing.{IsUnit, AreUnits, AreLines, Shows, ShowsPart, PrintsBytes, Counts}
+use Rattle.rtr_list.specs.Listing.{OneEach, Ends, Lists}
 use Rattle.rtr_list.specs.declared.run.Wanted.{Wanted}
 use Rattle.rtr_list.specs.declared.run.Wanted.TheVariants.{Text, Json, Findings}
 use Rattle.rtr_list.proofs.Printing.{all_append, concat_push}
 
 -- the counts of failures after this answer
-abbrev Counted : Result Bool Fault → Sides → Sides → Type 0
-Counted r old new =
-    (new.reads_failed ≡ count_after old.reads_failed (not (is_reader_fault r))) ×
-    (new.writes_failed ≡ count_after old.writes_failed (not (is_writer_fault r)))
+abbrev Counted : Result Bool Cause → (old new : ReaderState) (before after : WriterState) → Type 0
+Counted answer old new before after =
+    (new.failed ≡ reader_count answer old.failed) × (after.failed ≡ writer_count answer before.failed)
 
 -- n units were read and printed
 pub record SoFar (what : Wanted) (found : Bool) (n : ℕ) (old new held holds : Option (List ℕ)) : Type 0 where
@@ -89,7 +88,7 @@ shows_more Findings found more units lines new u h k =
 
 pub goes_on : (what : Wanted) (found more : Bool) (n : ℕ) (u : List ℕ) →
     (a b c h i j : Option (List ℕ)) → SoFar what found n a b h i → Consumes b c u → IsUnit u →
-    Prints what (Ok more) i j → SoFar what (found || more) (n + 1) a c h j
+    PrintsBytes what (Ok more) i j → SoFar what (found || more) (n + 1) a c h j
 goes_on what found more n u a b c h i j p took is (new, are, wrote, shows) = record {
   units = p.units ++ u ∷ [];
   are_units = all_append IsUnit p.units (u ∷ []) p.are_units (is, tt);
@@ -105,11 +104,11 @@ goes_on what found more n u a b c h i j p took is (new, are, wrote, shows) = rec
 
 -- ---- how a run ends
 
-pub ends : (what : Wanted) (found : Bool) (n : ℕ) (old new : Sides) (b : Option (List ℕ)) →
-    SoFar what found n old.left b old.held new.held → HasEnded b new.left →
-    new.reads_failed ≡ old.reads_failed → new.writes_failed ≡ old.writes_failed →
-    Lists what (Ok found) old new
-ends what found n old new b p ended reads writes = record {
+pub ends : (what : Wanted) (found : Bool) (n : ℕ) (old new : ReaderState) (before after : WriterState) (b : Option (List ℕ)) →
+    SoFar what found n old.left b before.held after.held → HasEnded b new.left →
+    new.failed ≡ old.failed → after.failed ≡ before.failed →
+    Lists what (Ok found) old new before after
+ends what found n old new before after b p ended reads writes = record {
   units = p.units;
   rest = [];
   are_units = p.are_units;
@@ -117,7 +116,7 @@ ends what found n old new b p ended reads writes = record {
   lines = p.lines;
   part = [];
   are_lines = p.are_lines;
-  writes = subst (Appends old.held new.held) (sym (append-nil (concat p.lines))) p.wrote;
+  writes = subst (Appends before.held after.held) (sym (append-nil (concat p.lines))) p.wrote;
   counts = p.shows;
   ends = (refl, ended.1, refl);
   reader_failures = reads;
@@ -152,11 +151,11 @@ ends_stopped too_many units t left stops = absurd stops
 ends_stopped no_memory units t left stops = refl
 ends_stopped (wrong f) units t left stops = (stops, refl)
 
-pub stops_reading : (what : Wanted) (found : Bool) (n : ℕ) (e : Fault) (old new : Sides) →
-    (b : Option (List ℕ)) → SoFar what found n old.left b old.held new.held →
-    Takes b new.left (λ t. StopsInAny (cause_of e) t new.left) → Counted (Err e) old new →
-    Lists what (Err e) old new
-stops_reading what found n e old new b p (t, took, stops) counted = record {
+pub stops_reading : (what : Wanted) (found : Bool) (n : ℕ) (e : Fault) (old new : ReaderState) (before after : WriterState) →
+    (b : Option (List ℕ)) → SoFar what found n old.left b before.held after.held →
+    Takes b new.left (λ t. StopsInAny (cause_of e) t new.left) → Counted (Err (cause_of e)) old new before after →
+    Lists what (Err e) old new before after
+stops_reading what found n e old new before after b p (t, took, stops) counted = record {
   units = p.units;
   rest = t;
   are_units = p.are_units;
@@ -164,7 +163,7 @@ stops_reading what found n e old new b p (t, took, stops) counted = record {
   lines = p.lines;
   part = [];
   are_lines = p.are_lines;
-  writes = subst (Appends old.held new.held) (sym (append-nil (concat p.lines))) p.wrote;
+  writes = subst (Appends before.held after.held) (sym (append-nil (concat p.lines))) p.wrote;
   counts = counts_stopped what (cause_of e) found p.units p.lines t new.left p.shows stops;
   ends = ends_stopped (cause_of e) p.units t new.left stops;
   reader_failures = counted.0;
@@ -202,10 +201,10 @@ ends_broken no_memory units left part stops = stops
 ends_broken (wrong f) units left part stops = absurd stops
 
 pub stops_printing : (what : Wanted) (found : Bool) (n : ℕ) (e : Fault) (u : List ℕ) →
-    (old new : Sides) (b i : Option (List ℕ)) → SoFar what found n old.left b old.held i →
-    Consumes b new.left u → IsUnit u → Prints what (Err e) i new.held →
-    Counted (Err e) old new → Lists what (Err e) old new
-stops_printing what found n e u old new b i p took is
+    (old new : ReaderState) (before after : WriterState) (b i : Option (List ℕ)) → SoFar what found n old.left b before.held i →
+    Consumes b new.left u → IsUnit u → PrintsBytes what (Err e) i after.held →
+    Counted (Err (cause_of e)) old new before after → Lists what (Err e) old new before after
+stops_printing what found n e u old new before after b i p took is
     (more, part, are, wrote, stops, none) counted = record {
       units = p.units ++ u ∷ [];
       rest = [];
@@ -216,10 +215,10 @@ stops_printing what found n e u old new b i p took is
       lines = p.lines ++ more;
       part = part;
       are_lines = all_append IsLine p.lines more p.are_lines are;
-      writes = subst (Appends old.held new.held)
+      writes = subst (Appends before.held after.held)
           (sym (ap (λ l. l ++ part) (concat-append p.lines more) ∙
           append_assoc (concat p.lines) (concat more) part))
-          (Appends-trans old.held i new.held (concat p.lines) (concat more ++ part) p.wrote wrote);
+          (Appends-trans before.held i after.held (concat p.lines) (concat more ++ part) p.wrote wrote);
       counts = counts_broken what (cause_of e) found p.units p.lines more u part p.shows stops none;
       ends = ends_broken (cause_of e) (p.units ++ u ∷ []) new.left part stops;
       reader_failures = counted.0;
@@ -232,11 +231,11 @@ counts_full Text found units lines h = h.0
 counts_full Json found units lines h = h.0
 counts_full Findings found units lines h = tt
 
-pub reaches_limit : (what : Wanted) (found : Bool) (n : ℕ) (old new : Sides) →
-    n ≡ 2 ^ 64 - 1 → SoFar what found n old.left new.left old.held new.held →
-    new.reads_failed ≡ old.reads_failed → new.writes_failed ≡ old.writes_failed →
-    Lists what (Err TooMany) old new
-reaches_limit what found n old new full p reads writes = record {
+pub reaches_limit : (what : Wanted) (found : Bool) (n : ℕ) (old new : ReaderState) (before after : WriterState) →
+    n ≡ 2 ^ 64 - 1 → SoFar what found n old.left new.left before.held after.held →
+    new.failed ≡ old.failed → after.failed ≡ before.failed →
+    Lists what (Err TooMany) old new before after
+reaches_limit what found n old new before after full p reads writes = record {
   units = p.units;
   rest = [];
   are_units = p.are_units;
@@ -244,7 +243,7 @@ reaches_limit what found n old new full p reads writes = record {
   lines = p.lines;
   part = [];
   are_lines = p.are_lines;
-  writes = subst (Appends old.held new.held) (sym (append-nil (concat p.lines))) p.wrote;
+  writes = subst (Appends before.held after.held) (sym (append-nil (concat p.lines))) p.wrote;
   counts = counts_full what found p.units p.lines p.shows;
   ends = (p.counted ∙ full, refl, refl);
   reader_failures = reads;

@@ -9,8 +9,8 @@ use Rattle.std.specs.Io.KnownBytes.{Consumes, Appends, IsAtEnd}
 use Rattle.std.specs.List.{AllByRecursion, concat}
 use Rattle.rtr_units.specs.declared.fault.Fault.{Fault}
 use Rattle.rtr_units.specs.Causes.{Cause, by_reader, by_writer, too_many, no_memory, wrong}
-use Rattle.rtr_units.specs.Causes.{cause_of}
-use Rattle.rtr_units.specs.Stream.{count_after, is_reader_fault, is_writer_fault}
+use Rattle.rtr_units.specs.Causes.{by_cause, cause_of}
+use Rattle.rtr_units.specs.Stream.{ReaderState, WriterState, reader_count, writer_count}
 use Rattle.rtr_session.specs.Fields.{AnyFields, HasAnyFields}
 use Rattle.rtr_session.specs.Reads.{StopsInAny}
 use Rattle.rtr_list.specs.Lines.{IsLine, IsPartOfLine, StopsLine}
@@ -43,17 +43,25 @@ ShowsPart Json lines = lines ≡ []
 ShowsPart Findings lines = ⊤
 
 -- what is to be printed of one unit was printed, or printing stopped
-abbrev pub Prints : Wanted → Result Bool Fault → Option (List ℕ) → Option (List ℕ) → Type 0
-Prints what (Ok found) held holds = (lines : List (List ℕ)) × AreLines lines ×
+abbrev pub PrintsBytes : Wanted → Result Bool Fault → Option (List ℕ) → Option (List ℕ) → Type 0
+PrintsBytes what (Ok found) held holds = (lines : List (List ℕ)) × AreLines lines ×
     Appends held holds (concat lines) × Shows what found lines
-Prints what (Err e) held holds = (lines : List (List ℕ)) × (part : List ℕ) × AreLines lines ×
+PrintsBytes what (Err e) held holds = (lines : List (List ℕ)) × (part : List ℕ) × AreLines lines ×
     Appends held holds (concat lines ++ part) × StopsLine (cause_of e) part × ShowsPart what lines
 
+abbrev pub Prints : Wanted → Result Bool Fault → WriterState → WriterState → Type 0
+Prints what r old new =
+    PrintsBytes what r old.held new.held × (new.failed ≡ writer_count (by_cause r) old.failed)
+
 -- of each of n broken rules one line was printed, or printing stopped
-abbrev pub PrintsEach : ℕ → Result Bool Fault → Option (List ℕ) → Option (List ℕ) → Type 0
-PrintsEach n (Ok found) held holds = (lines : List (List ℕ)) × AreLines lines ×
+abbrev pub PrintsEachBytes : ℕ → Result Bool Fault → Option (List ℕ) → Option (List ℕ) → Type 0
+PrintsEachBytes n (Ok found) held holds = (lines : List (List ℕ)) × AreLines lines ×
     Appends held holds (concat lines) × (length lines ≡ n) × (found ≡ nat_lt 0 n)
-PrintsEach n (Err e) held holds = Prints Findings (Err e) held holds
+PrintsEachBytes n (Err e) held holds = PrintsBytes Findings (Err e) held holds
+
+abbrev pub PrintsEach : ℕ → Result Bool Fault → WriterState → WriterState → Type 0
+PrintsEach n r old new =
+    PrintsEachBytes n r old.held new.held × (new.failed ≡ writer_count (by_cause r) old.failed)
 
 -- the number of bytes before the next unit, which stays at the greatest number of 64 bits
 abbrev pub offset_after : ℕ → List ℕ → ℕ
@@ -100,21 +108,10 @@ Ends (Err no_memory) units rest left part = part ≡ []
 -- at a fault of the input
 Ends (Err (wrong fault)) units rest left part = StopsInAny (wrong fault) rest left × (part ≡ [])
 
--- What a run finds or leaves on its two sides: the bytes that the reader still gives and those that
--- the writer holds, where they are known, and how often each has failed.
-pub record Sides : Type 0 where
-  pub left : Option (List ℕ)
-  pub held : Option (List ℕ)
-  pub reads_failed : ℕ
-  pub writes_failed : ℕ
-
--- the answer, with each fault by its cause
-abbrev pub by_cause : Result Bool Fault → Result Bool Cause
-by_cause (Ok found) = Ok found
-by_cause (Err fault) = Err (cause_of fault)
-
--- the whole promise of a run
-pub record Lists (what : Wanted) (answer : Result Bool Fault) (old new : Sides) : Type 0 where
+-- The whole promise of a run: `old` and `new` are what the reader has before and after it, `before`
+-- and `after` what the writer has.
+pub record Lists (what : Wanted) (answer : Result Bool Fault) (old new : ReaderState)
+    (before after : WriterState) : Type 0 where
   -- it took units, and then some bytes
   pub units : List (List ℕ)
   pub rest : List ℕ
@@ -124,12 +121,10 @@ pub record Lists (what : Wanted) (answer : Result Bool Fault) (old new : Sides) 
   pub lines : List (List ℕ)
   pub part : List ℕ
   pub are_lines : AreLines lines
-  pub writes : Appends old.held new.held (concat lines ++ part)
+  pub writes : Appends before.held after.held (concat lines ++ part)
   pub counts : Counts what (by_cause answer) units lines
   pub ends : Ends (by_cause answer) units rest new.left part
   -- the reader is blamed exactly where its count of failures rose, and the writer where its count
   -- did
-  pub reader_failures : new.reads_failed ≡ count_after old.reads_failed (not
-      (is_reader_fault answer))
-  pub writer_failures : new.writes_failed ≡ count_after old.writes_failed (not
-      (is_writer_fault answer))
+  pub reader_failures : new.failed ≡ reader_count (by_cause answer) old.failed
+  pub writer_failures : after.failed ≡ writer_count (by_cause answer) before.failed

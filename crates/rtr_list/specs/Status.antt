@@ -2,9 +2,9 @@
 use Rattle.std.specs.Prelude.{◌≡◌, ℕ, Bool, true, false, Result, Ok, Err}
 use Rattle.std.specs.Io.KnownBytes.{Keeps}
 use Rattle.rtr_units.specs.declared.fault.Fault.{Fault}
-use Rattle.rtr_units.specs.Causes.{Cause, by_reader, by_writer, too_many, no_memory, wrong}
-use Rattle.rtr_units.specs.Stream.{count_after}
-use Rattle.rtr_list.specs.Listing.{Lists, Sides, by_cause}
+use Rattle.rtr_units.specs.Causes.{Cause, by_reader, by_writer, too_many, no_memory, wrong, by_cause}
+use Rattle.rtr_units.specs.Stream.{ReaderState, WriterState, count_after}
+use Rattle.rtr_list.specs.Listing.{Lists}
 use Rattle.rtr_list.specs.declared.run.Wanted.{Wanted}
 
 -- the status by the answer, where the flush after it succeeded: 0 at the end of the input where no
@@ -24,14 +24,13 @@ status_after answer true = status_of answer
 status_after answer false = 3
 
 -- one flush of the writer, and nothing else: what it holds stays, and a failure is counted
-pub record Flushes (flushed : Bool) (mid end : Sides) : Type 0 where
-  pub left : end.left ≡ mid.left
-  pub held : Keeps mid.held end.held
-  pub reads : end.reads_failed ≡ mid.reads_failed
-  pub writes : end.writes_failed ≡ count_after mid.writes_failed flushed
+abbrev pub Flushes : Bool → WriterState → WriterState → Type 0
+Flushes flushed old new =
+    Keeps old.held new.held × (new.failed ≡ count_after old.failed flushed)
 
 -- a run of what is asked for, then one flush of the output, and both decide the status
-abbrev pub Runs : Wanted → ℕ → Sides → Sides → Type 0
-Runs what status before after = (answer : Result Bool Fault) × (flushed : Bool) × (mid : Sides)
-    × Lists what answer before mid × Flushes flushed mid after
+abbrev pub Runs : Wanted → ℕ → ReaderState → ReaderState → WriterState → WriterState → Type 0
+Runs what status old new before after =
+    (answer : Result Bool Fault) × (flushed : Bool) × (mid : WriterState)
+    × Lists what answer old new before mid × Flushes flushed mid after
     × (status ≡ status_after (by_cause answer) flushed)

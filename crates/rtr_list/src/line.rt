@@ -1,8 +1,8 @@
 //! Lines.
 
-ghost use Rattle.std.specs.Prelude.{◌≡◌, ◌≤◌, ◌+◌, ◌<◌, ◌++◌, [], ◌∷◌, OnOk, not, false, decimal};
+ghost use Rattle.std.specs.Prelude.{◌≡◌, ◌≢◌, ◌≤◌, ◌+◌, ◌<◌, ◌++◌, [], ◌∷◌, Err, OnOk, decimal};
 ghost use Rattle.std.specs.List.{All};
-ghost use Rattle.rtr_units.specs.Stream.{count_after, is_reader_fault, is_writer_fault};
+ghost use Rattle.rtr_units.specs.Causes.{by_cause, by_reader};
 ghost use Rattle.rtr_list.specs.Lines.{IsLine, PutsLine};
 
 use itoa::Buffer;
@@ -129,10 +129,8 @@ impl Line {
     /// Ends the line and writes it. `Memory` says that nothing was written, `Writer` that a part
     /// was.
     pub fn put<W: Sink>(&mut self, writer: &mut W) -> Result<(), Fault>
-        ensures bytes { PutsLine result (W.contents writer.old) (W.contents writer.new) }
-        ensures no_reader { is_reader_fault result ≡ false }
-        ensures count { W.failures writer.new ≡
-            count_after (W.failures writer.old) (not (is_writer_fault result)) }
+        ensures bytes { PutsLine result (W.state writer.old) (W.state writer.new) }
+        ensures no_reader { by_cause result ≢ Err by_reader }
     {
         match self.end() {
             Ok(()) => put(writer, self.bytes.as_slice()),

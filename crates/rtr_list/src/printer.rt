@@ -1,7 +1,8 @@
 //! Lines of units, one unit after the other.
 
-ghost use Rattle.std.specs.Prelude.{◌≡◌, ℕ, List, length, Option, OnOk, OnErr, false, not};
-ghost use Rattle.rtr_units.specs.Stream.{count_after, is_reader_fault, is_writer_fault};
+ghost use Rattle.std.specs.Prelude.{◌≡◌, ◌≢◌, ℕ, List, length, Option, Err, OnOk, OnErr};
+ghost use Rattle.rtr_units.specs.Causes.{by_cause, by_reader};
+ghost use Rattle.rtr_units.specs.Stream.{WriterState};
 ghost use Rattle.rtr_list.specs.Lines.{PutsLine};
 ghost use Rattle.rtr_list.specs.Listing.{Prints, PrintsEach, offset_after};
 ghost use Rattle.rtr_session.specs.Values.{any_bytes};
@@ -65,10 +66,8 @@ impl Printer {
         unit: &AnyUnit,
         output: &mut W,
     ) -> Result<bool, Fault>
-        ensures bytes { Prints wanted result (W.contents output.old) (W.contents output.new) }
-        ensures no_reader { is_reader_fault result ≡ false }
-        ensures count { W.failures output.new ≡
-            count_after (W.failures output.old) (not (is_writer_fault result)) }
+        ensures bytes { Prints wanted result (W.state output.old) (W.state output.new) }
+        ensures no_reader { by_cause result ≢ Err by_reader }
         ensures moves { OnOk result (self.new ≡ offset_after self.old (any_bytes unit.now)) }
         ensures stays { OnErr result (self.new ≡ self.old) }
     {
@@ -86,10 +85,8 @@ impl Printer {
         unit: &AnyUnit,
         output: &mut W,
     ) -> Result<bool, Fault>
-        ensures bytes { Prints wanted result (W.contents output.old) (W.contents output.new) }
-        ensures no_reader { is_reader_fault result ≡ false }
-        ensures count { W.failures output.new ≡
-            count_after (W.failures output.old) (not (is_writer_fault result)) }
+        ensures bytes { Prints wanted result (W.state output.old) (W.state output.new) }
+        ensures no_reader { by_cause result ≢ Err by_reader }
         ensures offset { self.new ≡ self.old }
     {
         match wanted {
@@ -100,10 +97,8 @@ impl Printer {
     }
 
     fn print_text<W: Sink>(&mut self, unit: &AnyUnit, output: &mut W) -> Result<(), Fault>
-        ensures bytes { PutsLine result (W.contents output.old) (W.contents output.new) }
-        ensures no_reader { is_reader_fault result ≡ false }
-        ensures count { W.failures output.new ≡
-            count_after (W.failures output.old) (not (is_writer_fault result)) }
+        ensures bytes { PutsLine result (W.state output.old) (W.state output.new) }
+        ensures no_reader { by_cause result ≢ Err by_reader }
         ensures offset { self.new ≡ self.old }
     {
         self.line.clear();
@@ -114,10 +109,8 @@ impl Printer {
     }
 
     fn print_json<W: Sink>(&mut self, unit: &AnyUnit, output: &mut W) -> Result<(), Fault>
-        ensures bytes { PutsLine result (W.contents output.old) (W.contents output.new) }
-        ensures no_reader { is_reader_fault result ≡ false }
-        ensures count { W.failures output.new ≡
-            count_after (W.failures output.old) (not (is_writer_fault result)) }
+        ensures bytes { PutsLine result (W.state output.old) (W.state output.new) }
+        ensures no_reader { by_cause result ≢ Err by_reader }
         ensures offset { self.new ≡ self.old }
     {
         self.line.clear();
@@ -128,10 +121,8 @@ impl Printer {
     }
 
     fn print_findings<W: Sink>(&mut self, unit: &AnyUnit, output: &mut W) -> Result<bool, Fault>
-        ensures bytes { Prints Findings result (W.contents output.old) (W.contents output.new) }
-        ensures no_reader { is_reader_fault result ≡ false }
-        ensures count { W.failures output.new ≡
-            count_after (W.failures output.old) (not (is_writer_fault result)) }
+        ensures bytes { Prints Findings result (W.state output.old) (W.state output.new) }
+        ensures no_reader { by_cause result ≢ Err by_reader }
         ensures offset { self.new ≡ self.old }
     {
         match self.checker.check(unit) {
@@ -143,12 +134,11 @@ impl Printer {
 
 /// A listed unit breaks no rule that is looked for.
 fn listed(line: Result<(), Fault>) -> Result<bool, Fault>
-    ensures text { (held holds : Option (List ℕ)) → PutsLine line held holds →
+    ensures text { (held holds : WriterState) → PutsLine line held holds →
         Prints Text result held holds }
-    ensures json { (held holds : Option (List ℕ)) → PutsLine line held holds →
+    ensures json { (held holds : WriterState) → PutsLine line held holds →
         Prints Json result held holds }
-    ensures reader { is_reader_fault result ≡ is_reader_fault line }
-    ensures writer { is_writer_fault result ≡ is_writer_fault line }
+    ensures reader { by_cause line ≢ Err by_reader → by_cause result ≢ Err by_reader }
 {
     match line {
         Ok(()) => Ok(false),
@@ -163,11 +153,9 @@ fn put_findings<W: Sink>(
     line: &mut Line,
     output: &mut W,
 ) -> Result<bool, Fault>
-    ensures bytes { PrintsEach (length findings.now) result (W.contents output.old)
-        (W.contents output.new) }
-    ensures no_reader { is_reader_fault result ≡ false }
-    ensures count { W.failures output.new ≡
-        count_after (W.failures output.old) (not (is_writer_fault result)) }
+    ensures bytes { PrintsEach (length findings.now) result (W.state output.old)
+        (W.state output.new) }
+    ensures no_reader { by_cause result ≢ Err by_reader }
 {
     for finding in findings {
         line.clear();

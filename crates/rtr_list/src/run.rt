@@ -2,7 +2,8 @@
 
 ghost use Rattle.std.specs.Prelude.{◌≡◌, drop, IsNone, IfSome, None};
 ghost use Rattle.std.specs.Process.{exit_status};
-ghost use Rattle.rtr_list.specs.Listing.{Lists, Sides, by_cause};
+ghost use Rattle.rtr_units.specs.Causes.{by_cause};
+ghost use Rattle.rtr_list.specs.Listing.{Lists};
 ghost use Rattle.rtr_list.specs.Status.{Runs, status_of};
 ghost use Rattle.rtr_list.specs.Words.{asked, asked_word};
 
@@ -41,18 +42,7 @@ pub fn program<R: Source, W: Sink, F: Write>(
     // Otherwise what they ask for is printed of the input, and then the output flushed once.
     ensures lists { IfSome words (λ all. IfSome (asked (drop 1 all.items)) (λ what.
         Runs what (exit_status result)
-        (record {
-          left = R.remaining input.old;
-          held = W.contents output.old;
-          reads_failed = R.failures input.old;
-          writes_failed = W.failures output.old;
-        })
-        (record {
-          left = R.remaining input.new;
-          held = W.contents output.new;
-          reads_failed = R.failures input.new;
-          writes_failed = W.failures output.new;
-        }))) }
+        (R.state input.old) (R.state input.new) (W.state output.old) (W.state output.new))) }
 {
     let status = match words {
         Some(words) => run(alloc, words_after_name(&words), input, output, faults),
@@ -120,18 +110,7 @@ pub fn run<R: Source, W: Sink, F: Write>(
     ensures quiet { result ≡ 0 → faults.new ≡ faults.old }
     // Otherwise what they ask for is printed of the input, and then the output flushed once.
     ensures lists { IfSome (asked args.now) (λ what. Runs what result
-        (record {
-          left = R.remaining input.old;
-          held = W.contents output.old;
-          reads_failed = R.failures input.old;
-          writes_failed = W.failures output.old;
-        })
-        (record {
-          left = R.remaining input.new;
-          held = W.contents output.new;
-          reads_failed = R.failures input.new;
-          writes_failed = W.failures output.new;
-        })) }
+        (R.state input.old) (R.state input.new) (W.state output.old) (W.state output.new)) }
 {
     let Some(wanted) = form_wanted(args) else {
         return usage(faults);
@@ -189,18 +168,7 @@ fn list<R: Source, W: Sink>(
     output: &mut W,
 ) -> Result<bool, Fault>
     ensures { Lists wanted result
-        (record {
-          left = R.remaining input.old;
-          held = W.contents output.old;
-          reads_failed = R.failures input.old;
-          writes_failed = W.failures output.old;
-        })
-        (record {
-          left = R.remaining input.new;
-          held = W.contents output.new;
-          reads_failed = R.failures input.new;
-          writes_failed = W.failures output.new;
-        }) }
+        (R.state input.old) (R.state input.new) (W.state output.old) (W.state output.new) }
 {
     let mut found = false;
     for count in 0..u64::MAX {

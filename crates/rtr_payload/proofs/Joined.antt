@@ -1,12 +1,13 @@
 -- Lists that are made of a fixed part and a body.
 use Rattle.std.proofs.Common.{◌≡◌, ℕ, ◌+◌, ◌≤◌, Bool, true, false, ◌&&◌, Option, List, [], ◌∷◌, ◌++◌, length, take, drop, refl, ap, sym, ◌∙◌, append_assoc, append-nil, arith}
-use Rattle.std.specs.Prelude.{nat_eq, Result, Ok, Err}
+use Rattle.std.specs.Prelude.{MatchResult, nat_eq, Result, Ok, Err}
 use Rattle.std.specs.Cmp.Lexicographic.{pointwise}
 use Rattle.std.specs.Io.KnownBytes.{Appends}
 use Rattle.std.proofs.KnownBytes.{Appends-trans}
 use Rattle.std.proofs.lemmas.List.{drop-append-le, take-append-le, take-append-drop, length-drop}
 use Rattle.rtr_units.specs.declared.fault.Fault.{Fault}
-use Rattle.rtr_units.specs.Stream.{PutsForm}
+use Rattle.rtr_units.specs.Stream.{PutsForm, WriterState, WritesPart, writer_count}
+use Rattle.rtr_units.specs.Causes.{by_cause}
 
 -- a piece of the fixed part
 pub part_front : (a b : List ℕ) (n k : ℕ) → n + k ≤ length a → take k (drop n (a ++ b)) ≡ take k (drop n a)
@@ -14,9 +15,12 @@ part_front a b n k h =
     ap (take k) (drop-append-le n a b (omega arith)) ∙ take-append-le k (drop n a) b (omega (arith, length-drop n a))
 
 -- the fixed part was written, and then the body was or was not
-pub both_put : {T : Type 0} (r : Result T Fault) (old mid new : Option (List ℕ)) (a b : List ℕ) → Appends old mid a → PutsForm r mid new b → PutsForm r old new (a ++ b)
-both_put (Ok x) old mid new a b h k = Appends-trans old mid new a b h k
-both_put (Err e) old mid new a b h k = (a ++ k.0, k.1, Appends-trans old mid new a k.0 h k.2, ap (λ (l : List ℕ). a ++ l) k.3 ∙ sym (append_assoc a k.0 k.1), k.4, k.5)
+joined : {T : Type 0} (r : Result T Fault) (old mid new : Option (List ℕ)) (a b : List ℕ) → Appends old mid a → MatchResult r (λ x. Appends mid new b) (λ e. WritesPart e mid new b) → MatchResult r (λ x. Appends old new (a ++ b)) (λ e. WritesPart e old new (a ++ b))
+joined (Ok x) old mid new a b h k = Appends-trans old mid new a b h k
+joined (Err e) old mid new a b h k = (a ++ k.0, k.1, Appends-trans old mid new a k.0 h k.2, ap (λ (l : List ℕ). a ++ l) k.3 ∙ sym (append_assoc a k.0 k.1), k.4, k.5)
+
+pub both_put : {T : Type 0} (r : Result T Fault) (old mid new : WriterState) (a b : List ℕ) → Appends old.held mid.held a × (mid.failed ≡ old.failed) → PutsForm r mid new b → PutsForm r old new (a ++ b)
+both_put r old mid new a b h k = (joined r old.held mid.held new.held a b h.0 k.0, k.1 ∙ ap (writer_count (by_cause r)) h.1)
 
 -- lists of two parts are equal where their parts are
 pub pointwise-append : (a c b d : List ℕ) → length a ≡ length c → pointwise nat_eq (a ++ b) (c ++ d) ≡ (pointwise nat_eq a c && pointwise nat_eq b d)

@@ -11,7 +11,8 @@ use Rattle.rtr_units.specs.PrefixUnits.{prefix_type, prefix_size}
 use Rattle.rtr_units.specs.Header.{version_field, type_field, length_field}
 use Rattle.rtr_units.specs.Reading.{of_size, IsPart, AsksAfter, Reads, ReadsAfter, by_bytes}
 use Rattle.rtr_units.specs.declared.fault.Fault.{Fault}
-use Rattle.rtr_units.proofs.UnitsRead.{AlikeAfter, read_alike, at_header}
+use Rattle.rtr_units.proofs.UnitsRead.{AlikeAfter, reads_alike, at_header}
+use Rattle.rtr_units.specs.Stream.{ReaderState}
 use Rattle.rtr_units.specs.Views.{AreBytes}
 use Rattle.rtr_units.proofs.Headers.{same_header}
 use Rattle.rtr_payload.specs.declared.prefix_rule.PrefixRule.{PrefixRule}
@@ -76,8 +77,8 @@ module _ (h : List ℕ) (long : 8 ≤ length h) where
 -- ---- a prefix unit after its header h
 
 module _ (f : Family) (h u : List ℕ) (kind : type_field h ≡ prefix_type f) where
-  prefix_fields_read : (a b : Option (List ℕ)) → ReadsAfter (of_size (prefix_size f)) h (Ok u) a b → HasFields u (prefix_unit (prefix_at f u))
-  prefix_fields_read a b (is, ((t, took, parts), whole)) =
+  prefix_fields_read : (a b : ReaderState) → ReadsAfter (of_size (prefix_size f)) h (Ok u) a b → HasFields u (prefix_unit (prefix_at f u))
+  prefix_fields_read a b (is, (((t, took, parts), whole), counts)) =
       let l : 8 ≤ length h = omega (arith, is.0) in
       let kind_u : type_field u ≡ prefix_type f = ap type_field parts ∙ kind_after h l (prefix_type f) t kind in
       let order : header_step u ≡ None = sym (prefix_step f u kind_u) ∙ whole.in_order in
@@ -85,27 +86,27 @@ module _ (f : Family) (h u : List ℕ) (kind : type_field h ≡ prefix_type f) w
 
 -- the unit u of the family f, whose rest was read after the header h, or reading stopped
 module _ (f : Family) (u : Payload) (bytes : List ℕ) (n : ℕ) (same : unit_bytes u ≡ bytes) (fields : unit_fields u ≡ prefix_unit (prefix_at f bytes)) (size : n ≡ prefix_size f) (h : List ℕ) (kind : type_field h ≡ prefix_type f) where
-  pub prefix_after : (r : Result (List ℕ) Cause) (a b : Option (List ℕ)) → ReadsAfter (of_size n) h r a b → ReadsAfter payload_unit h r a b
-  prefix_after r a b (is, reads) = (is, read_alike (of_size (prefix_size f)) payload_unit h r a b (prefix_alike h (omega (arith, is.0)) f kind) (subst (λ n. Reads (of_size n) h r a b) size reads))
+  pub prefix_after : (r : Result (List ℕ) Cause) (a b : ReaderState) → ReadsAfter (of_size n) h r a b → ReadsAfter payload_unit h r a b
+  prefix_after r a b (is, reads) = (is, reads_alike (of_size (prefix_size f)) payload_unit h r a b (prefix_alike h (omega (arith, is.0)) f kind) (subst (λ n. Reads (of_size n) h r a b) size reads))
 
-  pub prefix_has_fields : {T : Type 0} (r : Result T Fault) (a b : Option (List ℕ)) → ReadsAfter (of_size n) h (by_bytes (λ x. bytes) r) a b → IfOk r (λ x. HasFields (unit_bytes u) (unit_fields u))
+  pub prefix_has_fields : {T : Type 0} (r : Result T Fault) (a b : ReaderState) → ReadsAfter (of_size n) h (by_bytes (λ x. bytes) r) a b → IfOk r (λ x. HasFields (unit_bytes u) (unit_fields u))
   prefix_has_fields (Ok x) a b reads = rw (same, fields) (prefix_fields_read f h bytes kind a b (subst (λ n. ReadsAfter (of_size n) h (Ok bytes) a b) size reads))
   prefix_has_fields (Err e) a b reads = tt
 
 -- ---- a unit of a kind by its type, after its header h
 
-pub end_after : (h : List ℕ) (r : Result (List ℕ) Cause) (a b : Option (List ℕ)) → type_field h ≡ 7 → ReadsAfter end_unit h r a b → ReadsAfter payload_unit h r a b
-end_after h r a b kind (is, reads) = (is, read_alike end_unit payload_unit h r a b (end_alike h (omega (arith, is.0)) kind) reads)
+pub end_after : (h : List ℕ) (r : Result (List ℕ) Cause) (a b : ReaderState) → type_field h ≡ 7 → ReadsAfter end_unit h r a b → ReadsAfter payload_unit h r a b
+end_after h r a b kind (is, reads) = (is, reads_alike end_unit payload_unit h r a b (end_alike h (omega (arith, is.0)) kind) reads)
 
-pub key_after : (h : List ℕ) (r : Result (List ℕ) Cause) (a b : Option (List ℕ)) → type_field h ≡ 9 → ReadsAfter (variable_unit 9) h r a b → ReadsAfter payload_unit h r a b
-key_after h r a b kind (is, reads) = (is, read_alike (variable_unit 9) payload_unit h r a b (key_alike h (omega (arith, is.0)) kind) reads)
+pub key_after : (h : List ℕ) (r : Result (List ℕ) Cause) (a b : ReaderState) → type_field h ≡ 9 → ReadsAfter (variable_unit 9) h r a b → ReadsAfter payload_unit h r a b
+key_after h r a b kind (is, reads) = (is, reads_alike (variable_unit 9) payload_unit h r a b (key_alike h (omega (arith, is.0)) kind) reads)
 
-pub aspa_after : (h : List ℕ) (r : Result (List ℕ) Cause) (a b : Option (List ℕ)) → type_field h ≡ 11 → ReadsAfter (variable_unit 11) h r a b → ReadsAfter payload_unit h r a b
-aspa_after h r a b kind (is, reads) = (is, read_alike (variable_unit 11) payload_unit h r a b (aspa_alike h (omega (arith, is.0)) kind) reads)
+pub aspa_after : (h : List ℕ) (r : Result (List ℕ) Cause) (a b : ReaderState) → type_field h ≡ 11 → ReadsAfter (variable_unit 11) h r a b → ReadsAfter payload_unit h r a b
+aspa_after h r a b kind (is, reads) = (is, reads_alike (variable_unit 11) payload_unit h r a b (aspa_alike h (omega (arith, is.0)) kind) reads)
 
 -- a header of no unit that is read
-pub none_after : (h : List ℕ) (t : ℕ) (a : Option (List ℕ)) → AreBytes 8 h → type_field h ≡ t → ¬ (t ≡ 4) → ¬ (t ≡ 6) → ¬ (t ≡ 7) → ¬ (t ≡ 9) → ¬ (t ≡ 11) → ReadsAfter payload_unit h (Err (wrong (unit_type t))) a a
-none_after h t a is kind n4 n6 n7 n9 n11 = (is, ([], Consumes-nil a, at_header payload_unit (unit_type t) h is.0 (sym (step_of t h kind) ∙ unknown_type (version_field h) t (get_or h 2 0) (length_field h) n4 n6 n7 n9 n11)))
+pub none_after : (h : List ℕ) (t : ℕ) (a : ReaderState) → AreBytes 8 h → type_field h ≡ t → ¬ (t ≡ 4) → ¬ (t ≡ 6) → ¬ (t ≡ 7) → ¬ (t ≡ 9) → ¬ (t ≡ 11) → ReadsAfter payload_unit h (Err (wrong (unit_type t))) a a
+none_after h t a is kind n4 n6 n7 n9 n11 = (is, (([], Consumes-nil a.left, at_header payload_unit (unit_type t) h is.0 (sym (step_of t h kind) ∙ unknown_type (version_field h) t (get_or h 2 0) (length_field h) n4 n6 n7 n9 n11)), refl))
 
 -- ---- where reading stopped, by the steps
 

@@ -8,7 +8,7 @@ ghost use Rattle.std.specs.Hash as fed;
 ghost use Rattle.rtr_base.specs.Bytes.{IsBytes};
 ghost use Rattle.rtr_units.specs.Header.{version_field, type_field};
 ghost use Rattle.rtr_units.specs.Reading.{Reads, ReadsAfter, by_bytes, of_type};
-ghost use Rattle.rtr_units.specs.Stream.{PutsForm, count_after, is_reader_fault, is_writer_fault};
+ghost use Rattle.rtr_units.specs.Stream.{PutsForm};
 ghost use Rattle.rtr_units.specs.Views.{header_bytes};
 ghost use Rattle.rtr_payload.specs.AspaUnits.{aspa_at, IsAspa};
 ghost use Rattle.rtr_payload.specs.Payloads.{aspa};
@@ -83,10 +83,8 @@ impl Aspa {
     /// isn't 11, with the header taken; those of `read_payload`, `Memory` among them.
     pub fn read<R: Source>(alloc: Global, reader: &mut R) -> Result<Self, Fault>
         ensures bytes { Reads (of_type 11 (variable_unit 11)) [] (by_bytes (λ u. u) result)
-            (R.remaining reader.old) (R.remaining reader.new) }
+            (R.state reader.old) (R.state reader.new) }
         ensures fields { IfOk result (λ u. HasFields u (aspa_unit (aspa_at u))) }
-        ensures count { R.failures reader.new ≡
-            count_after (R.failures reader.old) (not (is_reader_fault result)) }
     {
         let header = match Header::read(reader) {
             Ok(header) => header,
@@ -113,11 +111,9 @@ impl Aspa {
         reader: &mut R,
     ) -> Result<Self, Fault>
         ensures bytes { ReadsAfter (variable_unit 11) (header_bytes header)
-            (by_bytes (λ u. u) result) (R.remaining reader.old) (R.remaining reader.new) }
+            (by_bytes (λ u. u) result) (R.state reader.old) (R.state reader.new) }
         ensures fields { IfOk result
             (λ u. type_field (header_bytes header) ≡ 11 → HasFields u (aspa_unit (aspa_at u))) }
-        ensures count { R.failures reader.new ≡
-            count_after (R.failures reader.old) (not (is_reader_fault result)) }
     {
         let head = header.as_ref();
         let size = header.length();
@@ -223,9 +219,7 @@ impl Aspa {
     /// Writes the unit.
     #[inline(always)]
     pub fn write<W: Sink>(&self, writer: &mut W) -> Result<(), Fault>
-        ensures bytes { PutsForm result (W.contents writer.old) (W.contents writer.new) self.now }
-        ensures count { W.failures writer.new ≡
-            count_after (W.failures writer.old) (not (is_writer_fault result)) }
+        ensures { PutsForm result (W.state writer.old) (W.state writer.new) self.now }
     {
         match put(writer, &self.fixed) {
             Ok(()) => put(writer, self.providers.as_slice()),

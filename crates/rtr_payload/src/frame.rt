@@ -3,7 +3,6 @@
 ghost use Rattle.std.specs.Prelude.{◌≡◌, ◌+◌, ◌≤◌, length, take, drop, IfOk, not};
 ghost use Rattle.rtr_base.specs.Bytes.{IsBytes, value};
 ghost use Rattle.rtr_units.specs.Reading.{by_bytes};
-ghost use Rattle.rtr_units.specs.Stream.{count_after, is_reader_fault};
 ghost use Rattle.rtr_payload.specs.PrivateCalls.{ReadsFrame};
 
 use bytes::Bytes;
@@ -22,11 +21,9 @@ pub const MAX_SIZE: u32 = 65535;
 /// `Short` or `Reader` inside it; `Memory`, with all of it read, where it can't be shared.
 #[inline(always)]
 pub fn read_frame<R: Source>(alloc: Global, size: usize, reader: &mut R) -> Result<Bytes, Fault>
-    ensures bytes { ReadsFrame size (by_bytes (λ frame. frame) result) (R.remaining reader.old)
-        (R.remaining reader.new) }
+    ensures bytes { ReadsFrame size (by_bytes (λ frame. frame) result) (R.state reader.old)
+        (R.state reader.new) }
     ensures range { IfOk result IsBytes }
-    ensures count { R.failures reader.new ≡
-        count_after (R.failures reader.old) (not (is_reader_fault result)) }
 {
     let mut frame = match Vec::from_elem(alloc, 0, size) {
         Ok(frame) => frame,

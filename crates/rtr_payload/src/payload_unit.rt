@@ -1,10 +1,10 @@
 //! What the four kinds of payload units have in common.
 
-ghost use Rattle.std.specs.Prelude.{◌≡◌, ℕ, IfOk, IfErr, IsOk, false, not, refl};
-ghost use Rattle.rtr_units.specs.Causes.{cause_of};
+ghost use Rattle.std.specs.Prelude.{◌≡◌, ℕ, IfOk, IfErr, IsOk, Err, ◌≢◌, refl};
+ghost use Rattle.rtr_units.specs.Causes.{by_cause, by_writer, cause_of};
 ghost use Rattle.rtr_units.specs.Header.{type_field, version_field};
 ghost use Rattle.rtr_units.specs.Reading.{ReadsAfter, by_bytes};
-ghost use Rattle.rtr_units.specs.Stream.{PutsForm, count_after, is_reader_fault, is_writer_fault};
+ghost use Rattle.rtr_units.specs.Stream.{PutsForm};
 ghost use Rattle.rtr_units.specs.Views.{header_bytes};
 ghost use Rattle.rtr_payload.specs.declared.payload.Payload.{Payload as Value};
 ghost use Rattle.rtr_payload.specs.declared.payload.Payload.TheVariants as payloads;
@@ -70,13 +70,11 @@ pub trait PayloadUnit: Drop {
     ) -> Result<(), Fault>
         requires { type_field (header_bytes header) ≡ kind }
         ensures bytes { ReadsAfter payload_unit (header_bytes header)
-            (by_bytes (λ _. unit_bytes (unit self.new)) result) (R.remaining reader.old)
-            (R.remaining reader.new) }
+            (by_bytes (λ _. unit_bytes (unit self.new)) result)
+            (R.state reader.old) (R.state reader.new) }
         ensures fields { IfOk result
             (λ _. HasFields (unit_bytes (unit self.new)) (unit_fields (unit self.new))) }
-        ensures count { R.failures reader.new ≡
-            count_after (R.failures reader.old) (not (is_reader_fault result)) }
-        ensures no_writer { is_writer_fault result ≡ false };
+        ensures no_writer { by_cause result ≢ Err by_writer };
 
     /// The version of the protocol.
     fn version_of(&self) -> u8
@@ -101,10 +99,8 @@ pub trait PayloadUnit: Drop {
 
     /// Writes all bytes of the unit.
     fn put<W: Sink>(&self, writer: &mut W) -> Result<(), Fault>
-        ensures bytes { PutsForm result (W.contents writer.old) (W.contents writer.new)
-            (unit_bytes (unit self.now)) }
-        ensures count { W.failures writer.new ≡
-            count_after (W.failures writer.old) (not (is_writer_fault result)) };
+        ensures { PutsForm result (W.state writer.old) (W.state writer.new)
+            (unit_bytes (unit self.now)) };
 
     /// The unit as one of any type.
     fn into_unit(self) -> Payload

@@ -9,7 +9,7 @@ ghost use Rattle.std.specs.Cmp.Rules.{hashing};
 ghost use Rattle.std.specs.Hash as fed;
 ghost use Rattle.rtr_units.specs.Header.{version_field, type_field};
 ghost use Rattle.rtr_units.specs.Reading.{Reads, ReadsAfter, by_bytes, of_type};
-ghost use Rattle.rtr_units.specs.Stream.{PutsForm, count_after, is_reader_fault, is_writer_fault};
+ghost use Rattle.rtr_units.specs.Stream.{PutsForm};
 ghost use Rattle.rtr_units.specs.Views.{header_bytes};
 ghost use Rattle.rtr_payload.specs.KeyUnits.{key_at, IsKey};
 ghost use Rattle.rtr_payload.specs.Payloads.{key};
@@ -100,10 +100,8 @@ impl RouterKey {
     /// isn't 9, with the header taken; those of `read_payload`, `Memory` among them.
     pub fn read<R: Source>(alloc: Global, reader: &mut R) -> Result<Self, Fault>
         ensures bytes { Reads (of_type 9 (variable_unit 9)) [] (by_bytes (λ u. u) result)
-            (R.remaining reader.old) (R.remaining reader.new) }
+            (R.state reader.old) (R.state reader.new) }
         ensures fields { IfOk result (λ u. HasFields u (key_unit (key_at u))) }
-        ensures count { R.failures reader.new ≡
-            count_after (R.failures reader.old) (not (is_reader_fault result)) }
     {
         let header = match Header::read(reader) {
             Ok(header) => header,
@@ -129,11 +127,9 @@ impl RouterKey {
         reader: &mut R,
     ) -> Result<Self, Fault>
         ensures bytes { ReadsAfter (variable_unit 9) (header_bytes header)
-            (by_bytes (λ u. u) result) (R.remaining reader.old) (R.remaining reader.new) }
+            (by_bytes (λ u. u) result) (R.state reader.old) (R.state reader.new) }
         ensures fields { IfOk result
             (λ u. type_field (header_bytes header) ≡ 9 → HasFields u (key_unit (key_at u))) }
-        ensures count { R.failures reader.new ≡
-            count_after (R.failures reader.old) (not (is_reader_fault result)) }
     {
         let head = header.as_ref();
         let size = header.length();
@@ -244,9 +240,7 @@ impl RouterKey {
     /// Writes the unit.
     #[inline(always)]
     pub fn write<W: Sink>(&self, writer: &mut W) -> Result<(), Fault>
-        ensures bytes { PutsForm result (W.contents writer.old) (W.contents writer.new) self.now }
-        ensures count { W.failures writer.new ≡
-            count_after (W.failures writer.old) (not (is_writer_fault result)) }
+        ensures { PutsForm result (W.state writer.old) (W.state writer.new) self.now }
     {
         match put(writer, &self.fixed) {
             Ok(()) => put(writer, self.key_info.as_slice()),

@@ -1,12 +1,17 @@
 -- Where reading an error report stops, by its header and by what follows it.
-use Rattle.std.proofs.Common.{◌≡◌, ℕ, ◌+◌, eqb, cond, List, ◌++◌, length, Option, Some, None, refl}
+use Rattle.std.proofs.Common.{ap, Result, Ok, Err, sym, subst, ◌∙◌, ◌≡◌, ℕ, ◌+◌, eqb, cond, List, ◌++◌, length, Option, Some, None, refl}
 use Rattle.rtr_units.specs.Causes.{unit_type, Cause, by_reader, by_writer, too_many, no_memory, wrong}
 use Rattle.rtr_units.specs.Header.{length_field}
-use Rattle.rtr_units.specs.Stream.{FallsShort}
+use Rattle.rtr_units.specs.Stream.{FallsShort, ReaderState, reader_count}
+use Rattle.rtr_units.specs.Reading.{FillsPiece}
+use Rattle.rtr_units.specs.Causes.{by_cause}
+use Rattle.rtr_units.specs.declared.fault.Fault.{Fault}
+use Rattle.std.specs.Io.KnownBytes.{Consumes}
+use Rattle.std.proofs.KnownBytes.{Consumes-trans}
 use Rattle.rtr_units.proofs.Headers.{same_header}
 use Rattle.rtr_units.proofs.UnitsRead.{ByHeader, rest_stops, header_stops}
 use Rattle.rtr_session.specs.Headers.{report_unit, report_length}
-use Rattle.rtr_session.specs.Reports.{StopsInReport}
+use Rattle.rtr_session.specs.Reports.{StopsInReport, ReadsReport, ReadsReportAfter}
 
 pub report_by : ByHeader report_unit
 report_by = record {
@@ -30,3 +35,10 @@ report_header by_writer t left s = s
 report_header too_many t left s = s
 report_header no_memory t left s = absurd s
 report_header (wrong f) t left s = header_stops report_unit (wrong f) t left s
+
+-- a header and what follows it were read, or were not
+pub report_both : (h : List ℕ) (r : Result (List ℕ) Fault) (a b c : ReaderState) → FillsPiece 8 (Ok h) a b → ReadsReportAfter h r b c → ReadsReport r a c
+report_both h (Ok u) a b c ((took, is), same) (((t, taken, parts), whole), counts) =
+    ((subst (Consumes a.left c.left) (sym parts) (Consumes-trans a.left b.left c.left h t took taken), whole), counts ∙ same)
+report_both h (Err e) a b c ((took, is), same) ((t, taken, stops), counts) =
+    ((h ++ t, Consumes-trans a.left b.left c.left h t took taken, stops), counts ∙ ap (reader_count (by_cause {T = List ℕ} (Err e))) same)

@@ -4,7 +4,7 @@ use Rattle.std.proofs.lemmas.Bool.Decides.{nat_tests}
 use Rattle.std.proofs.lemmas.List.{take_at}
 use Rattle.rtr_base.specs.Bytes.{IsBytes}
 use Rattle.rtr_base.proofs.Numbers.{IsBytes-append}
-use Rattle.rtr_units.specs.Causes.{unit_length}
+use Rattle.rtr_units.specs.Causes.{too_long, unit_length}
 use Rattle.rtr_units.specs.Header.{type_field, length_field}
 use Rattle.rtr_units.specs.Views.{AreBytes}
 use Rattle.rtr_units.proofs.Headers.{same_header}
@@ -16,6 +16,9 @@ report_in_order h kind least most = grind (arith, nat_tests)
 
 pub report_too_short : (h : List ℕ) → type_field h ≡ 10 → length_field h < 16 → report_unit.fault h ≡ Some unit_length
 report_too_short h kind less = grind (arith, nat_tests)
+
+pub report_too_long : (h : List ℕ) → type_field h ≡ 10 → 65535 < length_field h → report_unit.fault h ≡ Some too_long
+report_too_long h kind more = grind (arith, nat_tests)
 
 pub report_read : (h t : List ℕ) → AreBytes 8 h → IsBytes t → type_field h ≡ 10 → 16 ≤ length_field h → length_field h ≤ 65535 → length t + 8 ≡ length_field h → IsReport (h ++ t)
 report_read h t (l, hb) tb kind least most size =

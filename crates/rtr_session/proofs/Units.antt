@@ -12,6 +12,7 @@ use Rattle.rtr_units.specs.Queries.{bare_list, serial_list, serial_field}
 use Rattle.rtr_units.specs.PrefixUnits.{prefix_type, prefix_size, prefix_at}
 use Rattle.rtr_units.specs.Header.{header, version_field, type_field, session_field, length_field}
 use Rattle.rtr_units.specs.Reading.{Kind, of_size, Takes, ReadsAfter}
+use Rattle.rtr_units.specs.Stream.{ReaderState}
 use Rattle.rtr_units.proofs.UnitsRead.{sized_from}
 use Rattle.rtr_units.specs.Views.{AreBytes}
 use Rattle.rtr_units.proofs.Headers.{header_read, header_bytes, same_header, session_fits}
@@ -30,15 +31,15 @@ pub record Sized (n k : ℕ) (u : List ℕ) : Type 0 where
   pub kind : type_field u ≡ k
   pub size : length_field u ≡ n
 
-rest_sized : (n k : ℕ) (h u : List ℕ) (old left : Option (List ℕ)) → type_field h ≡ k → ReadsAfter (of_size n) h (Ok u) old left → Sized n k u
-rest_sized n k h u old left kind (is, ((t, took, parts), whole)) =
+rest_sized : (n k : ℕ) (h u : List ℕ) (old new : ReaderState) → type_field h ≡ k → ReadsAfter (of_size n) h (Ok u) old new → Sized n k u
+rest_sized n k h u old new kind (is, (((t, took, parts), whole), counts)) =
     let same = same_header h t (omega (arith, is.0)) in
     let size : length_field u ≡ n = sized_from n u whole.in_order in
     record { bytes = (whole.size ∙ size, whole.are_bytes); kind = ap type_field parts ∙ same.kind ∙ kind; size = size }
 
 -- what was taken is the rest of the unit
-taken_rest : (kind : Kind) (h u : List ℕ) (old left : Option (List ℕ)) → ReadsAfter kind h (Ok u) old left → Takes old left (λ t. u ≡ h ++ t)
-taken_rest kind h u old left (is, (takes, whole)) = takes
+taken_rest : (kind : Kind) (h u : List ℕ) (old new : ReaderState) → ReadsAfter kind h (Ok u) old new → Takes old.left new.left (λ t. u ≡ h ++ t)
+taken_rest kind h u old new (is, ((takes, whole), counts)) = takes
 
 serial_is : (k : ℕ) (u : List ℕ) → Sized 12 k u → u ≡ serial_list (version_field u) k (session_field u) (serial_field u)
 serial_is k u s =
@@ -52,13 +53,13 @@ bare_is k u s =
     let h = s.bytes.1 in
     header_read u [] h (omega arith) (cut_end u 8 l) ∙ (λ i. header (version_field u) (s.kind i) (session_field u) (s.size i))
 
-module _ (h u : List ℕ) (old left : Option (List ℕ)) where
+module _ (h u : List ℕ) (old new : ReaderState) where
   module _ (k : ℕ) (kind : type_field h ≡ k) where
-    pub serial_reads : (f : ℕ → ℕ → ℕ → AnyFields) → ReadsAfter (of_size 12) h (Ok u) old left → (Sized 12 k u → HasAnyFields u (serial_of f u)) → Takes old left (λ t. u ≡ h ++ t) × HasAnyFields u (serial_of f u)
-    serial_reads f r has = (taken_rest (of_size 12) h u old left r, has (rest_sized 12 k h u old left kind r))
+    pub serial_reads : (f : ℕ → ℕ → ℕ → AnyFields) → ReadsAfter (of_size 12) h (Ok u) old new → (Sized 12 k u → HasAnyFields u (serial_of f u)) → (Takes old.left new.left (λ t. u ≡ h ++ t) × HasAnyFields u (serial_of f u)) × (new.failed ≡ old.failed)
+    serial_reads f r has = ((taken_rest (of_size 12) h u old new r, has (rest_sized 12 k h u old new kind r)), r.1.1)
 
-    pub bare_reads : (f : ℕ → ℕ → AnyFields) → ReadsAfter (of_size 8) h (Ok u) old left → (Sized 8 k u → HasAnyFields u (bare_of f u)) → Takes old left (λ t. u ≡ h ++ t) × HasAnyFields u (bare_of f u)
-    bare_reads f r has = (taken_rest (of_size 8) h u old left r, has (rest_sized 8 k h u old left kind r))
+    pub bare_reads : (f : ℕ → ℕ → AnyFields) → ReadsAfter (of_size 8) h (Ok u) old new → (Sized 8 k u → HasAnyFields u (bare_of f u)) → (Takes old.left new.left (λ t. u ≡ h ++ t) × HasAnyFields u (bare_of f u)) × (new.failed ≡ old.failed)
+    bare_reads f r has = ((taken_rest (of_size 8) h u old new r, has (rest_sized 8 k h u old new kind r)), r.1.1)
 
 module _ (u : List ℕ) where
   pub notify_has : Sized 12 0 u → HasAnyFields u (serial_of serial_notify u)
@@ -81,15 +82,15 @@ module _ (u : List ℕ) where
 pub payload_has : (u : List ℕ) (f : Fields) → HasFields u f → HasAnyFields u (payload f)
 payload_has u f has = record { fits = (has.fits, has.limits); bytes = has.bytes; are_bytes = has.are_bytes }
 
-pub prefix_reads : (f : Family) (h u : List ℕ) (old left : Option (List ℕ)) → type_field h ≡ prefix_type f → ReadsAfter (of_size (prefix_size f)) h (Ok u) old left
-    → Takes old left (λ t. u ≡ h ++ t) × HasAnyFields u (payload (prefix_unit (prefix_at f u)))
-prefix_reads f h u old left kind r =
-    let s = rest_sized (prefix_size f) (prefix_type f) h u old left kind r in
-    (taken_rest (of_size (prefix_size f)) h u old left r, payload_has u (prefix_unit (prefix_at f u)) (prefix_has f u s.bytes.1 s.bytes.0 s.kind s.size))
+pub prefix_reads : (f : Family) (h u : List ℕ) (old new : ReaderState) → type_field h ≡ prefix_type f → ReadsAfter (of_size (prefix_size f)) h (Ok u) old new
+    → (Takes old.left new.left (λ t. u ≡ h ++ t) × HasAnyFields u (payload (prefix_unit (prefix_at f u)))) × (new.failed ≡ old.failed)
+prefix_reads f h u old new kind r =
+    let s = rest_sized (prefix_size f) (prefix_type f) h u old new kind r in
+    ((taken_rest (of_size (prefix_size f)) h u old new r, payload_has u (prefix_unit (prefix_at f u)) (prefix_has f u s.bytes.1 s.bytes.0 s.kind s.size)), r.1.1)
 
-pub variable_reads : (k : ℕ) (h u : List ℕ) (old left : Option (List ℕ)) (f : Fields) → ReadsAfter (variable_unit k) h (Ok u) old left → HasFields u f
-    → Takes old left (λ t. u ≡ h ++ t) × HasAnyFields u (payload f)
-variable_reads k h u old left f r has = (taken_rest (variable_unit k) h u old left r, payload_has u f has)
+pub variable_reads : (k : ℕ) (h u : List ℕ) (old new : ReaderState) (f : Fields) → ReadsAfter (variable_unit k) h (Ok u) old new → HasFields u f
+    → (Takes old.left new.left (λ t. u ≡ h ++ t) × HasAnyFields u (payload f)) × (new.failed ≡ old.failed)
+variable_reads k h u old new f r has = ((taken_rest (variable_unit k) h u old new r, payload_has u f has), r.1.1)
 
 -- ---- ends of data
 
@@ -108,9 +109,9 @@ end_has b e is =
     let bytes : IsBytes b = subst IsBytes (sym is.bytes) (timed_bytes e.version e.session e.serial e.timing (version_small e.version e.timing is.fits.timing)) in
     record { fits = is.fits; bytes = is.bytes; are_bytes = bytes }
 
-pub end_reads : (h : List ℕ) (e : EndOfData) (old left : Option (List ℕ)) → ReadsAfter end_unit h (Ok (end_bytes e)) old left → End (end_bytes e) (end_meaning e)
-    → Takes old left (λ t. end_bytes e ≡ h ++ t) × HasAnyFields (end_bytes e) (end_of_data (end_meaning e))
-end_reads h e old left r end = (taken_rest end_unit h (end_bytes e) old left r, end_has (end_bytes e) (end_meaning e) end)
+pub end_reads : (h : List ℕ) (e : EndOfData) (old new : ReaderState) → ReadsAfter end_unit h (Ok (end_bytes e)) old new → End (end_bytes e) (end_meaning e)
+    → (Takes old.left new.left (λ t. end_bytes e ≡ h ++ t) × HasAnyFields (end_bytes e) (end_of_data (end_meaning e))) × (new.failed ≡ old.failed)
+end_reads h e old new r end = ((taken_rest end_unit h (end_bytes e) old new r, end_has (end_bytes e) (end_meaning e) end), r.1.1)
 
 -- ---- error reports
 

@@ -5,9 +5,10 @@ use Rattle.std.specs.Prelude.{Result, Ok, Err}
 use Rattle.std.specs.Io.KnownBytes.{Consumes, IsAtEnd}
 use Rattle.rtr_units.specs.declared.fault.Fault.{Fault}
 use Rattle.rtr_units.specs.declared.header.Header.{Header}
-use Rattle.rtr_units.specs.Causes.{short, Cause, no_memory, wrong, cause_of}
+use Rattle.rtr_units.specs.Causes.{short, Cause, no_memory, wrong, cause_of, by_cause}
 use Rattle.rtr_units.specs.Header.{type_field}
 use Rattle.rtr_units.specs.Reading.{Stops, Takes}
+use Rattle.rtr_units.specs.Stream.{ReaderState, reader_count}
 use Rattle.rtr_units.specs.Views.{header_bytes}
 use Rattle.rtr_session.specs.Fields.{HasAnyFields}
 use Rattle.rtr_session.specs.Headers.{session_unit}
@@ -28,22 +29,35 @@ abbrev pub HasEnded : Option (List ℕ) → Option (List ℕ) → Type 0
 HasEnded old left = Consumes old left [] × IsAtEnd left
 
 -- a header was read, or there was none, or reading stopped inside it
-abbrev pub ReadsHeader : Result (Option Header) Fault → Option (List ℕ) → Option (List ℕ) → Type 0
-ReadsHeader (Ok None) old left = HasEnded old left
-ReadsHeader (Ok (Some h)) old left = Consumes old left (header_bytes h)
-ReadsHeader (Err e) old left = Takes old left (λ t. StopsInAny (cause_of e) t left)
+abbrev pub ReadsHeaderBytes :
+    Result (Option Header) Fault → Option (List ℕ) → Option (List ℕ) → Type 0
+ReadsHeaderBytes (Ok None) old left = HasEnded old left
+ReadsHeaderBytes (Ok (Some h)) old left = Consumes old left (header_bytes h)
+ReadsHeaderBytes (Err e) old left = Takes old left (λ t. StopsInAny (cause_of e) t left)
+
+abbrev pub ReadsHeader : Result (Option Header) Fault → ReaderState → ReaderState → Type 0
+ReadsHeader r old new =
+    ReadsHeaderBytes r old.left new.left × (new.failed ≡ reader_count (by_cause r) old.failed)
 
 -- a unit was read, or there was none, or reading stopped
-abbrev pub ReadsAny : Result (Option AnyUnit) Fault → Option (List ℕ) → Option (List ℕ) → Type 0
-ReadsAny (Ok None) old left = HasEnded old left
-ReadsAny (Ok (Some u)) old left = Consumes old left (any_bytes u) ×
+abbrev pub ReadsAnyBytes : Result (Option AnyUnit) Fault → Option (List ℕ) → Option (List ℕ) → Type 0
+ReadsAnyBytes (Ok None) old left = HasEnded old left
+ReadsAnyBytes (Ok (Some u)) old left = Consumes old left (any_bytes u) ×
     HasAnyFields (any_bytes u) (any_fields u)
-ReadsAny (Err e) old left = Takes old left (λ t. StopsInAny (cause_of e) t left)
+ReadsAnyBytes (Err e) old left = Takes old left (λ t. StopsInAny (cause_of e) t left)
+
+abbrev pub ReadsAny : Result (Option AnyUnit) Fault → ReaderState → ReaderState → Type 0
+ReadsAny r old new =
+    ReadsAnyBytes r old.left new.left × (new.failed ≡ reader_count (by_cause r) old.failed)
 
 -- what follows the header h was read, and the unit made of both, or reading stopped
-abbrev pub ReadsAnyAfter : List ℕ → Result AnyUnit Fault → Option (List ℕ) → Option (List ℕ) →
-    Type 0
-ReadsAnyAfter h (Ok u) old left = Takes old left (λ t. any_bytes u ≡ h ++ t) ×
+abbrev pub ReadsAnyAfterBytes :
+    List ℕ → Result AnyUnit Fault → Option (List ℕ) → Option (List ℕ) → Type 0
+ReadsAnyAfterBytes h (Ok u) old left = Takes old left (λ t. any_bytes u ≡ h ++ t) ×
     HasAnyFields (any_bytes u) (any_fields u)
-ReadsAnyAfter h (Err e) old left =
+ReadsAnyAfterBytes h (Err e) old left =
     Takes old left (λ t. StopsInAny (cause_of e) (h ++ t) left)
+
+abbrev pub ReadsAnyAfter : List ℕ → Result AnyUnit Fault → ReaderState → ReaderState → Type 0
+ReadsAnyAfter h r old new =
+    ReadsAnyAfterBytes h r old.left new.left × (new.failed ≡ reader_count (by_cause r) old.failed)

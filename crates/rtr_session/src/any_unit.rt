@@ -2,7 +2,7 @@
 
 ghost use Rattle.std.specs.Prelude.{◌≡◌, length, not};
 ghost use Rattle.rtr_units.specs.Header.{version_field};
-ghost use Rattle.rtr_units.specs.Stream.{PutsForm, count_after, is_reader_fault, is_writer_fault};
+ghost use Rattle.rtr_units.specs.Stream.{PutsForm};
 ghost use Rattle.rtr_units.specs.Views.{header_bytes};
 ghost use Rattle.rtr_session.specs.Fields.{any_session};
 ghost use Rattle.rtr_session.specs.Reads.{ReadsHeader};
@@ -51,9 +51,7 @@ impl AnyUnit {
     /// `Short` has taken a byte at least. `UnitType`, `UnitVersion`, `TooLong`, `UnitLength` and
     /// `EmptyProviders` take the header alone.
     pub fn read<R: Source>(alloc: Global, reader: &mut R) -> Result<Option<Self>, Fault>
-        ensures bytes { ReadsAny result (R.remaining reader.old) (R.remaining reader.new) }
-        ensures count { R.failures reader.new ≡
-            count_after (R.failures reader.old) (not (is_reader_fault result)) }
+        ensures { ReadsAny result (R.state reader.old) (R.state reader.new) }
     {
         let header = match next_header(reader) {
             Ok(Some(header)) => header,
@@ -79,10 +77,8 @@ impl AnyUnit {
         header: Header,
         reader: &mut R,
     ) -> Result<Self, Fault>
-        ensures bytes { ReadsAnyAfter (header_bytes header) result (R.remaining reader.old)
-            (R.remaining reader.new) }
-        ensures count { R.failures reader.new ≡
-            count_after (R.failures reader.old) (not (is_reader_fault result)) }
+        ensures { ReadsAnyAfter (header_bytes header) result (R.state reader.old)
+            (R.state reader.new) }
     {
         match header.pdu() {
             SerialNotify::PDU => {
@@ -118,10 +114,8 @@ impl AnyUnit {
 
     /// Writes all bytes of the unit.
     pub fn write<W: Sink>(&self, writer: &mut W) -> Result<(), Fault>
-        ensures bytes { PutsForm result (W.contents writer.old) (W.contents writer.new)
+        ensures { PutsForm result (W.state writer.old) (W.state writer.new)
             (any_bytes self.now) }
-        ensures count { W.failures writer.new ≡
-            count_after (W.failures writer.old) (not (is_writer_fault result)) }
     {
         match self {
             AnyUnit::SerialNotify(unit) => unit.write(writer),
@@ -192,9 +186,7 @@ impl AnyUnit {
 
 /// The next header, or none where not a byte was left.
 fn next_header<R: Source>(reader: &mut R) -> Result<Option<Header>, Fault>
-    ensures bytes { ReadsHeader result (R.remaining reader.old) (R.remaining reader.new) }
-    ensures count { R.failures reader.new ≡
-        count_after (R.failures reader.old) (not (is_reader_fault result)) }
+    ensures { ReadsHeader result (R.state reader.old) (R.state reader.new) }
 {
     let mut header = Header::default();
     let bytes = header.as_mut();

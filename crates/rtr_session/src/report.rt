@@ -9,7 +9,7 @@ ghost use Rattle.std.specs.Cmp.Rules.{hashing};
 ghost use Rattle.std.specs.Hash as fed;
 ghost use Rattle.rtr_base.specs.Bytes.{value};
 ghost use Rattle.rtr_units.specs.Header.{version_field, session_field};
-ghost use Rattle.rtr_units.specs.Stream.{PutsForm, count_after, is_reader_fault, is_writer_fault};
+ghost use Rattle.rtr_units.specs.Stream.{PutsForm};
 ghost use Rattle.rtr_units.specs.Views.{header_bytes};
 ghost use Rattle.rtr_session.specs.Reports.{IsReport, HasParts, ReadsReport, ReadsReportAfter};
 ghost use Rattle.rtr_session.specs.Reports.{IsCounted, IsCutShort};
@@ -57,9 +57,7 @@ impl Report {
     /// Faults, in this order: `Short` or `Reader` inside the header; those of `read_payload`, of
     /// which `UnitType` and the two after it take the header alone.
     pub fn read<R: Source>(alloc: Global, reader: &mut R) -> Result<Self, Fault>
-        ensures bytes { ReadsReport result (R.remaining reader.old) (R.remaining reader.new) }
-        ensures count { R.failures reader.new ≡
-            count_after (R.failures reader.old) (not (is_reader_fault result)) }
+        ensures { ReadsReport result (R.state reader.old) (R.state reader.new) }
     {
         match Header::read(reader) {
             Ok(header) => Report::read_payload(alloc, header, reader),
@@ -77,10 +75,8 @@ impl Report {
         header: Header,
         reader: &mut R,
     ) -> Result<Self, Fault>
-        ensures bytes { ReadsReportAfter (header_bytes header) result (R.remaining reader.old)
-            (R.remaining reader.new) }
-        ensures count { R.failures reader.new ≡
-            count_after (R.failures reader.old) (not (is_reader_fault result)) }
+        ensures { ReadsReportAfter (header_bytes header) result (R.state reader.old)
+            (R.state reader.new) }
     {
         if header.pdu() != Report::PDU {
             return Err(Fault::UnitType(header.pdu()));
@@ -156,9 +152,7 @@ impl Report {
 
     /// Writes the bytes.
     pub fn write<W: Sink>(&self, writer: &mut W) -> Result<(), Fault>
-        ensures bytes { PutsForm result (W.contents writer.old) (W.contents writer.new) self.now }
-        ensures count { W.failures writer.new ≡
-            count_after (W.failures writer.old) (not (is_writer_fault result)) }
+        ensures { PutsForm result (W.state writer.old) (W.state writer.new) self.now }
     {
         put(writer, self.as_ref())
     }

@@ -1,5 +1,5 @@
 -- Kinds of units, and how calls that read parts of a unit make up a call that reads it.
-use Rattle.std.proofs.Common.{◌≡◌, ℕ, ◌+◌, ◌<◌, ◌≤◌, ltb, eqb, cond, List, [], ◌++◌, length, Option, Some, None, Result, Ok, Err, refl, sym, ap, subst, ◌∙◌, arith, append-nil}
+use Rattle.std.proofs.Common.{◌≡◌, ◌≢◌, ℕ, ◌+◌, ◌<◌, ◌≤◌, ltb, eqb, cond, List, [], ◌++◌, length, Option, Some, None, Result, Ok, Err, refl, sym, ap, subst, ◌∙◌, arith, append-nil}
 use Rattle.std.proofs.lemmas.Bool.{cond-false, cond-true, eq-eqb, ne_eqb, lt-ltb, le-ltb}
 use Rattle.std.proofs.lemmas.Bool.Decides.{nat_tests}
 use Rattle.std.proofs.lemmas.List.{length-append}
@@ -9,12 +9,11 @@ use Rattle.rtr_base.specs.Bytes.{IsBytes}
 use Rattle.rtr_units.specs.Causes.{Refusal, short, unit_type, unit_version, too_long, unit_length, empty_providers, refused}
 use Rattle.rtr_units.specs.Causes.{Cause, by_reader, by_writer, too_many, no_memory, wrong, cause_of}
 use Rattle.rtr_units.specs.declared.fault.Fault.{Fault}
-use Rattle.std.specs.Prelude.{MatchResult, IsTrue}
+use Rattle.std.specs.Prelude.{IsTrue}
 use Rattle.rtr_units.specs.Ends.{end_length, end_unit}
 use Rattle.rtr_units.specs.Header.{version_field, type_field, length_field}
-use Rattle.rtr_units.specs.Reading.{Kind, of_size, of_type, any_unit, IsWhole, IsPart, Stops, Takes, Reads, ReadsAfter, by_bytes}
-use Rattle.rtr_units.specs.Stream.{FallsShort}
-use Rattle.rtr_units.specs.Views.{AreBytes}
+use Rattle.rtr_units.specs.Reading.{Kind, of_size, of_type, any_unit, IsWhole, IsPart, Stops, FillsPiece, Reads, ReadsAfter, ReadsBytes, by_bytes}
+use Rattle.rtr_units.specs.Stream.{FallsShort, ReaderState, reader_count, writer_count}
 use Rattle.rtr_units.proofs.Headers.{same_header}
 
 -- ---- kinds
@@ -130,7 +129,7 @@ at_header kind f h l e = (ap length (append-nil h) ∙ l, ap kind.fault (append-
 -- ---- a header and then its rest
 
 -- the header h was taken, and the rest was read or was not
-pub read_on : (kind : Kind) (h : List ℕ) (r : Result (List ℕ) Cause) (a b c : Option (List ℕ)) → Consumes a b h → Reads kind h r b c → Reads kind [] r a c
+pub read_on : (kind : Kind) (h : List ℕ) (r : Result (List ℕ) Cause) (a b c : Option (List ℕ)) → Consumes a b h → ReadsBytes kind h r b c → ReadsBytes kind [] r a c
 read_on kind h (Ok u) a b c took ((t, taken, is), whole) = ((u, subst (Consumes a c) (sym is) (Consumes-trans a b c h t took taken), refl), whole)
 read_on kind h (Err cause) a b c took (t, taken, stops) = (h ++ t, Consumes-trans a b c h t took taken, stops)
 
@@ -164,7 +163,7 @@ pub record AlikeAfter (kind other : Kind) (h : List ℕ) : Type 0 where
   pub fault : (t : List ℕ) → kind.fault (h ++ t) ≡ other.fault (h ++ t)
   pub asks : (t : List ℕ) → IsTrue (kind.asks (h ++ t)) → IsTrue (other.asks (h ++ t))
 
-pub read_alike : (kind other : Kind) (h : List ℕ) (r : Result (List ℕ) Cause) (a b : Option (List ℕ)) → AlikeAfter kind other h → Reads kind h r a b → Reads other h r a b
+pub read_alike : (kind other : Kind) (h : List ℕ) (r : Result (List ℕ) Cause) (a b : Option (List ℕ)) → AlikeAfter kind other h → ReadsBytes kind h r a b → ReadsBytes other h r a b
 read_alike kind other h (Ok u) a b alike ((t, took, is), whole) =
     ((t, took, is), subst (IsWhole other) (sym is) (alike_whole kind other (h ++ t) (alike.fault t) (alike.asks t) (subst (IsWhole kind) is whole)))
 read_alike kind other h (Err cause) a b alike (t, took, stops) = (t, took, alike_stops kind other (h ++ t) (alike.fault t) (alike.asks t) cause b stops)
@@ -175,13 +174,32 @@ alike_typed p kind h l is_type = record {
   asks = λ t asks. asks;
 }
 
+-- an answer that doesn't blame the reader, or the writer, counts no failure of it
+pub reader_spared : {T : Type 0} (r : Result T Cause) (n : ℕ) → r ≢ Err by_reader → reader_count r n ≡ n
+reader_spared (Ok x) n other = refl
+reader_spared (Err by_reader) n other = absurd (other refl)
+reader_spared (Err c) n other = refl
+
+pub writer_spared : {T : Type 0} (r : Result T Cause) (n : ℕ) → r ≢ Err by_writer → writer_count r n ≡ n
+writer_spared (Ok x) n other = refl
+writer_spared (Err by_writer) n other = absurd (other refl)
+writer_spared (Err c) n other = refl
+
+-- the same by the state of the reader
+pub reads_on : (kind : Kind) (h : List ℕ) (r : Result (List ℕ) Cause) (a b c : ReaderState) → FillsPiece 8 (Ok h) a b → Reads kind h r b c → Reads kind [] r a c
+reads_on kind h r a b c ((took, is), same) (reads, counts) = (read_on kind h r _ _ _ took reads, counts ∙ ap (reader_count r) same)
+
+pub reads_alike : (kind other : Kind) (h : List ℕ) (r : Result (List ℕ) Cause) (a b : ReaderState) → AlikeAfter kind other h → Reads kind h r a b → Reads other h r a b
+reads_alike kind other h r a b alike (reads, counts) = (read_alike kind other h r _ _ alike reads, counts)
+
 -- a header of type p was taken, and then the rest was read or was not
-pub read_both : (p : ℕ) (kind : Kind) (h : List ℕ) (r : Result (List ℕ) Cause) (a b c : Option (List ℕ)) → AreBytes 8 h → type_field h ≡ p → Consumes a b h → ReadsAfter kind h r b c → Reads (of_type p kind) [] r a c
-read_both p kind h r a b c is is_type took (eight, reads) = read_on (of_type p kind) h r a b c took (read_alike kind (of_type p kind) h r b c (alike_typed p kind h (omega (arith, is.0)) is_type) reads)
+pub read_both : (p : ℕ) (kind : Kind) (h : List ℕ) (r : Result (List ℕ) Cause) (a b c : ReaderState) → type_field h ≡ p → FillsPiece 8 (Ok h) a b → ReadsAfter kind h r b c → Reads (of_type p kind) [] r a c
+read_both p kind h r a b c is_type ((took, is), same) (eight, reads) =
+    reads_on (of_type p kind) h r a b c ((took, is), same) (reads_alike kind (of_type p kind) h r b c (alike_typed p kind h (omega (arith, is.0)) is_type) reads)
 
 -- a header h in order was there, and of what follows it this piece was filled or was not
 module _ (kind : Kind) (by : ByHeader kind) (n : ℕ) (h : List ℕ) (eight : length h ≡ 8) (order : kind.fault h ≡ None) (size : length_field h ≡ 8 + n) where
-  pub rest_read : {T : Type 0} (r : Result T Fault) (u piece : List ℕ) (a b : Option (List ℕ)) → IsBytes (h ++ piece) → length piece ≡ n → u ≡ h ++ piece
-      → MatchResult r (λ x. Consumes a b piece) (λ e. Takes a b (λ t. FallsShort (length piece) (cause_of e) t b)) → Reads kind h (by_bytes (λ x. u) r) a b
-  rest_read (Ok x) u piece a b range all is took = ((piece, took, is), subst (IsWhole kind) (sym is) (rest_whole kind by n h eight order size piece range all))
-  rest_read (Err e) u piece a b range all is (t, took, less) = (t, took, rest_stops kind by n h eight order size (cause_of e) t b (subst (λ m. FallsShort m (cause_of e) t b) all less))
+  pub rest_read : {T : Type 0} (r : Result T Fault) (u piece : List ℕ) (a b : ReaderState) → IsBytes (h ++ piece) → length piece ≡ n → u ≡ h ++ piece
+      → FillsPiece (length piece) (by_bytes (λ x. piece) r) a b → Reads kind h (by_bytes (λ x. u) r) a b
+  rest_read (Ok x) u piece a b range all is ((took, _), counts) = (((piece, took, is), subst (IsWhole kind) (sym is) (rest_whole kind by n h eight order size piece range all)), counts)
+  rest_read (Err e) u piece a b range all is ((t, took, less), counts) = ((t, took, rest_stops kind by n h eight order size (cause_of e) t b.left (subst (λ m. FallsShort m (cause_of e) t b.left) all less)), counts)

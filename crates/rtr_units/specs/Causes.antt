@@ -1,5 +1,5 @@
 -- Why a call on units stopped, apart from how the code keeps it. The causes are this library's own.
-use Rattle.std.specs.Prelude.{ℕ, List}
+use Rattle.std.specs.Prelude.{ℕ, List, Result, Ok, Err}
 use Rattle.rtr_units.specs.declared.fault.Fault.{Fault}
 use Rattle.rtr_units.specs.declared.fault.Fault.TheVariants.{Reader, Writer, Short, UnitType}
 use Rattle.rtr_units.specs.declared.fault.Fault.TheVariants.{UnitLength, TooLong, EmptyProviders}
@@ -39,3 +39,8 @@ cause_of (UnitVersion v) = wrong (unit_version v)
 cause_of (Refused report) = wrong (refused report)
 cause_of TooMany = too_many
 cause_of Memory = no_memory
+
+-- the answer of a call, with each fault by its cause
+abbrev pub by_cause : {T : Type 0} → Result T Fault → Result T Cause
+by_cause (Ok x) = Ok x
+by_cause (Err f) = Err (cause_of f)

@@ -2,14 +2,14 @@
 -- and what follows it up to its length field (RFC 8210 section 5.1, RFC 6810 section 5.1). The order
 -- of the faults, and where memory is asked for, are this library's own.
 use Rattle.std.specs.Prelude.{◌≡◌, ◌⊎◌, ℕ, ◌<◌, ◌≤◌, Bool, false, List, ◌++◌, length, IsTrue, nat_lt}
-use Rattle.std.specs.Prelude.{Option, Some, None, Result, Ok, Err, ◌==◌, if◌then◌else◌}
+use Rattle.std.specs.Prelude.{MatchResult, Option, Some, None, Result, Ok, Err, ◌==◌, if◌then◌else◌}
 use Rattle.std.specs.Io.KnownBytes.{Consumes, IsAtEnd}
 use Rattle.rtr_base.specs.Bytes.{IsBytes}
 use Rattle.rtr_units.specs.Causes.{Refusal, short, unit_type, too_long, unit_length}
 use Rattle.rtr_units.specs.Causes.{Cause, by_reader, by_writer, too_many, no_memory, wrong}
 use Rattle.rtr_units.specs.Causes.{cause_of}
 use Rattle.rtr_units.specs.Header.{type_field, length_field}
-use Rattle.rtr_units.specs.Stream.{BeginsWithTaken}
+use Rattle.rtr_units.specs.Stream.{BeginsWithTaken, FallsShort, ReaderState, reader_count}
 use Rattle.rtr_units.specs.Views.{AreBytes}
 use Rattle.rtr_units.specs.declared.fault.Fault.{Fault}
 
@@ -82,17 +82,29 @@ abbrev pub by_bytes : {T : Type 0} → (T → List ℕ) → Result T Fault → R
 by_bytes bytes (Ok x) = Ok (bytes x)
 by_bytes bytes (Err f) = Err (cause_of f)
 
+-- what a call that reads n bytes leaves
+abbrev pub FillsPiece : ℕ → Result (List ℕ) Cause → ReaderState → ReaderState → Type 0
+FillsPiece n answer old new =
+    MatchResult answer (λ piece. Consumes old.left new.left piece × AreBytes n piece)
+    (λ c. Takes old.left new.left (λ t. FallsShort n c t new.left))
+    × (new.failed ≡ reader_count answer old.failed)
+
 -- A call read a unit, or stopped. The bytes `before` of the unit were taken before the call: none
 -- or its header.
-abbrev pub Reads : Kind → List ℕ → Result (List ℕ) Cause → Option (List ℕ) → Option (List ℕ) →
-    Type 0
-Reads kind before (Ok u) old left = Takes old left (λ t. u ≡ before ++ t) × IsWhole kind u
-Reads kind before (Err c) old left = Takes old left (λ t. Stops kind c (before ++ t) left)
+abbrev pub ReadsBytes : Kind → List ℕ → Result (List ℕ) Cause → Option (List ℕ) →
+    Option (List ℕ) → Type 0
+ReadsBytes kind before (Ok u) old left = Takes old left (λ t. u ≡ before ++ t) × IsWhole kind u
+ReadsBytes kind before (Err c) old left = Takes old left (λ t. Stops kind c (before ++ t) left)
+
+-- what such a call leaves, said by the state of the reader
+abbrev pub Reads : Kind → List ℕ → Result (List ℕ) Cause → ReaderState → ReaderState → Type 0
+Reads kind before answer old new =
+    ReadsBytes kind before answer old.left new.left ×
+    (new.failed ≡ reader_count answer old.failed)
 
 -- A call read the rest of a unit after its header h, or stopped.
-abbrev pub ReadsAfter : Kind → List ℕ → Result (List ℕ) Cause → Option (List ℕ) →
-    Option (List ℕ) → Type 0
-ReadsAfter kind h r old left = AreBytes 8 h × Reads kind h r old left
+abbrev pub ReadsAfter : Kind → List ℕ → Result (List ℕ) Cause → ReaderState → ReaderState → Type 0
+ReadsAfter kind h answer old new = AreBytes 8 h × Reads kind h answer old new
 
 -- What is left of the unit u into which the rest after a header h was to be read, where reading
 -- stopped: at the length field the unit as it was, and inside the unit the header and then the

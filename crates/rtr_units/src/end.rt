@@ -8,7 +8,7 @@ ghost use Rattle.rtr_units.specs.Ends.{end_bytes, end_meaning, end_unit, is_time
 ghost use Rattle.rtr_units.specs.Header.{version_field, type_field};
 ghost use Rattle.rtr_units.specs.Queries.{serial_list};
 ghost use Rattle.rtr_units.specs.Reading.{ReadsAfter, by_bytes};
-ghost use Rattle.rtr_units.specs.Stream.{PutsForm, count_after, is_reader_fault, is_writer_fault};
+ghost use Rattle.rtr_units.specs.Stream.{PutsForm};
 ghost use Rattle.rtr_units.specs.Views.{header_bytes};
 
 use crate::fault::Fault;
@@ -60,15 +60,13 @@ impl EndOfData {
     #[inline(always)]
     pub fn read_payload<R: Source>(header: Header, reader: &mut R) -> Result<Self, Fault>
         ensures bytes { ReadsAfter end_unit (header_bytes header) (by_bytes end_bytes result)
-            (R.remaining reader.old) (R.remaining reader.new) }
+            (R.state reader.old) (R.state reader.new) }
         ensures version { IfOk result (λ e.
             (end_meaning e).version ≡ version_field (header_bytes header)) }
         ensures end { IfOk result (λ e. type_field (header_bytes header) ≡ 7 →
             End (end_bytes e) (end_meaning e)) }
         ensures kind { IfOk result (λ e. is_timed e ≡
             not (version_field (header_bytes header) == 0)) }
-        ensures count { R.failures reader.new ≡
-            count_after (R.failures reader.old) (not (is_reader_fault result)) }
     {
         let version = header.version();
         if version > 2 {
@@ -143,10 +141,8 @@ impl EndOfData {
     /// Writes all bytes.
     #[inline(always)]
     pub fn write<W: Sink>(&self, writer: &mut W) -> Result<(), Fault>
-        ensures bytes { PutsForm result (W.contents writer.old) (W.contents writer.new)
+        ensures { PutsForm result (W.state writer.old) (W.state writer.new)
             (end_bytes self.now) }
-        ensures count { W.failures writer.new ≡
-            count_after (W.failures writer.old) (not (is_writer_fault result)) }
     {
         match self {
             EndOfData::V0(unit) => unit.write(writer),

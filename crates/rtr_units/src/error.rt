@@ -8,11 +8,9 @@ ghost use Rattle.std.specs.Cmp.{partial_equiv_from_equiv};
 ghost use Rattle.std.specs.Cmp.Lexicographic.{nat_list_eq_equiv, pointwise};
 ghost use Rattle.std.specs.Cmp.Rules.{hashing};
 ghost use Rattle.std.specs.Hash as fed;
-ghost use Rattle.rtr_units.specs.Causes.{cause_of};
-ghost use Rattle.rtr_units.specs.Reading.{Takes, ReadsAfter, any_unit, by_bytes};
+ghost use Rattle.rtr_units.specs.Reading.{FillsPiece, ReadsAfter, any_unit, by_bytes};
 ghost use Rattle.rtr_units.specs.Report.{report};
-ghost use Rattle.rtr_units.specs.Stream.{FallsShort, PutsForm, count_after, is_reader_fault};
-ghost use Rattle.rtr_units.specs.Stream.{is_writer_fault};
+ghost use Rattle.rtr_units.specs.Stream.{PutsForm};
 ghost use Rattle.rtr_units.specs.Views.{header_bytes, AreBytes};
 
 use crate::fault::Fault;
@@ -83,10 +81,8 @@ impl Error {
     /// with nothing read; then `Short` or `Reader` inside the unit. This order is this library's
     /// own.
     pub fn skip_payload<R: Source>(header: Header, reader: &mut R) -> Result<(), Fault>
-        ensures bytes { (u : List ℕ) × ReadsAfter any_unit (header_bytes header)
-            (by_bytes (λ _. u) result) (R.remaining reader.old) (R.remaining reader.new) }
-        ensures count { R.failures reader.new ≡
-            count_after (R.failures reader.old) (not (is_reader_fault result)) }
+        ensures { (u : List ℕ) × ReadsAfter any_unit (header_bytes header)
+            (by_bytes (λ _. u) result) (R.state reader.old) (R.state reader.new) }
     {
         let length = header.length();
         if length > GREATEST_LENGTH {
@@ -103,9 +99,7 @@ impl Error {
 
     /// Writes the bytes.
     pub fn write<W: Sink>(&self, writer: &mut W) -> Result<(), Fault>
-        ensures bytes { PutsForm result (W.contents writer.old) (W.contents writer.new) self.now }
-        ensures count { W.failures writer.new ≡
-            count_after (W.failures writer.old) (not (is_writer_fault result)) }
+        ensures { PutsForm result (W.state writer.old) (W.state writer.new) self.now }
     {
         put(writer, self.as_ref())
     }
@@ -136,12 +130,7 @@ impl Error {
 
 /// Reads past this many bytes.
 fn skip<R: Source>(reader: &mut R, size: usize) -> Result<(), Fault>
-    ensures bytes { MatchResult result
-        (λ _. Takes (R.remaining reader.old) (R.remaining reader.new) (AreBytes size))
-        (λ e. Takes (R.remaining reader.old) (R.remaining reader.new)
-        (λ t. FallsShort size (cause_of e) t (R.remaining reader.new))) }
-    ensures count { R.failures reader.new ≡
-        count_after (R.failures reader.old) (not (is_reader_fault result)) }
+    ensures { (t : List ℕ) × FillsPiece size (by_bytes (λ _. t) result) (R.state reader.old) (R.state reader.new) }
 {
     let mut buffer = [0; 1024];
     let mut left = size;

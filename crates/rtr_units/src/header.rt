@@ -5,12 +5,10 @@ ghost use Rattle.std.specs.Prelude.{IfOk, IsOk, IfErr, ◌↔◌, not};
 ghost use Rattle.std.specs.Borrow.{sem};
 ghost use Rattle.std.specs.Io.KnownBytes.{Consumes};
 ghost use Rattle.rtr_base.specs.Bytes.{IsBytes};
-ghost use Rattle.rtr_units.specs.Causes.{cause_of};
 ghost use Rattle.rtr_units.specs.Header.{header, version_field, type_field, session_field};
 ghost use Rattle.rtr_units.specs.Header.{length_field};
-ghost use Rattle.rtr_units.specs.Reading.{Takes};
-ghost use Rattle.rtr_units.specs.Stream.{FallsShort, PutsForm, count_after, is_reader_fault};
-ghost use Rattle.rtr_units.specs.Stream.{is_writer_fault};
+ghost use Rattle.rtr_units.specs.Reading.{FillsPiece, by_bytes};
+ghost use Rattle.rtr_units.specs.Stream.{PutsForm};
 ghost use Rattle.rtr_units.specs.Views.{header_bytes, AreBytes};
 
 use crate::cells::Cells;
@@ -54,13 +52,7 @@ impl Header {
     /// Reads a header: eight bytes, which are not checked.
     #[inline(always)]
     pub fn read<R: Source>(reader: &mut R) -> Result<Self, Fault>
-        ensures bytes { MatchResult result
-            (λ h. Consumes (R.remaining reader.old) (R.remaining reader.new) (header_bytes h) ×
-            AreBytes 8 (header_bytes h))
-            (λ e. Takes (R.remaining reader.old) (R.remaining reader.new)
-            (λ t. FallsShort 8 (cause_of e) t (R.remaining reader.new))) }
-        ensures count { R.failures reader.new ≡
-            count_after (R.failures reader.old) (not (is_reader_fault result)) }
+        ensures { FillsPiece 8 (by_bytes header_bytes result) (R.state reader.old) (R.state reader.new) }
     {
         let mut header = Header::default();
         match fill(reader, header.as_mut()) {
@@ -72,10 +64,8 @@ impl Header {
     /// Writes the eight bytes.
     #[inline(always)]
     pub fn write<W: Sink>(&self, writer: &mut W) -> Result<(), Fault>
-        ensures bytes { PutsForm result (W.contents writer.old) (W.contents writer.new)
+        ensures { PutsForm result (W.state writer.old) (W.state writer.new)
             (header_bytes self.now) }
-        ensures count { W.failures writer.new ≡
-            count_after (W.failures writer.old) (not (is_writer_fault result)) }
     {
         put(writer, self.as_ref())
     }

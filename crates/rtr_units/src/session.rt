@@ -6,12 +6,10 @@ ghost use Rattle.std.proofs.Common.{rules};
 ghost use Rattle.std.specs.Borrow.{sem};
 ghost use Rattle.std.specs.Io.KnownBytes.{Consumes};
 ghost use Rattle.rtr_base.specs.Bytes.{be, value, IsBytes};
-ghost use Rattle.rtr_units.specs.Causes.{cause_of};
 ghost use Rattle.rtr_units.specs.Queries.{bare_list, serial_list};
 ghost use Rattle.rtr_units.specs.Header.{session_field};
-ghost use Rattle.rtr_units.specs.Reading.{Takes};
-ghost use Rattle.rtr_units.specs.Stream.{FallsShort, PutsForm, count_after, is_reader_fault};
-ghost use Rattle.rtr_units.specs.Stream.{is_writer_fault};
+ghost use Rattle.rtr_units.specs.Reading.{FillsPiece, by_bytes};
+ghost use Rattle.rtr_units.specs.Stream.{PutsForm};
 ghost use Rattle.rtr_units.specs.Queries.{notify_bytes, query_bytes, reset_query_bytes};
 ghost use Rattle.rtr_units.specs.Queries.{response_bytes, cache_reset_bytes, query_payload_bytes};
 ghost use Rattle.rtr_units.specs.Queries.{serial_field};
@@ -218,13 +216,7 @@ impl SerialQueryPayload {
     /// Reads four bytes.
     #[inline(always)]
     pub fn read<R: Source>(reader: &mut R) -> Result<Self, Fault>
-        ensures bytes { MatchResult result
-            (λ p. Consumes (R.remaining reader.old) (R.remaining reader.new)
-            (query_payload_bytes p) × AreBytes 4 (query_payload_bytes p))
-            (λ e. Takes (R.remaining reader.old) (R.remaining reader.new)
-            (λ t. FallsShort 4 (cause_of e) t (R.remaining reader.new))) }
-        ensures count { R.failures reader.new ≡
-            count_after (R.failures reader.old) (not (is_reader_fault result)) }
+        ensures { FillsPiece 4 (by_bytes query_payload_bytes result) (R.state reader.old) (R.state reader.new) }
     {
         let mut payload = SerialQueryPayload::default();
         match fill(reader, payload.as_mut()) {
@@ -244,10 +236,8 @@ impl SerialQueryPayload {
     /// Writes the four bytes.
     #[inline(always)]
     pub fn write<W: Sink>(&self, writer: &mut W) -> Result<(), Fault>
-        ensures bytes { PutsForm result (W.contents writer.old) (W.contents writer.new)
+        ensures { PutsForm result (W.state writer.old) (W.state writer.new)
             (query_payload_bytes self.now) }
-        ensures count { W.failures writer.new ≡
-            count_after (W.failures writer.old) (not (is_writer_fault result)) }
     {
         put(writer, self.as_ref())
     }

@@ -7,11 +7,11 @@ ghost use Rattle.std.specs.Prelude.{MatchResult, Ok, [], not};
 ghost use Rattle.std.specs.Borrow.{sem, Lends, Array, u8};
 ghost use Rattle.std.specs.Io.KnownBytes.{Consumes};
 ghost use Rattle.rtr_base.specs.Bytes.{IsBytes};
-ghost use Rattle.rtr_units.specs.Causes.{cause_of};
+ghost use Rattle.rtr_units.specs.Causes.{by_cause, cause_of};
 ghost use Rattle.rtr_units.specs.Header.{version_field, type_field, session_field};
-ghost use Rattle.rtr_units.specs.Reading.{LeavesUnit, Reads, ReadsAfter, Stops, Takes, by_bytes};
-ghost use Rattle.rtr_units.specs.Reading.{of_size, of_type};
-ghost use Rattle.rtr_units.specs.Stream.{PutsForm, count_after, is_reader_fault, is_writer_fault};
+ghost use Rattle.rtr_units.specs.Reading.{LeavesUnit, Reads, ReadsAfter, ReadsBytes, Stops};
+ghost use Rattle.rtr_units.specs.Reading.{Takes, by_bytes, of_size, of_type};
+ghost use Rattle.rtr_units.specs.Stream.{PutsForm, reader_count};
 ghost use Rattle.rtr_units.specs.Views.{header_bytes, AreBytes};
 
 use crate::error::Error;
@@ -92,10 +92,8 @@ pub trait Unit: Drop + Copy {
     /// `Reader` inside the unit.
     #[inline(always)]
     final fn read<R: Source>(reader: &mut R) -> Result<Self, Fault>
-        ensures bytes { Reads (of_type PDU (of_size LENGTH)) [] (by_bytes bytes result)
-            (R.remaining reader.old) (R.remaining reader.new) }
-        ensures count { R.failures reader.new ≡
-            count_after (R.failures reader.old) (not (is_reader_fault result)) }
+        ensures { Reads (of_type PDU (of_size LENGTH)) [] (by_bytes bytes result)
+            (R.state reader.old) (R.state reader.new) }
     {
         let header = Header::read(reader)?;
         if header.pdu() != Self::PDU {
@@ -113,15 +111,15 @@ pub trait Unit: Drop + Copy {
     final fn try_read<R: Source>(reader: &mut R) -> Result<Result<Self, Header>, Fault>
         ensures bytes { MatchResult result
             (λ answer. MatchResult answer
-            (λ u. Reads (of_type PDU (of_size LENGTH)) [] (Ok (bytes u)) (R.remaining reader.old)
-            (R.remaining reader.new) × ¬ (PDU ≡ 10))
-            (λ h. Consumes (R.remaining reader.old) (R.remaining reader.new) (header_bytes h) ×
+            (λ u. ReadsBytes (of_type PDU (of_size LENGTH)) [] (Ok (bytes u))
+            (R.state reader.old).left (R.state reader.new).left × ¬ (PDU ≡ 10))
+            (λ h. Consumes (R.state reader.old).left (R.state reader.new).left (header_bytes h) ×
             AreBytes 8 (header_bytes h) × (type_field (header_bytes h) ≡ 10)))
-            (λ e. Takes (R.remaining reader.old) (R.remaining reader.new)
-            (λ t. Stops (of_type PDU (of_size LENGTH)) (cause_of e) t (R.remaining reader.new) ×
+            (λ e. Takes (R.state reader.old).left (R.state reader.new).left
+            (λ t. Stops (of_type PDU (of_size LENGTH)) (cause_of e) t (R.state reader.new).left ×
             (8 ≤ length t → ¬ (type_field t ≡ 10)))) }
-        ensures count { R.failures reader.new ≡
-            count_after (R.failures reader.old) (not (is_reader_fault result)) }
+        ensures count { (R.state reader.new).failed ≡
+            reader_count (by_cause result) (R.state reader.old).failed }
     {
         let header = Header::read(reader)?;
         if header.pdu() == Error::PDU {
@@ -141,10 +139,8 @@ pub trait Unit: Drop + Copy {
     /// `UnitLength` is answered with nothing read, `Short` and `Reader` inside the unit.
     #[inline(always)]
     final fn read_payload<R: Source>(header: Header, reader: &mut R) -> Result<Self, Fault>
-        ensures bytes { ReadsAfter (of_size LENGTH) (header_bytes header) (by_bytes bytes result)
-            (R.remaining reader.old) (R.remaining reader.new) }
-        ensures count { R.failures reader.new ≡
-            count_after (R.failures reader.old) (not (is_reader_fault result)) }
+        ensures { ReadsAfter (of_size LENGTH) (header_bytes header) (by_bytes bytes result)
+            (R.state reader.old) (R.state reader.new) }
     {
         let mut unit = Self::zero();
         match unit.read_rest(header, reader) {
@@ -160,13 +156,10 @@ pub trait Unit: Drop + Copy {
     #[inline(always)]
     final fn read_rest<R: Source>(&mut self, header: Header, reader: &mut R) -> Result<(), Fault>
         ensures bytes { ReadsAfter (of_size LENGTH) (header_bytes header)
-            (by_bytes (λ _. bytes self.new) result) (R.remaining reader.old)
-            (R.remaining reader.new) }
+            (by_bytes (λ _. bytes self.new) result) (R.state reader.old) (R.state reader.new) }
         ensures left { IfErr result
             (λ e. LeavesUnit bytes (header_bytes header) (cause_of e) self.old self.new
-            (R.remaining reader.old) (R.remaining reader.new)) }
-        ensures count { R.failures reader.new ≡
-            count_after (R.failures reader.old) (not (is_reader_fault result)) }
+            (R.state reader.old).left (R.state reader.new).left) }
     {
         if header.length() != Self::LENGTH as u32 {
             return Err(Fault::UnitLength);
@@ -179,10 +172,8 @@ pub trait Unit: Drop + Copy {
     /// Writes all bytes of the unit.
     #[inline(always)]
     final fn write<W: Sink>(&self, writer: &mut W) -> Result<(), Fault>
-        ensures bytes { PutsForm result (W.contents writer.old) (W.contents writer.new)
+        ensures { PutsForm result (W.state writer.old) (W.state writer.new)
             (bytes self.now) }
-        ensures count { W.failures writer.new ≡
-            count_after (W.failures writer.old) (not (is_writer_fault result)) }
     {
         put(writer, self.as_ref())
     }

@@ -1,7 +1,8 @@
 -- What a fault of a call on views says.
-use Rattle.std.specs.Prelude.{◌≡◌, ℕ, ◌<◌, Bool, true, false, List, ◌++◌, length, Option, Some, Result, Err, MatchResult, ⊤}
+use Rattle.std.specs.Prelude.{◌≡◌, ℕ, ◌<◌, Bool, true, false, List, ◌++◌, length, Option, Some, Result, Err, MatchResult, ⊤, not}
 use Rattle.std.specs.Io.KnownBytes.{Appends}
 use Rattle.rtr_units.specs.Causes.{short, unit_type, unit_version, too_long, unit_length, empty_providers, refused}
+use Rattle.rtr_units.specs.Stream.{WriterState, count_after}
 use Rattle.rtr_payload.specs.Steps.{first_fault, first_unit, refusal_report}
 use Rattle.rtr_views.specs.declared.fault.ViewFault.{ViewFault}
 use Rattle.rtr_views.specs.declared.fault.ViewFault.TheVariants.{Writer, Short, UnitType, UnitLength, TooLong, EmptyProviders, UnitVersion, Prefix, TooMany}
@@ -37,6 +38,8 @@ WritesPiecePart fault old new piece =
 
 -- what a call that writes this piece leaves
 abbrev pub PutsPiece :
-    {T : Type 0} → Result T ViewFault → Option (List ℕ) → Option (List ℕ) → List ℕ → Type 0
+    {T : Type 0} → Result T ViewFault → WriterState → WriterState → List ℕ → Type 0
 PutsPiece r old new piece =
-    MatchResult r (λ _. Appends old new piece) (λ e. WritesPiecePart e old new piece)
+    MatchResult r (λ _. Appends old.held new.held piece)
+    (λ e. WritesPiecePart e old.held new.held piece)
+    × (new.failed ≡ count_after old.failed (not (is_view_writer_fault r)))

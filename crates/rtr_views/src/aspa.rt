@@ -3,11 +3,10 @@
 ghost use Rattle.std.specs.Prelude.{◌≡◌, ◌≤◌, length, take, drop};
 ghost use Rattle.std.specs.Prelude.{IfOk, IfErr, not};
 ghost use Rattle.rtr_units.specs.Header.{version_field, type_field};
-ghost use Rattle.rtr_units.specs.Stream.{count_after};
 ghost use Rattle.rtr_payload.specs.AspaUnits.{aspa_at};
 ghost use Rattle.rtr_payload.specs.Units.{aspa_unit, meaning, form_of};
 ghost use Rattle.rtr_views.specs.Wholes.{IsFirstUnit, IsWholeAspa};
-ghost use Rattle.rtr_views.specs.Faults.{IsFirstFault, PutsPiece, is_view_writer_fault};
+ghost use Rattle.rtr_views.specs.Faults.{IsFirstFault, PutsPiece};
 
 use crate::cut::{first_unit, size_at};
 use crate::fault::ViewFault;
@@ -98,10 +97,8 @@ impl<'a> AspaView<'a> {
     /// Writes the form of what the unit means: of a withdrawal without its providers.
     #[inline(always)]
     pub(crate) fn write_form<W: Sink>(&self, writer: &mut W) -> Result<(), ViewFault>
-        ensures bytes { PutsPiece result (W.contents writer.old) (W.contents writer.new)
+        ensures { PutsPiece result (W.state writer.old) (W.state writer.new)
             (form_of (meaning (aspa_unit (aspa_at self.now.unit.now)))) }
-        ensures count { W.failures writer.new
-            ≡ count_after (W.failures writer.old) (not (is_view_writer_fault result)) }
     {
         let action = Action::from_flags(self.flags());
         let kept = match action {

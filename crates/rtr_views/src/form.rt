@@ -4,8 +4,7 @@ ghost use Rattle.std.specs.Prelude.{◌≡◌, ◌+◌, ◌<◌, ◌^◌, ◌∷
 ghost use Rattle.rtr_base.specs.Actions.{flags_of};
 ghost use Rattle.rtr_base.specs.Bytes.{be};
 ghost use Rattle.rtr_units.specs.Ends.{end_bytes};
-ghost use Rattle.rtr_units.specs.Stream.{count_after};
-ghost use Rattle.rtr_views.specs.Faults.{PutsPiece, is_view_writer_fault};
+ghost use Rattle.rtr_views.specs.Faults.{PutsPiece};
 
 use crate::fault::ViewFault;
 use rtr_base::payload::Action;
@@ -17,9 +16,7 @@ use rtr_units::source::Sink;
 /// Writes all of the piece, as `rtr_units::piece::put`.
 #[inline(always)]
 pub fn put_piece<W: Sink>(writer: &mut W, piece: &[u8]) -> Result<(), ViewFault>
-    ensures bytes { PutsPiece result (W.contents writer.old) (W.contents writer.new) piece.now }
-    ensures count { W.failures writer.new
-        ≡ count_after (W.failures writer.old) (not (is_view_writer_fault result)) }
+    ensures { PutsPiece result (W.state writer.old) (W.state writer.new) piece.now }
 {
     match put(writer, piece) {
         Ok(()) => Ok(()),
@@ -50,10 +47,8 @@ pub fn put_flagged<W: Sink>(
     rest: &[u8],
 ) -> Result<(), ViewFault>
     requires size { 8 + length rest.now < 2 ^ 32 }
-    ensures bytes { PutsPiece result (W.contents writer.old) (W.contents writer.new)
+    ensures { PutsPiece result (W.state writer.old) (W.state writer.new)
         ((version ∷ pdu ∷ flags_of action ∷ 0 ∷ be (8 + length rest.now) 4) ++ rest.now) }
-    ensures count { W.failures writer.new
-        ≡ count_after (W.failures writer.old) (not (is_view_writer_fault result)) }
 {
     let size = 8 + rest.len() as u32;
     match put_piece(writer, &flagged_header(version, pdu, action, size)) {
@@ -65,10 +60,8 @@ pub fn put_flagged<W: Sink>(
 /// Writes the bytes of the end of data. It is out of line, so that what writes units stays small
 /// enough to be inlined: only one end comes in a sequence.
 pub fn put_end<W: Sink>(writer: &mut W, end: &EndOfData) -> Result<(), ViewFault>
-    ensures bytes { PutsPiece result (W.contents writer.old) (W.contents writer.new)
+    ensures { PutsPiece result (W.state writer.old) (W.state writer.new)
         (end_bytes end.now) }
-    ensures count { W.failures writer.new
-        ≡ count_after (W.failures writer.old) (not (is_view_writer_fault result)) }
 {
     put_piece(writer, end.as_ref())
 }

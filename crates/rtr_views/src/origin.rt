@@ -3,11 +3,10 @@
 ghost use Rattle.std.specs.Prelude.{◌≡◌, ◌≤◌, Some, length, IfOk, IfErr, not};
 ghost use Rattle.rtr_base.specs.Addresses.{v4, v6};
 ghost use Rattle.rtr_units.specs.Header.{type_field, length_field};
-ghost use Rattle.rtr_units.specs.Stream.{count_after};
 ghost use Rattle.rtr_units.specs.PrefixUnits.{prefix_at};
 ghost use Rattle.rtr_payload.specs.Steps.{first_unit, rule_of};
 ghost use Rattle.rtr_payload.specs.Units.{prefix_unit, LengthsAgree, form_of};
-ghost use Rattle.rtr_views.specs.Faults.{IsFirstFault, PutsPiece, is_view_writer_fault};
+ghost use Rattle.rtr_views.specs.Faults.{IsFirstFault, PutsPiece};
 ghost use Rattle.rtr_views.specs.Origins.{IsOriginOf, ShowsOrigin, origin_meaning};
 
 use crate::cut::first_unit;
@@ -139,10 +138,8 @@ impl OriginView {
     /// Writes the form of what the unit means.
     #[inline(always)]
     pub(crate) fn write_form<W: Sink>(&self, writer: &mut W) -> Result<(), ViewFault>
-        ensures bytes { PutsPiece result (W.contents writer.old) (W.contents writer.new)
+        ensures { PutsPiece result (W.state writer.old) (W.state writer.new)
             (form_of (origin_meaning self.now)) }
-        ensures count { W.failures writer.new
-            ≡ count_after (W.failures writer.old) (not (is_view_writer_fault result)) }
     {
         let flags = Action::from_flags(self.flags).into_flags();
         let prefix = self.origin.prefix.prefix();

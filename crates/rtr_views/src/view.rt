@@ -1,8 +1,7 @@
 //! Views of what a slice begins with.
 
 ghost use Rattle.std.specs.Prelude.{◌≡◌, ◌≤◌, length, take, IfOk, IfErr, not};
-ghost use Rattle.rtr_units.specs.Stream.{count_after};
-ghost use Rattle.rtr_views.specs.Faults.{IsFirstFault, PutsPiece, is_view_writer_fault};
+ghost use Rattle.rtr_views.specs.Faults.{IsFirstFault, PutsPiece};
 ghost use Rattle.rtr_views.specs.Views.{IsViewOf, view_form};
 
 use crate::aspa::AspaView;
@@ -79,10 +78,8 @@ impl<'a> UnitView<'a> {
     /// `Writer` alone; a part of the form was written then.
     #[inline(always)]
     pub fn write_form<W: Sink>(&self, writer: &mut W) -> Result<(), ViewFault>
-        ensures bytes { PutsPiece result (W.contents writer.old) (W.contents writer.new)
+        ensures { PutsPiece result (W.state writer.old) (W.state writer.new)
             (view_form self.now) }
-        ensures count { W.failures writer.new
-            ≡ count_after (W.failures writer.old) (not (is_view_writer_fault result)) }
     {
         match self {
             UnitView::Origin(view) => view.write_form(writer),

@@ -8,7 +8,7 @@ use Rattle.rtr_base.specs.Bytes.{IsBytes}
 use Rattle.rtr_units.specs.declared.fault.Fault.{Fault}
 use Rattle.rtr_units.specs.Causes.{Refusal, short, unit_type, unit_version, too_long, unit_length, empty_providers, refused, Cause, by_reader, by_writer, too_many, no_memory, wrong}
 use Rattle.rtr_units.specs.Ends.{end_meaning}
-use Rattle.rtr_units.specs.Stream.{count_after}
+use Rattle.rtr_units.specs.Stream.{ReaderState, WriterState, count_after}
 use Rattle.rtr_payload.specs.Payloads.{Meaning}
 use Rattle.rtr_payload.specs.KeyUnits.{key_at}
 use Rattle.rtr_payload.specs.Units.{key_unit, aspa_unit}
@@ -24,10 +24,11 @@ use Rattle.rtr_views.specs.declared.view.UnitView.{UnitView}
 use Rattle.rtr_views.specs.declared.view.UnitView.TheVariants as views
 use Rattle.rtr_views.proofs.Agreement.{view_means, form_meant}
 use Rattle.rtr_wire.specs.Outcome.{StepTells, Steps}
-use Rattle.rtr_wire.specs.Run.{Run, Sides, Ends, IsPartOfForm, BlamesNobody, Normalises, by_cause}
+use Rattle.rtr_units.specs.Causes.{by_cause}
+use Rattle.rtr_wire.specs.Run.{Run, Ends, IsPartOfForm, BlamesNobody, Normalises}
 use Rattle.rtr_wire.specs.Sequences.{AreUnits, everything, forms}
 use Rattle.rtr_wire.specs.declared.run.Passed.TheVariants as passes
-use Rattle.rtr_wire.specs.SliceRun.{view_cause, slice_answer, Side, NormalisesSlice, is_payload_unit, passed, StopsStep}
+use Rattle.rtr_wire.specs.SliceRun.{view_cause, slice_answer, NormalisesSlice, is_payload_unit, passed, StopsStep}
 use Rattle.rtr_wire.proofs.Calls.{over}
 use Rattle.rtr_wire.proofs.OneAnswer.{one_run, no_unit, no_end, refused_at}
 use Rattle.rtr_wire.proofs.SomeAnswer.{next}
@@ -108,7 +109,7 @@ is_ok_of : (u : List ℕ) (r : Result (ℕ × ℕ) ViewFault) (n : ℕ) → slic
 is_ok_of u (Ok (m, k)) n e = refl
 is_ok_of u (Err f) n e = absurd cc
 
-pub normalises_slice : (limit : ℕ) (r : Result (ℕ × ℕ) ViewFault) (input took left wrote last : List ℕ) (old new : Side) → input ≡ took ++ left → Appends old.held new.held wrote
+pub normalises_slice : (limit : ℕ) (r : Result (ℕ × ℕ) ViewFault) (input took left wrote last : List ℕ) (old new : WriterState) → input ≡ took ++ left → Appends old.held new.held wrote
     → (run : Run everything limit (slice_answer last r) took left wrote) → last ≡ run.last → IfOk r (λ p. p.1 ≡ length took) → new.failed ≡ count_after old.failed (not (is_view_writer_fault r)) → NormalisesSlice limit r input old new
 normalises_slice limit r input took left wrote last old new parts writes run is bytes failed = record {
   taken = took;
@@ -128,7 +129,7 @@ none_less : (n : ℕ) → n - 0 ≡ n
 none_less n = omega arith
 
 -- at an end of data
-pub slice_ends : (limit count : ℕ) (input rest left : List ℕ) (mid : Option (List ℕ)) (old new : Side) → count < limit → SoFar everything count 0 (Some input) (Some rest) old.held mid → Steps everything (Ok passes.End) (Some rest) (Some left) mid new.held
+pub slice_ends : (limit count : ℕ) (input rest left : List ℕ) (mid : Option (List ℕ)) (old new : WriterState) → count < limit → SoFar everything count 0 (Some input) (Some rest) old.held mid → Steps everything (Ok passes.End) (Some rest) (Some left) mid new.held
     → new.failed ≡ old.failed → NormalisesSlice limit (Ok (count, length input - length left)) input old new
 slice_ends limit count input rest left mid old new lt behind step failed =
     let ran = subst (λ n. Ran everything limit (Ok n) (Some input) (Some left) old.held new.held) (none_less count) (finishes everything limit count 0 (Some input) (Some rest) (Some left) old.held mid new.held lt behind step) in
@@ -136,7 +137,7 @@ slice_ends limit count input rest left mid old new lt behind step failed =
     normalises_slice limit (Ok (count, length input - length left)) input ran.taken left ran.written ran.run.last old new ran.takes ran.appends ran.run refl size failed
 
 -- at the limit
-pub slice_fills : (limit count : ℕ) (input rest : List ℕ) (old new : Side) → count ≡ limit → SoFar everything count 0 (Some input) (Some rest) old.held new.held → new.failed ≡ old.failed → NormalisesSlice limit (Err TooMany) input old new
+pub slice_fills : (limit count : ℕ) (input rest : List ℕ) (old new : WriterState) → count ≡ limit → SoFar everything count 0 (Some input) (Some rest) old.held new.held → new.failed ≡ old.failed → NormalisesSlice limit (Err TooMany) input old new
 slice_fills limit count input rest old new full behind failed =
     let ran = reaches_limit everything limit count 0 (Some input) (Some rest) old.held new.held full behind in
     normalises_slice limit (Err TooMany) input ran.taken rest ran.written ran.run.last old new ran.takes ran.appends ran.run refl tt failed
@@ -153,7 +154,7 @@ broke limit too_many us t w left ms units lt told = absurd told
 broke limit no_memory us t w left ms units lt told = record { run = record { units = us; last = t; taken_parts = refl; meanings = ms; are_units = units; last_written = w; written_parts = refl; counts = lt; ends = told }; last = refl }
 broke limit (wrong f) us t w left ms units lt told = record { run = record { units = us; last = t; taken_parts = refl; meanings = ms; are_units = units; last_written = w; written_parts = refl; counts = lt; ends = told }; last = refl }
 
-pub slice_breaks : (limit count : ℕ) (e : ViewFault) (input rest : List ℕ) (mid : Option (List ℕ)) (old new : Side) → count < limit → SoFar everything count 0 (Some input) (Some rest) old.held mid → StopsStep e rest mid new.held
+pub slice_breaks : (limit count : ℕ) (e : ViewFault) (input rest : List ℕ) (mid : Option (List ℕ)) (old new : WriterState) → count < limit → SoFar everything count 0 (Some input) (Some rest) old.held mid → StopsStep e rest mid new.held
     → new.failed ≡ count_after old.failed (not (is_view_writer_fault {T = ℕ × ℕ} (Err e))) → NormalisesSlice limit (Err e) input old new
 slice_breaks limit count e input rest mid old new lt p (t, left, w, parts, wrote, told) failed =
     let b = broke limit (view_cause t e) p.us t w left p.ms p.units (omega (arith, p.counted)) told in
@@ -171,11 +172,11 @@ view_writer_count S T f first before after e same = e ∙ (λ i. count_after (sa
 
 -- ---- both ways
 
-pub both_ways : (limit : ℕ) (input : List ℕ) (first : Result ℕ Fault) (second : Result (ℕ × ℕ) ViewFault) (old new : Sides) (before after : Side)
-    (p : Normalises everything limit first old new) (q : NormalisesSlice limit second input before after)
+pub both_ways : (limit : ℕ) (input : List ℕ) (first : Result ℕ Fault) (second : Result (ℕ × ℕ) ViewFault) (old new : ReaderState) (before after before' after' : WriterState)
+    (p : Normalises everything limit first old new before after) (q : NormalisesSlice limit second input before' after')
     → old.left ≡ Some input → BlamesNobody (by_cause first) → BlamesNobody (slice_answer q.last second)
     → (by_cause first ≡ slice_answer q.last second) × (p.taken ≡ q.taken) × (new.left ≡ Some q.left) × (p.written ≡ q.written)
-both_ways limit input first second old new before after p q is well fine =
-    let o = over everything limit (by_cause first) input p.taken p.written old new is p.takes p.writes p.run in
+both_ways limit input first second old new before after before' after' p q is well fine =
+    let o = over everything limit (by_cause first) input p.taken p.written old new before after is p.takes p.writes p.run in
     let one = one_run everything limit (by_cause first) (slice_answer q.last second) p.taken o.left p.written q.taken q.left q.written o.run q.run (sym o.parts ∙ q.parts) well fine in
     (one.0, one.1, o.at ∙ ap Some one.2, one.3)

@@ -3,7 +3,7 @@
 use Rattle.std.specs.Prelude.{◌≡◌, ℕ, Bool, true, false, not, List, ◌++◌, length, Option, Some, Result, Ok, Err, IfOk, IsOk}
 use Rattle.std.specs.Io.KnownBytes.{Appends}
 use Rattle.rtr_units.specs.Causes.{short, unit_type, unit_version, too_long, unit_length, empty_providers, refused, Cause, by_writer, too_many, wrong}
-use Rattle.rtr_units.specs.Stream.{count_after}
+use Rattle.rtr_units.specs.Stream.{WriterState, count_after}
 use Rattle.rtr_payload.specs.Steps.{refusal_report}
 use Rattle.rtr_views.specs.Faults.{is_view_writer_fault}
 use Rattle.rtr_views.specs.declared.fault.ViewFault.{ViewFault}
@@ -34,15 +34,10 @@ abbrev pub slice_answer : List ℕ → Result (ℕ × ℕ) ViewFault → Result 
 slice_answer u (Ok (n, k)) = Ok n
 slice_answer u (Err e) = Err (view_cause u e)
 
--- what a call finds or leaves at its writer: the bytes that it holds, where they are known, and how
--- often it has failed
-pub record Side : Type 0 where
-  pub held : Option (List ℕ)
-  pub failed : ℕ
-
--- the whole promise of normalise_slice, with its limit, its result and its input
+-- The whole promise of normalise_slice, with its limit, its result and its input: `old` and `new` are
+-- what the writer has before and after it.
 pub record NormalisesSlice (limit : ℕ) (result : Result (ℕ × ℕ) ViewFault) (input : List ℕ)
-    (old new : Side) : Type 0 where
+    (old new : WriterState) : Type 0 where
   -- the call took these bytes from the front of the input, left these, and added these to what the
   -- writer holds
   pub taken : List ℕ

@@ -27,8 +27,7 @@ pub fn normalise_slice<W: Sink>(
     limit: u64,
 ) -> Result<(u64, usize), ViewFault>
     ensures { NormalisesSlice limit result input.now
-        (record { held = W.contents writer.old; failed = W.failures writer.old })
-        (record { held = W.contents writer.new; failed = W.failures writer.new }) }
+        (W.state writer.old) (W.state writer.new) }
 {
     let mut rest = input;
     for count in 0..limit {
@@ -53,11 +52,11 @@ pub fn normalise_slice<W: Sink>(
 #[inline(always)]
 fn step<'a, W: Sink>(rest: &'a [u8], writer: &mut W) -> Result<(bool, &'a [u8]), ViewFault>
     ensures unit { IfOk result (λ p. Steps everything (Ok (passed p.0)) (Some rest.now) (Some p.1.now)
-        (W.contents writer.old) (W.contents writer.new)) }
+        (W.state writer.old).held (W.state writer.new).held) }
     ensures fault { IfErr result (λ e. StopsStep e rest.now
-        (W.contents writer.old) (W.contents writer.new)) }
-    ensures count { W.failures writer.new
-        ≡ count_after (W.failures writer.old) (not (is_view_writer_fault result)) }
+        (W.state writer.old).held (W.state writer.new).held) }
+    ensures count { (W.state writer.new).failed ≡
+        count_after (W.state writer.old).failed (not (is_view_writer_fault result)) }
 {
     let unit_type = if rest.len() < 8 { 0 } else { rest[1] };
     match unit_type {
@@ -79,11 +78,11 @@ fn view_step<'a, const TYPE: u8, W: Sink>(
     writer: &mut W,
 ) -> Result<(bool, &'a [u8]), ViewFault>
     ensures unit { IfOk result (λ p. Steps everything (Ok (passed p.0)) (Some rest.now) (Some p.1.now)
-        (W.contents writer.old) (W.contents writer.new)) }
+        (W.state writer.old).held (W.state writer.new).held) }
     ensures fault { IfErr result (λ e. StopsStep e rest.now
-        (W.contents writer.old) (W.contents writer.new)) }
-    ensures count { W.failures writer.new
-        ≡ count_after (W.failures writer.old) (not (is_view_writer_fault result)) }
+        (W.state writer.old).held (W.state writer.new).held) }
+    ensures count { (W.state writer.new).failed ≡
+        count_after (W.state writer.old).failed (not (is_view_writer_fault result)) }
 {
     let (view, size) = match UnitView::first(rest) {
         Ok(first) => first,

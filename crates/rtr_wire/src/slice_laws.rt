@@ -2,10 +2,12 @@
 
 ghost use Rattle.std.specs.Prelude.{◌≡◌, ℕ, List, Some, Result};
 ghost use Rattle.rtr_units.specs.declared.fault.Fault.{Fault};
+ghost use Rattle.rtr_units.specs.Stream.{ReaderState, WriterState};
 ghost use Rattle.rtr_views.specs.declared.fault.ViewFault.{ViewFault};
-ghost use Rattle.rtr_wire.specs.Run.{Sides, BlamesNobody, Normalises, by_cause};
+ghost use Rattle.rtr_units.specs.Causes.{by_cause};
+ghost use Rattle.rtr_wire.specs.Run.{BlamesNobody, Normalises};
 ghost use Rattle.rtr_wire.specs.Sequences.{everything};
-ghost use Rattle.rtr_wire.specs.SliceRun.{NormalisesSlice, Side, slice_answer};
+ghost use Rattle.rtr_wire.specs.SliceRun.{NormalisesSlice, slice_answer};
 
 /// `normalise` over a reader of some bytes and `normalise_slice` over the same bytes, with the same
 /// limit, answer the same number or faults of one cause, take and leave the same bytes and write
@@ -13,9 +15,9 @@ ghost use Rattle.rtr_wire.specs.SliceRun.{NormalisesSlice, Side, slice_answer};
 pub fn same_answer()
     ensures { (limit : ℕ) (input : List ℕ)
         (first : Result ℕ Fault) (second : Result (ℕ × ℕ) ViewFault)
-        (old new : Sides) (before after : Side)
-        (p : Normalises everything limit first old new)
-        (q : NormalisesSlice limit second input before after) →
+        (old new : ReaderState) (before after before' after' : WriterState)
+        (p : Normalises everything limit first old new before after)
+        (q : NormalisesSlice limit second input before' after') →
         old.left ≡ Some input →
         BlamesNobody (by_cause first) → BlamesNobody (slice_answer q.last second) →
         (by_cause first ≡ slice_answer q.last second) × (p.taken ≡ q.taken)

@@ -4,9 +4,9 @@ use Rattle.rtr_list.proofs.run.list.Given as goal
 
 abbrev pub invariant-loop-count : goal.invariant-loop-count
 invariant-loop-count g l = record {
-  so_far : SoFar l.wanted l.found l.count (g.R.Source.remaining l.initial.input)
-      (g.R.Source.remaining l.input) (g.W.Sink.contents l.initial.output)
-      (g.W.Sink.contents l.output);
-  reads : g.R.Source.failures l.input ≡ g.R.Source.failures l.initial.input;
-  writes : g.W.Sink.failures l.output ≡ g.W.Sink.failures l.initial.output;
+  so_far : SoFar l.wanted l.found l.count (g.R.Source.state l.initial.input).left
+      (g.R.Source.state l.input).left (g.W.Sink.state l.initial.output).held
+      (g.W.Sink.state l.output).held;
+  reads : (g.R.Source.state l.input).failed ≡ (g.R.Source.state l.initial.input).failed;
+  writes : (g.W.Sink.state l.output).failed ≡ (g.W.Sink.state l.initial.output).failed;
 }

@@ -5,9 +5,9 @@ use Rattle.rtr_units.proofs.error.skip.Given as goal
 
 abbrev pub invariant-loop-left : goal.invariant-loop-left
 invariant-loop-left g l = record {
-  taken : (t : List ℕ) × Consumes (g.R.Source.remaining l.initial.reader) (g.R.Source.remaining l.reader) t × IsBytes t × (length t + l.left ≡ l.size);
+  taken : (t : List ℕ) × Consumes (g.R.Source.state l.initial.reader).left (g.R.Source.state l.reader).left t × IsBytes t × (length t + l.left ≡ l.size);
   room : length l.buffer ≡ 1024;
-  count : g.R.Source.failures l.reader ≡ g.R.Source.failures l.initial.reader;
+  count : (g.R.Source.state l.reader).failed ≡ (g.R.Source.state l.initial.reader).failed;
 }
 
 abbrev pub decreases-loop-left : goal.decreases-loop-left

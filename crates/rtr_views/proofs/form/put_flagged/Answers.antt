@@ -2,8 +2,10 @@ use Rattle.std.proofs.Common.{◌++◌, ap}
 use Rattle.rtr_views.proofs.Puts.{both_put, first_not_put}
 use Rattle.rtr_views.proofs.form.put_flagged.Goals as goal
 
-pub returns-in-Ok-clause-bytes : goal.returns-in-Ok-clause-bytes
-returns-in-Ok-clause-bytes g c = both_put c.put_piece-in-Ok.result _ _ _ _ _ _ (ap (λ l. l ++ c.args.rest.now) c.flagged_header.ensures) c.in-Ok.ensures.bytes c.put_piece-in-Ok.ensures.bytes
+pub returns-in-Ok : goal.returns-in-Ok
+returns-in-Ok g c = both_put c.put_piece-in-Ok.result _ _ _ _ _ _ (ap (λ l. l ++ c.args.rest.now) c.flagged_header.ensures) c.in-Ok.ensures c.put_piece-in-Ok.ensures
 
-pub returns-in-Err-clause-bytes : goal.returns-in-Err-clause-bytes
-returns-in-Err-clause-bytes g c = first_not_put c.in-Err.e _ _ _ c.args.rest.now _ (ap (λ l. l ++ c.args.rest.now) c.flagged_header.ensures) c.in-Err.ensures.bytes
+pub returns-in-Err : goal.returns-in-Err
+returns-in-Err g c =
+    let (part, counts) = c.in-Err.ensures in
+    (first_not_put c.in-Err.e _ _ _ c.args.rest.now _ (ap (λ l. l ++ c.args.rest.now) c.flagged_header.ensures) part, counts)

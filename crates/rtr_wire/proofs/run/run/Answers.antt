@@ -1,6 +1,8 @@
 use Rattle.std.proofs.lemmas.Result.{err_from_is_err_and}
-use Rattle.std.proofs.Common.{rules, refl, arith}
-use Rattle.rtr_wire.proofs.Calls.{normalises, reader_count, writer_count}
+use Rattle.std.proofs.Common.{ℕ, Err, ◌∙◌, ap, rules, refl, arith}
+use Rattle.rtr_units.specs.Causes.{cause_of}
+use Rattle.rtr_units.specs.Stream.{reader_count, writer_count}
+use Rattle.rtr_wire.proofs.Calls.{normalises}
 use Rattle.rtr_wire.proofs.Stepping.{starts, goes_on, leaves_out, finishes, breaks, reaches_limit}
 use Rattle.rtr_wire.proofs.run.run.Goals.{in-Written, in-LeftOut}
 use Rattle.rtr_wire.proofs.run.run.Goals as goal
@@ -25,7 +27,7 @@ loop-count-preserved g c =
 pub returns-in-End : goal.returns-in-End
 returns-in-End g c =
     let what = g.S.Writing.what c.args.writing in
-    normalises what c.args.limit _ _ _
+    normalises what c.args.limit _ _ _ _ _
     (finishes what c.args.limit c.loop-count.count c.loop-count.left_out _ _ _ _ _ _ c.loop-count-test.true c.loop-count.invariant.so_far (rw c.in-End.is at c.in_ok-step.ensures.bytes))
     (search rules) (search rules)
 
@@ -35,14 +37,14 @@ returns-in_err-step g c =
     let what = g.S.Writing.what c.args.writing in
     let fault = c.in_err-step.field-0.0 in
     let old = c.loop-count.invariant in
-    rw (p.1, p.2) (normalises what c.args.limit _ _ _
+    rw (p.1, p.2) (normalises what c.args.limit _ _ _ _ _
     (breaks what c.args.limit c.loop-count.count c.loop-count.left_out fault _ _ _ _ _ _ c.loop-count-test.true old.so_far c.in_err-step.ensures.bytes)
-    (reader_count fault _ _ _ c.in_err-step.ensures.reads old.reads)
-    (writer_count fault _ _ _ c.in_err-step.ensures.writes old.writes))
+    (c.in_err-step.ensures.reads ∙ ap (reader_count {T = ℕ} (Err (cause_of fault))) old.reads)
+    (c.in_err-step.ensures.writes ∙ ap (writer_count {T = ℕ} (Err (cause_of fault))) old.writes))
 
 pub returns : goal.returns
 returns g c =
     let what = g.S.Writing.what c.args.writing in
-    normalises what c.args.limit _ _ _
+    normalises what c.args.limit _ _ _ _ _
     (reaches_limit what c.args.limit c.loop-count.count c.loop-count.left_out _ _ _ _ (omega (arith, c.loop-count.auto.count-end, c.loop-count-test.false)) c.loop-count.invariant.so_far)
     c.loop-count.invariant.reads c.loop-count.invariant.writes

@@ -10,4 +10,4 @@ pub returns-clause-bytes : goal.returns-clause-bytes
 returns-clause-bytes g c =
     let h = header_bytes c.in-Ok.header in
     let kind : type_field h ≡ 11 = sym c.pdu-pdu.ensures.value ∙ c.if-pdu-ne-PDU.false in
-    read_both 11 (variable_unit 11) h (by_bytes (λ u. u) c.read_payload.result) _ _ _ c.in-Ok.ensures.bytes.1 kind c.in-Ok.ensures.bytes.0 c.read_payload.ensures.bytes
+    read_both 11 (variable_unit 11) h (by_bytes (λ u. u) c.read_payload.result) _ _ _ kind c.in-Ok.ensures c.read_payload.ensures.bytes

@@ -1,4 +1,4 @@
-use Rattle.std.proofs.Common.{◌≡◌, ◌≤◌, ◌∙◌, [], sym, ap, arith}
+use Rattle.std.proofs.Common.{refl, ◌≡◌, ◌≤◌, ◌∙◌, [], sym, ap, arith}
 use Rattle.std.proofs.KnownBytes.{Consumes-nil}
 use Rattle.rtr_units.specs.Causes.{unit_version}
 use Rattle.rtr_units.specs.Ends.{end_unit}
@@ -15,13 +15,13 @@ returns-then-version-gt2-clause-bytes g c =
     let h = header_bytes c.args.header in
     let is = c.version-version.ensures.header in
     let v = c.version-version.ensures.value in
-    (is, ([], Consumes-nil _, rw v (at_header end_unit (unit_version (version_field h)) h is.0 (end_version h (omega (arith, v))))))
+    (is, (([], Consumes-nil _, rw v (at_header end_unit (unit_version (version_field h)) h is.0 (end_version h (omega (arith, v))))), refl))
 
 pub returns-in-Ok-clause-end : goal.returns-in-Ok-clause-end
 returns-in-Ok-clause-end g c is_type =
     let h = header_bytes c.args.header in
     let u = c.in-Ok.unit.cells.bytes in
-    let (is, ((t, taken, parts), whole)) = c.in-Ok.ensures.bytes in
+    let (is, (((t, taken, parts), whole), count)) = c.in-Ok.ensures in
     let is_version : version_field h ≡ 0 = cc in
     let same = same_header h t (omega (arith, is.0)) in
     let field : length_field u ≡ 12 = sized_from 12 u whole.in_order in
@@ -31,7 +31,7 @@ pub returns-in-Ok-read_payload-clause-end : goal.returns-in-Ok-read_payload-clau
 returns-in-Ok-read_payload-clause-end g c is_type =
     let h = header_bytes c.args.header in
     let u = c.in-Ok-read_payload.unit.cells.bytes in
-    let (is, ((t, taken, parts), whole)) = c.in-Ok-read_payload.ensures.bytes in
+    let (is, (((t, taken, parts), whole), count)) = c.in-Ok-read_payload.ensures in
     let small : version_field h ≤ 2 = rw (← c.version-version.ensures.value) c.if-version-gt2.false in
     let later : ¬ (version_field h ≡ 0) = λ zero. c.if-version-eq0.false (c.version-version.ensures.value ∙ zero) in
     let same = same_header h t (omega (arith, is.0)) in

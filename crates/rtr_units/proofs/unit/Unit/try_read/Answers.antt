@@ -11,8 +11,8 @@ use Rattle.rtr_units.proofs.unit.Unit.try_read.Goals as goal
 pub returns-in-Err-clause-bytes : goal.returns-in-Err-clause-bytes
 returns-in-Err-clause-bytes g c =
     let h = header_bytes c.in_ok-header.header in
-    let (read, (size, range)) = c.in_ok-header.ensures.bytes in
-    let (eight, (t, taken, stops)) = c.in-Err.ensures.bytes in
+    let ((read, (size, range)), count) = c.in_ok-header.ensures in
+    let (eight, ((t, taken, stops), counted)) = c.in-Err.ensures in
     let is_type : type_field h ≡ g.Self.Unit.PDU = cc in
     let same : type_field (h ++ t) ≡ type_field h = (same_header h t (omega (arith, size))).kind in
     (h ++ t, Consumes-trans _ _ _ _ _ read taken, (alike_stops (of_size g.Self.Unit.LENGTH) (of_type g.Self.Unit.PDU (of_size g.Self.Unit.LENGTH)) (h ++ t) (sym (typed_is g.Self.Unit.PDU (of_size g.Self.Unit.LENGTH) (h ++ t) (same ∙ is_type))) (λ asks. asks) (cause_of c.in-Err.e) _ stops, λ _ ten. c.if-pdu-eq-PDU.false (c.pdu.ensures.value ∙ sym same ∙ ten)))
