@@ -6,7 +6,8 @@
  *     cc -O3 -march=x86-64 -Ibindings/c -o archive bench/archive.c bindings/lib/x86_64/librtr_c.a
  *
  * Prints for each job the best of 41 runs each way, which take turns, in nanoseconds a unit, and
- * how many times as long the archive takes. It ends with status 1 where both ways don't agree. */
+ * how many times as long the archive takes. It ends with status 1 where both ways don't agree, on
+ * the input or with any bit of its front turned. */
 #include <stdio.h>
 #include <stdlib.h>
 #include <string.h>
@@ -350,6 +351,53 @@ static struct rtr_unit *all_units(const uint8_t *in, size_t left, uint64_t count
     return all;
 }
 
+/* Whether both ways show a unit alike, and write it alike with any bit of its fields turned. */
+static int agree_on_unit(const uint8_t *in, size_t left)
+{
+    static uint8_t out[2][65536];
+    struct rtr_unit unit[2];
+    size_t fields = offsetof(struct rtr_unit, detail) + 1, made[2];
+    uint8_t status = rtr_next(in, left, &unit[0]);
+    if (status != next_by_hand(in, left, &unit[1]) || memcmp(&unit[0], &unit[1], fields) != 0)
+        return 0;
+    for (size_t bit = 0; status == RTR_OK && bit < 8 * fields; bit++) {
+        uint8_t *turned = (uint8_t *)&unit[0] + bit / 8;
+        *turned ^= (uint8_t)(1 << bit % 8);
+        if (rtr_write_unit(&unit[0], in, left, out[0], sizeof out[0], &made[0])
+                != write_by_hand(&unit[0], in, left, out[1], sizeof out[1], &made[1])
+            || made[0] != made[1] || memcmp(out[0], out[1], made[0]) != 0)
+            return 0;
+        *turned ^= (uint8_t)(1 << bit % 8);
+    }
+    return 1;
+}
+
+/* Whether both ways answer alike with any bit of the front of the input turned. */
+static int agree_on_damaged(uint8_t *in, size_t left)
+{
+    static uint8_t out[2][1024];
+    struct rtr_answer answer[2];
+    struct rtr_unit unit;
+    size_t most = left < sizeof out[0] ? left : sizeof out[0], begin = 0, end = 0;
+    for (size_t bit = 0; bit < 8 * most; bit++) {
+        if (bit == 8 * end) {
+            if (rtr_next(in + end, left - end, &unit) != RTR_OK)
+                return 1;
+            begin = end;
+            end += unit.size;
+        }
+        in[bit / 8] ^= (uint8_t)(1 << bit % 8);
+        rtr_normalise_slice(in, most, out[0], most, UINT32_MAX, &answer[0]);
+        normalise_by_hand(in, most, out[1], most, UINT32_MAX, &answer[1]);
+        if (memcmp(&answer[0], &answer[1], offsetof(struct rtr_answer, detail) + 1) != 0
+            || memcmp(out[0], out[1], answer[0].written) != 0
+            || !agree_on_unit(in + begin, most - begin))
+            return 0;
+        in[bit / 8] ^= (uint8_t)(1 << bit % 8);
+    }
+    return 1;
+}
+
 static double now(void)
 {
     struct timespec time;
@@ -422,7 +470,7 @@ int main(void)
         same = same && sum == other_sum && made == answer.written && made == other_made
             && memcmp(form, other, made) == 0;
     }
-    if (!same) {
+    if (!same || !agree_on_damaged(input, length)) {
         fprintf(stderr, "the archive and the code by hand differ\n");
         return 1;
     }
