@@ -2,6 +2,9 @@
 
 ghost use Rattle.std.specs.Prelude.{◌≡◌, ◌≢◌, ◌≤◌, ◌+◌, ◌<◌, ◌++◌, [], ◌∷◌, Err, OnOk, decimal};
 ghost use Rattle.std.specs.List.{All};
+ghost use Rattle.std.specs.Fmt.{AppendsText};
+ghost use Rattle.json.specs.Print.{print};
+ghost use Rattle.json.specs.Token.{string};
 ghost use Rattle.rtr_units.specs.Causes.{by_cause, by_reader};
 ghost use Rattle.rtr_list.specs.Lines.{IsLine, PutsLine};
 
@@ -102,7 +105,9 @@ impl Line {
     }
 
     /// Adds a value's text.
-    pub fn show<D: Display + Drop>(&mut self, value: D) -> Result<(), AllocError> {
+    pub fn show<D: Display + Drop>(&mut self, value: D) -> Result<(), AllocError>
+        ensures { OnOk result (AppendsText self.old self.new (D.output value)) }
+    {
         match fmt::Write::write(self, value) {
             Ok(()) => Ok(()),
             Err(_) => Err(AllocError),
@@ -110,7 +115,9 @@ impl Line {
     }
 
     /// Adds a text as a JSON string.
-    pub fn json_string(&mut self, alloc: Global, text: &str) -> Result<(), AllocError> {
+    pub fn json_string(&mut self, alloc: Global, text: &str) -> Result<(), AllocError>
+        ensures { OnOk result (self.new ≡ self.old ++ print (string text.now ∷ [])) }
+    {
         let mut out = Writer::new(Vec::new(alloc));
         out.string(text)?;
         self.bytes.extend_from_slice(out.into_inner().as_slice())
@@ -140,6 +147,8 @@ impl Line {
 }
 
 impl fmt::Write for Line {
+    ghost write_str_gives = { λ before text after. after ≡ before ++ text };
+
     fn write_str(&mut self, text: &str) -> fmt::Result {
         match self.text(text) {
             Ok(()) => Ok(()),
