@@ -4,7 +4,7 @@
 -- line, or a line of each rule that the unit breaks. It ends where the input does, at its first
 -- fault, or where the reader, the writer or memory fails.
 use Rattle.std.specs.Prelude.{◌≡◌, ℕ, ◌+◌, ◌-◌, ◌^◌, ◌≤◌, List, [], ◌++◌, length, nat_lt, ⊤}
-use Rattle.std.specs.Prelude.{Bool, false, not, Option, Result, Ok, Err}
+use Rattle.std.specs.Prelude.{Bool, false, Option, Result, Ok, Err}
 use Rattle.std.specs.Io.KnownBytes.{Consumes, Appends, IsAtEnd}
 use Rattle.std.specs.List.{AllByRecursion, concat}
 use Rattle.rtr_units.specs.declared.fault.Fault.{Fault}
