@@ -2,15 +2,20 @@
  *
  * The functions are proved: the contracts stand in crates/rtr_c, and docs/PROTOCOL.md says in
  * prose what is accepted, in which order faults come, and what the written form is. This header is
- * not proved; `.ci/bindings` checks its layout and runs its examples.
+ * not proved; `.ci/bindings` checks its layout and runs its examples. All lengths are in bytes.
  *
  * What the caller owes, for each call:
- *   - a slice crosses as a pointer and a number of bytes. No pointer is null, even with 0 bytes;
- *   - the slice that is written to, and what the last pointer points at, overlap nothing else;
- *   - rtr_same_meaning, which asks malloc for memory, isn't called from a signal handler.
- * Then no call crashes, reads or writes a byte outside of what it is given, keeps a pointer or a
- * state of its own, or waits. Several threads may call at once. All calls but rtr_same_meaning ask
- * for no memory.
+ *   - a slice crosses as a pointer and its length: as many bytes can be read there, or written in
+ *     an output. No pointer is null, even with length 0, where any other one will do;
+ *   - an output, and what the last pointer points at, overlap nothing else that the call is given.
+ *     What is only read may overlap;
+ *   - until the call returns, no other thread writes to what it is given, nor reads an output or
+ *     what the last pointer points at;
+ *   - for rtr_same_meaning alone: malloc, realloc and free are those of one allocator, and it is
+ *     called neither from a signal handler nor in a forked child of a process with threads.
+ * Outputs and what the last pointer points at needn't be set before. Then no call crashes, reads or
+ * writes a byte outside of what it is given, keeps a pointer or a state of its own, or waits.
+ * Several threads may call at once. All calls but rtr_same_meaning ask for no memory.
  */
 #ifndef RTR_H
 #define RTR_H
@@ -23,9 +28,10 @@
 extern "C" {
 #endif
 
-/* How a call ended. The faults of a unit are 1 to 7, and come in the order of docs/PROTOCOL.md. */
+/* How a call ended; each call below names those that it answers. The faults of a unit are 1 to 7,
+ * and come in the order of docs/PROTOCOL.md. */
 enum rtr_status {
-    RTR_OK = 0,
+    RTR_OK = 0,              /* the call did all that it is for */
     RTR_SHORT = 1,           /* the input ends inside a unit, or before one */
     RTR_UNIT_TYPE = 2,       /* `detail` is a type that is not allowed here */
     RTR_UNIT_VERSION = 3,    /* `detail` is a version that is not allowed here */
@@ -33,7 +39,7 @@ enum rtr_status {
     RTR_UNIT_LENGTH = 5,     /* a length that doesn't suit the type */
     RTR_EMPTY_PROVIDERS = 6, /* an ASPA that is announced without providers */
     RTR_PREFIX = 7,          /* `detail`, an rtr_prefix_rule, is broken by a prefix */
-    RTR_TOO_MANY = 8,        /* as many units as were allowed were taken */
+    RTR_TOO_MANY = 8,        /* `limit` units were taken, and no end of data was among them */
     RTR_NO_ROOM = 9,         /* the output has no room for what is to be written next */
     RTR_NO_FORM = 10,        /* rtr_write_unit: an action, a family or a part that is none */
     RTR_NO_MEMORY = 11       /* rtr_same_meaning: malloc refused */
@@ -56,12 +62,12 @@ enum rtr_kind {
 
 /* How a call that normalises came out. */
 struct rtr_answer {
-    uint64_t units; /* payload units that were taken from the input */
+    uint64_t units; /* payload units that were taken from the input, without the end of data */
     uint64_t forms; /* those of them that were written; fewer than `units` only for one version */
     size_t taken;   /* bytes of the input that were taken: whole units, and the end of data */
     size_t written; /* bytes of the output that were written, from its front */
     uint8_t status; /* an rtr_status, as the call returns it */
-    uint8_t detail; /* see there; else 0 */
+    uint8_t detail; /* with RTR_UNIT_TYPE, RTR_UNIT_VERSION and RTR_PREFIX: see there; else 0 */
 };
 
 /* A payload unit or an end of data. Fields that its kind doesn't have are 0. */
@@ -86,21 +92,26 @@ struct rtr_unit {
     uint8_t address[16];        /* in network order, the bits after the prefix length clear; the
                                    first 4 bytes in IPv4 */
     uint8_t key_identifier[20]; /* the subject key identifier of a router key */
-    uint8_t detail;             /* where rtr_next refuses: see rtr_status */
+    uint8_t detail;             /* where rtr_next refuses, as in an rtr_answer; else 0 */
 };
 
 /* Normalises the sequence that the input begins with: reads payload units up to an end of data,
  * and writes the form of what each means, and the end of data, to the front of the output.
  *
- * At most `limit` units are taken, the end of data included. RTR_OK says that all of the sequence
- * was taken and written; what follows it is left. Else the call stopped before a unit, none of
- * whose bytes count as taken: output[0 .. written) is the form of input[0 .. taken), whole units,
- * and the rest of the output is as it was. RTR_TOO_MANY comes first, then RTR_SHORT to RTR_PREFIX,
- * then RTR_NO_ROOM. After RTR_NO_ROOM and RTR_TOO_MANY, and after RTR_SHORT once more bytes are
- * there, a caller goes on at input + taken, with the limit less by `units`.
+ * At most `limit` units are taken, the end of data included; UINT64_MAX allows all. RTR_OK comes
+ * exactly where the input begins with fewer than `limit` acceptable payload units and an end of
+ * data, and the output is at least as long as their form: then all of that was taken and its form
+ * was written, and what follows in the input is left.
  *
- * The output always suffices where it is at least as long as the input: RTR_NO_ROOM doesn't come
- * then. Two sequences have the same form exactly where they mean the same. */
+ * Else the call stopped before a unit, none of whose bytes count as taken: output[0 .. written) is
+ * the form of input[0 .. taken), whole units. RTR_TOO_MANY comes first, then RTR_SHORT to
+ * RTR_PREFIX, then RTR_NO_ROOM. After RTR_NO_ROOM with more room, and after RTR_SHORT with more
+ * input, a caller goes on at input + taken with the limit less by `units`; after RTR_TOO_MANY with
+ * another limit.
+ *
+ * The rest of the output is as it was. The output always suffices where it is at least as long as
+ * the input: RTR_NO_ROOM doesn't come then. Two sequences have the same form exactly where they
+ * mean the same. */
 uint8_t rtr_normalise_slice(const uint8_t *input, size_t input_length,
                             uint8_t *output, size_t output_length,
                             uint64_t limit, struct rtr_answer *answer);
@@ -112,28 +123,30 @@ uint8_t rtr_normalise_slice(const uint8_t *input, size_t input_length,
  * An end of data has 12 bytes in version 0 and 24 in versions 1 and 2, so that one that came in
  * version 0 grows: the output always suffices where it is at least 12 bytes longer than the input.
  *
- * RTR_UNIT_VERSION comes first for a version above 2, with nothing taken or written. */
+ * RTR_UNIT_VERSION comes first for a version above 2, which `detail` is then, with nothing taken or
+ * written. */
 uint8_t rtr_normalise_for_slice(const uint8_t *input, size_t input_length,
                                 uint8_t *output, size_t output_length,
                                 uint64_t limit, uint8_t version, struct rtr_answer *answer);
 
 /* Shows the payload unit or the end of data that the input begins with. The next one begins `size`
- * bytes later. Nothing is copied but fixed fields: key info and providers are
- * input[part_start .. part_start + part_length), as they stand, on a withdrawal too.
+ * bytes later; what follows doesn't count. Nothing is copied but fixed fields: key info and
+ * providers are input[part_start .. part_start + part_length), as they stand, on a withdrawal too.
  *
- * RTR_OK, or RTR_SHORT to RTR_PREFIX, with all fields 0 but `detail`. */
+ * RTR_OK; or, with all fields 0 but `detail`, RTR_SHORT to RTR_PREFIX. */
 uint8_t rtr_next(const uint8_t *input, size_t input_length, struct rtr_unit *unit);
 
-/* Writes the written form of the unit to the front of the output, and its length to `written`. Key
- * info and providers are input[part_start .. part_start + part_length). An address is written with the
- * bits after the prefix length clear, a withdrawn ASPA without providers, and an end of data of
- * version 0 without timings. `size`, `detail` and what the kind doesn't have are not looked at.
+/* Writes the written form of the unit to the front of the output, and its length to `written`: at
+ * most 65535. Key info and providers are input[part_start .. part_start + part_length); for other
+ * kinds the input isn't looked at. An address is written with the bits after the prefix length
+ * clear, a withdrawn ASPA without providers, and an end of data of version 0 without timings.
+ * `size`, `detail` and what the kind doesn't have are not looked at.
  *
  * RTR_OK; or, with nothing written and `written` 0, in this order:
  *   RTR_UNIT_TYPE        `kind` is none
  *   RTR_NO_FORM          `action` is above 1, or above 0 for an end of data; `family` isn't that
  *                        of the kind; key info or providers lie outside of the input
- *   RTR_PREFIX           the lengths of a prefix break their rule
+ *   RTR_PREFIX           the lengths of a prefix break their rule; which part isn't told
  *   RTR_TOO_LONG         more than 65503 bytes of key info or, announced, 65520 of providers
  *   RTR_UNIT_LENGTH      providers, announced, that aren't 4 bytes each
  *   RTR_EMPTY_PROVIDERS  an ASPA is announced without providers
@@ -143,16 +156,16 @@ uint8_t rtr_write_unit(const struct rtr_unit *unit, const uint8_t *input, size_t
                        uint8_t *output, size_t output_length, size_t *written);
 
 /* Whether both inputs begin with sequences that mean the same, of fewer than `limit` payload units
- * each.
+ * each. It asks malloc for the room of both forms, and gives it back.
  *
- * RTR_OK with the answer in `same`. Else `same` is as it was: RTR_SHORT to RTR_PREFIX or
- * RTR_TOO_MANY of the left input, or of the right one where the left is accepted; or
+ * RTR_OK with the answer in `same`. Else `same` is as it was: RTR_SHORT to RTR_PREFIX, without a
+ * detail, or RTR_TOO_MANY of the left input, or of the right one where the left is accepted; or
  * RTR_NO_MEMORY. */
 uint8_t rtr_same_meaning(const uint8_t *left, size_t left_length,
                          const uint8_t *right, size_t right_length,
                          uint64_t limit, bool *same);
 
-/* A text for a status. */
+/* A text for a status: for any number, and never null. */
 static inline const char *rtr_status_text(uint8_t status)
 {
     static const char *const texts[] = {

@@ -117,6 +117,23 @@ static void check_whole(const struct test_case *one, const uint8_t *input)
     free(output);
 }
 
+/* An output as long as the form suffices, and a shorter one doesn't. */
+static void check_room(const struct test_case *one, const uint8_t *input)
+{
+    for (size_t lack = 0; lack < 2 && one->status == RTR_OK; lack++) {
+        size_t room = one->form_length - lack;
+        uint8_t *output = malloc(room);
+        struct rtr_answer answer;
+        CHECK(output != NULL);
+        CHECK(normalised(one, input, output, room, one->units + 1, &answer)
+              == (lack ? RTR_NO_ROOM : RTR_OK));
+        CHECK(memcmp(output, one->form, answer.written) == 0);
+        CHECK(lack ? answer.taken < one->taken : answer.written == room);
+        CHECK(normalised(one, input, output, room, one->units, &answer) == RTR_TOO_MANY);
+        free(output);
+    }
+}
+
 /* In turns, with little room and few units each time: going on gives the same. */
 static void check_in_turns(const struct test_case *one, const uint8_t *input, size_t room)
 {
@@ -205,6 +222,7 @@ static void *check_cases(void *all)
         struct test_case one = next_case(&at);
         uint8_t *input = copied(one.input, one.input_length);
         check_whole(&one, input);
+        check_room(&one, input);
         if (one.input_length < 1 << 16)
             check_in_turns(&one, input, 16);
         if (one.version == 255)

@@ -1,5 +1,9 @@
 // Package rtr reads and writes units and sequences of the RPKI to Router protocol (RFC 6810, RFC 8210)
 // in memory, over the proved library rtr_c. What the functions promise is proved; this package is not.
+//
+// Slices may be nil or empty. What is written to must not overlap what is read, and no other goroutine
+// may write to what a call is given, or read its output, before the call returns. SameMeaning alone asks
+// C's malloc for memory. Several goroutines may call at once.
 package rtr
 
 /*
@@ -15,23 +19,24 @@ import (
 	"unsafe"
 )
 
-// Status says how a call ended; each but OK is an error.
+// Status says how a call ended; each but OK is an error. Those of a unit are Short to PrefixRule, and
+// come in the order of docs/PROTOCOL.md.
 type Status uint8
 
 // The numbers are those of rtr.h.
 const (
-	OK Status = iota
-	Short
-	UnitType
-	UnitVersion
-	TooLong
-	UnitLength
-	EmptyProviders
-	PrefixRule
-	TooMany
-	NoRoom
-	NoForm
-	NoMemory
+	OK             Status = iota
+	Short                 // the input ends inside a unit, or before one
+	UnitType              // a unit of the type Detail is not allowed here
+	UnitVersion           // a unit of the version Detail is not allowed here
+	TooLong               // a router key or an ASPA has more than 65535 bytes
+	UnitLength            // a length doesn't suit the type
+	EmptyProviders        // an ASPA is announced without providers
+	PrefixRule            // a prefix breaks its rule: its length (1) or its max length (2) is above that of an address, or the max length below the length (3)
+	TooMany               // as many units as were allowed were taken
+	NoRoom                // the output has no room for what is to be written next
+	NoForm                // no unit has these fields
+	NoMemory              // memory was refused
 )
 
 // Fault is an error with what it tells of: a type, a version or a rule on prefix lengths, else 0.
@@ -58,8 +63,10 @@ func fault(status, detail C.uint8_t) error {
 // Progress says how far a call came that normalises: whole units, and the end of data where it was
 // accepted.
 type Progress struct {
-	Units, Forms   uint64
-	Taken, Written int
+	Units   uint64 // payload units that were taken from the input
+	Forms   uint64 // those of them that were written
+	Taken   int    // bytes of the input that were taken
+	Written int    // bytes of the output that were written
 }
 
 // The place of a slice, which is never nil, and its length.
@@ -75,8 +82,17 @@ func progress(a *C.struct_rtr_answer) Progress {
 	return Progress{uint64(a.units), uint64(a.forms), int(a.taken), int(a.written)}
 }
 
-// Normalise normalises the sequence that input begins with, into the front of output. At most limit
-// units are taken, the end of data included. An output as long as the input always suffices.
+// Normalise normalises the sequence that input begins with: it reads payload units up to an end of data,
+// and writes the form of what each means, and the end of data, to the front of output. At most limit
+// units are taken, the end of data included.
+//
+// It succeeds exactly where input begins with fewer than limit acceptable payload units and an end of
+// data, and output is at least as long as their form, as one as long as the input always is. What follows
+// in the input is left.
+//
+// Errors, in this order: TooMany; Short to PrefixRule; NoRoom. Then Progress says which whole units were
+// taken before, whose form is written; a caller goes on after them with more room, more input or another
+// limit.
 func Normalise(input, output []byte, limit uint64) (Progress, error) {
 	var a C.struct_rtr_answer
 	in, n := place(input)
@@ -85,8 +101,12 @@ func Normalise(input, output []byte, limit uint64) (Progress, error) {
 	return progress(&a), fault(status, a.detail)
 }
 
-// NormaliseFor is Normalise for clients of one protocol version, 0, 1 or 2. An output 12 bytes longer
-// than the input always suffices.
+// NormaliseFor is Normalise for clients of one protocol version: units that the version doesn't have are
+// checked and counted in Units but not written, and all others, and the end of data, are written in this
+// version. An output 12 bytes longer than the input always suffices, since an end of data has 12 bytes in
+// version 0 and 24 in versions 1 and 2.
+//
+// UnitVersion comes first for a version above 2, with nothing taken or written.
 func NormaliseFor(input, output []byte, limit uint64, version uint8) (Progress, error) {
 	var a C.struct_rtr_answer
 	in, n := place(input)
@@ -95,7 +115,9 @@ func NormaliseFor(input, output []byte, limit uint64, version uint8) (Progress, 
 	return progress(&a), fault(status, a.detail)
 }
 
-// SameMeaning says whether both inputs begin with sequences that mean the same.
+// SameMeaning says whether both inputs begin with sequences that mean the same, of fewer than limit payload
+// units each. The error is that of left, or that of right where left is accepted: Short to TooMany, whose
+// Detail is 0; or NoMemory.
 func SameMeaning(left, right []byte, limit uint64) (bool, error) {
 	var same C.bool
 	l, n := place(left)
@@ -115,19 +137,25 @@ const (
 
 // Unit is a payload unit or an end of data. Fields that its kind doesn't have are zero.
 type Unit struct {
-	Kind, Version                  uint8
-	Announce                       bool
-	PrefixLength, MaxLength        uint8
-	Address                        [16]byte
-	ASN, Customer                  uint32
-	KeyIdentifier                  [20]byte
-	Session                        uint16
-	Serial, Refresh, Retry, Expire uint32
+	Kind, Version           uint8
+	Announce                bool // else the payload is withdrawn
+	PrefixLength, MaxLength uint8
+	// The address in network order, the bits after the prefix length clear; the first 4 bytes in IPv4.
+	Address       [16]byte
+	ASN           uint32 // of a prefix or a router key
+	Customer      uint32 // of an ASPA
+	KeyIdentifier [20]byte
+	Session       uint16 // of an end of data, as what follows
+	Serial        uint32
+	// In seconds; 0 in version 0.
+	Refresh, Retry, Expire uint32
 	// The key info of a router key or the providers of an ASPA, four bytes each, within the input.
 	Part []byte
 }
 
-// Next gives the unit that input begins with, and what follows it.
+// Next gives the unit that input begins with, and what follows it. Nothing is copied but fixed fields.
+//
+// Errors: Short to PrefixRule, with the whole input.
 func Next(input []byte) (Unit, []byte, error) {
 	var u C.struct_rtr_unit
 	in, n := place(input)
@@ -151,7 +179,14 @@ func Next(input []byte) (Unit, []byte, error) {
 	return unit, input[u.size:], nil
 }
 
-// Write writes the written form of the unit to the front of output, and gives its length.
+// Write writes the written form of the unit to the front of output, and gives its length in bytes, at most
+// 65535. The bits of an address after the prefix length are cleared, a withdrawn ASPA is written without
+// providers, and an end of data of version 0 without timings. Nothing is written at an error, whose Detail
+// is 0.
+//
+// Errors, in this order: UnitType; NoForm for an end of data with Announce; PrefixRule; TooLong for more
+// than 65503 bytes of key info or 65520 of providers; UnitLength for providers that aren't 4 bytes each;
+// EmptyProviders; UnitVersion for an end of data of a version above 2; NoRoom.
 func (unit *Unit) Write(output []byte) (int, error) {
 	u := C.struct_rtr_unit{
 		part_length: C.size_t(len(unit.Part)), asn: C.uint32_t(unit.ASN),

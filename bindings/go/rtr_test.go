@@ -89,7 +89,7 @@ func TestUnits(t *testing.T) {
 			t.Fatalf("%x: %v", one.input, err)
 		}
 		same, err := SameMeaning(one.input, one.form, 1<<32)
-		if same != (one.status == 0) || (err == nil) != same {
+		if status, _ = told(err); same != (one.status == 0) || status != one.status {
 			t.Fatalf("%x: means something else than its form: %v", one.input, err)
 		}
 	}

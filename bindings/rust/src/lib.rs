@@ -120,15 +120,27 @@ impl fmt::Display for Stopped {
 
 impl std::error::Error for Stopped {}
 
-/// Normalises the sequence that the input begins with, into the front of the output. At most
-/// `limit` units are taken, the end of data included. An output as long as the input always
-/// suffices.
+/// Normalises the sequence that the input begins with: reads payload units up to an end of data,
+/// and writes the form of what each means, and the end of data, to the front of the output. At most
+/// `limit` units are taken, the end of data included. It asks for no memory.
+///
+/// It succeeds exactly where the input begins with fewer than `limit` acceptable payload units and
+/// an end of data, and the output is at least as long as their form, as one as long as the input
+/// always is. What follows in the input is left.
+///
+/// Faults, in this order: `TooMany`; `Short` to `Prefix`; `NoRoom`. Then `progress` says which
+/// whole units were taken before, whose form is written; a caller goes on after them with more
+/// room, more input or another limit.
 pub fn normalise(input: &[u8], output: &mut [u8], limit: u64) -> Result<Progress, Stopped> {
     sys::normalise(input, output, limit)
 }
 
-/// As `normalise`, for clients of one protocol version, 0, 1 or 2. An output 12 bytes longer than
-/// the input always suffices.
+/// As `normalise`, for clients of one protocol version: units that the version doesn't have are
+/// checked and counted in `units` but not written, and all others, and the end of data, are written
+/// in this version. An output 12 bytes longer than the input always suffices, since an end of data
+/// has 12 bytes in version 0 and 24 in versions 1 and 2.
+///
+/// `UnitVersion` comes first for a version above 2, with nothing taken or written.
 pub fn normalise_for(
     input: &[u8],
     output: &mut [u8],
@@ -139,9 +151,20 @@ pub fn normalise_for(
 }
 
 /// Whether both inputs begin with sequences that mean the same, of fewer than `limit` payload
-/// units. The fault is that of the left input, or of the right one where the left is accepted.
+/// units each. It asks C's `malloc` for the room of both forms, and gives it back.
+///
+/// The fault is that of the left input, or of the right one where the left is accepted: `Short` to
+/// `TooMany`; or `Memory`.
 pub fn same_meaning(left: &[u8], right: &[u8], limit: u64) -> Result<bool, Fault> {
-    sys::same_meaning(left, right, limit)
+    // A call tells no more than the status, so the type, the version or the broken rule is looked
+    // up: no unit before it is refused.
+    let first_fault = |input| Units::new(input).find_map(Result::err);
+    sys::same_meaning(left, right, limit).map_err(|fault| match fault {
+        Fault::UnitType(_) | Fault::UnitVersion(_) | Fault::Prefix(_) => first_fault(left)
+            .or_else(|| first_fault(right))
+            .unwrap_or(fault),
+        fault => fault,
+    })
 }
 
 /// The refresh, retry and expire intervals of an end of data, in seconds.
@@ -194,7 +217,10 @@ pub struct Unit<'a> {
 }
 
 impl<'a> Unit<'a> {
-    /// The unit that the input begins with, and what follows it.
+    /// The unit that the input begins with, and what follows it. Nothing is copied but fixed
+    /// fields, and it asks for no memory.
+    ///
+    /// Faults: `Short` to `Prefix`.
     pub fn first(input: &'a [u8]) -> Result<(Self, &'a [u8]), Fault> {
         let shown = sys::next(input)?;
         let (bytes, rest) = input.split_at(shown.size);
@@ -207,8 +233,9 @@ impl<'a> Unit<'a> {
         ))
     }
 
-    /// Writes the written form to the front of the output, and answers its length in bytes. Host
-    /// bits of an address are cleared, and a withdrawn ASPA is written without providers.
+    /// Writes the written form to the front of the output, and answers its length in bytes, at most
+    /// 65535. Host bits of an address are cleared, a withdrawn ASPA is written without providers,
+    /// and an end of data of version 0 without timings.
     ///
     /// Faults, in this order: `Prefix`, `TooLong`, `UnitLength`, `EmptyProviders`, `UnitVersion`
     /// for an end of data; at last `NoRoom`. Nothing is written then.

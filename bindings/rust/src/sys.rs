@@ -177,6 +177,7 @@ fn refused(unit: &Unit, status: u8) -> u8 {
     }
 }
 
+/// The fault is told without the type, the version or the broken rule.
 pub(crate) fn same_meaning(left: &[u8], right: &[u8], limit: u64) -> Result<bool, Fault> {
     let mut same = false;
     // SAFETY: both slices are live and of these lengths, and `same` overlaps nothing.

@@ -113,11 +113,17 @@ fn unit_by_unit() {
 
 #[test]
 fn meanings() {
+    // An end of data of version 0 alone.
+    let end = [0, 7, 0, 1, 0, 0, 0, 12, 0, 0, 0, 2];
     for case in cases().iter().filter(|case| case.version.is_none()) {
-        let told = same_meaning(&case.input, &case.form, u32::MAX.into());
-        match case.status {
-            0 => assert_eq!(told, Ok(true)),
-            _ => assert!(told.is_err()),
+        let left = same_meaning(&case.input, &case.form, u32::MAX.into());
+        let right = same_meaning(&end, &case.input, u32::MAX.into());
+        if case.status == 0 {
+            assert_eq!(left, Ok(true));
+            assert_eq!(right, Ok(case.form == end));
+        } else {
+            assert_eq!(left.map_err(numbers), Err((case.status, case.detail)));
+            assert_eq!(right.map_err(numbers), Err((case.status, case.detail)));
         }
     }
 }

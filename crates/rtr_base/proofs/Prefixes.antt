@@ -1,34 +1,51 @@
--- Prefixes that compare as equal are one.
-use Rattle.std.proofs.Common.{◌≡◌, ℕ, refl, sym, ap, ◌∙◌, ◌↔◌}
+-- Prefixes that compare as equal are one, and their order as the code compares them.
+use Rattle.std.proofs.Common.{◌≡◌, ℕ, Bool, true, false, refl, sym, ap, ◌∙◌, ◌↔◌}
 use Rattle.std.specs.declared.cmp.Ordering.{Ordering}
 use Rattle.std.specs.declared.cmp.Ordering.TheVariants.{Less, Equal, Greater}
-use Rattle.std.specs.Ordering.{nat_cmp, ordering_then}
-use Rattle.std.proofs.lemmas.Cmp.{ranked, tied_itself}
-use Rattle.rtr_base.specs.Addresses.{Family, v4, v6, PrefixParts, family_cmp, prefix_cmp}
-use Rattle.rtr_base.specs.PrefixOrder.{prefix_total}
+use Rattle.std.specs.Ordering.{bool_cmp, nat_cmp, ordering_then}
+use Rattle.std.specs.FinMap.{nat_cmp-IsAntisymmetric, slice_cmp-IsAntisymmetric}
+use Rattle.std.proofs.lemmas.Cmp.{tied_itself}
+use Rattle.rtr_base.specs.Addresses.{Family, v4, v6, PrefixParts, compared, family_of, ip_version, prefix_cmp}
+use Rattle.rtr_base.specs.Addresses.{prefix_total}
 
-family_exact : (f g : Family) → family_cmp f g ≡ Equal → f ≡ g
-family_exact v4 v4 h = refl
-family_exact v4 v6 h = absurd cc
-family_exact v6 v4 h = absurd cc
-family_exact v6 v6 h = refl
+same_version : (f g : Family) → ip_version f ≡ ip_version g → f ≡ g
+same_version v4 v4 e = refl
+same_version v4 v6 e = absurd cc
+same_version v6 v4 e = absurd cc
+same_version v6 v6 e = refl
 
-then_parts : (o p : Ordering) → ordering_then o p ≡ Equal → (o ≡ Equal) × (p ≡ Equal)
-then_parts Less p h = absurd cc
-then_parts Equal p h = (refl, h)
-then_parts Greater p h = absurd cc
-
-nat_exact : (m n : ℕ) → nat_cmp m n ≡ Equal → m ≡ n
-nat_exact m n h = ranked m n Equal (sym h)
+same_numbers : (p q : PrefixParts) → compared p ≡ compared q → p ≡ q
+same_numbers p q e =
+    let family = same_version p.family q.family cc in
+    let address : p.address ≡ q.address = cc in
+    let len : p.len ≡ q.len = cc in
+    λ i. record { family = family i; address = address i; len = len i }
 
 pub prefix_exact : (p q : PrefixParts) → prefix_cmp p q ≡ Equal → p ≡ q
 prefix_exact p q h =
-    let s = then_parts (family_cmp p.family q.family) (ordering_then (nat_cmp p.address q.address) (nat_cmp p.len q.len)) h in
-    let t = then_parts (nat_cmp p.address q.address) (nat_cmp p.len q.len) s.1 in
-    let f = family_exact p.family q.family s.0 in
-    let a = nat_exact p.address q.address t.0 in
-    let l = nat_exact p.len q.len t.1 in
-    λ i. record { family = f i; address = a i; len = l i }
+    same_numbers p q (slice_cmp-IsAntisymmetric nat_cmp-IsAntisymmetric (compared p) (compared q) h)
 
 pub prefix_same : (p q : PrefixParts) → (prefix_cmp p q ≡ Equal) ↔ (p ≡ q)
 prefix_same p q = (prefix_exact p q, λ e. ap (prefix_cmp p) (sym e) ∙ tied_itself prefix_total p)
+
+-- three orders that decide in turn
+regrouped : (f a l : Ordering) → ordering_then (ordering_then f a) l ≡ ordering_then f (ordering_then a (ordering_then l Equal))
+regrouped Less a l = refl
+regrouped Equal Less l = refl
+regrouped Equal Equal Less = refl
+regrouped Equal Equal Equal = refl
+regrouped Equal Equal Greater = refl
+regrouped Equal Greater l = refl
+regrouped Greater a l = refl
+
+by_bit : (b c : Bool) → bool_cmp c b ≡ nat_cmp (ip_version (family_of b)) (ip_version (family_of c))
+by_bit true true = refl
+by_bit true false = refl
+by_bit false true = refl
+by_bit false false = refl
+
+-- the order as the code compares prefixes, by their bits, addresses and lengths
+pub prefix_chain : (b c : Bool) (a d l m : ℕ) →
+    ordering_then (ordering_then (bool_cmp c b) (nat_cmp a d)) (nat_cmp l m)
+    ≡ prefix_cmp (record { family = family_of b; address = a; len = l }) (record { family = family_of c; address = d; len = m })
+prefix_chain b c a d l m = rw (by_bit b c) (regrouped _ (nat_cmp a d) (nat_cmp l m))

@@ -1,12 +1,13 @@
 -- Addresses and prefixes of addresses (RFC 8210 sections 5.6 and 5.7).
 use Rattle.std.specs.Prelude.{◌≡◌, ℕ, ◌-◌, ◌%◌, ◌^◌, ◌<◌, ◌≤◌, Option, unwrap_or, Bool, true, false}
-use Rattle.std.specs.Prelude.{refl}
+use Rattle.std.specs.Prelude.{refl, List, [], ◌∷◌}
 use Rattle.std.specs.declared.cmp.Ordering.{Ordering}
-use Rattle.std.specs.declared.cmp.Ordering.TheVariants.{Less, Equal, Greater}
 use Rattle.std.specs.declared.net.ip_addr.IpAddr.{IpAddr}
 use Rattle.std.specs.declared.net.ip_addr.IpAddr.TheVariants.{V4, V6}
 use Rattle.std.specs.Net.Addr.{ipv4_octets, ipv6_octets, ipv4_bits, ipv6_bits}
-use Rattle.std.specs.Ordering.{nat_cmp, ordering_then}
+use Rattle.std.specs.Ordering.{nat_cmp}
+use Rattle.std.specs.Cmp.{IsTotalOrder, on_total}
+use Rattle.std.specs.Cmp.Lexicographic.{slice_cmp, nat_list_cmp_total}
 use Rattle.rtr_base.specs.Bytes.{be}
 use Rattle.rtr_base.specs.declared.addr.PrefixError.{PrefixError}
 use Rattle.rtr_base.specs.declared.addr.PrefixError.TheVariants.{LenOverflow, NonZeroHost}
@@ -88,17 +89,23 @@ BreaksMaxLen p x Underflow = x < p.len
 
 -- ---- order, which is this library's own
 
--- IPv4 comes before IPv6
-abbrev pub family_cmp : Family → Family → Ordering
-family_cmp v4 v4 = Equal
-family_cmp v4 v6 = Less
-family_cmp v6 v4 = Greater
-family_cmp v6 v6 = Equal
+-- the version of the Internet Protocol
+abbrev pub ip_version : Family → ℕ
+ip_version v4 = 4
+ip_version v6 = 6
 
--- by family, then by the address as a number, then by the length
+-- what of a prefix is compared in turn: IPv4 before IPv6, then the address as a number, then the
+-- length
+abbrev pub compared : PrefixParts → List ℕ
+compared p = ip_version p.family ∷ p.address ∷ p.len ∷ []
+
+-- the first differing number decides
 abbrev pub prefix_cmp : PrefixParts → PrefixParts → Ordering
-prefix_cmp p q = ordering_then (family_cmp p.family q.family)
-    (ordering_then (nat_cmp p.address q.address) (nat_cmp p.len q.len))
+prefix_cmp p q = slice_cmp nat_cmp (compared p) (compared q)
+
+-- an instance of std's law on lists
+pub prefix_total : IsTotalOrder prefix_cmp
+prefix_total = on_total compared nat_list_cmp_total
 
 -- ---- the family as a bit, as this library keeps it
 

@@ -3,7 +3,6 @@ pub mod Addresses
 pub mod Bytes
 pub mod Numerals
 pub mod PlainTexts
-pub mod PrefixOrder
 pub mod ReadTexts
 pub mod Serial
 pub mod States

@@ -105,7 +105,7 @@ ParsesMaxLen text r = MatchResult r (IsMaxLenText text) (RefusesMaxLen text)
 
 -- ---- identifiers of keys
 
--- why a text is no identifier: it hasn't 40 characters, or one of them is no hex digit
+-- why a text is no identifier: it has not 40 bytes, or one of them is no hex digit
 abbrev pub RefusesKey : List ℕ → ParseKeyIdentifierError → Type 0
 RefusesKey text keys.Length = length text ≢ 40
 RefusesKey text keys.Digit = (length text ≡ 40) × ¬ AllPass is_hex_digit text

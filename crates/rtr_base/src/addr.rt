@@ -8,8 +8,7 @@ ghost use Rattle.std.specs.Ordering.{eq_by_cmp, as_partial_cmp};
 ghost use Rattle.std.specs.Net.Addr.{ipv4_bits, ipv6_bits};
 ghost use Rattle.rtr_base.specs.Addresses.{v4, v6, width, cleared, v4_test, IsPrefix};
 ghost use Rattle.rtr_base.specs.Addresses.{IsMaxLenPrefix, IsAddressOf, ip_number, resolved_len};
-ghost use Rattle.rtr_base.specs.Addresses.{prefix_at, prefix_cmp, BreaksPrefix};
-ghost use Rattle.rtr_base.specs.PrefixOrder.{prefix_total};
+ghost use Rattle.rtr_base.specs.Addresses.{prefix_at, prefix_cmp, prefix_total, BreaksPrefix};
 
 use std::cmp::Ordering;
 use std::error::Error;

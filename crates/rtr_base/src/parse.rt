@@ -156,7 +156,7 @@ impl FromStr for MaxLenPrefix {
 /// Why a text isn't the identifier of a key.
 #[derive(Clone, Copy, Debug, PartialEq, Eq)]
 pub enum ParseKeyIdentifierError {
-    /// The text hasn't 40 characters.
+    /// The text has not 40 bytes.
     Length,
     /// A character isn't a hex digit.
     Digit,

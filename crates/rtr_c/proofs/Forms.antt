@@ -1,15 +1,14 @@
 -- Forms that are written in two pieces.
-use Rattle.std.proofs.Common.{◌≡◌, ◌≢◌, ℕ, ◌+◌, ◌*◌, ◌%◌, ◌<◌, ◌≤◌, Bool, false, not, ltb, eqb, cond, List, [], ◌∷◌, ◌++◌, length, take, drop, Option, Some, Result, Ok, Err, refl, sym, ap, ◌∙◌, append_assoc, arith}
+use Rattle.std.proofs.Common.{◌≡◌, ◌≢◌, ℕ, ◌+◌, ◌*◌, ◌%◌, ◌≤◌, false, not, ltb, eqb, cond, List, [], ◌∷◌, ◌++◌, length, take, drop, Some, Ok, refl, sym, ap, ◌∙◌, append_assoc, arith}
 use Rattle.std.proofs.lemmas.Bool.Decides.{nat_tests}
 use Rattle.std.specs.Prelude.{replicate}
 use Rattle.std.proofs.Math.Seq.{take-append_seam, drop-append_seam}
 use borrow.Rule.Slice.PartMut.{put_mid}
-use Rattle.rtr_base.specs.Bytes.{be, words, IsBytes}
+use Rattle.rtr_base.specs.Bytes.{be, IsBytes}
 use Rattle.rtr_payload.specs.Payloads.{key, aspa}
 use Rattle.rtr_payload.specs.Providers.{words_of}
 use Rattle.rtr_payload.specs.Units.{form}
 use Rattle.rtr_payload.proofs.ProviderBytes.{provider_bytes_of, provider_count}
-use Rattle.rtr_views.specs.Placing.{Places}
 use Rattle.rtr_c.specs.Said.{part_said, key_said, aspa_said}
 use Rattle.rtr_c.specs.declared.unit.RtrUnit.{RtrUnit}
 

@@ -1,5 +1,8 @@
 -- What C is told of a call, in numbers (this library's own).
-use Rattle.std.specs.Prelude.{◌≡◌, ℕ, Bool, Result, Ok, Err}
+use Rattle.std.specs.Prelude.{◌≡◌, ◌<◌, ◌≤◌, ◌⊎◌, ℕ, List, ◌++◌, length, drop}
+use Rattle.std.specs.Prelude.{Result, Ok, Err}
+use Rattle.rtr_units.specs.End.{EndMeaning}
+use Rattle.rtr_payload.specs.Payloads.{Meaning}
 use Rattle.rtr_payload.specs.declared.prefix_rule.PrefixRule.{PrefixRule}
 use Rattle.rtr_payload.specs.declared.prefix_rule.PrefixRule.TheVariants.{LenOverflow}
 use Rattle.rtr_payload.specs.declared.prefix_rule.PrefixRule.TheVariants.{MaxOverflow, MaxUnderflow}
@@ -7,6 +10,7 @@ use Rattle.rtr_views.specs.declared.fault.ViewFault.{ViewFault}
 use Rattle.rtr_views.specs.declared.fault.ViewFault.TheVariants.{Writer, Short, UnitType, UnitLength}
 use Rattle.rtr_views.specs.declared.fault.ViewFault.TheVariants.{TooLong, EmptyProviders, UnitVersion, Prefix}
 use Rattle.rtr_views.specs.declared.fault.ViewFault.TheVariants as faults
+use Rattle.rtr_wire.specs.Sequences.{Accepts, Written, sequence_form}
 use Rattle.rtr_wire.specs.declared.into.IntoFault.{IntoFault}
 use Rattle.rtr_wire.specs.declared.into.IntoFault.TheVariants.{NoRoom, TooMany, Refused}
 use Rattle.rtr_wire.specs.declared.into.Progress.{Progress}
@@ -66,3 +70,33 @@ pub record Tells (p : Progress) (r : Result Unit IntoFault) (a : RtrAnswer) (cod
   pub status : a.status ≡ run_status r
   pub detail : a.detail ≡ run_detail r
   pub answered : code ≡ run_status r
+
+-- the sequence b was taken, and the form of what is written of it stands at the front of the output
+pub record TellsSequence (what : Written) (b : List ℕ) (ms : List Meaning) (e : EndMeaning)
+    (before after : List ℕ) (a : RtrAnswer) (code : ℕ) : Type 0 where
+  pub units : a.units ≡ length ms
+  pub forms : a.forms ≡ length (what.units ms)
+  pub taken : a.taken ≡ length b
+  pub written : a.written ≡ length (sequence_form (what.units ms) (what.end e))
+  pub fits : a.written ≤ length before
+  pub output : after ≡ sequence_form (what.units ms) (what.end e) ++ drop a.written before
+  pub status : a.status ≡ 0
+  pub detail : a.detail ≡ 0
+  pub answered : code ≡ 0
+
+-- An input that begins with a sequence of fewer than limit units has status 0, where the output is
+-- as long as what is written, or has this many bytes, which are enough for all inputs of that
+-- length.
+abbrev pub Succeeds : Written → (limit enough : ℕ) → (input before after : List ℕ) → RtrAnswer → ℕ
+    → Type 0
+Succeeds what limit enough input before after a code =
+    (b : List ℕ) (ms : List Meaning) (e : EndMeaning) → Accepts input b ms e → length ms < limit →
+    (enough ≤ length before)
+    ⊎ (length (sequence_form (what.units ms) (what.end e)) ≤ length before) →
+    TellsSequence what b ms e before after a code
+
+-- no other input has status 0
+abbrev pub SucceedsOnly : Written → ℕ → (input before after : List ℕ) → RtrAnswer → ℕ → Type 0
+SucceedsOnly what limit input before after a code =
+    code ≡ 0 → (b : List ℕ) × (ms : List Meaning) × (e : EndMeaning) × Accepts input b ms e
+    × (length ms < limit) × TellsSequence what b ms e before after a code

@@ -1,6 +1,6 @@
 -- What a unit in numbers says, and what is written for it (this library's own order of refusals;
 -- the forms are those of RFC 8210 sections 5.6 to 5.8 and 5.10, of an ASPA as in the Rust crate).
-use Rattle.std.specs.Prelude.{◌≡◌, ℕ, ◌+◌, ◌%◌, ◌||◌, not, List, [], ◌++◌, length, take, drop}
+use Rattle.std.specs.Prelude.{◌≡◌, ℕ, ◌+◌, ◌%◌, ◌||◌, not, List, [], length, take, drop}
 use Rattle.std.specs.Prelude.{Option, Some, None, Result, Ok}
 use Rattle.std.specs.Prelude.{Err, nat_lt, nat_le, ◌==◌, if◌then◌else◌}
 use Rattle.std.specs.Borrow.{Bor}

@@ -1,14 +1,14 @@
 -- What C is shown of a unit (this library's own; the fields by RFC 8210 sections 5.6 to 5.8 and
 -- 5.10, of an ASPA as in the Rust crate).
-use Rattle.std.specs.Prelude.{◌≡◌, ℕ, ◌-◌, ◌%◌, ◌≤◌, List}
+use Rattle.std.specs.Prelude.{◌≡◌, ℕ, ◌%◌, ◌≤◌, List}
 use Rattle.std.specs.Prelude.{◌++◌, length, take, drop, Option, Some, None}
 use Rattle.std.specs.Prelude.{Result, Ok, Err, slice_index, replicate}
-use Rattle.rtr_base.specs.Addresses.{Family, v4, v6, PrefixParts, resolved_len}
+use Rattle.rtr_base.specs.Addresses.{Family, v4, v6, resolved_len}
 use Rattle.rtr_base.specs.Bytes.{be, value}
 use Rattle.rtr_base.specs.declared.payload.Timing.{Timing}
 use Rattle.rtr_units.specs.End.{EndMeaning}
 use Rattle.rtr_units.specs.Ends.{end_meaning}
-use Rattle.rtr_units.specs.PrefixUnits.{prefix_type, address_bytes}
+use Rattle.rtr_units.specs.PrefixUnits.{prefix_type}
 use Rattle.rtr_units.specs.Header.{version_field}
 use Rattle.rtr_payload.specs.declared.payload.RouteOrigin.{RouteOrigin}
 use Rattle.rtr_views.specs.Faults.{IsFirstFault}

@@ -5,11 +5,10 @@ ghost use Rattle.rtr_units.specs.Ends.{end_meaning};
 ghost use Rattle.rtr_views.specs.declared.fault.ViewFault.{ViewFault};
 ghost use Rattle.rtr_views.specs.declared.view.UnitView.{UnitView};
 ghost use Rattle.rtr_views.specs.declared.view.UnitView.TheVariants as views;
-ghost use Rattle.rtr_c.specs.Shown.{ShowsFirst, address_shown, shown, end_shown};
+ghost use Rattle.rtr_c.specs.Shown.{ShowsFirst, none, shown, end_shown};
 
 use crate::answer::{ACCEPTED, fault_detail, fault_status};
 use crate::unit::RtrUnit;
-use rtr_wire::base::Prefix;
 use rtr_wire::pdu::{
     Aspa, AspaView, EndOfData, Ipv4Prefix, Ipv6Prefix, OriginView, RouterKey, RouterKeyView, Unit,
     UnitView,
@@ -21,128 +20,101 @@ use std::net::IpAddr;
 pub extern "C" fn rtr_next(input: &[u8], unit: &mut RtrUnit) -> u8
     ensures { (r : Result (UnitView × ℕ) ViewFault) × ShowsFirst r input.now unit.new result }
 {
+    *unit = RtrUnit::none();
     match UnitView::first(input) {
         Ok((view, size)) => {
-            *unit = shown(&view, size);
+            show(&view, size, unit);
             ACCEPTED
         }
         Err(fault) => {
-            *unit = RtrUnit {
-                detail: fault_detail(&fault),
-                ..RtrUnit::none()
-            };
+            unit.detail = fault_detail(&fault);
             fault_status(&fault)
         }
     }
 }
 
-/// What is shown of a view of this size.
+/// Shows a view of this size in a unit of no kind.
 #[inline(always)]
-fn shown(view: &UnitView<'_>, size: usize) -> RtrUnit
-    ensures { result ≡ shown view.now size }
+fn show(view: &UnitView<'_>, size: usize, unit: &mut RtrUnit)
+    ensures { unit.old ≡ none → unit.new ≡ shown view.now size }
 {
     match view {
-        UnitView::Origin(view) => origin_shown(view, size),
-        UnitView::RouterKey(view) => key_shown(view, size),
-        UnitView::Aspa(view) => aspa_shown(view, size),
-        UnitView::End(end) => end_shown(end, size),
+        UnitView::Origin(view) => show_origin(view, size, unit),
+        UnitView::RouterKey(view) => show_key(view, size, unit),
+        UnitView::Aspa(view) => show_aspa(view, size, unit),
+        UnitView::End(end) => show_end(end, size, unit),
     }
 }
 
-/// What is shown of a prefix.
+/// Shows a prefix.
 #[inline(always)]
-fn origin_shown(view: &OriginView, size: usize) -> RtrUnit
-    ensures { result ≡ shown (views.Origin view.now) size }
+fn show_origin(view: &OriginView, size: usize, unit: &mut RtrUnit)
+    ensures { unit.old ≡ none → unit.new ≡ shown (views.Origin view.now) size }
 {
     let origin = view.origin();
     let prefix = origin.prefix.prefix();
-    let (kind, family) = if prefix.is_v4() {
-        (Ipv4Prefix::PDU, 4)
-    } else {
-        (Ipv6Prefix::PDU, 6)
-    };
-    RtrUnit {
-        size,
-        asn: origin.asn.into_u32(),
-        kind,
-        version: view.version(),
-        action: view.flags() % 2,
-        family,
-        prefix_length: prefix.len(),
-        max_length: origin.prefix.resolved_max_len(),
-        address: address_shown(prefix),
-        ..RtrUnit::none()
-    }
-}
-
-/// The address of a prefix, at the front of sixteen bytes.
-#[inline(always)]
-fn address_shown(prefix: Prefix) -> [u8; 16]
-    ensures { result ≡ address_shown prefix.family prefix.address }
-{
+    unit.size = size;
+    unit.asn = origin.asn.into_u32();
+    unit.version = view.version();
+    unit.action = view.flags() % 2;
+    unit.prefix_length = prefix.len();
+    unit.max_length = origin.prefix.resolved_max_len();
     match prefix.addr() {
         IpAddr::V4(address) => {
-            let mut bytes = [0; 16];
-            bytes[..4].copy_from_slice(&address.octets());
-            bytes
+            unit.kind = Ipv4Prefix::PDU;
+            unit.family = 4;
+            unit.address[..4].copy_from_slice(&address.octets());
         }
-        IpAddr::V6(address) => address.octets(),
+        IpAddr::V6(address) => {
+            unit.kind = Ipv6Prefix::PDU;
+            unit.family = 6;
+            unit.address = address.octets();
+        }
     }
 }
 
-/// What is shown of a router key.
+/// Shows a router key.
 #[inline(always)]
-fn key_shown(view: &RouterKeyView<'_>, size: usize) -> RtrUnit
-    ensures { result ≡ shown (views.RouterKey view.now) size }
+fn show_key(view: &RouterKeyView<'_>, size: usize, unit: &mut RtrUnit)
+    ensures { unit.old ≡ none → unit.new ≡ shown (views.RouterKey view.now) size }
 {
-    RtrUnit {
-        size,
-        part_start: 32,
-        part_length: view.key_info().len(),
-        asn: view.asn().into_u32(),
-        kind: RouterKey::PDU,
-        version: view.version(),
-        action: view.flags() % 2,
-        key_identifier: view.key_identifier(),
-        ..RtrUnit::none()
-    }
+    unit.size = size;
+    unit.part_start = 32;
+    unit.part_length = view.key_info().len();
+    unit.asn = view.asn().into_u32();
+    unit.kind = RouterKey::PDU;
+    unit.version = view.version();
+    unit.action = view.flags() % 2;
+    unit.key_identifier = view.key_identifier();
 }
 
-/// What is shown of an ASPA unit.
+/// Shows an ASPA unit.
 #[inline(always)]
-fn aspa_shown(view: &AspaView<'_>, size: usize) -> RtrUnit
-    ensures { result ≡ shown (views.Aspa view.now) size }
+fn show_aspa(view: &AspaView<'_>, size: usize, unit: &mut RtrUnit)
+    ensures { unit.old ≡ none → unit.new ≡ shown (views.Aspa view.now) size }
 {
-    RtrUnit {
-        size,
-        part_start: 12,
-        part_length: view.providers().len(),
-        customer: view.customer().into_u32(),
-        kind: Aspa::PDU,
-        version: view.version(),
-        action: view.flags() % 2,
-        ..RtrUnit::none()
-    }
+    unit.size = size;
+    unit.part_start = 12;
+    unit.part_length = view.providers().len();
+    unit.customer = view.customer().into_u32();
+    unit.kind = Aspa::PDU;
+    unit.version = view.version();
+    unit.action = view.flags() % 2;
 }
 
-/// What is shown of an end of data.
+/// Shows an end of data.
 #[inline(always)]
-fn end_shown(end: &EndOfData, size: usize) -> RtrUnit
-    ensures { result ≡ end_shown size (end_meaning end.now) }
+fn show_end(end: &EndOfData, size: usize, unit: &mut RtrUnit)
+    ensures { unit.old ≡ none → unit.new ≡ end_shown size (end_meaning end.now) }
 {
-    let (refresh, retry, expire) = match end.timing() {
-        None => (0, 0, 0),
-        Some(timing) => (timing.refresh, timing.retry, timing.expire),
-    };
-    RtrUnit {
-        size,
-        serial: end.serial().0,
-        refresh,
-        retry,
-        expire,
-        session: end.session(),
-        kind: EndOfData::PDU,
-        version: end.version(),
-        ..RtrUnit::none()
+    unit.size = size;
+    unit.serial = end.serial().0;
+    unit.session = end.session();
+    unit.kind = EndOfData::PDU;
+    unit.version = end.version();
+    if let Some(timing) = end.timing() {
+        unit.refresh = timing.refresh;
+        unit.retry = timing.retry;
+        unit.expire = timing.expire;
     }
 }

@@ -1,2 +1,4 @@
+mod Digits
 mod Printing
 mod Runs
+mod Shown

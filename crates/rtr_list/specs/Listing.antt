@@ -4,7 +4,7 @@
 -- line, or a line of each rule that the unit breaks. It ends where the input does, at its first
 -- fault, or where the reader, the writer or memory fails.
 use Rattle.std.specs.Prelude.{◌≡◌, ℕ, ◌+◌, ◌-◌, ◌^◌, ◌≤◌, List, [], ◌++◌, length, nat_lt, ⊤}
-use Rattle.std.specs.Prelude.{Bool, false, Option, Result, Ok, Err}
+use Rattle.std.specs.Prelude.{Bool, false, min, Option, Result, Ok, Err}
 use Rattle.std.specs.Io.KnownBytes.{Consumes, Appends, IsAtEnd}
 use Rattle.std.specs.List.{AllByRecursion, concat}
 use Rattle.rtr_units.specs.declared.fault.Fault.{Fault}
@@ -52,6 +52,20 @@ PrintsBytes what (Err e) held holds = (lines : List (List ℕ)) × (part : List 
 abbrev pub Prints : Wanted → Result Bool Fault → WriterState → WriterState → Type 0
 Prints what r old new =
     PrintsBytes what r old.held new.held × (new.failed ≡ writer_count (by_cause r) old.failed)
+
+-- of each of n broken rules one line was printed, or printing stopped
+abbrev pub PrintsEachBytes : ℕ → Result Bool Fault → Option (List ℕ) → Option (List ℕ) → Type 0
+PrintsEachBytes n (Ok found) held holds = (lines : List (List ℕ)) × AreLines lines ×
+    Appends held holds (concat lines) × (length lines ≡ n) × (found ≡ nat_lt 0 n)
+PrintsEachBytes n (Err e) held holds = PrintsBytes Findings (Err e) held holds
+
+abbrev pub PrintsEach : ℕ → Result Bool Fault → WriterState → WriterState → Type 0
+PrintsEach n r old new =
+    PrintsEachBytes n r old.held new.held × (new.failed ≡ writer_count (by_cause r) old.failed)
+
+-- the number of bytes before the next unit, which stays at the greatest number of 64 bits
+abbrev pub offset_after : ℕ → List ℕ → ℕ
+offset_after offset unit = min (offset + length unit) (2 ^ 64 - 1)
 
 -- ---- a run
 

@@ -1,102 +1,124 @@
 //! A unit as a line for people.
 
+use crate::line::Line;
 use hex::encode;
+use rtr_base::asn::Asn;
 use rtr_base::payload::Action;
 use rtr_payload::pdu::{Aspa, Payload, RouterKey};
 use rtr_session::{AnyUnit, Report};
 use rtr_units::end::EndOfData;
+use rtr_units::fixed::{Ipv4Prefix, Ipv6Prefix};
 use rtr_units::unit::Unit;
 use std::alloc::{AllocError, Global};
-use std::fmt::Write;
 
 /// Writes what the unit says.
 pub fn describe(
     alloc: Global,
-    line: &mut String,
+    line: &mut Line,
     offset: u64,
     unit: &AnyUnit,
 ) -> Result<(), AllocError> {
-    let version = unit.version();
-    write!(line, "{offset} v{version} ")?;
+    line.number(offset)?;
+    line.labelled(" v", u64::from(unit.version()))?;
     match unit {
         AnyUnit::SerialNotify(unit) => {
-            let (session, serial) = (unit.session(), unit.serial());
-            write!(line, "serial notify session {session} serial {serial}")
+            line.labelled(" serial notify session ", u64::from(unit.session()))?;
+            line.labelled(" serial ", u64::from(unit.serial().0))
         }
         AnyUnit::SerialQuery(unit) => {
-            let (session, serial) = (unit.session(), unit.serial());
-            write!(line, "serial query session {session} serial {serial}")
+            line.labelled(" serial query session ", u64::from(unit.session()))?;
+            line.labelled(" serial ", u64::from(unit.serial().0))
         }
-        AnyUnit::ResetQuery(_) => line.push_str("reset query"),
-        AnyUnit::CacheResponse(unit) => {
-            let session = unit.session();
-            write!(line, "cache response session {session}")
-        }
+        AnyUnit::ResetQuery(_) => line.text(" reset query"),
+        AnyUnit::CacheResponse(unit) => line.labelled(
+            " cache response session ",
+            u64::from(unit.session()),
+        ),
         AnyUnit::Payload(unit) => describe_payload(alloc, line, unit),
         AnyUnit::EndOfData(unit) => describe_end(line, unit),
-        AnyUnit::CacheReset(_) => line.push_str("cache reset"),
+        AnyUnit::CacheReset(_) => line.text(" cache reset"),
         AnyUnit::Error(report) => describe_report(alloc, line, report),
     }
 }
 
-fn describe_payload(alloc: Global, line: &mut String, unit: &Payload) -> Result<(), AllocError> {
-    let action = unit.action();
+fn asn(line: &mut Line, asn: Asn) -> Result<(), AllocError> {
+    line.labelled(" AS", u64::from(asn.into_u32()))
+}
+
+fn describe_payload(alloc: Global, line: &mut Line, unit: &Payload) -> Result<(), AllocError> {
+    line.text(match unit {
+        Payload::V4(_) => " IPv4 prefix",
+        Payload::V6(_) => " IPv6 prefix",
+        Payload::RouterKey(_) => " router key",
+        Payload::Aspa(_) => " ASPA",
+    })?;
+    line.text(match unit.action() {
+        Action::Announce => " announce",
+        Action::Withdraw => " withdraw",
+    })?;
     match unit {
-        Payload::V4(unit) => {
-            let (prefix, len, max_len) = (unit.prefix(), unit.prefix_len(), unit.max_len());
-            let asn = unit.asn();
-            write!(line, "IPv4 prefix {action} {prefix}/{len}-{max_len} {asn}")
-        }
-        Payload::V6(unit) => {
-            let (prefix, len, max_len) = (unit.prefix(), unit.prefix_len(), unit.max_len());
-            let asn = unit.asn();
-            write!(line, "IPv6 prefix {action} {prefix}/{len}-{max_len} {asn}")
-        }
-        Payload::RouterKey(unit) => describe_key(alloc, line, action, unit),
-        Payload::Aspa(unit) => describe_aspa(line, action, unit),
+        Payload::V4(unit) => describe_ipv4(line, unit),
+        Payload::V6(unit) => describe_ipv6(line, unit),
+        Payload::RouterKey(unit) => describe_key(alloc, line, unit),
+        Payload::Aspa(unit) => describe_aspa(line, unit),
     }
 }
 
-fn describe_key(
-    alloc: Global,
-    line: &mut String,
-    action: Action,
-    unit: &RouterKey,
-) -> Result<(), AllocError> {
-    let identifier = encode(alloc, unit.key_identifier().as_slice())?;
-    let info = unit.key_info().to_text(alloc)?;
-    let asn = unit.asn();
-    write!(line, "router key {action} {identifier} {asn} {info}")
+fn describe_ipv4(line: &mut Line, unit: &Ipv4Prefix) -> Result<(), AllocError> {
+    line.text(" ")?;
+    line.ipv4(unit.prefix())?;
+    line.labelled("/", u64::from(unit.prefix_len()))?;
+    line.labelled("-", u64::from(unit.max_len()))?;
+    asn(line, unit.asn())
 }
 
-fn describe_aspa(line: &mut String, action: Action, unit: &Aspa) -> Result<(), AllocError> {
-    let customer = unit.customer();
-    write!(line, "ASPA {action} {customer} providers")?;
+fn describe_ipv6(line: &mut Line, unit: &Ipv6Prefix) -> Result<(), AllocError> {
+    line.text(" ")?;
+    line.ipv6(unit.prefix())?;
+    line.labelled("/", u64::from(unit.prefix_len()))?;
+    line.labelled("-", u64::from(unit.max_len()))?;
+    asn(line, unit.asn())
+}
+
+fn describe_key(alloc: Global, line: &mut Line, unit: &RouterKey) -> Result<(), AllocError> {
+    line.text(" ")?;
+    line.text(encode(alloc, unit.key_identifier().as_slice())?.as_str())?;
+    asn(line, unit.asn())?;
+    line.text(" ")?;
+    line.text(unit.key_info().to_text(alloc)?.as_str())
+}
+
+fn describe_aspa(line: &mut Line, unit: &Aspa) -> Result<(), AllocError> {
+    asn(line, unit.customer())?;
+    line.text(" providers")?;
     for provider in unit.providers().iter() {
-        write!(line, " {provider}")?;
+        asn(line, provider)?;
     }
     Ok(())
 }
 
-fn describe_end(line: &mut String, unit: &EndOfData) -> Result<(), AllocError> {
-    let (session, serial) = (unit.session(), unit.serial());
-    write!(line, "end of data session {session} serial {serial}")?;
+fn describe_end(line: &mut Line, unit: &EndOfData) -> Result<(), AllocError> {
+    line.labelled(" end of data session ", u64::from(unit.session()))?;
+    line.labelled(" serial ", u64::from(unit.serial().0))?;
     match unit.timing() {
         Some(timing) => {
-            let (refresh, retry, expire) = (timing.refresh, timing.retry, timing.expire);
-            write!(line, " refresh {refresh} retry {retry} expire {expire}")
+            line.labelled(" refresh ", u64::from(timing.refresh))?;
+            line.labelled(" retry ", u64::from(timing.retry))?;
+            line.labelled(" expire ", u64::from(timing.expire))
         }
         None => Ok(()),
     }
 }
 
-fn describe_report(alloc: Global, line: &mut String, report: &Report) -> Result<(), AllocError> {
-    let code = report.code();
-    write!(line, "error report code {code}")?;
+fn describe_report(alloc: Global, line: &mut Line, report: &Report) -> Result<(), AllocError> {
+    line.text(" error report code ")?;
+    line.show(report.code())?;
     let (Some(pdu), Some(text)) = (report.pdu(), report.text()) else {
-        return line.push_str(" with lengths that do not fit");
+        return line.text(" with lengths that do not fit");
     };
-    let pdu = encode(alloc, pdu)?;
-    let text = text.escape_ascii();
-    write!(line, " pdu \"{pdu}\" text \"{text}\"")
+    line.text(" pdu \"")?;
+    line.text(encode(alloc, pdu)?.as_str())?;
+    line.text("\" text \"")?;
+    line.show(text.escape_ascii())?;
+    line.text("\"")
 }

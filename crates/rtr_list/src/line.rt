@@ -1,17 +1,161 @@
 //! Lines.
 
-ghost use Rattle.std.specs.Prelude.{◌≢◌, ◌≤◌, Err, OnOk};
+ghost use Rattle.std.specs.Prelude.{◌≡◌, ◌≢◌, ◌≤◌, ◌+◌, ◌<◌, ◌++◌, [], ◌∷◌, Err, OnOk, decimal};
 ghost use Rattle.std.specs.List.{All};
+ghost use Rattle.std.specs.Fmt.{AppendsText};
+ghost use Rattle.json.specs.Print.{print};
+ghost use Rattle.json.specs.Token.{string};
 ghost use Rattle.rtr_units.specs.Causes.{by_cause, by_reader};
 ghost use Rattle.rtr_list.specs.Lines.{IsLine, PutsLine};
 
+use itoa::Buffer;
+use json::Writer;
 use rtr_units::fault::Fault;
 use rtr_units::piece::put;
 use rtr_units::source::Sink;
-use std::alloc::AllocError;
+use std::alloc::{AllocError, Global};
+use std::fmt;
+use std::fmt::Display;
+use std::marker::Model;
 
 /// The first character that is no control character.
 const SPACE: u8 = b' ';
+
+/// A line that is made of pieces, in memory that it uses again.
+#[derive(Drop)]
+pub struct Line {
+    bytes: Vec<u8>,
+}
+
+impl Model for Line {
+    ghost use Rattle.std.specs.Prelude.{ℕ, List};
+
+    ghost Value = { List ℕ };
+
+    ghost view = { λ line. line.bytes.items };
+}
+
+impl Line {
+    /// A line without pieces.
+    pub fn new(alloc: Global) -> Line
+        ensures { result ≡ [] }
+    {
+        Line {
+            bytes: Vec::new(alloc),
+        }
+    }
+
+    /// Takes all pieces away.
+    pub fn clear(&mut self)
+        ensures { self.new ≡ [] }
+    {
+        self.bytes.clear();
+    }
+
+    /// Adds bytes of a text.
+    #[inline(always)]
+    pub fn bytes(&mut self, text: &[u8]) -> Result<(), AllocError>
+        ensures { OnOk result (self.new ≡ self.old ++ text.now) }
+    {
+        self.bytes.extend_from_slice(text)
+    }
+
+    /// Adds a text.
+    #[inline(always)]
+    pub fn text(&mut self, text: &str) -> Result<(), AllocError>
+        ensures { OnOk result (self.new ≡ self.old ++ text.now) }
+    {
+        self.bytes(text.as_bytes())
+    }
+
+    /// Adds a number. Most have up to three digits, which are faster one by one.
+    pub fn number(&mut self, number: u64) -> Result<(), AllocError>
+        ensures { OnOk result (self.new ≡ self.old ++ decimal number) }
+    {
+        if number < 10 {
+            return self.digit(number);
+        }
+        if number < 100 {
+            self.digit(number / 10)?;
+            return self.digit(number % 10);
+        }
+        if number < 1000 {
+            self.digit(number / 100)?;
+            self.digit(number / 10 % 10)?;
+            return self.digit(number % 10);
+        }
+        self.text(Buffer::new().format(number))
+    }
+
+    #[inline(always)]
+    fn digit(&mut self, digit: u64) -> Result<(), AllocError>
+        requires { digit < 10 }
+        ensures { OnOk result (self.new ≡ self.old ++ (48 + digit) ∷ []) }
+    {
+        self.bytes.push(b'0' + digit as u8)?;
+        Ok(())
+    }
+
+    /// Adds a label and a number after it.
+    pub fn labelled(&mut self, label: &str, number: u64) -> Result<(), AllocError>
+        ensures { OnOk result (self.new ≡ self.old ++ label.now ++ decimal number) }
+    {
+        self.text(label)?;
+        self.number(number)
+    }
+
+    /// Adds a value's text.
+    pub fn show<D: Display + Drop>(&mut self, value: D) -> Result<(), AllocError>
+        ensures { OnOk result (AppendsText self.old self.new (D.output value)) }
+    {
+        match fmt::Write::write(self, value) {
+            Ok(()) => Ok(()),
+            Err(_) => Err(AllocError),
+        }
+    }
+
+    /// Adds a text as a JSON string.
+    pub fn json_string(&mut self, alloc: Global, text: &str) -> Result<(), AllocError>
+        ensures { OnOk result (self.new ≡ self.old ++ print (string text.now ∷ [])) }
+    {
+        let mut out = Writer::new(Vec::new(alloc));
+        out.string(text)?;
+        self.bytes.extend_from_slice(out.into_inner().as_slice())
+    }
+
+    /// Ends the line. Control characters in it, of which its texts have none, are made spaces, so
+    /// that it is one line, and shows on a terminal as it is.
+    fn end(&mut self) -> Result<(), AllocError>
+        ensures { OnOk result (IsLine self.new) }
+    {
+        clear_controls(self.bytes.as_mut_slice());
+        self.bytes.push(b'\n')?;
+        Ok(())
+    }
+
+    /// Ends the line and writes it. `Memory` says that nothing was written, `Writer` that a part
+    /// was.
+    pub fn put<W: Sink>(&mut self, writer: &mut W) -> Result<(), Fault>
+        ensures bytes { PutsLine result (W.state writer.old) (W.state writer.new) }
+        ensures no_reader { by_cause result ≢ Err by_reader }
+    {
+        match self.end() {
+            Ok(()) => put(writer, self.bytes.as_slice()),
+            Err(_) => Err(Fault::Memory),
+        }
+    }
+}
+
+impl fmt::Write for Line {
+    ghost write_str_gives = { λ before text after. after ≡ before ++ text };
+
+    fn write_str(&mut self, text: &str) -> fmt::Result {
+        match self.text(text) {
+            Ok(()) => Ok(()),
+            Err(_) => Err(fmt::Error),
+        }
+    }
+}
 
 /// Makes control characters spaces.
 fn clear_controls(text: &mut [u8])
@@ -19,26 +163,5 @@ fn clear_controls(text: &mut [u8])
 {
     for byte in text.iter_mut() {
         *byte = (*byte).max(SPACE);
-    }
-}
-
-/// Ends the line. Control characters in it, of which its texts have none, are made spaces, so that
-/// it is one line, and shows on a terminal as it is.
-fn end(line: &mut Vec<u8>) -> Result<(), AllocError>
-    ensures { OnOk result (IsLine line.new.items) }
-{
-    clear_controls(line.as_mut_slice());
-    line.push(b'\n')?;
-    Ok(())
-}
-
-/// Ends the line and writes it. `Memory` says that nothing was written, `Writer` that a part was.
-pub fn put_line<W: Sink>(line: &mut Vec<u8>, writer: &mut W) -> Result<(), Fault>
-    ensures bytes { PutsLine result (W.state writer.old) (W.state writer.new) }
-    ensures no_reader { by_cause result ≢ Err by_reader }
-{
-    match end(line) {
-        Ok(()) => put(writer, line.as_slice()),
-        Err(_) => Err(Fault::Memory),
     }
 }

@@ -1,49 +1,60 @@
 //! Lines of units, one unit after the other.
 
-ghost use Rattle.std.specs.Prelude.{◌≢◌, Err};
+ghost use Rattle.std.specs.Prelude.{◌≡◌, ◌≢◌, ℕ, List, length, Option, Err, OnOk, OnErr};
 ghost use Rattle.rtr_units.specs.Causes.{by_cause, by_reader};
 ghost use Rattle.rtr_units.specs.Stream.{WriterState};
 ghost use Rattle.rtr_list.specs.Lines.{PutsLine};
-ghost use Rattle.rtr_list.specs.Listing.{Prints};
+ghost use Rattle.rtr_list.specs.Listing.{Prints, PrintsEach, offset_after};
+ghost use Rattle.rtr_session.specs.Values.{any_bytes};
 ghost use Rattle.rtr_list.specs.declared.run.Wanted.TheVariants.{Text, Json, Findings};
 
 use crate::check::Checker;
 use crate::finding::Finding;
-use crate::line::put_line;
+use crate::line::Line;
 use crate::run::Wanted;
 use crate::{human, json_line};
 use rtr_session::AnyUnit;
 use rtr_units::fault::Fault;
 use rtr_units::source::Sink;
 use std::alloc::{AllocError, Global};
-use std::fmt::Write;
-use std::mem;
+use std::marker::Model;
 
 /// What is printed of units that come one after the other, in memory that it uses again for each.
+/// It is seen as the number of bytes of the units before.
 #[derive(Drop)]
 pub struct Printer {
     alloc: Global,
     /// The number of bytes of the units before.
     offset: u64,
     checker: Checker,
-    text: String,
-    line: Vec<u8>,
+    line: Line,
+}
+
+impl Model for Printer {
+    ghost use Rattle.std.specs.Prelude.{ℕ};
+
+    ghost Value = { ℕ };
+
+    ghost view = { λ printer. printer.offset };
 }
 
 impl Printer {
     /// A printer that has printed nothing.
-    pub fn new(alloc: Global) -> Printer {
+    pub fn new(alloc: Global) -> Printer
+        ensures { result ≡ 0 }
+    {
         Printer {
             alloc,
             offset: 0,
             checker: Checker::new(alloc),
-            text: String::new(alloc),
-            line: Vec::new(alloc),
+            line: Line::new(alloc),
         }
     }
 
     /// The number of bytes of the units that were printed.
-    pub fn offset(&self) -> u64 {
+    pub fn offset(&self) -> u64
+        ensures { result ≡ self.now }
+    {
         self.offset
     }
 
@@ -57,6 +68,8 @@ impl Printer {
     ) -> Result<bool, Fault>
         ensures bytes { Prints wanted result (W.state output.old) (W.state output.new) }
         ensures no_reader { by_cause result ≢ Err by_reader }
+        ensures moves { OnOk result (self.new ≡ offset_after self.old (any_bytes unit.now)) }
+        ensures stays { OnErr result (self.new ≡ self.old) }
     {
         let answer = self.print_lines(wanted, unit, output);
         if answer.is_ok() {
@@ -74,6 +87,7 @@ impl Printer {
     ) -> Result<bool, Fault>
         ensures bytes { Prints wanted result (W.state output.old) (W.state output.new) }
         ensures no_reader { by_cause result ≢ Err by_reader }
+        ensures offset { self.new ≡ self.old }
     {
         match wanted {
             Wanted::Text => listed(self.print_text(unit, output)),
@@ -85,41 +99,34 @@ impl Printer {
     fn print_text<W: Sink>(&mut self, unit: &AnyUnit, output: &mut W) -> Result<(), Fault>
         ensures bytes { PutsLine result (W.state output.old) (W.state output.new) }
         ensures no_reader { by_cause result ≢ Err by_reader }
+        ensures offset { self.new ≡ self.old }
     {
-        self.text.clear();
-        if human::describe(self.alloc, &mut self.text, self.offset, unit).is_err() {
-            return Err(Fault::Memory);
+        self.line.clear();
+        match human::describe(self.alloc, &mut self.line, self.offset, unit) {
+            Ok(()) => self.line.put(output),
+            Err(_) => Err(Fault::Memory),
         }
-        put_text(&self.text, &mut self.line, output)
     }
 
     fn print_json<W: Sink>(&mut self, unit: &AnyUnit, output: &mut W) -> Result<(), Fault>
         ensures bytes { PutsLine result (W.state output.old) (W.state output.new) }
         ensures no_reader { by_cause result ≢ Err by_reader }
+        ensures offset { self.new ≡ self.old }
     {
-        let mut line = mem::replace(&mut self.line, Vec::new(self.alloc));
-        line.clear();
-        match json_line::describe(self.alloc, line, &mut self.text, self.offset, unit) {
-            Ok(line) => self.line = line,
-            Err(_) => return Err(Fault::Memory),
+        self.line.clear();
+        match json_line::describe(self.alloc, &mut self.line, self.offset, unit) {
+            Ok(()) => self.line.put(output),
+            Err(_) => Err(Fault::Memory),
         }
-        put_line(&mut self.line, output)
     }
 
     fn print_findings<W: Sink>(&mut self, unit: &AnyUnit, output: &mut W) -> Result<bool, Fault>
         ensures bytes { Prints Findings result (W.state output.old) (W.state output.new) }
         ensures no_reader { by_cause result ≢ Err by_reader }
+        ensures offset { self.new ≡ self.old }
     {
         match self.checker.check(unit) {
-            Ok(findings) => {
-                put_findings(
-                    findings,
-                    self.offset,
-                    &mut self.text,
-                    &mut self.line,
-                    output,
-                )
-            }
+            Ok(findings) => put_findings(findings, self.offset, &mut self.line, output),
             Err(_) => Err(Fault::Memory),
         }
     }
@@ -139,38 +146,32 @@ fn listed(line: Result<(), Fault>) -> Result<bool, Fault>
     }
 }
 
-/// Writes a line with the text.
-fn put_text<W: Sink>(text: &String, line: &mut Vec<u8>, output: &mut W) -> Result<(), Fault>
-    ensures bytes { PutsLine result (W.state output.old) (W.state output.new) }
-    ensures no_reader { by_cause result ≢ Err by_reader }
-{
-    line.clear();
-    match line.extend_from_slice(text.as_bytes()) {
-        Ok(()) => put_line(line, output),
-        Err(_) => Err(Fault::Memory),
-    }
-}
-
 /// Writes a line of each finding, and answers whether there is one.
 fn put_findings<W: Sink>(
     findings: &[Finding],
     offset: u64,
-    text: &mut String,
-    line: &mut Vec<u8>,
+    line: &mut Line,
     output: &mut W,
 ) -> Result<bool, Fault>
-    ensures bytes { Prints Findings result (W.state output.old) (W.state output.new) }
+    ensures bytes { PrintsEach (length findings.now) result (W.state output.old)
+        (W.state output.new) }
     ensures no_reader { by_cause result ≢ Err by_reader }
 {
     for finding in findings {
-        text.clear();
-        if write!(text, "offset {offset}: {finding}").is_err() {
+        line.clear();
+        if describe_finding(line, offset, *finding).is_err() {
             return Err(Fault::Memory);
         }
-        match put_text(text, line, output) {
+        match line.put(output) {
             Ok(()) => {}
             Err(fault) => return Err(fault),
         }
     }
     Ok(!findings.is_empty())
+}
+
+fn describe_finding(line: &mut Line, offset: u64, finding: Finding) -> Result<(), AllocError> {
+    line.labelled("offset ", offset)?;
+    line.text(": ")?;
+    line.show(finding)
 }

@@ -1,14 +1,17 @@
--- The order of payloads part by part, as the code compares them.
-use Rattle.std.proofs.Common.{◌≡◌, ℕ, List, refl}
+-- The order of payloads part by part, as the code compares them, and that it tells them apart.
+use Rattle.std.proofs.Common.{◌≡◌, ℕ, List, refl, sym, ap, ◌∙◌, ◌↔◌}
+use Rattle.std.specs.Bool.{Decides}
+use Rattle.std.specs.Cmp.{Equal-is, tied_itself}
 use Rattle.std.specs.declared.cmp.Ordering.{Ordering}
 use Rattle.std.specs.declared.cmp.Ordering.TheVariants.{Less, Equal, Greater}
-use Rattle.std.specs.Ordering.{nat_cmp, ordering_then}
-use Rattle.rtr_base.specs.Addresses.{Family, v4, v6, family_cmp}
+use Rattle.std.specs.Ordering.{eq_by_cmp, nat_cmp, ordering_then}
+use Rattle.rtr_base.specs.Addresses.{ip_version}
 use Rattle.rtr_units.specs.PrefixUnits.{OriginParts}
 use Rattle.rtr_payload.specs.AspaUnits.{AspaParts}
 use Rattle.rtr_payload.specs.KeyUnits.{KeyParts}
-use Rattle.rtr_payload.specs.Payloads.{origin, key, aspa}
-use Rattle.rtr_payload.specs.Orders.{list_cmp, payload_cmp}
+use Rattle.rtr_payload.specs.Payloads.{Payload, origin, key, aspa}
+use Rattle.rtr_payload.specs.OrderLaws.{payload_exact}
+use Rattle.rtr_payload.specs.Orders.{list_cmp, payload_cmp, payload_total}
 
 then_equal : (o : Ordering) → ordering_then o Equal ≡ o
 then_equal Less = refl
@@ -16,17 +19,8 @@ then_equal Equal = refl
 then_equal Greater = refl
 
 pub origin_chain : (o p : OriginParts) → payload_cmp (origin o) (origin p)
-    ≡ ordering_then (family_cmp o.family p.family) (ordering_then (nat_cmp o.address p.address) (ordering_then (nat_cmp o.prefix_len p.prefix_len) (ordering_then (nat_cmp o.max_len p.max_len) (nat_cmp o.asn p.asn))))
-origin_chain o p = by_family o.family p.family
-  where
-    rest : Ordering
-    rest = ordering_then (nat_cmp o.address p.address) (ordering_then (nat_cmp o.prefix_len p.prefix_len) (ordering_then (nat_cmp o.max_len p.max_len) (nat_cmp o.asn p.asn)))
-
-    by_family : (f g : Family) → payload_cmp (origin (record o { family = f })) (origin (record p { family = g })) ≡ ordering_then (family_cmp f g) rest
-    by_family v4 v4 = simp then_equal
-    by_family v4 v6 = refl
-    by_family v6 v4 = refl
-    by_family v6 v6 = simp then_equal
+    ≡ ordering_then (nat_cmp (ip_version o.family) (ip_version p.family)) (ordering_then (nat_cmp o.address p.address) (ordering_then (nat_cmp o.prefix_len p.prefix_len) (ordering_then (nat_cmp o.max_len p.max_len) (nat_cmp o.asn p.asn))))
+origin_chain o p = simp then_equal
 
 pub key_chain : (k j : KeyParts) → payload_cmp (key k) (key j)
     ≡ ordering_then (list_cmp k.identifier j.identifier) (ordering_then (nat_cmp k.asn j.asn) (list_cmp k.info j.info))
@@ -34,3 +28,13 @@ key_chain k j = simp then_equal
 
 pub aspa_chain : (a b : AspaParts) → payload_cmp (aspa a) (aspa b) ≡ ordering_then (nat_cmp a.customer b.customer) (list_cmp a.providers b.providers)
 aspa_chain a b = simp then_equal
+
+pub payload_same : (p q : Payload) → (payload_cmp p q ≡ Equal) ↔ (p ≡ q)
+payload_same p q = (payload_exact p q, λ e. ap (payload_cmp p) (sym e) ∙ tied_itself payload_total p)
+
+-- the test by the order finds out whether payloads are one
+pub payload_decides : (p q : Payload) → Decides (eq_by_cmp payload_cmp p q) (p ≡ q)
+payload_decides p q = (
+  λ h. payload_exact p q ((Equal-is (payload_cmp p q)).0 h),
+  λ e. (Equal-is (payload_cmp p q)).1 ((payload_same p q).1 e),
+)

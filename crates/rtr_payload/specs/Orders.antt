@@ -5,7 +5,7 @@ use Rattle.std.specs.declared.cmp.Ordering.{Ordering}
 use Rattle.std.specs.Ordering.{nat_cmp}
 use Rattle.std.specs.Cmp.{IsTotalOrder, on_total}
 use Rattle.std.specs.Cmp.Lexicographic.{slice_cmp, nat_list_cmp_total, lists_total}
-use Rattle.rtr_units.specs.PrefixUnits.{prefix_type}
+use Rattle.rtr_base.specs.Addresses.{ip_version}
 use Rattle.rtr_payload.specs.Payloads.{Payload, origin, key, aspa, kind_number}
 
 -- the first differing member decides; a proper prefix is less
@@ -16,7 +16,7 @@ list_cmp xs ys = slice_cmp nat_cmp xs ys
 -- (IPv4 before IPv6), of a key and of an ASPA as they stand
 abbrev pub parts : Payload → List (List ℕ)
 parts (origin o) =
-    (kind_number (origin o) ∷ []) ∷ (prefix_type o.family ∷ []) ∷ (o.address ∷ []) ∷
+    (kind_number (origin o) ∷ []) ∷ (ip_version o.family ∷ []) ∷ (o.address ∷ []) ∷
     (o.prefix_len ∷ []) ∷ (o.max_len ∷ []) ∷ (o.asn ∷ []) ∷ []
 parts (key k) = (kind_number (key k) ∷ []) ∷ k.identifier ∷ (k.asn ∷ []) ∷ k.info ∷ []
 parts (aspa a) = (kind_number (aspa a) ∷ []) ∷ (a.customer ∷ []) ∷ a.providers ∷ []

@@ -54,6 +54,7 @@ impl Aspa {
     pub const PDU: u8 = 11;
 
     /// The unit with these fields.
+    #[inline(always)]
     pub fn new(version: u8, flags: u8, customer: Asn, providers: ProviderAsns) -> Self
         ensures form { result ≡ form version flags
             (aspa (record { customer = customer; providers = providers })) }
@@ -65,6 +66,15 @@ impl Aspa {
         fixed[4..8].copy_from_slice(&size.to_be_bytes());
         fixed[8..].copy_from_slice(&customer.into_u32().to_be_bytes());
         Aspa { fixed, providers }
+    }
+
+    /// A unit of zeros without providers, which asks for no memory.
+    #[inline(always)]
+    pub(crate) fn empty() -> Self {
+        Aspa {
+            fixed: [0; 12],
+            providers: ProviderAsns::none(),
+        }
     }
 
     /// Reads an ASPA unit.
@@ -94,6 +104,7 @@ impl Aspa {
     /// read and no memory asked for; `Memory`, with nothing read, where there is no room for the
     /// frame that the rest is read into; `Short` or `Reader` inside the unit; `Memory`, with the
     /// whole unit read, where the frame can't be shared. The providers are cut from it.
+    #[inline(always)]
     pub fn read_payload<R: Source>(
         alloc: Global,
         header: Header,
@@ -122,6 +133,7 @@ impl Aspa {
     }
 
     /// The unit of a header and the frame that follows it.
+    #[inline(always)]
     fn from_frame(head: &[u8], mut frame: Bytes) -> Self
         requires head { length head.now ≡ 8 }
         requires range { IsBytes frame }

@@ -19,15 +19,16 @@ pub const MAX_SIZE: u32 = 65535;
 ///
 /// Faults, in this order: `Memory`, with nothing read, where there is no room for the frame;
 /// `Short` or `Reader` inside it; `Memory`, with all of it read, where it can't be shared.
+#[inline(always)]
 pub fn read_frame<R: Source>(alloc: Global, size: usize, reader: &mut R) -> Result<Bytes, Fault>
     ensures bytes { ReadsFrame size (by_bytes (λ frame. frame) result) (R.state reader.old)
         (R.state reader.new) }
     ensures range { IfOk result IsBytes }
 {
-    let mut frame = Vec::new(alloc);
-    if frame.resize(size, 0).is_err() {
-        return Err(Fault::Memory);
-    }
+    let mut frame = match Vec::from_elem(alloc, 0, size) {
+        Ok(frame) => frame,
+        Err(_) => return Err(Fault::Memory),
+    };
     match fill(reader, frame.as_mut_slice()) {
         Ok(()) => {}
         Err(e) => return Err(e),

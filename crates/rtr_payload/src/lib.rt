@@ -6,6 +6,7 @@ mod frame;
 mod key_info;
 pub mod laws;
 pub mod payload;
+mod payload_unit;
 mod pdu_payload;
 pub mod prefix_rule;
 mod prefix_unit;
@@ -16,6 +17,7 @@ mod router_key;
 pub mod pdu {
     pub use crate::aspa::Aspa;
     pub use crate::key_info::{KeyInfoError, KeyInfoVecError, RouterKeyInfo};
+    pub use crate::payload_unit::PayloadUnit;
     pub use crate::pdu_payload::Payload;
     pub use crate::prefix_unit::PrefixUnit;
     pub use crate::providers::{ProviderAsns, ProviderAsnsError, ProviderIter, ProviderIterError};

@@ -61,6 +61,7 @@ impl RouterKey {
     }
 
     /// The unit with these fields.
+    #[inline(always)]
     pub fn new(
         version: u8,
         flags: u8,
@@ -82,6 +83,15 @@ impl RouterKey {
         fixed[28..].copy_from_slice(&asn.into_u32().to_be_bytes());
         fixed[8..28].copy_from_slice(&key_identifier);
         RouterKey { fixed, key_info }
+    }
+
+    /// A unit of zeros without key info, which asks for no memory.
+    #[inline(always)]
+    pub(crate) fn empty() -> Self {
+        RouterKey {
+            fixed: [0; 32],
+            key_info: RouterKeyInfo::within_limit(Bytes::new()),
+        }
     }
 
     /// Reads a router key.
@@ -110,6 +120,7 @@ impl RouterKey {
     /// read and no memory asked for; `Memory`, with nothing read, where there is no room for the
     /// frame that the rest is read into; `Short` or `Reader` inside the unit; `Memory`, with the
     /// whole unit read, where the frame can't be shared. The key info is cut from it.
+    #[inline(always)]
     pub fn read_payload<R: Source>(
         alloc: Global,
         header: Header,
@@ -135,6 +146,7 @@ impl RouterKey {
     }
 
     /// The unit of a header and the frame that follows it.
+    #[inline(always)]
     fn from_frame(head: &[u8], mut frame: Bytes) -> Self
         requires head { length head.now ≡ 8 }
         requires size { 24 ≤ length frame }

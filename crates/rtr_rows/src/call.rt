@@ -2,7 +2,7 @@
 
 use crate::answer::Answer;
 use crate::row::{Row, Way};
-use crate::{fixed, meanings, parts, payloads, sequences, variable, views};
+use crate::{fixed, meanings, parts, payloads, sequences, session, variable, views};
 
 /// Makes the call of a row in one way, and answers what it gave, if there is such a call.
 pub fn call(row: &Row<'_>, way: Way) -> Option<Answer> {
@@ -11,6 +11,7 @@ pub fn call(row: &Row<'_>, way: Way) -> Option<Answer> {
         .or_else(|| payloads::answer(row, way))
         .or_else(|| meanings::answer(row))
         .or_else(|| variable::answer(row, way))
+        .or_else(|| session::answer(row, way))
         .or_else(|| parts::answer(row, way))
         .or_else(|| fixed::answer(row, way))
 }

@@ -18,6 +18,7 @@ mod parts;
 mod payloads;
 mod row;
 mod sequences;
+mod session;
 mod table;
 mod variable;
 mod views;

@@ -3,6 +3,7 @@
 #![tactic(auto)]
 
 pub mod cells;
+mod copying;
 pub mod end;
 pub mod error;
 pub mod fault;

@@ -1,7 +1,6 @@
 //! What passes through `Counted`.
 
-use crate::expect_equal;
-use rtr_support::Recorder;
+use rtr_support::{Recorder, expect_equal};
 use rtr_units::source::{Counted, Sink};
 use std::test::Fail;
 

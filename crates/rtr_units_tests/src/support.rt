@@ -1,7 +1,6 @@
 //! What the readers and writers of tests give and take.
 
-use crate::expect_equal;
-use rtr_support::{Pieces, Recorder, STEPS, bytes, filler};
+use rtr_support::{Pieces, Recorder, STEPS, bytes, expect_equal, filler};
 use std::io::{Read, Write};
 use std::test::Fail;
 

@@ -1,6 +1,6 @@
 //! Runs from a slice into another, without memory.
 
-ghost use Rattle.std.specs.Prelude.{◌≡◌, ◌≢◌, ◌+◌, ◌≤◌, ◌<◌, ℕ, List, length, Err, IfErr};
+ghost use Rattle.std.specs.Prelude.{◌≡◌, ◌≢◌, ◌+◌, ◌-◌, ◌≤◌, ◌<◌, ℕ, List, length, Err, IfErr};
 ghost use Rattle.rtr_payload.specs.Payloads.{Meaning, smallest_version as smallest};
 ghost use Rattle.rtr_views.specs.Placing.{Places};
 ghost use Rattle.rtr_views.specs.Views.{ViewMeans};
@@ -78,16 +78,8 @@ pub fn normalise_for_into(
         refuses_version version result.0 result.1 output.old output.new }
 {
     if version > LAST_VERSION {
-        let none = Progress {
-            units: 0,
-            forms: 0,
-            taken: 0,
-            written: 0,
-        };
-        return (
-            none,
-            Err(IntoFault::Refused(ViewFault::UnitVersion(version))),
-        );
+        let fault = ViewFault::UnitVersion(version);
+        return (came(0, 0, 0, 0), Err(IntoFault::Refused(fault)));
     }
     run(ForVersion { version }, input, output, limit)
 }
@@ -112,44 +104,33 @@ fn run<S: Writing>(
                 match step.passed {
                     Passed::Written => {}
                     Passed::LeftOut => left_out += 1,
-                    Passed::End => {
-                        let forms = units - left_out;
-                        return (
-                            Progress {
-                                units,
-                                forms,
-                                taken,
-                                written,
-                            },
-                            Ok(()),
-                        );
-                    }
+                    Passed::End => return (came(units, left_out, taken, written), Ok(())),
                 }
             }
-            Err(e) => {
-                let forms = units - left_out;
-                return (
-                    Progress {
-                        units,
-                        forms,
-                        taken,
-                        written,
-                    },
-                    Err(e),
-                );
-            }
+            Err(e) => return (came(units, left_out, taken, written), Err(e)),
         }
     }
-    let forms = limit - left_out;
-    (
-        Progress {
-            units: limit,
-            forms,
-            taken,
-            written,
-        },
-        Err(IntoFault::TooMany),
-    )
+    let progress = came(limit, left_out, taken, written);
+    (progress, Err(IntoFault::TooMany))
+}
+
+/// How far a run came that took so many units, and left out so many of them.
+#[inline(always)]
+fn came(units: u64, left_out: u64, taken: usize, written: usize) -> Progress
+    requires { left_out ≤ units }
+    ensures { result ≡ record {
+      units = units;
+      forms = units - left_out;
+      taken = taken;
+      written = written;
+    } }
+{
+    Progress {
+        units,
+        forms: units - left_out,
+        taken,
+        written,
+    }
 }
 
 /// One step of a run.
@@ -172,10 +153,10 @@ fn take_step<S: Writing>(writing: S, rest: &[u8], output: &mut [u8]) -> Result<S
 {
     let unit_type = if rest.len() < 8 { 0 } else { rest[1] };
     match unit_type {
-        Ipv4Prefix::PDU => view_step::<4, S>(writing, rest, output),
-        Ipv6Prefix::PDU => view_step::<6, S>(writing, rest, output),
-        RouterKey::PDU => view_step::<9, S>(writing, rest, output),
-        Aspa::PDU => view_step::<11, S>(writing, rest, output),
+        Ipv4Prefix::PDU => view_step::<{ Ipv4Prefix::PDU }, S>(writing, rest, output),
+        Ipv6Prefix::PDU => view_step::<{ Ipv6Prefix::PDU }, S>(writing, rest, output),
+        RouterKey::PDU => view_step::<{ RouterKey::PDU }, S>(writing, rest, output),
+        Aspa::PDU => view_step::<{ Aspa::PDU }, S>(writing, rest, output),
         _ => view_step::<0, S>(writing, rest, output),
     }
 }

@@ -60,10 +60,10 @@ fn step<'a, W: Sink>(rest: &'a [u8], writer: &mut W) -> Result<(bool, &'a [u8]),
 {
     let unit_type = if rest.len() < 8 { 0 } else { rest[1] };
     match unit_type {
-        Ipv4Prefix::PDU => view_step::<4, W>(rest, writer),
-        Ipv6Prefix::PDU => view_step::<6, W>(rest, writer),
-        RouterKey::PDU => view_step::<9, W>(rest, writer),
-        Aspa::PDU => view_step::<11, W>(rest, writer),
+        Ipv4Prefix::PDU => view_step::<{ Ipv4Prefix::PDU }, W>(rest, writer),
+        Ipv6Prefix::PDU => view_step::<{ Ipv6Prefix::PDU }, W>(rest, writer),
+        RouterKey::PDU => view_step::<{ RouterKey::PDU }, W>(rest, writer),
+        Aspa::PDU => view_step::<{ Aspa::PDU }, W>(rest, writer),
         _ => match view_step::<0, W>(rest, writer) {
             Ok(step) => Ok(step),
             Err(e) => Err(e),

@@ -1,7 +1,6 @@
 //! The texts of faults.
 
-use crate::expect_equal;
-use rtr_support::bytes;
+use rtr_support::{bytes, expect_equal};
 use rtr_wire::base::Prefix;
 use rtr_wire::pdu::{Fault, PrefixRule, ViewFault};
 use std::io;

@@ -3,9 +3,9 @@
 ghost use Rattle.std.specs.Prelude.{refl};
 ghost use Rattle.std.specs.Cmp.{eq_by_cmp_equiv, on_equiv, on_po, on_total};
 ghost use Rattle.std.specs.Cmp.{partial_equiv_from_equiv, partial_order_from_total};
-ghost use Rattle.std.specs.Hash.{on_Alike, same_Alike};
+ghost use Rattle.std.specs.Hash.{on_Alike};
 ghost use Rattle.std.specs.Ordering.{as_partial_cmp, eq_by_cmp, on};
-ghost use Rattle.rtr_payload.specs.OrderLaws.{payload_decides};
+ghost use Rattle.rtr_payload.specs.OrderLaws.{fed_alike};
 ghost use Rattle.rtr_payload.specs.Hashes.{part_writes, payload_writes};
 ghost use Rattle.rtr_payload.specs.Orders.{payload_cmp, payload_total};
 ghost use Rattle.rtr_payload.specs.Values.{aspa_of, key_of, payload_of, payload_of_ref};
@@ -59,7 +59,7 @@ impl Ord for RouterKey {
 impl Hash for RouterKey {
     ghost hash_input = { λ value. part_writes (key_of value) };
 
-    ghost respects_eq = { (on_Alike key_of (same_Alike part_writes payload_decides)).fed };
+    ghost respects_eq = { (on_Alike key_of (fed_alike part_writes)).fed };
 
     fn hash<H: Hasher>(&self, state: &mut H) {
         self.key_identifier.hash(state);
@@ -112,7 +112,7 @@ impl Ord for Aspa {
 impl Hash for Aspa {
     ghost hash_input = { λ value. part_writes (aspa_of value) };
 
-    ghost respects_eq = { (on_Alike aspa_of (same_Alike part_writes payload_decides)).fed };
+    ghost respects_eq = { (on_Alike aspa_of (fed_alike part_writes)).fed };
 
     fn hash<H: Hasher>(&self, state: &mut H) {
         self.customer.hash(state);
@@ -162,7 +162,7 @@ impl Ord for Payload {
 impl Hash for Payload {
     ghost hash_input = { λ value. payload_writes (payload_of value) };
 
-    ghost respects_eq = { (on_Alike payload_of (same_Alike payload_writes payload_decides)).fed };
+    ghost respects_eq = { (on_Alike payload_of (fed_alike payload_writes)).fed };
 
     fn hash<H: Hasher>(&self, state: &mut H) {
         self.as_ref().hash(state);
@@ -221,7 +221,7 @@ impl<'a> Hash for PayloadRef<'a> {
     ghost hash_input = { λ value. payload_writes (payload_of_ref value) };
 
     ghost respects_eq = { (on_Alike payload_of_ref
-        (same_Alike payload_writes payload_decides)).fed };
+        (fed_alike payload_writes)).fed };
 
     fn hash<H: Hasher>(&self, state: &mut H) {
         match self {

@@ -4,9 +4,9 @@
 ghost use Rattle.std.specs.Prelude.{refl};
 ghost use Rattle.std.specs.Cmp.{eq_by_cmp_equiv, on_equiv, on_po, on_total};
 ghost use Rattle.std.specs.Cmp.{partial_equiv_from_equiv, partial_order_from_total};
-ghost use Rattle.std.specs.Hash.{on_Alike, same_Alike};
+ghost use Rattle.std.specs.Hash.{on_Alike};
 ghost use Rattle.std.specs.Ordering.{as_partial_cmp, eq_by_cmp, on};
-ghost use Rattle.rtr_payload.specs.OrderLaws.{payload_decides};
+ghost use Rattle.rtr_payload.specs.OrderLaws.{fed_alike};
 ghost use Rattle.rtr_payload.specs.Hashes.{part_writes};
 ghost use Rattle.rtr_payload.specs.Orders.{payload_cmp, payload_total};
 ghost use Rattle.rtr_payload.specs.Values.{origin_of};
@@ -61,7 +61,7 @@ impl Ord for RouteOrigin {
 impl Hash for RouteOrigin {
     ghost hash_input = { λ value. part_writes (origin_of value) };
 
-    ghost respects_eq = { (on_Alike origin_of (same_Alike part_writes payload_decides)).fed };
+    ghost respects_eq = { (on_Alike origin_of (fed_alike part_writes)).fed };
 
     fn hash<H: Hasher>(&self, state: &mut H) {
         self.prefix.prefix().hash(state);

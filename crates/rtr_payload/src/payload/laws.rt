@@ -11,7 +11,7 @@ ghost use Rattle.rtr_payload.specs.declared.payload.RouterKey.{RouterKey};
 
 use super::{Aspa, Payload, PayloadRef, RouteOrigin, RouterKey};
 
-#[tactic(auto, using(crate::specs::OrderLaws::payload_decides))]
+#[tactic(auto, using(crate::proofs::Orders::payload_decides))]
 /// Values are equal exactly where they mean the same payload.
 pub fn equal_values()
     ensures origins { (a b : RouteOrigin) → IsTrue (⟦<RouteOrigin as PartialEq>⟧.eq a b) ↔

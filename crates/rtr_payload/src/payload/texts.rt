@@ -1,7 +1,7 @@
 //! Texts of payloads, one line each. Width and fill that are asked for count for nothing.
 
 ghost use Rattle.std.specs.Prelude.{Some};
-ghost use Rattle.rtr_payload.specs.PayloadTexts.{key_text, origin_text, payload_text};
+ghost use Rattle.rtr_payload.specs.PayloadTexts.{aspa_text, key_text, origin_text, payload_text};
 
 use crate::payload::{Aspa, Payload, RouteOrigin, RouterKey};
 use std::fmt;
@@ -32,6 +32,8 @@ impl fmt::Display for RouterKey {
 /// Writes `ASPA`, the customer and its providers: `ASPA AS64496: AS64497 AS64498`, and without
 /// any `ASPA AS64496: no providers`.
 impl fmt::Display for Aspa {
+    ghost output = { λ aspa. Some (aspa_text aspa) };
+
     fn fmt<W: fmt::Write>(&self, f: &mut fmt::Formatter<W>) -> fmt::Result {
         write!(f, "ASPA {}:", self.customer)?;
         if self.providers.is_empty() {
@@ -46,7 +48,7 @@ impl fmt::Display for Aspa {
 
 /// Writes the payload as its own type does.
 impl fmt::Display for Payload {
-    ghost output = { payload_text };
+    ghost output = { λ payload. Some (payload_text payload) };
 
     fn fmt<W: fmt::Write>(&self, f: &mut fmt::Formatter<W>) -> fmt::Result {
         match self {

@@ -21,18 +21,18 @@ returns-in-End g c =
     let what = g.S.Writing.what c.args.writing in
     let joins = g.met.S.Writing.joins c.args.writing in
     let l = c.loop-units in
-    into_end what joins l.units l.left_out c.args.input.now l.taken c.args.output.now l.output l.written l.invariant c.args.limit c.in-Ok.step c.take_step.new.output c.loop-units-test.true c.in-End.is c.in-Ok.ensures
+    rw c.came.ensures (into_end what joins l.units l.left_out c.args.input.now l.taken c.args.output.now l.output l.written l.invariant c.args.limit c.in-Ok.step c.take_step.new.output c.loop-units-test.true c.in-End.is c.in-Ok.ensures)
 
 pub returns-in-Err : goal.returns-in-Err
 returns-in-Err g c =
     let what = g.S.Writing.what c.args.writing in
     let joins = g.met.S.Writing.joins c.args.writing in
     let l = c.loop-units in
-    into_breaks what joins l.units l.left_out c.args.input.now l.taken c.args.output.now l.output l.written l.invariant c.args.limit c.in-Err.e c.take_step.new.output c.loop-units-test.true c.in-Err.ensures.0 c.in-Err.ensures.1
+    rw c.came-in-Err.ensures (into_breaks what joins l.units l.left_out c.args.input.now l.taken c.args.output.now l.output l.written l.invariant c.args.limit c.in-Err.e c.take_step.new.output c.loop-units-test.true c.in-Err.ensures.0 c.in-Err.ensures.1)
 
 pub returns : goal.returns
 returns g c =
     let what = g.S.Writing.what c.args.writing in
     let joins = g.met.S.Writing.joins c.args.writing in
     let l = c.loop-units in
-    into_full what joins l.units l.left_out c.args.input.now l.taken c.args.output.now l.output l.written l.invariant c.args.limit (omega (arith, l.auto.units-end, c.loop-units-test.false))
+    rw c.came-progress.ensures (into_full what joins l.units l.left_out c.args.input.now l.taken c.args.output.now l.output l.written l.invariant c.args.limit (omega (arith, l.auto.units-end, c.loop-units-test.false)))

@@ -1,4 +1,4 @@
-use Rattle.rtr_payload.specs.OrderLaws.{payload_decides}
+use Rattle.rtr_payload.proofs.Orders.{payload_decides}
 use Rattle.rtr_payload.specs.Values.{aspa_of, key_of}
 use Rattle.rtr_payload.proofs.payload.laws.equal_values.Goals as goal
 

@@ -2,14 +2,14 @@ use Rattle.std.proofs.Common.{◌≡◌, ℕ, refl, sym, ◌∙◌}
 use Rattle.std.specs.declared.cmp.Ordering.{Ordering}
 use Rattle.std.specs.declared.cmp.Ordering.TheVariants.{Less, Equal, Greater}
 use Rattle.std.specs.Ordering.{nat_cmp, ordering_then}
-use Rattle.rtr_base.specs.Addresses.{MaxLenParts, family_cmp, prefix_cmp, resolved_len}
+use Rattle.rtr_base.specs.Addresses.{MaxLenParts, ip_version, prefix_cmp, resolved_len}
 use Rattle.rtr_payload.specs.Orders.{payload_cmp}
 use Rattle.rtr_payload.specs.Values.{origin_of}
 use Rattle.rtr_payload.proofs.Orders.{origin_chain}
 use Rattle.rtr_payload.proofs.payload.compare_origins.RouteOriginOrd.cmp.Goals as goal
 
 -- five orders that decide in turn
-regrouped : (f a l x n : Ordering) → ordering_then (ordering_then (ordering_then f (ordering_then a l)) x) n ≡ ordering_then f (ordering_then a (ordering_then l (ordering_then x n)))
+regrouped : (f a l x n : Ordering) → ordering_then (ordering_then (ordering_then f (ordering_then a (ordering_then l Equal))) x) n ≡ ordering_then f (ordering_then a (ordering_then l (ordering_then x n)))
 regrouped Less a l x n = refl
 regrouped Equal Less l x n = refl
 regrouped Equal Equal Less x n = refl
@@ -23,7 +23,7 @@ by_prefix : (p q : MaxLenParts) (m n : ℕ) → ordering_then (ordering_then (pr
 by_prefix p q m n =
     let l = p.prefix in
     let r = q.prefix in
-    regrouped (family_cmp l.family r.family) (nat_cmp l.address r.address) (nat_cmp l.len r.len) (nat_cmp (resolved_len p) (resolved_len q)) (nat_cmp m n)
+    regrouped (nat_cmp (ip_version l.family) (ip_version r.family)) (nat_cmp l.address r.address) (nat_cmp l.len r.len) (nat_cmp (resolved_len p) (resolved_len q)) (nat_cmp m n)
     ∙ sym (origin_chain (record { family = l.family; address = l.address; prefix_len = l.len; max_len = resolved_len p; asn = m }) (record { family = r.family; address = r.address; prefix_len = r.len; max_len = resolved_len q; asn = n }))
 
 pub returns : goal.returns

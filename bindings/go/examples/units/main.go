@@ -1,0 +1,31 @@
+// Units prints the units of the sequence on standard input, and how long its form is.
+package main
+
+import (
+	"fmt"
+	"io"
+	"log"
+	"os"
+
+	"fishreef/rtr"
+)
+
+func main() {
+	input, err := io.ReadAll(os.Stdin)
+	if err != nil {
+		log.Fatal(err)
+	}
+	var unit rtr.Unit
+	for rest := input; unit.Kind != rtr.EndOfData; {
+		if unit, rest, err = rtr.Next(rest); err != nil {
+			log.Fatal(err)
+		}
+		fmt.Printf("type %d, AS %d\n", unit.Kind, unit.ASN)
+	}
+	form := make([]byte, len(input))
+	progress, err := rtr.Normalise(input, form, 1<<32)
+	if err != nil {
+		log.Fatal(err)
+	}
+	fmt.Printf("%d payload units, form of %d bytes\n", progress.Units, progress.Written)
+}
