@@ -1,6 +1,6 @@
 //! Frames: what follows the header of a router key or an ASPA unit, in one piece.
 
-ghost use Rattle.std.specs.Prelude.{◌≡◌, ◌+◌, ◌≤◌, length, take, drop, IfOk, not};
+ghost use Rattle.std.specs.Prelude.{◌≡◌, ◌+◌, ◌≤◌, length, take, drop, IfOk};
 ghost use Rattle.rtr_base.specs.Bytes.{IsBytes, value};
 ghost use Rattle.rtr_units.specs.Reading.{by_bytes};
 ghost use Rattle.rtr_payload.specs.PrivateCalls.{ReadsFrame};

@@ -40,7 +40,8 @@ ReadsHeader r old new =
     ReadsHeaderBytes r old.left new.left × (new.failed ≡ reader_count (by_cause r) old.failed)
 
 -- a unit was read, or there was none, or reading stopped
-abbrev pub ReadsAnyBytes : Result (Option AnyUnit) Fault → Option (List ℕ) → Option (List ℕ) → Type 0
+abbrev pub ReadsAnyBytes :
+    Result (Option AnyUnit) Fault → Option (List ℕ) → Option (List ℕ) → Type 0
 ReadsAnyBytes (Ok None) old left = HasEnded old left
 ReadsAnyBytes (Ok (Some u)) old left = Consumes old left (any_bytes u) ×
     HasAnyFields (any_bytes u) (any_fields u)

@@ -1,5 +1,6 @@
 -- What a fault of a call on views says.
-use Rattle.std.specs.Prelude.{◌≡◌, ℕ, ◌<◌, Bool, true, false, List, ◌++◌, length, Option, Some, Result, Err, MatchResult, ⊤, not}
+use Rattle.std.specs.Prelude.{◌≡◌, ℕ, ◌<◌, Bool, true, false, List, ◌++◌, length, Option, Some, Result, Err}
+use Rattle.std.specs.Prelude.{MatchResult, ⊤, not}
 use Rattle.std.specs.Io.KnownBytes.{Appends}
 use Rattle.rtr_units.specs.Causes.{short, unit_type, unit_version, too_long, unit_length, empty_providers, refused}
 use Rattle.rtr_units.specs.Stream.{WriterState, count_after}
