@@ -214,13 +214,8 @@ impl PayloadUnit for RouterKey {
         header: Header,
         reader: &mut R,
     ) -> Result<(), Fault> {
-        match RouterKey::read_payload(alloc, header, reader) {
-            Ok(unit) => {
-                *self = unit;
-                Ok(())
-            }
-            Err(e) => Err(e),
-        }
+        *self = RouterKey::read_payload(alloc, header, reader)?;
+        Ok(())
     }
 
     #[inline(always)]
@@ -293,13 +288,8 @@ impl PayloadUnit for Aspa {
         header: Header,
         reader: &mut R,
     ) -> Result<(), Fault> {
-        match Aspa::read_payload(alloc, header, reader) {
-            Ok(unit) => {
-                *self = unit;
-                Ok(())
-            }
-            Err(e) => Err(e),
-        }
+        *self = Aspa::read_payload(alloc, header, reader)?;
+        Ok(())
     }
 
     #[inline(always)]
