@@ -26,10 +26,7 @@ pub fn read_frame<R: Source>(alloc: Global, size: usize, reader: &mut R) -> Resu
         Ok(frame) => frame,
         Err(_) => return Err(Fault::Memory),
     };
-    match fill(reader, frame.as_mut_slice()) {
-        Ok(()) => {}
-        Err(e) => return Err(e),
-    }
+    fill(reader, frame.as_mut_slice())?;
     match Bytes::from_vec(frame) {
         Ok(frame) => Ok(frame),
         Err(_) => Err(Fault::Memory),

@@ -9,7 +9,7 @@ ghost use Rattle.rtr_wire.specs.Sequences.{everything, for_version};
 
 use crate::run::{LAST_VERSION, Passed};
 use crate::writing::{Everything, ForVersion, Writing};
-use rtr_payload::pdu::{Aspa, RouterKey};
+use rtr_payload::pdu::{Aspa, PayloadUnit, RouterKey};
 use rtr_units::fixed::{Ipv4Prefix, Ipv6Prefix};
 use rtr_units::unit::Unit;
 use rtr_views::fault::ViewFault;
@@ -224,8 +224,8 @@ fn smallest_version(view: &UnitView<'_>) -> u8
     ensures { (m : Meaning) → ViewMeans view.now m → result ≡ smallest m.payload }
 {
     match view {
-        UnitView::Origin(_) => 0,
-        UnitView::RouterKey(_) => 1,
-        UnitView::Aspa(_) | UnitView::End(_) => 2,
+        UnitView::Origin(_) => Ipv4Prefix::SMALLEST_VERSION,
+        UnitView::RouterKey(_) => RouterKey::SMALLEST_VERSION,
+        UnitView::Aspa(_) | UnitView::End(_) => Aspa::SMALLEST_VERSION,
     }
 }
