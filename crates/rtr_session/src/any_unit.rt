@@ -147,7 +147,7 @@ impl AnyUnit {
     }
 
     /// The session, of the units that name one: serial notify, serial query, cache response and end
-    /// of data. Where it stands the others have other things.
+    /// of data. The others have something else at that place.
     pub fn session(&self) -> Option<u16>
         ensures { result ≡ any_session (any_fields self.now) }
     {

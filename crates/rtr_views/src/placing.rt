@@ -9,7 +9,7 @@ ghost use Rattle.rtr_payload.specs.KeyUnits.{key_at};
 ghost use Rattle.rtr_payload.specs.Units.{key_unit, aspa_unit, meaning, form_of};
 ghost use Rattle.rtr_views.specs.Origins.{origin_meaning};
 ghost use Rattle.rtr_views.specs.Placing.{Places};
-ghost use Rattle.rtr_views.specs.Views.{ViewMeans, view_form};
+ghost use Rattle.rtr_views.specs.Views.{ViewMeans, version_shown, view_form};
 
 use crate::aspa::{AspaView, FIXED};
 use crate::form::flagged_header;
@@ -109,7 +109,8 @@ impl<'a> UnitView<'a> {
     /// The version of the protocol: 0 for an end of data without timing parameters.
     #[inline(always)]
     pub fn version(&self) -> u8
-        ensures { (m : Meaning) → ViewMeans self.now m → result ≡ m.version }
+        ensures shown { result ≡ version_shown self.now }
+        ensures means { (m : Meaning) → ViewMeans self.now m → result ≡ m.version }
     {
         match self {
             UnitView::Origin(view) => view.version(),

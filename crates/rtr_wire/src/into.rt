@@ -31,13 +31,16 @@ pub struct Progress {
 }
 
 /// Why a call stopped before an end of data.
-#[derive(Debug, Drop)]
+#[derive(Debug, Drop, thiserror::Error)]
 pub enum IntoFault {
     /// The output has no room for what is to be written next.
+    #[error("no room in the output")]
     NoRoom,
     /// As many units as were allowed were taken.
+    #[error("too many units")]
     TooMany,
-    /// What follows in the input is refused.
+    /// What follows in the input is refused. Text and source are those of the fault.
+    #[error(transparent)]
     Refused(ViewFault),
 }
 
