@@ -7,7 +7,8 @@ use Rattle.rtr_base.specs.Bytes.{be, value, IsBytes}
 use Rattle.rtr_base.proofs.Numbers.{be-value, value-be, IsBytes-take, IsBytes-drop}
 use Rattle.rtr_units.specs.Header.{header, version_field, session_field, length_field}
 use Rattle.rtr_units.proofs.Headers.{header_read}
-use Rattle.rtr_session.specs.Reports.{IsReport, HasParts, IsCounted, IsCutShort}
+use Rattle.rtr_session.specs.PrivateCalls.{IsCounted, IsCutShort}
+use Rattle.rtr_session.specs.Reports.{IsReport, HasParts}
 
 pub at_none : {A : Type 0} (o : Option A) (P : Type 0) (Q : A → Type 0) → o ≡ None → P → MatchOption o P Q
 at_none o P Q is p = subst (λ o. MatchOption o P Q) (sym is) p
