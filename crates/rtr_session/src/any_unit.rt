@@ -5,7 +5,7 @@ ghost use Rattle.rtr_units.specs.Header.{version_field};
 ghost use Rattle.rtr_units.specs.Stream.{PutsForm};
 ghost use Rattle.rtr_units.specs.Views.{header_bytes};
 ghost use Rattle.rtr_session.specs.Fields.{any_session};
-ghost use Rattle.rtr_session.specs.Reads.{ReadsHeader};
+ghost use Rattle.rtr_session.specs.PrivateCalls.{ReadsHeader};
 
 use crate::report::Report;
 use rtr_payload::pdu::{Aspa, Payload, RouterKey};

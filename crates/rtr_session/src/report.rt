@@ -12,7 +12,7 @@ ghost use Rattle.rtr_units.specs.Header.{version_field, session_field};
 ghost use Rattle.rtr_units.specs.Stream.{PutsForm};
 ghost use Rattle.rtr_units.specs.Views.{header_bytes};
 ghost use Rattle.rtr_session.specs.Reports.{IsReport, HasParts, ReadsReport, ReadsReportAfter};
-ghost use Rattle.rtr_session.specs.Reports.{IsCounted, IsCutShort};
+ghost use Rattle.rtr_session.specs.PrivateCalls.{IsCounted, IsCutShort};
 
 use rtr_base::pdu::ErrorCode;
 use rtr_units::fault::Fault;

@@ -23,12 +23,12 @@ use Rattle.rtr_views.specs.declared.fault.ViewFault.TheVariants.{Writer, Short, 
 use Rattle.rtr_views.specs.declared.view.UnitView.{UnitView}
 use Rattle.rtr_views.specs.declared.view.UnitView.TheVariants as views
 use Rattle.rtr_views.proofs.Agreement.{view_means, form_meant}
-use Rattle.rtr_wire.specs.Outcome.{StepTells, Steps}
+use Rattle.rtr_wire.specs.PrivateCalls.{StepTells, Steps, StopsStep, is_payload_unit, passed}
 use Rattle.rtr_units.specs.Causes.{by_cause}
 use Rattle.rtr_wire.specs.Run.{Run, Ends, IsPartOfForm, BlamesNobody, Normalises}
 use Rattle.rtr_wire.specs.Sequences.{AreUnits, everything, forms}
 use Rattle.rtr_wire.specs.declared.run.Passed.TheVariants as passes
-use Rattle.rtr_wire.specs.SliceRun.{view_cause, slice_answer, NormalisesSlice, is_payload_unit, passed, StopsStep}
+use Rattle.rtr_wire.specs.SliceRun.{view_cause, slice_answer, NormalisesSlice}
 use Rattle.rtr_wire.proofs.Calls.{over}
 use Rattle.rtr_wire.proofs.OneAnswer.{one_run, no_unit, no_end, refused_at}
 use Rattle.rtr_wire.proofs.SomeAnswer.{next}

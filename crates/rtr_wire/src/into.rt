@@ -4,7 +4,8 @@ ghost use Rattle.std.specs.Prelude.{◌≡◌, ◌≢◌, ◌+◌, ◌-◌, ◌�
 ghost use Rattle.rtr_payload.specs.Payloads.{Meaning, smallest_version as smallest};
 ghost use Rattle.rtr_views.specs.Placing.{Places};
 ghost use Rattle.rtr_views.specs.Views.{ViewMeans};
-ghost use Rattle.rtr_wire.specs.Into.{FillsInto, StepsInto, PlacesUnit, refuses_version};
+ghost use Rattle.rtr_wire.specs.Into.{FillsInto, refuses_version};
+ghost use Rattle.rtr_wire.specs.PrivateCalls.{StepsInto, PlacesUnit};
 ghost use Rattle.rtr_wire.specs.Sequences.{everything, for_version};
 
 use crate::run::{LAST_VERSION, Passed};

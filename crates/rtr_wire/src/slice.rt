@@ -3,9 +3,9 @@
 ghost use Rattle.std.specs.Prelude.{◌≡◌, Ok, Some, IfOk, IfErr, not};
 ghost use Rattle.rtr_units.specs.Stream.{count_after};
 ghost use Rattle.rtr_views.specs.Faults.{is_view_writer_fault};
-ghost use Rattle.rtr_wire.specs.Outcome.{Steps};
+ghost use Rattle.rtr_wire.specs.PrivateCalls.{Steps, StopsStep, is_payload_unit, passed};
 ghost use Rattle.rtr_wire.specs.Sequences.{everything};
-ghost use Rattle.rtr_wire.specs.SliceRun.{NormalisesSlice, StopsStep, is_payload_unit, passed};
+ghost use Rattle.rtr_wire.specs.SliceRun.{NormalisesSlice};
 
 use rtr_payload::pdu::{Aspa, RouterKey};
 use rtr_units::fixed::{Ipv4Prefix, Ipv6Prefix};

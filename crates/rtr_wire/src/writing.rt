@@ -6,7 +6,7 @@ ghost use Rattle.rtr_payload.specs.Payloads.{Meaning, smallest_version};
 ghost use Rattle.rtr_units.specs.End.{End, end_list};
 ghost use Rattle.rtr_units.specs.Ends.{end_bytes, end_meaning};
 ghost use Rattle.rtr_wire.specs.Sequences.{Written, everything, for_version, in_version};
-ghost use Rattle.rtr_wire.specs.PerUnit.{version_joins, version_one, version_origins};
+ghost use Rattle.rtr_wire.specs.PrivateWriting.{version_joins, version_one, version_origins};
 
 use rtr_units::end::EndOfData;
 
