@@ -43,4 +43,5 @@ ReadsReportAfterBytes h (Err e) old left =
 
 abbrev pub ReadsReportAfter : List ℕ → Result (List ℕ) Fault → ReaderState → ReaderState → Type 0
 ReadsReportAfter h r old new =
-    ReadsReportAfterBytes h r old.left new.left × (new.failed ≡ reader_count (by_cause r) old.failed)
+    ReadsReportAfterBytes h r old.left new.left ×
+    (new.failed ≡ reader_count (by_cause r) old.failed)

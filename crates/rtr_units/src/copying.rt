@@ -11,8 +11,8 @@ const IPV6_REST: usize = 24;
 /// Copies all bytes.
 ///
 /// What follows the header of a prefix goes by its fields, the address of an IPv6 prefix in two
-/// halves: a copy of at most eight bytes is one load and one store, so that where the compiler knows
-/// the length no field is loaded from memory that was stored in other parts just before.
+/// halves: a copy of at most eight bytes is one load and one store, so that where the compiler
+/// knows the length no field is loaded from memory that was stored in other parts just before.
 #[inline(always)]
 pub(crate) fn copy(piece: &mut [u8], bytes: &[u8])
     requires { length piece.old ≡ length bytes.now }

@@ -130,7 +130,8 @@ impl Error {
 
 /// Reads past this many bytes.
 fn skip<R: Source>(reader: &mut R, size: usize) -> Result<(), Fault>
-    ensures { (t : List ℕ) × FillsPiece size (by_bytes (λ _. t) result) (R.state reader.old) (R.state reader.new) }
+    ensures { (t : List ℕ) × FillsPiece size (by_bytes (λ _. t) result)
+        (R.state reader.old) (R.state reader.new) }
 {
     let mut buffer = [0; 1024];
     let mut left = size;

@@ -52,7 +52,8 @@ impl Header {
     /// Reads a header: eight bytes, which are not checked.
     #[inline(always)]
     pub fn read<R: Source>(reader: &mut R) -> Result<Self, Fault>
-        ensures { FillsPiece 8 (by_bytes header_bytes result) (R.state reader.old) (R.state reader.new) }
+        ensures { FillsPiece 8 (by_bytes header_bytes result)
+            (R.state reader.old) (R.state reader.new) }
     {
         let mut header = Header::default();
         match fill(reader, header.as_mut()) {

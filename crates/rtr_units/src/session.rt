@@ -216,7 +216,8 @@ impl SerialQueryPayload {
     /// Reads four bytes.
     #[inline(always)]
     pub fn read<R: Source>(reader: &mut R) -> Result<Self, Fault>
-        ensures { FillsPiece 4 (by_bytes query_payload_bytes result) (R.state reader.old) (R.state reader.new) }
+        ensures { FillsPiece 4 (by_bytes query_payload_bytes result)
+            (R.state reader.old) (R.state reader.new) }
     {
         let mut payload = SerialQueryPayload::default();
         match fill(reader, payload.as_mut()) {

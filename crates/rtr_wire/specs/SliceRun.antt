@@ -33,8 +33,8 @@ abbrev pub slice_answer : List ℕ → Result (ℕ × ℕ) ViewFault → Result 
 slice_answer u (Ok (n, k)) = Ok n
 slice_answer u (Err e) = Err (view_cause u e)
 
--- The whole promise of normalise_slice, with its limit, its result and its input: `old` and `new` are
--- what the writer has before and after it.
+-- The whole promise of normalise_slice, with its limit, its result and its input: `old` and `new`
+-- are what the writer has before and after it.
 pub record NormalisesSlice (limit : ℕ) (result : Result (ℕ × ℕ) ViewFault) (input : List ℕ)
     (old new : WriterState) : Type 0 where
   -- the call took these bytes from the front of the input, left these, and added these to what the
