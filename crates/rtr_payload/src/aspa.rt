@@ -15,12 +15,12 @@ ghost use Rattle.rtr_payload.specs.Payloads.{aspa};
 ghost use Rattle.rtr_payload.specs.UnitKinds.{variable_unit};
 ghost use Rattle.rtr_payload.specs.Units.{aspa_unit, form, HasFields};
 
-use crate::frame::{MAX_SIZE, asn_at, read_frame};
+use crate::frame::{asn_at, read_frame};
 use crate::providers::ProviderAsns;
 use bytes::Bytes;
 use rtr_base::asn::Asn;
 use rtr_units::fault::Fault;
-use rtr_units::header::Header;
+use rtr_units::header::{Header, MAX_SIZE};
 use rtr_units::piece::put;
 use rtr_units::source::{Sink, Source};
 use std::alloc::{AllocError, Global};

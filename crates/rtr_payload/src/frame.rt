@@ -12,9 +12,6 @@ use rtr_units::piece::fill;
 use rtr_units::source::Source;
 use std::alloc::Global;
 
-/// The most bytes that a variable unit that is read has, header included.
-pub const MAX_SIZE: u32 = 65535;
-
 /// Reads the next `size` bytes.
 ///
 /// Faults, in this order: `Memory`, with nothing read, where there is no room for the frame;

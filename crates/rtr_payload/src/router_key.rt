@@ -16,12 +16,12 @@ ghost use Rattle.rtr_payload.specs.Payloads.{key};
 ghost use Rattle.rtr_payload.specs.UnitKinds.{variable_unit};
 ghost use Rattle.rtr_payload.specs.Units.{key_unit, form, HasFields};
 
-use crate::frame::{MAX_SIZE, asn_at, read_frame};
+use crate::frame::{asn_at, read_frame};
 use crate::key_info::{MAX_LEN, RouterKeyInfo};
 use bytes::Bytes;
 use rtr_base::asn::Asn;
 use rtr_units::fault::Fault;
-use rtr_units::header::Header;
+use rtr_units::header::{Header, MAX_SIZE};
 use rtr_units::piece::put;
 use rtr_units::source::{Sink, Source};
 use std::alloc::{AllocError, Global};

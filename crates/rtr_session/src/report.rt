@@ -16,7 +16,7 @@ ghost use Rattle.rtr_session.specs.PrivateCalls.{IsCounted, IsCutShort};
 
 use rtr_base::pdu::ErrorCode;
 use rtr_units::fault::Fault;
-use rtr_units::header::Header;
+use rtr_units::header::{Header, MAX_SIZE};
 use rtr_units::numbers::{u16_at, u32_at};
 use rtr_units::piece::{fill, put};
 use rtr_units::source::{Sink, Source};
@@ -26,9 +26,6 @@ use std::marker::Model;
 
 /// The bytes of the smallest report: a header and two lengths.
 pub(crate) const MIN_SIZE: u32 = 16;
-
-/// The most bytes that a report that is read has, header included, as in the Rust crate `rpki`.
-pub(crate) const MAX_SIZE: u32 = 65535;
 
 /// An error report that was read, seen as the list of its bytes: 16 to 65535, as many as its length
 /// field says.

@@ -14,15 +14,12 @@ ghost use Rattle.rtr_units.specs.Stream.{PutsForm};
 ghost use Rattle.rtr_units.specs.Views.{header_bytes, AreBytes};
 
 use crate::fault::Fault;
-use crate::header::Header;
+use crate::header::{Header, MAX_SIZE};
 use crate::piece::{fill, put};
 use crate::source::{Sink, Source};
 use std::alloc::{AllocError, Global};
 use std::hash::{Hash, Hasher};
 use std::marker::Model;
-
-/// The greatest length of a unit that is read past, as in the Rust crate `rpki`.
-const GREATEST_LENGTH: u32 = 65535;
 
 /// An error report, seen as the list of its bytes.
 #[derive(Drop, Debug)]
@@ -85,7 +82,7 @@ impl Error {
             (by_bytes (λ _. u) result) (R.state reader.old) (R.state reader.new) }
     {
         let length = header.length();
-        if length > GREATEST_LENGTH {
+        if length > MAX_SIZE {
             return Err(Fault::TooLong);
         }
         if length < 8 {
