@@ -7,8 +7,10 @@ use Rattle.rtr_payload.specs.declared.prefix_rule.PrefixRule.{PrefixRule}
 use Rattle.rtr_payload.specs.declared.prefix_rule.PrefixRule.TheVariants.{LenOverflow}
 use Rattle.rtr_payload.specs.declared.prefix_rule.PrefixRule.TheVariants.{MaxOverflow, MaxUnderflow}
 use Rattle.rtr_views.specs.declared.fault.ViewFault.{ViewFault}
-use Rattle.rtr_views.specs.declared.fault.ViewFault.TheVariants.{Writer, Short, UnitType, UnitLength}
-use Rattle.rtr_views.specs.declared.fault.ViewFault.TheVariants.{TooLong, EmptyProviders, UnitVersion, Prefix}
+use Rattle.rtr_views.specs.declared.fault.ViewFault.TheVariants.{Writer, Short, UnitType}
+use Rattle.rtr_views.specs.declared.fault.ViewFault.TheVariants.{UnitLength, TooLong}
+use Rattle.rtr_views.specs.declared.fault.ViewFault.TheVariants.{EmptyProviders, UnitVersion}
+use Rattle.rtr_views.specs.declared.fault.ViewFault.TheVariants.{Prefix}
 use Rattle.rtr_views.specs.declared.fault.ViewFault.TheVariants as faults
 use Rattle.rtr_wire.specs.Sequences.{Accepts, Written, sequence_form}
 use Rattle.rtr_wire.specs.declared.into.IntoFault.{IntoFault}

@@ -1,12 +1,13 @@
 -- Error reports that are read: a header and the frame after it.
 use Rattle.std.proofs.Common.{◌≡◌, ℕ, ◌+◌, ◌<◌, ◌≤◌, List, ◌++◌, length, take, drop, Some, None, ap, sym, ◌∙◌, arith, length-append}
-use Rattle.std.specs.Prelude.{nat_lt, ◌==◌, if◌then◌else◌}
+use Rattle.std.specs.Prelude.{◌==◌, if◌then◌else◌}
 use Rattle.std.proofs.lemmas.Bool.Decides.{nat_tests}
 use Rattle.std.proofs.lemmas.List.{take_at}
 use Rattle.rtr_base.specs.Bytes.{IsBytes}
 use Rattle.rtr_base.proofs.Numbers.{IsBytes-append}
 use Rattle.rtr_units.specs.Causes.{unit_type, too_long, unit_length}
 use Rattle.rtr_units.specs.Header.{type_field, length_field}
+use Rattle.rtr_units.specs.Reading.{least_length}
 use Rattle.rtr_units.specs.Views.{AreBytes}
 use Rattle.rtr_units.proofs.Headers.{same_header}
 use Rattle.rtr_session.specs.Headers.{report_unit}
@@ -29,7 +30,7 @@ pub record ReportFields (u : List ℕ) : Type 0 where
   pub most : length u ≤ 65535
   pub are_bytes : IsBytes u
 
-fields_in_order : (t n : ℕ) → (if t == 10 then (if nat_lt 65535 n then Some too_long else if nat_lt n 16 then Some unit_length else None) else Some (unit_type t)) ≡ None → (t ≡ 10) × (16 ≤ n) × (n ≤ 65535)
+fields_in_order : (t n : ℕ) → (if t == 10 then least_length 16 n else Some (unit_type t)) ≡ None → (t ≡ 10) × (16 ≤ n) × (n ≤ 65535)
 fields_in_order t n e = grind (arith, nat_tests)
 
 -- both say the same

@@ -1,4 +1,5 @@
-//! Tests of units of any type and of error reports: whether the clauses say what is meant, and what no clause says.
+//! Tests of units of any type and of error reports: whether the clauses say what is meant, and what
+//! no clause says.
 #![tactic(auto)]
 
 #[cfg(test)]

@@ -13,7 +13,8 @@ use std::test::Fail;
 /// A report, the unit that it speaks of, and its text.
 type Row = (&'static str, Option<&'static str>, Option<&'static str>);
 
-/// Reports whose lengths fill them, then such whose first or second length is too great, is cut, or leaves bytes over.
+/// Reports whose lengths fill them, then such whose first or second length is too great, is cut, or
+/// leaves bytes over.
 #[rattlefmt::skip]
 const ROWS: &[Row] = &[
     ("00 0a 00 03 00 00 00 10 00 00 00 00 00 00 00 00", Some(""), Some("")),

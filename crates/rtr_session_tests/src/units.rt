@@ -123,8 +123,8 @@ fn session(alloc: Global) -> Result<(Vec<u8>, Vec<usize>), Fail> {
     Ok((all, ends))
 }
 
-/// Reads all units of a session that is cut: those that are whole, and then a clean end where the cut lies between two
-/// units.
+/// Reads all units of a session that is cut: those that are whole, and then a clean end where the
+/// cut lies between two units.
 fn read_cut(rt: &impl Abort, alloc: Global, cut: &[u8], ends: &[usize]) -> Result<(), Fail> {
     let mut reader = SliceSource::new(cut);
     for end in ends {

@@ -1,4 +1,5 @@
--- What views show of the bytes that they are views of.
+-- What views show of the bytes that they are views of (this library's own; the units by RFC 8210
+-- sections 5.6 to 5.8 and 5.10, ASPA units as in the Rust crate).
 use Rattle.std.specs.Prelude.{◌≡◌, ℕ, List}
 use Rattle.rtr_base.specs.Addresses.{Family}
 use Rattle.rtr_units.specs.End.{End}

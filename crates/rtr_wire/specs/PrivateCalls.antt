@@ -1,10 +1,12 @@
 -- What calls inside this crate leave: one unit read and what is to be written for it written, in
--- terms of the bytes that were taken and written. Only contracts of private functions cite these.
+-- terms of the bytes that were taken and written. Only contracts of private functions cite these,
+-- and the law `plain_way`, which compares the plain calls with a step.
 use Rattle.std.specs.Prelude.{◌≡◌, ℕ, ◌≤◌, Bool, true, false, List, [], ◌∷◌, ◌++◌, length, drop}
 use Rattle.std.specs.Prelude.{Option, Some, None, Result, Ok, Err, IfSome}
 use Rattle.std.specs.Io.KnownBytes.{Consumes, Appends}
 use Rattle.rtr_units.specs.declared.fault.Fault.{Fault}
-use Rattle.rtr_units.specs.Causes.{Cause, by_writer, too_many, by_cause}
+use Rattle.rtr_units.specs.Causes.{Cause, by_writer, no_memory, too_many, by_cause}
+use Rattle.rtr_units.specs.End.{EndMeaning}
 use Rattle.rtr_units.specs.Views.{AreBytes}
 use Rattle.rtr_payload.specs.Payloads.{Meaning}
 use Rattle.rtr_payload.specs.Units.{IsUnit, LengthsAgree, meaning, form_of}
@@ -20,9 +22,10 @@ use Rattle.rtr_wire.specs.declared.into.IntoFault.TheVariants.{NoRoom, TooMany, 
 use Rattle.rtr_wire.specs.declared.into.Step.{Step}
 use Rattle.rtr_wire.specs.declared.run.Passed.{Passed}
 use Rattle.rtr_wire.specs.declared.run.Passed.TheVariants as passes
+use Rattle.rtr_wire.specs.Comparison.{Accepted}
 use Rattle.rtr_wire.specs.Into.{LacksRoom}
 use Rattle.rtr_wire.specs.Run.{IsProperPrefix, Ends}
-use Rattle.rtr_wire.specs.Sequences.{Written, everything, forms, in_version}
+use Rattle.rtr_wire.specs.Sequences.{Written, everything, forms, in_version, sequence_form}
 use Rattle.rtr_wire.specs.SliceRun.{view_cause}
 
 -- ---- a step from a reader to a writer
@@ -127,3 +130,15 @@ abbrev pub StepsInto : Written → Result Step IntoFault → (rest before after 
 StepsInto what (Ok s) rest before after = Stepped what s rest before after
 StepsInto what (Err f) rest before after =
     (after ≡ before) × StopsStepInto what f rest (length before)
+
+-- ---- the form of an input, kept in memory
+
+-- the cause to a caller whose writer fails only where memory is refused
+abbrev pub in_memory_cause : Cause → Cause
+in_memory_cause by_writer = no_memory
+in_memory_cause c = c
+
+-- the form of what the input means
+abbrev pub IsFormOf : ℕ → List ℕ → List ℕ → Type 0
+IsFormOf limit input form =
+    (ms : List Meaning) × (e : EndMeaning) × Accepted limit input ms e × (form ≡ sequence_form ms e)
