@@ -2,11 +2,12 @@
 
 use crate::answer::Answer;
 use crate::row::{Row, Way};
-use crate::{fixed, meanings, parts, payloads, sequences, session, variable, views};
+use crate::{fixed, into, meanings, parts, payloads, sequences, session, variable, views};
 
 /// Makes the call of a row in one way, and answers what it gave, if there is such a call.
 pub fn call(row: &Row<'_>, way: Way) -> Option<Answer> {
     sequences::answer(row, way)
+        .or_else(|| into::answer(row))
         .or_else(|| views::answer(row, way))
         .or_else(|| payloads::answer(row, way))
         .or_else(|| meanings::answer(row))

@@ -13,6 +13,7 @@
 mod answer;
 mod call;
 mod fixed;
+mod into;
 mod meanings;
 mod parts;
 mod payloads;

@@ -1,0 +1,76 @@
+//! Runs from a slice into another.
+
+use crate::answer::Answer;
+use crate::row::Row;
+use rtr_wire::{IntoFault, Progress, normalise_for_into, normalise_into};
+
+/// More units than any row has.
+const LIMIT: u64 = 4294967295;
+
+/// What the output holds before a call.
+const FILL: u8 = 0xee;
+
+/// Makes the call of a row where it is one of these. The setting `room` says how many bytes the
+/// output has, or else it has those of the input and 12 more.
+pub fn answer(row: &Row<'_>) -> Option<Answer> {
+    match row.call {
+        "normalise_into" => Some(normalised(row, None)),
+        "normalise_for_into" => Some(normalised(row, Some(row.byte("version", 0)))),
+        _ => None,
+    }
+}
+
+/// An output of so many bytes, each `FILL`.
+fn output(row: &Row<'_>) -> Option<Vec<u8>> {
+    let room = match row.setting("room") {
+        Some(_) => row.place("room"),
+        None => row.left.len().saturating_add(12),
+    };
+    Vec::from_elem(row.alloc, FILL, room).ok()
+}
+
+/// `normalise_into`, or `normalise_for_into` where there is a version.
+fn normalised(row: &Row<'_>, version: Option<u8>) -> Answer {
+    let limit = row.number("limit", LIMIT);
+    let Some(mut output) = output(row) else {
+        return row.no_unit();
+    };
+    row.ready();
+    let (progress, end) = match version {
+        Some(version) => normalise_for_into(&row.left, &mut output, limit, version),
+        None => normalise_into(&row.left, &mut output, limit),
+    };
+    let mut seen = row.answer();
+    tell_end(&mut seen, &end);
+    tell_progress(&mut seen, &progress, &output);
+    seen
+}
+
+/// Tells how a run ended.
+fn tell_end(seen: &mut Answer, end: &Result<(), IntoFault>) {
+    match end {
+        Ok(()) => seen.word("Ok"),
+        Err(IntoFault::NoRoom) => seen.word("NoRoom"),
+        Err(IntoFault::TooMany) => seen.word("TooMany"),
+        Err(IntoFault::Refused(fault)) => {
+            seen.word("Refused");
+            seen.view_fault(fault)
+        }
+    }
+}
+
+/// Tells the numbers of units, of forms, of bytes taken and of bytes written; what was written; and
+/// `spoilt` where another byte of the output isn't as it was.
+fn tell_progress(seen: &mut Answer, progress: &Progress, output: &[u8]) {
+    let (units, forms) = (progress.units, progress.forms);
+    let (taken, written) = (progress.taken, progress.written);
+    seen.word(format_args!("{units} {forms} {taken} {written} :"));
+    let Some((form, rest)) = output.split_at_checked(written) else {
+        seen.word("outside");
+        return;
+    };
+    seen.bytes(form);
+    if rest.iter().any(|byte| *byte != FILL) {
+        seen.word("spoilt");
+    }
+}
