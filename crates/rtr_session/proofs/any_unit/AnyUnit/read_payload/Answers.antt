@@ -139,11 +139,12 @@ returns-in_ok-unit-in-11 g c =
 
 pub returns-in_default : goal.returns-in_default
 returns-in_default g c =
-    let h = header_bytes c.args.header in
-    (
-      ([],
-      Consumes-nil _,
-      unknown_type h c.pdu.result c.pdu.ensures.header.0 (sym c.pdu.ensures.value)
-          (omega arith) (omega arith) (omega arith) (omega arith) (omega arith) (omega arith) (omega arith) (omega arith) (omega arith) (omega arith) (omega arith)),
+    let h = header_bytes c.args.header in (
+      (
+        [],
+        Consumes-nil _,
+        unknown_type h c.pdu.result c.pdu.ensures.header.0 (sym c.pdu.ensures.value)
+            (omega arith) (omega arith) (omega arith) (omega arith) (omega arith) (omega arith) (omega arith) (omega arith) (omega arith) (omega arith) (omega arith),
+      ),
       refl,
     )
