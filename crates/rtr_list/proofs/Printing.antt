@@ -7,8 +7,10 @@ use Rattle.std.proofs.lemmas.List.Folds.{concat-append}
 use Rattle.std.specs.Io.KnownBytes.{Appends}
 use Rattle.std.proofs.KnownBytes.{Appends-trans}
 use Rattle.rtr_units.specs.Stream.{WriterState}
-use Rattle.rtr_list.specs.Lines.{IsLine, PutsLine, PutsLineBytes}
-use Rattle.rtr_list.specs.Listing.{AreLines, Prints}
+use Rattle.rtr_list.specs.Lines.{IsLine}
+use Rattle.rtr_list.specs.Listing.{AreLines}
+use Rattle.rtr_list.specs.PrivateCalls.{Prints, PutsLine, PutsLineBytes, Shows}
+use Rattle.rtr_list.specs.declared.run.Wanted.{Wanted}
 use Rattle.rtr_list.specs.declared.run.Wanted.TheVariants.{Text, Json}
 
 pub all_append : {X : Type 0} (P : X → Type 0) (xs ys : List X) → AllByRecursion P xs →
@@ -38,28 +40,16 @@ goes_on x n a b c p (line, is, wrote) = record {
 
 -- ---- the line of a listed unit
 
+one_line : (what : Wanted) → ((line : List ℕ) → Shows what false (line ∷ [])) → (x : Unit {0}) →
+    (a b : WriterState) → PutsLine (Ok x) a b → Prints what (Ok false) a b
+one_line what shows x a b ((line, is, wrote), counts) =
+    let all = subst (Appends a.held b.held) (sym (append-nil line)) wrote in
+    ((line ∷ [], (is, tt), all, shows line), counts)
+
 pub text_line : (x : Unit {0}) (a b : WriterState) → PutsLine (Ok x) a b →
     Prints Text (Ok false) a b
-text_line x a b ((line, is, wrote), counts) = (
-  (
-    line ∷ [],
-    (is, tt),
-    subst (Appends a.held b.held) (sym
-        (append-nil line)) wrote,
-    (refl, refl),
-  ),
-  counts,
-)
+text_line x a b put = one_line Text (λ line. (refl, refl)) x a b put
 
 pub json_line : (x : Unit {0}) (a b : WriterState) → PutsLine (Ok x) a b →
     Prints Json (Ok false) a b
-json_line x a b ((line, is, wrote), counts) = (
-  (
-    line ∷ [],
-    (is, tt),
-    subst (Appends a.held b.held) (sym
-        (append-nil line)) wrote,
-    (refl, refl),
-  ),
-  counts,
-)
+json_line x a b put = one_line Json (λ line. (refl, refl)) x a b put

@@ -1,4 +1,5 @@
 pub mod Lines
-pub mod Words
 pub mod Listing
+pub mod PrivateCalls
 pub mod Status
+pub mod Words

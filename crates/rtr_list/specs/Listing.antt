@@ -4,16 +4,16 @@
 -- line, or a line of each rule that the unit breaks. It ends where the input does, at its first
 -- fault, or where the reader, the writer or memory fails.
 use Rattle.std.specs.Prelude.{◌≡◌, ℕ, ◌+◌, ◌-◌, ◌^◌, ◌≤◌, List, [], ◌++◌, length, nat_lt, ⊤}
-use Rattle.std.specs.Prelude.{Bool, false, not, min, Option, Result, Ok, Err, ◌⊎◌}
+use Rattle.std.specs.Prelude.{Bool, false, Option, Result, Ok, Err, ◌⊎◌}
 use Rattle.std.specs.Io.KnownBytes.{Consumes, Appends, IsAtEnd}
 use Rattle.std.specs.List.{AllByRecursion, concat}
 use Rattle.rtr_units.specs.declared.fault.Fault.{Fault}
 use Rattle.rtr_units.specs.Causes.{Cause, by_reader, by_writer, too_many, no_memory, wrong}
-use Rattle.rtr_units.specs.Causes.{by_cause, cause_of}
+use Rattle.rtr_units.specs.Causes.{by_cause}
 use Rattle.rtr_units.specs.Stream.{ReaderState, WriterState, reader_count, writer_count}
 use Rattle.rtr_session.specs.Fields.{AnyFields, HasAnyFields}
 use Rattle.rtr_session.specs.Reads.{StopsInAny}
-use Rattle.rtr_list.specs.Lines.{IsLine, IsPartOfLine, StopsLine}
+use Rattle.rtr_list.specs.Lines.{IsLine, IsPartOfLine}
 use Rattle.rtr_list.specs.declared.run.Wanted.{Wanted}
 use Rattle.rtr_list.specs.declared.run.Wanted.TheVariants.{Text, Json, Findings}
 
@@ -26,46 +26,6 @@ AreUnits = AllByRecursion IsUnit
 
 abbrev pub AreLines : List (List ℕ) → Type 0
 AreLines = AllByRecursion IsLine
-
--- ---- one unit
-
--- What was printed of one unit, and whether a rule was found broken. Of a listed unit it is one
--- line.
-abbrev pub Shows : Wanted → Bool → List (List ℕ) → Type 0
-Shows Text found lines = (length lines ≡ 1) × (found ≡ false)
-Shows Json found lines = (length lines ≡ 1) × (found ≡ false)
-Shows Findings found lines = found ≡ nat_lt 0 (length lines)
-
--- a listed unit has no line before the one that wasn't written
-abbrev pub ShowsPart : Wanted → List (List ℕ) → Type 0
-ShowsPart Text lines = lines ≡ []
-ShowsPart Json lines = lines ≡ []
-ShowsPart Findings lines = ⊤
-
--- what is to be printed of one unit was printed, or printing stopped
-abbrev pub PrintsBytes : Wanted → Result Bool Fault → Option (List ℕ) → Option (List ℕ) → Type 0
-PrintsBytes what (Ok found) held holds = (lines : List (List ℕ)) × AreLines lines ×
-    Appends held holds (concat lines) × Shows what found lines
-PrintsBytes what (Err e) held holds = (lines : List (List ℕ)) × (part : List ℕ) × AreLines lines ×
-    Appends held holds (concat lines ++ part) × StopsLine (cause_of e) part × ShowsPart what lines
-
-abbrev pub Prints : Wanted → Result Bool Fault → WriterState → WriterState → Type 0
-Prints what r old new =
-    PrintsBytes what r old.held new.held × (new.failed ≡ writer_count (by_cause r) old.failed)
-
--- of each of n broken rules one line was printed, or printing stopped
-abbrev pub PrintsEachBytes : ℕ → Result Bool Fault → Option (List ℕ) → Option (List ℕ) → Type 0
-PrintsEachBytes n (Ok found) held holds = (lines : List (List ℕ)) × AreLines lines ×
-    Appends held holds (concat lines) × (length lines ≡ n) × (found ≡ nat_lt 0 n)
-PrintsEachBytes n (Err e) held holds = PrintsBytes Findings (Err e) held holds
-
-abbrev pub PrintsEach : ℕ → Result Bool Fault → WriterState → WriterState → Type 0
-PrintsEach n r old new =
-    PrintsEachBytes n r old.held new.held × (new.failed ≡ writer_count (by_cause r) old.failed)
-
--- the number of bytes before the next unit, which stays at the greatest number of 64 bits
-abbrev pub offset_after : ℕ → List ℕ → ℕ
-offset_after offset unit = min (offset + length unit) (2 ^ 64 - 1)
 
 -- ---- a run
 

@@ -1,10 +1,9 @@
 -- How the program ends: this program's own.
 use Rattle.std.specs.Prelude.{◌≡◌, ℕ, Bool, true, false, Result, Ok, Err}
-use Rattle.std.specs.Io.KnownBytes.{Keeps}
 use Rattle.rtr_units.specs.declared.fault.Fault.{Fault}
 use Rattle.rtr_units.specs.Causes.{Cause, by_reader, by_writer, too_many, no_memory, wrong}
 use Rattle.rtr_units.specs.Causes.{by_cause}
-use Rattle.rtr_units.specs.Stream.{ReaderState, WriterState, count_after}
+use Rattle.rtr_units.specs.Stream.{ReaderState, WriterState, Flushes}
 use Rattle.rtr_list.specs.Listing.{Lists}
 use Rattle.rtr_list.specs.declared.run.Wanted.{Wanted}
 
@@ -23,11 +22,6 @@ status_of (Err (wrong fault)) = 1
 abbrev pub status_after : Result Bool Cause → Bool → ℕ
 status_after answer true = status_of answer
 status_after answer false = 3
-
--- one flush of the writer, and nothing else: what it holds stays, and a failure is counted
-abbrev pub Flushes : Bool → WriterState → WriterState → Type 0
-Flushes flushed old new =
-    Keeps old.held new.held × (new.failed ≡ count_after old.failed flushed)
 
 -- a run of what is asked for, then one flush of the output, and both decide the status
 abbrev pub Runs : Wanted → ℕ → ReaderState → ReaderState → WriterState → WriterState → Type 0

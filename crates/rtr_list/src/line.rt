@@ -6,7 +6,8 @@ ghost use Rattle.std.specs.Fmt.{AppendsText};
 ghost use Rattle.json.specs.Print.{print};
 ghost use Rattle.json.specs.Token.{string};
 ghost use Rattle.rtr_units.specs.Causes.{by_cause, by_reader};
-ghost use Rattle.rtr_list.specs.Lines.{IsLine, PutsLine};
+ghost use Rattle.rtr_list.specs.Lines.{IsLine};
+ghost use Rattle.rtr_list.specs.PrivateCalls.{PutsLine};
 
 use itoa::Buffer;
 use json::Writer;

@@ -12,7 +12,7 @@ use Rattle.rtr_base.specs.Bytes.{be, value}
 use Rattle.rtr_base.proofs.Numbers.{length-words, value-be}
 use Rattle.rtr_units.specs.Causes.{Refusal, short}
 use Rattle.rtr_units.specs.End.{EndMeaning, End, HasTimingOf, timed_list}
-use Rattle.rtr_units.specs.PrefixUnits.{PrefixFields, prefix_type, prefix_size, address_bytes, prefix_list}
+use Rattle.rtr_units.specs.PrefixUnits.{PrefixFields, prefix_type, prefix_size, prefix_list}
 use Rattle.rtr_units.specs.Header.{type_field, length_field}
 use Rattle.rtr_units.proofs.Headers.{same_header}
 use Rattle.rtr_payload.specs.Steps.{header_fault, header_step, length_step, lengths_fault, frame_fault, first_of, first_fault, first_unit, rule_of, broken_rule, refuse}

@@ -1,5 +1,5 @@
 -- The text of providers, one after another.
-use Rattle.std.proofs.Common.{◌≡◌, ℕ, ◌==◌, Bool, false, List, [], ◌∷◌, ◌++◌, length, codes, refl, ap}
+use Rattle.std.proofs.Common.{◌≡◌, ℕ, ◌==◌, false, List, [], ◌∷◌, ◌++◌, length, codes, refl, ap}
 use Rattle.std.proofs.lemmas.List.{flat_map_more}
 use Rattle.rtr_base.specs.PlainTexts.{asn_text}
 use Rattle.rtr_payload.specs.PayloadTexts.{aspa_text, each_text, providers_text}

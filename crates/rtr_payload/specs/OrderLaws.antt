@@ -1,7 +1,6 @@
 -- Payloads that compare as equal are one, so that they are fed alike to a hasher. The impls of Hash
 -- take what they cite from `specs` alone; nothing here has to be read to believe a contract.
 use Rattle.std.proofs.Common.{◌≡◌, ap}
-use Rattle.std.specs.declared.cmp.Ordering.TheVariants.{Equal}
 use Rattle.std.specs.Cmp.{Equal-is}
 use Rattle.std.specs.FinMap.{IsAntisymmetric, nat_cmp-IsAntisymmetric, slice_cmp-IsAntisymmetric}
 use Rattle.std.specs.Hash.{Alike, HashWrites}

@@ -1,6 +1,6 @@
 -- Route origins (RFC 8210 sections 5.6 and 5.7, RFC 6810 sections 5.6 and 5.7): what the unit of a
 -- prefix means.
-use Rattle.std.specs.Prelude.{◌≡◌, ℕ, ◌%◌, ◌-◌, ◌^◌, ◌<◌, ◌≤◌}
+use Rattle.std.specs.Prelude.{◌≡◌, ◌%◌, ◌-◌, ◌^◌, ◌<◌, ◌≤◌}
 use Rattle.rtr_base.specs.Addresses.{width, cleared}
 use Rattle.rtr_units.specs.PrefixUnits.{OriginParts, PrefixFields}
 

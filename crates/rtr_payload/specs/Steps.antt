@@ -11,7 +11,6 @@
 use Rattle.std.specs.Prelude.{codes, ◌≡◌, ℕ, ◌%◌, Bool, not, ◌&&◌, ◌||◌, List, ◌++◌, length, take}
 use Rattle.std.specs.Prelude.{slice_index, Option, Some, None, nat_lt, nat_le, ◌==◌, if◌then◌else◌}
 use Rattle.rtr_base.specs.Addresses.{width, v4, v6}
-use Rattle.rtr_units.specs.PrefixUnits.{prefix_at}
 use Rattle.rtr_units.specs.Header.{version_field, type_field, length_field}
 use Rattle.rtr_units.specs.End.{EndMeaning, End}
 use Rattle.rtr_units.specs.Report.{report}
@@ -79,10 +78,12 @@ rule_of (prefix_unit u) = broken_rule (width u.origin.family) u.origin.prefix_le
 rule_of (key_unit u) = None
 rule_of (aspa_unit u) = None
 
--- step 8, for a unit u of type t
+-- step 8, for a unit u of type t: bytes 9 and 10 of a prefix unit are its lengths (RFC 8210
+-- sections 5.6 and 5.7)
 abbrev pub lengths_fault : ℕ → List ℕ → Option Refusal
-lengths_fault t u = if t == 4 then refuse u (rule_of (prefix_unit (prefix_at v4 u)))
-    else if t == 6 then refuse u (rule_of (prefix_unit (prefix_at v6 u)))
+lengths_fault t u =
+    if t == 4 then refuse u (broken_rule (width v4) (slice_index u 9) (slice_index u 10))
+    else if t == 6 then refuse u (broken_rule (width v6) (slice_index u 9) (slice_index u 10))
     else None
 
 -- the earlier of two steps

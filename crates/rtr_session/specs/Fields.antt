@@ -1,4 +1,5 @@
--- Units of any type as lists of bytes, with their fields by name.
+-- Units of any type as lists of bytes, with their fields by name (RFC 8210 sections 5.1 to 5.11;
+-- ASPA units as in the Rust crate).
 use Rattle.std.specs.Prelude.{◌≡◌, ℕ, ◌+◌, ◌^◌, ◌<◌, ◌≤◌, List, ◌++◌, length, Option, Some, None}
 use Rattle.rtr_base.specs.Bytes.{IsBytes}
 use Rattle.rtr_units.specs.End.{EndMeaning, IsEndMeaning, end_list}

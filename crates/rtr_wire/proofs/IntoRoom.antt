@@ -1,5 +1,5 @@
 -- What is written is never longer than what it is written for, but for an end of data.
-use Rattle.std.proofs.Common.{◌≡◌, ◌≢◌, ℕ, ◌+◌, ◌-◌, ◌<◌, ◌≤◌, leb, cond, List, [], ◌∷◌, ◌++◌, length, map, Option, Some, None, Result, Ok, Err, refl, sym, ap, ◌∙◌, append-nil, arith, inl, inr}
+use Rattle.std.proofs.Common.{◌≡◌, ◌≢◌, ℕ, ◌+◌, ◌<◌, ◌≤◌, leb, List, [], ◌∷◌, length, map, Option, Some, None, Result, Ok, Err, refl, sym, ap, append-nil, arith, inl, inr}
 use Rattle.std.specs.List.{filter}
 use Rattle.std.proofs.lemmas.Bool.{cond_both}
 use Rattle.std.proofs.lemmas.List.{length-append}
@@ -19,7 +19,6 @@ use Rattle.rtr_wire.specs.Sequences.{AreUnits, Written, everything, for_version,
 use Rattle.rtr_wire.specs.declared.into.IntoFault.{IntoFault}
 use Rattle.rtr_wire.specs.declared.into.IntoFault.TheVariants.{NoRoom}
 use Rattle.rtr_wire.specs.declared.into.Progress.{Progress}
-use Rattle.rtr_wire.proofs.Push.{forms_append}
 
 -- a withdrawal names no providers
 fewer : (v f g z c : ℕ) (a : Action) (ps : List ℕ) → length (aspa_list (record { version = v; flags = f; free = 0; aspa = meant_aspa a (record { customer = c; providers = ps }) })) ≤ length (aspa_list (record { version = v; flags = g; free = z; aspa = record { customer = c; providers = ps } }))

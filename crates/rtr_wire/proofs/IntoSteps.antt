@@ -1,8 +1,8 @@
 -- Steps from a slice into another, one after the other.
-use Rattle.std.proofs.Common.{◌≡◌, ℕ, ◌+◌, ◌-◌, ◌<◌, ◌≤◌, Bool, true, false, cond, List, [], ◌∷◌, ◌++◌, length, take, drop, Option, Some, None, Result, Ok, Err, refl, sym, ap, subst, ◌∙◌, append_assoc, append-nil, arith, inl, inr}
+use Rattle.std.proofs.Common.{◌≡◌, ℕ, ◌+◌, ◌-◌, ◌<◌, ◌≤◌, Bool, true, false, cond, List, [], ◌∷◌, ◌++◌, length, take, drop, Some, None, Ok, Err, refl, sym, ap, subst, ◌∙◌, append_assoc, append-nil, arith, inl, inr}
 use Rattle.std.proofs.lemmas.List.{length-append, take-append-drop, length-take-le, length-drop, drop-drop, take_all, drop_all}
 use Rattle.std.proofs.Math.Seq.{drop-append_seam, take-append_seam}
-use Rattle.rtr_units.specs.End.{EndMeaning, End, end_list}
+use Rattle.rtr_units.specs.End.{End, end_list}
 use Rattle.rtr_units.specs.Ends.{end_bytes, end_meaning}
 use Rattle.rtr_units.specs.declared.end.EndOfData.{EndOfData}
 use Rattle.rtr_payload.specs.Payloads.{Meaning, smallest_version}

@@ -38,7 +38,7 @@ pub(crate) trait Writing: Copy {
     /// What is written for one unit.
     ghost one: { (s : Self) (m : Meaning) → (what s).units (m ∷ []) ≡
         (if has s (smallest_version m.payload)
-            then in_version (version_for s m.version) m ∷ [] else []) };
+        then in_version (version_for s m.version) m ∷ [] else []) };
 
     /// Units are written one by one.
     ghost joins: { (s : Self) (ms ns : List Meaning) →

@@ -1,5 +1,4 @@
-use Rattle.std.proofs.Common.{◌≡◌, true, take, sym, ap, ◌∙◌, append-nil}
-use Rattle.rtr_payload.specs.Payloads.{smallest_version}
+use Rattle.std.proofs.Common.{take, sym, ap, ◌∙◌, append-nil}
 use Rattle.rtr_wire.proofs.IntoSteps.{viewed, step_left_out, step_written, unit_lacks_room, end_lacks_room}
 use Rattle.rtr_wire.proofs.into.view_step.Goals as goal
 
