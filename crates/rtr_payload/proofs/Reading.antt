@@ -110,7 +110,7 @@ none_after h t a is kind n4 n6 n7 n9 n11 = (is, (([], Consumes-nil a.left, at_he
 
 -- ---- where reading stopped, by the steps
 
-never_short : (v t g n : ℕ) → header_fault v t g n ≡ Some short → ⊥
+pub never_short : (v t g n : ℕ) → header_fault v t g n ≡ Some short → ⊥
 unfolding header_fault
 never_short v t g n e = grind (arith, nat_tests)
 

@@ -16,7 +16,7 @@ use Rattle.rtr_payload.proofs.Frames.{Whole, InFrame, none_in_frame, first_none,
 
 -- ---- a rest that meets none of the steps 1 to 7
 
-eight_said : (v t g n : ℕ) → header_fault v t g n ≡ None → 8 ≤ n
+pub eight_said : (v t g n : ℕ) → header_fault v t g n ≡ None → 8 ≤ n
 unfolding header_fault
 eight_said v t g n e = grind (arith, nat_tests)
 
