@@ -1,10 +1,11 @@
 -- Lists that are made of a fixed part and a body.
-use Rattle.std.proofs.Common.{◌≡◌, ℕ, ◌+◌, ◌≤◌, Bool, true, false, ◌&&◌, Option, List, [], ◌∷◌, ◌++◌, length, take, drop, refl, ap, sym, ◌∙◌, append_assoc, append-nil, arith}
+use Rattle.std.proofs.Common.{◌≡◌, ℕ, ◌+◌, ◌-◌, ◌≤◌, Bool, true, false, ◌&&◌, Option, List, [], ◌∷◌, ◌++◌, length, take, drop, refl, ap, sym, ◌∙◌, append_assoc, append-nil, arith}
 use Rattle.std.specs.Prelude.{MatchResult, nat_eq, Result, Ok, Err}
 use Rattle.std.specs.Cmp.Lexicographic.{pointwise}
 use Rattle.std.specs.Io.KnownBytes.{Appends}
 use Rattle.std.proofs.KnownBytes.{Appends-trans}
 use Rattle.std.proofs.lemmas.List.{drop-append-le, take-append-le, take-append-drop, length-drop}
+use Rattle.std.proofs.Math.Seq.{drop-append-add}
 use Rattle.rtr_units.specs.declared.fault.Fault.{Fault}
 use Rattle.rtr_units.specs.Stream.{PutsForm, StopsWriting, WriterState, WritesPart, writer_count}
 use Rattle.rtr_units.specs.Causes.{by_cause}
@@ -13,6 +14,18 @@ use Rattle.rtr_units.specs.Causes.{by_cause}
 pub part_front : (a b : List ℕ) (n k : ℕ) → n + k ≤ length a → take k (drop n (a ++ b)) ≡ take k (drop n a)
 part_front a b n k h =
     ap (take k) (drop-append-le n a b (omega arith)) ∙ take-append-le k (drop n a) b (omega (arith, length-drop n a))
+
+-- a piece of a list, read off its front
+pub part_of_take : (u a : List ℕ) (f n k : ℕ) → a ≡ take f u → length a ≡ f → n + k ≤ f → take k (drop n a) ≡ take k (drop n u)
+part_of_take u a f n k is size h =
+    let again : a ++ drop f u ≡ u = ap (λ (l : List ℕ). l ++ drop f u) is ∙ take-append-drop f u in
+    sym (part_front a (drop f u) n k (omega (arith, size))) ∙ ap (λ (l : List ℕ). take k (drop n l)) again
+
+-- what is left after a front that ends inside the second part
+pub drop_joined : (h t : List ℕ) (n f : ℕ) → length h ≡ n → n ≤ f → drop f (h ++ t) ≡ drop (f - n) t
+drop_joined h t n f l k =
+    let sum : f ≡ length h + (f - n) = omega (arith, l) in
+    ap (λ (m : ℕ). drop m (h ++ t)) sum ∙ drop-append-add h t (f - n)
 
 -- the fixed part was written, and then the body was or was not
 joined : {T : Type 0} (r : Result T Fault) (old mid new : Option (List ℕ)) (a b : List ℕ) → Appends old mid a → MatchResult r (λ x. Appends mid new b) (λ e. WritesPart (StopsWriting e) mid new b) → MatchResult r (λ x. Appends old new (a ++ b)) (λ e. WritesPart (StopsWriting e) old new (a ++ b))

@@ -1,24 +1,21 @@
 -- Where reading a router key or an ASPA unit stops, and what was read.
-use Rattle.std.proofs.Common.{◌≡◌, ◌≢◌, ℕ, ◌+◌, ◌%◌, ◌<◌, ◌≤◌, List, [], ◌++◌, length, get_or, Option, Some, None, refl, ◌⊎◌, sym, ap, ◌∙◌, arith, inl, inr}
+use Rattle.std.proofs.Common.{◌≡◌, ◌≢◌, ℕ, ◌+◌, ◌%◌, ◌<◌, ◌≤◌, List, [], ◌++◌, length, Option, Some, None, Err, refl, ◌⊎◌, ap, ◌∙◌, arith, inl, inr}
 use Rattle.std.proofs.lemmas.Bool.Decides.{nat_tests}
+use Rattle.std.proofs.KnownBytes.{Consumes-nil}
 use Rattle.std.proofs.lemmas.List.{length-append}
 use Rattle.rtr_base.specs.Bytes.{IsBytes}
 use Rattle.rtr_base.proofs.Numbers.{IsBytes-append}
-use Rattle.rtr_units.specs.Causes.{too_long, unit_length, empty_providers, Cause, by_reader, by_writer, too_many, no_memory, wrong}
-use Rattle.rtr_units.specs.Header.{type_field, length_field}
+use Rattle.rtr_units.specs.Causes.{Refusal, short, unit_type, unit_version, too_long, unit_length, empty_providers, refused, Cause, by_reader, by_writer, too_many, no_memory, wrong}
+use Rattle.rtr_units.specs.Header.{length_field}
 use Rattle.rtr_units.specs.Views.{AreBytes}
 use Rattle.rtr_units.proofs.Headers.{same_header}
-use Rattle.rtr_units.specs.Reading.{IsWhole, AsksAfter, Stops}
-use Rattle.rtr_units.proofs.UnitsRead.{ByHeader, rest_stops, rest_whole}
-use Rattle.rtr_payload.specs.PrivateCalls.{StopsInFrame}
+use Rattle.rtr_units.specs.Reading.{IsWhole, AsksAfter, Stops, Reads}
+use Rattle.rtr_units.specs.Stream.{ReaderState}
+use Rattle.rtr_units.proofs.UnitsRead.{ByHeader, rest_stops, rest_whole, at_header}
+use Rattle.rtr_payload.specs.PrivateCalls.{StopsInFrame, IsRefusedBy}
 use Rattle.rtr_payload.specs.UnitKinds.{variable_unit}
-use Rattle.rtr_payload.specs.KeyUnits.{key_at}
-use Rattle.rtr_payload.specs.Units.{key_unit, aspa_unit}
-use Rattle.rtr_payload.specs.AspaUnits.{aspa_at}
 use Rattle.rtr_payload.specs.Steps.{header_fault}
-use Rattle.rtr_payload.specs.Units.{HasFields}
-use Rattle.rtr_payload.proofs.FieldsRead.{key_has, aspa_has}
-use Rattle.rtr_payload.proofs.Frames.{nine_in_order, eleven_in_order}
+use Rattle.rtr_payload.proofs.Reading.{never_short}
 
 -- ---- headers that are refused
 
@@ -45,6 +42,24 @@ aspa_uneven v g n h k = grind (arith, nat_tests)
 pub aspa_empty : (v g : ℕ) → g % 2 ≡ 1 → header_fault v 11 g 12 ≡ Some empty_providers
 unfolding header_fault
 aspa_empty v g h = grind (arith, nat_tests)
+
+-- what is wrong with a header stops reading right after it
+module _ (k : ℕ) (h : List ℕ) where
+  stops_at : (f : Refusal) (left : Option (List ℕ)) → length h ≡ 8 → (variable_unit k).fault h ≡ Some f → Stops (variable_unit k) (wrong f) (h ++ []) left
+  stops_at short left l e = absurd (never_short _ _ _ _ e)
+  stops_at (unit_type x) left l e = at_header (variable_unit k) (unit_type x) h l e
+  stops_at (unit_version x) left l e = at_header (variable_unit k) (unit_version x) h l e
+  stops_at too_long left l e = at_header (variable_unit k) too_long h l e
+  stops_at unit_length left l e = at_header (variable_unit k) unit_length h l e
+  stops_at empty_providers left l e = at_header (variable_unit k) empty_providers h l e
+  stops_at (refused x) left l e = at_header (variable_unit k) (refused x) h l e
+
+  pub header_stops : (c : Cause) (a : ReaderState) → length h ≡ 8 → IsRefusedBy ((variable_unit k).fault h) c → Reads (variable_unit k) h (Err c) a a
+  header_stops by_reader a l e = absurd e
+  header_stops by_writer a l e = absurd e
+  header_stops too_many a l e = absurd e
+  header_stops no_memory a l e = absurd e
+  header_stops (wrong f) a l e = (([], Consumes-nil a.left, stops_at f a.left l e), refl)
 
 -- ---- a header in order, and what follows it
 
@@ -80,21 +95,5 @@ module _ (k n : ℕ) (h : List ℕ) (eight : length h ≡ 8) (order : (variable_
   frame_stops (wrong f) t left s = rest_stops (variable_unit k) (variable_by k) n h eight order size (wrong f) t left s
 
 -- a header and the frame after it
-is_read : (k : ℕ) (h t : List ℕ) → AreBytes 8 h → IsBytes t → (variable_unit k).fault h ≡ None → length_field h ≡ 8 + length t → IsWhole (variable_unit k) (h ++ t)
+pub is_read : (k : ℕ) (h t : List ℕ) → AreBytes 8 h → IsBytes t → (variable_unit k).fault h ≡ None → length_field h ≡ 8 + length t → IsWhole (variable_unit k) (h ++ t)
 is_read k h t (l, hb) tb e size = rest_whole (variable_unit k) (variable_by k) (length t) h l e size t (IsBytes-append h t hb tb) refl
-
-pub key_read : (h t : List ℕ) → AreBytes 8 h → IsBytes t → 32 ≤ length_field h → length_field h ≤ 65535 → length_field h ≡ 8 + length t
-    → IsWhole (variable_unit 9) (h ++ t) × (type_field h ≡ 9 → HasFields (h ++ t) (key_unit (key_at (h ++ t))))
-key_read h t hb tb low high size =
-    let r = is_read 9 h t hb tb (nine_in_order _ _ _ low high) size in
-    let same = same_header h t (omega (arith, hb.0)) in
-    (r, λ kind. key_has (h ++ t) r.are_bytes (omega (arith, r.size, same.size)) (omega (arith, r.size, same.size)) (same.kind ∙ kind) (sym r.size))
-
-pub aspa_read : (h t : List ℕ) → AreBytes 8 h → IsBytes t → 12 ≤ length_field h → length_field h ≤ 65535 → length_field h % 4 ≡ 0 → (length_field h ≡ 12 → get_or h 2 0 % 2 ≢ 1) → length_field h ≡ 8 + length t
-    → IsWhole (variable_unit 11) (h ++ t) × (type_field h ≡ 11 → HasFields (h ++ t) (aspa_unit (aspa_at (h ++ t))))
-aspa_read h t hb tb low high by_four named size =
-    let r = is_read 11 h t hb tb (eleven_in_order _ _ _ low high by_four named) size in
-    let same = same_header h t (omega (arith, hb.0)) in
-    let len : length (h ++ t) ≡ length_field h = r.size ∙ same.size in
-    let even : length (h ++ t) % 4 ≡ 0 = ap (λ (n : ℕ). n % 4) len ∙ by_four in
-    (r, λ kind. aspa_has (h ++ t) r.are_bytes (omega (arith, len)) (omega (arith, len)) even (λ e odd. named (sym len ∙ e) (ap (λ (n : ℕ). n % 2) (sym same.flags) ∙ odd)) (same.kind ∙ kind) (sym r.size))

@@ -1,9 +1,15 @@
 -- Whole lists of bytes whose header is in order: each is a unit with the fields that stand at their places, or an end of data.
-use Rattle.std.proofs.Common.{◌≡◌, ◌≢◌, ℕ, ◌+◌, ◌%◌, ◌≤◌, ◌⊎◌, List, ◌++◌, length, None, sym, ◌∙◌, arith, get_or, inl, inr}
+use Rattle.std.proofs.Common.{◌≡◌, ◌≢◌, ℕ, ◌+◌, ◌%◌, ◌≤◌, ◌⊎◌, List, ◌++◌, length, drop, None, ap, sym, ◌∙◌, arith, get_or, inl, inr}
 use Rattle.std.proofs.lemmas.Bool.Decides.{nat_tests}
-use Rattle.std.proofs.lemmas.List.{length-append}
+use Rattle.std.proofs.lemmas.List.{length-append, length-drop}
 use Rattle.rtr_base.specs.Addresses.{Family, v4, v6}
 use Rattle.rtr_base.specs.Bytes.{IsBytes}
+use Rattle.rtr_base.proofs.Numbers.{IsBytes-drop}
+use Rattle.rtr_units.specs.Reading.{IsWhole}
+use Rattle.rtr_payload.specs.UnitKinds.{variable_unit}
+use Rattle.rtr_payload.specs.Providers.{AreProviderBytes}
+use Rattle.rtr_payload.specs.declared.key_info.TheConstants.{MAX_LEN as MOST}
+use Rattle.rtr_payload.proofs.ProviderBytes.{provider_bytes_of}
 use Rattle.rtr_units.specs.End.{EndMeaning, End, untimed_meaning, timed_meaning}
 use Rattle.rtr_units.specs.PrefixUnits.{prefix_type, prefix_size}
 use Rattle.rtr_units.specs.Header.{version_field, type_field, length_field}
@@ -48,6 +54,23 @@ key_said v g n h = grind (arith, nat_tests)
 aspa_said : (v g n : ℕ) → header_fault v 11 g n ≡ None → (12 ≤ n) × (n ≤ 65535) × (n % 4 ≡ 0) × (n ≡ 12 → g % 2 ≢ 1)
 unfolding header_fault
 aspa_said v g n h = grind (arith, nat_tests)
+
+-- ---- whole units of a kind, whatever type they name
+
+pub key_body : (u : List ℕ) → IsWhole (variable_unit 9) u → (32 ≤ length u) × (length (drop 32 u) ≤ MOST) × (type_field u ≡ 9 → HasFields u (key_unit (key_at u)))
+key_body u w =
+    let n = key_said _ _ _ w.in_order in
+    (omega (arith, w.size), omega (arith, w.size, length-drop 32 u), λ kind. key_has u w.are_bytes (omega (arith, w.size)) (omega (arith, w.size)) kind (sym w.size))
+
+pub aspa_body : (u : List ℕ) → IsWhole (variable_unit 11) u → (12 ≤ length u) × AreProviderBytes (drop 12 u) × (type_field u ≡ 11 → HasFields u (aspa_unit (aspa_at u)))
+aspa_body u w =
+    let n = aspa_said _ _ _ w.in_order in
+    let len = length-drop 12 u in
+    let even : length u % 4 ≡ 0 = ap (λ (k : ℕ). k % 4) w.size ∙ n.2 in (
+      omega (arith, w.size),
+      provider_bytes_of (drop 12 u) (IsBytes-drop 12 u w.are_bytes) (omega (arith, len, even, w.size)) (omega (arith, len, w.size)),
+      λ kind. aspa_has u w.are_bytes (omega (arith, w.size)) (omega (arith, w.size)) even (λ e. n.3 (sym w.size ∙ e)) kind (sym w.size),
+    )
 
 -- the header's step, where the type is known
 step_of : (b : List ℕ) (t : ℕ) → Whole b → type_field b ≡ t → header_fault (version_field b) t (get_or b 2 0) (length_field b) ≡ None

@@ -3,6 +3,7 @@
 
 mod aspa;
 mod frame;
+mod framed;
 mod key_info;
 pub mod laws;
 pub mod payload;

@@ -1,7 +1,7 @@
-use Rattle.std.proofs.Common.{ap, sym, ◌∙◌, arith}
+use Rattle.std.proofs.Common.{ap, ◌∙◌, arith}
 use Rattle.rtr_base.specs.Bytes.{value}
-use Rattle.rtr_payload.proofs.Joined.{part_front}
+use Rattle.rtr_payload.proofs.Joined.{part_of_take}
 use Rattle.rtr_payload.proofs.router_key.RouterKey.asn.Goals as goal
 
 pub returns : goal.returns
-returns c = rw (← c.self.view_is) (c.asn_at.ensures ∙ ap value (sym (part_front c.self.inside.fixed c.self.inside.key_info 28 4 (omega (arith, c.self.invariant)))))
+returns c = c.asn_at.ensures ∙ ap value (part_of_take c.args.self.now _ 32 28 4 c.as_partial_slice.ensures.value c.as_partial_slice.ensures.size (omega arith))

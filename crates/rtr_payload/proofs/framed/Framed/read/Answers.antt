@@ -4,10 +4,11 @@ use Rattle.rtr_units.specs.Views.{header_bytes}
 use Rattle.rtr_units.specs.Reading.{by_bytes}
 use Rattle.rtr_units.proofs.UnitsRead.{read_both}
 use Rattle.rtr_payload.specs.UnitKinds.{variable_unit}
-use Rattle.rtr_payload.proofs.aspa.Aspa.read.Goals as goal
+use Rattle.rtr_payload.proofs.framed.Framed.read.Goals as goal
 
 pub returns-clause-bytes : goal.returns-clause-bytes
 returns-clause-bytes g c =
+    let p = g.B.Body.PDU in
     let h = header_bytes c.in-Ok.header in
-    let kind : type_field h ≡ 11 = sym c.pdu-pdu.ensures.value ∙ c.if-pdu-ne-PDU.false in
-    read_both 11 (variable_unit 11) h (by_bytes (λ u. u) c.read_payload.result) _ _ _ kind c.in-Ok.ensures c.read_payload.ensures.bytes
+    let kind : type_field h ≡ p = sym c.pdu-pdu.ensures.value ∙ c.if-pdu-PDU.false ∙ c.PDU.ensures in
+    read_both p (variable_unit p) h (by_bytes (λ u. u) c.read_payload.result) _ _ _ kind c.in-Ok.ensures c.read_payload.ensures.bytes
