@@ -20,7 +20,7 @@ use rtr_wire::payload::{RouteOrigin, Timing};
 use rtr_wire::pdu::{Aspa, EndOfData, Ipv4Prefix, Ipv6Prefix, RouterKey, Unit};
 use rtr_wire::state::{Serial, State};
 
-/// The most bytes of key info that a router key may have to be read.
+/// The most bytes of key info with which a router key is read.
 const MAX_KEY_INFO: usize = 65503;
 /// The most bytes of providers that an ASPA unit has.
 const MAX_PROVIDERS: usize = 65520;
