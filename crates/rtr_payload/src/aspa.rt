@@ -1,7 +1,7 @@
 //! The ASPA unit (as in the Rust crate).
 
 ghost use Rattle.std.specs.Prelude.{◌≡◌, ◌≤◌, ◌+◌, ◌%◌, ◌++◌, length, take, drop};
-ghost use Rattle.std.specs.Prelude.{nat_eq, IfOk, not, []};
+ghost use Rattle.std.specs.Prelude.{nat_eq, IfOk, []};
 ghost use Rattle.std.specs.Cmp.{partial_equiv_from_equiv};
 ghost use Rattle.std.specs.Cmp.Lexicographic.{bytes_decides, nat_list_eq_equiv, pointwise};
 ghost use Rattle.std.specs.Hash as fed;

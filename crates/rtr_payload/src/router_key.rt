@@ -1,7 +1,7 @@
 //! The router key (RFC 8210 section 5.10).
 
 ghost use Rattle.std.specs.Prelude.{◌≡◌, ◌≤◌, ◌+◌, ◌++◌, length, take, drop, nat_eq};
-ghost use Rattle.std.specs.Prelude.{IfOk, not, []};
+ghost use Rattle.std.specs.Prelude.{IfOk, []};
 ghost use Rattle.std.proofs.Common.{rules};
 ghost use Rattle.std.specs.Cmp.{partial_equiv_from_equiv};
 ghost use Rattle.std.specs.Cmp.Lexicographic.{bytes_decides, nat_list_eq_equiv, pointwise};

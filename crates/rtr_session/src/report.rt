@@ -1,6 +1,6 @@
 //! Error reports that are read (RFC 8210 section 5.11, RFC 6810 section 5.10).
 
-ghost use Rattle.std.specs.Prelude.{◌≡◌, ◌≤◌, ◌++◌, ℕ, List, length, take, nat_eq, not};
+ghost use Rattle.std.specs.Prelude.{◌≡◌, ◌≤◌, ◌++◌, ℕ, List, length, take, nat_eq};
 ghost use Rattle.std.specs.Prelude.{MatchOption};
 ghost use Rattle.std.proofs.Common.{rules};
 ghost use Rattle.std.specs.Cmp.{partial_equiv_from_equiv};

@@ -1,7 +1,6 @@
 //! The error report (RFC 6810 section 5.10, RFC 8210 section 5.11).
 
-ghost use Rattle.std.specs.Prelude.{◌≡◌, ◌+◌, ◌≤◌, ℕ, List, [], length, nat_eq, IfOk, MatchResult};
-ghost use Rattle.std.specs.Prelude.{not};
+ghost use Rattle.std.specs.Prelude.{◌≡◌, ◌+◌, ◌≤◌, ℕ, List, [], length, nat_eq, IfOk};
 ghost use Rattle.std.proofs.Common.{rules};
 ghost use Rattle.std.specs.Borrow.{sem};
 ghost use Rattle.std.specs.Cmp.{partial_equiv_from_equiv};
@@ -11,7 +10,7 @@ ghost use Rattle.std.specs.Hash as fed;
 ghost use Rattle.rtr_units.specs.Reading.{FillsPiece, ReadsAfter, any_unit, by_bytes};
 ghost use Rattle.rtr_units.specs.Report.{report};
 ghost use Rattle.rtr_units.specs.Stream.{PutsForm};
-ghost use Rattle.rtr_units.specs.Views.{header_bytes, AreBytes};
+ghost use Rattle.rtr_units.specs.Views.{header_bytes};
 
 use crate::fault::Fault;
 use crate::header::{Header, MAX_SIZE};

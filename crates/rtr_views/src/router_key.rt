@@ -1,7 +1,7 @@
 //! Views of router keys (RFC 8210 section 5.10).
 
 ghost use Rattle.std.specs.Prelude.{◌≡◌, ◌≤◌, length, take, drop};
-ghost use Rattle.std.specs.Prelude.{IfOk, IfErr, not};
+ghost use Rattle.std.specs.Prelude.{IfOk, IfErr};
 ghost use Rattle.rtr_units.specs.Header.{version_field, type_field};
 ghost use Rattle.rtr_units.specs.Reading.{IsWhole, of_type};
 ghost use Rattle.rtr_payload.specs.KeyUnits.{key_at};
