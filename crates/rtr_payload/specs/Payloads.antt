@@ -1,4 +1,5 @@
--- What a payload unit means, over all kinds.
+-- What a payload unit means, over all kinds (each by its RFC section; the order is this library's
+-- own).
 use Rattle.std.specs.Prelude.{ℕ}
 use Rattle.rtr_base.specs.declared.payload.Action.{Action}
 use Rattle.rtr_units.specs.PrefixUnits.{OriginParts}

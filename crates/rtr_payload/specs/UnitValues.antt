@@ -1,4 +1,6 @@
--- What the values of payload units are: their bytes, and the fields that stand in them.
+-- What the values of payload units are: their bytes, and the fields that stand in them (this
+-- library's own; the places by RFC 8210 sections 5.6, 5.7 and 5.10, ASPA units as in the Rust
+-- crate).
 use Rattle.std.specs.Prelude.{◌≡◌, ◌≤◌, List, [], ℕ, Option, Some, None, Result, Ok, Err}
 use Rattle.std.specs.Prelude.{IsSome}
 use Rattle.rtr_base.specs.Addresses.{v4, v6}

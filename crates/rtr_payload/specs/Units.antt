@@ -1,4 +1,5 @@
--- Payload units over all kinds: their lists of bytes, what they mean, and how a meaning is written.
+-- Payload units over all kinds: their lists of bytes, what they mean, and how a meaning is written
+-- (each by its RFC section).
 use Rattle.std.specs.Prelude.{◌≡◌, ℕ, ◌≤◌, List, length}
 use Rattle.rtr_base.specs.declared.payload.Action.{Action}
 use Rattle.rtr_base.specs.Actions.{act, flags_of}
