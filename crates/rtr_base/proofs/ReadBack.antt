@@ -135,12 +135,12 @@ prefix_split p = record {
   first = lacks_slash (address_text p.family p.address) (plain_address p.family p.address);
 }
 
+within_width : (f : Family) (l : ℕ) → l ≤ width f → l ≤ 128
+within_width v4 l h = omega arith
+within_width v6 l h = h
+
 len_small : (p : PrefixParts) → IsPrefix p → p.len ≤ 128
-len_small p h = at p.family p.len h.len
-  where
-    at : (f : Family) (l : ℕ) → l ≤ width f → l ≤ 128
-    at v4 l h = omega arith
-    at v6 l h = h
+len_small p h = within_width p.family p.len h.len
 
 len_form : (p : PrefixParts) → IsPrefix p → IsLenText (decimal p.len) p.len
 len_form p h =
@@ -243,11 +243,7 @@ max_len_not_refused q (Some x) (max_lens.Value e) h fits (p, y, form, broken) =
 
 max_len_small : (q : PrefixParts) (m : Option ℕ) → IsMaxLenPrefix (record { prefix = q; max_len = m }) → IfSome m (λ x. x ≤ 128)
 max_len_small q None h = tt
-max_len_small q (Some x) h = at q.family x h.upper
-  where
-    at : (f : Family) (l : ℕ) → l ≤ width f → l ≤ 128
-    at v4 l h = omega arith
-    at v6 l h = h
+max_len_small q (Some x) h = within_width q.family x h.upper
 
 pub max_len_back : (p : MaxLenParts) (r : Result MaxLenParts ParseMaxLenPrefixError) → IsMaxLenPrefix p → ParsesMaxLen (max_len_text p) r → r ≡ Ok p
 max_len_back p (Ok q) h t =

@@ -11,7 +11,8 @@ use Rattle.rtr_base.specs.Addresses.{PrefixParts, MaxLenParts, IsMaxLenPrefix, B
 use Rattle.rtr_base.specs.declared.addr.MaxLenError.{MaxLenError}
 use Rattle.rtr_base.specs.declared.addr.MaxLenError.TheVariants.{Overflow, Underflow}
 use Rattle.rtr_base.specs.Numerals.{IsDigit, IsNumeral, IsSerialText}
-use Rattle.rtr_base.specs.ReadTexts.{IsWithoutAs, IsAsnText, IsLenText, IsAddressAndLen, SplitsAt, MaxLenTextBy, IsMaxLenText}
+use Rattle.rtr_base.specs.PrivateCalls.{IsWithoutAs}
+use Rattle.rtr_base.specs.ReadTexts.{IsAsnText, IsLenText, IsAddressAndLen, SplitsAt, MaxLenTextBy, IsMaxLenText}
 
 -- the number stands after AS or as, or alone
 pub asn_read : (text digits : List ℕ) (n : ℕ) → IsWithoutAs text digits → IsSerialText digits n → IsAsnText text n

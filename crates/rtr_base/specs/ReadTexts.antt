@@ -18,12 +18,6 @@ use Rattle.rtr_base.specs.declared.parse.ParseKeyIdentifierError.TheVariants as 
 
 -- ---- numbers of autonomous systems
 
--- the text after AS or as, where it begins so
-abbrev pub IsWithoutAs : List ℕ → List ℕ → Type 0
-IsWithoutAs text digits = (text ≡ codes "AS" ++ digits) ⊎ ((text ≡ codes "as" ++ digits)
-    ⊎ ((text ≡ digits) × ((rest : List ℕ) → text ≢ codes "AS" ++ rest)
-    × ((rest : List ℕ) → text ≢ codes "as" ++ rest)))
-
 -- AS or as before a number of 32 bits, or that number alone
 pub record IsAsnText (text : List ℕ) (n : ℕ) : Type 0 where
   pub digits : List ℕ

@@ -1,7 +1,7 @@
 //! Reading the texts of plain values: `FromStr` takes what `Display` writes.
 
-ghost use Rattle.rtr_base.specs.ReadTexts.{IsWithoutAs, ParsesAsn, ParsesKey, ParsesMaxLen};
-ghost use Rattle.rtr_base.specs.ReadTexts.{ParsesPrefix};
+ghost use Rattle.rtr_base.specs.PrivateCalls.{IsWithoutAs};
+ghost use Rattle.rtr_base.specs.ReadTexts.{ParsesAsn, ParsesKey, ParsesMaxLen, ParsesPrefix};
 
 use crate::addr::{MaxLenError, MaxLenPrefix, Prefix, PrefixError};
 use crate::asn::Asn;

@@ -7,14 +7,60 @@ use Rattle.rtr_payload.specs.declared.prefix_rule.PrefixRule.{PrefixRule}
 use Rattle.rtr_payload.specs.declared.prefix_rule.PrefixRule.TheVariants.{LenOverflow}
 use Rattle.rtr_payload.specs.declared.prefix_rule.PrefixRule.TheVariants.{MaxOverflow, MaxUnderflow}
 use Rattle.rtr_views.specs.declared.fault.ViewFault.{ViewFault}
-use Rattle.rtr_views.specs.declared.fault.ViewFault.TheVariants.{Writer, Short, UnitType, UnitLength}
-use Rattle.rtr_views.specs.declared.fault.ViewFault.TheVariants.{TooLong, EmptyProviders, UnitVersion, Prefix}
+use Rattle.rtr_views.specs.declared.fault.ViewFault.TheVariants.{Writer, Short, UnitType}
+use Rattle.rtr_views.specs.declared.fault.ViewFault.TheVariants.{UnitLength, TooLong}
+use Rattle.rtr_views.specs.declared.fault.ViewFault.TheVariants.{EmptyProviders, UnitVersion}
+use Rattle.rtr_views.specs.declared.fault.ViewFault.TheVariants.{Prefix}
 use Rattle.rtr_views.specs.declared.fault.ViewFault.TheVariants as faults
 use Rattle.rtr_wire.specs.Sequences.{Accepts, Written, sequence_form}
 use Rattle.rtr_wire.specs.declared.into.IntoFault.{IntoFault}
 use Rattle.rtr_wire.specs.declared.into.IntoFault.TheVariants.{NoRoom, TooMany, Refused}
 use Rattle.rtr_wire.specs.declared.into.Progress.{Progress}
 use Rattle.rtr_c.specs.declared.answer.RtrAnswer.{RtrAnswer}
+
+-- ---- statuses
+
+abbrev pub accepted : ℕ
+accepted = 0
+
+abbrev pub short : ℕ
+short = 1
+
+abbrev pub unit_type : ℕ
+unit_type = 2
+
+abbrev pub unit_version : ℕ
+unit_version = 3
+
+abbrev pub too_long : ℕ
+too_long = 4
+
+abbrev pub unit_length : ℕ
+unit_length = 5
+
+abbrev pub empty_providers : ℕ
+empty_providers = 6
+
+abbrev pub prefix : ℕ
+prefix = 7
+
+abbrev pub too_many : ℕ
+too_many = 8
+
+abbrev pub no_room : ℕ
+no_room = 9
+
+abbrev pub no_form : ℕ
+no_form = 10
+
+abbrev pub no_memory : ℕ
+no_memory = 11
+
+-- a reader or a writer failed, as none does here
+abbrev pub writer : ℕ
+writer = 255
+
+-- ---- what is told of a call
 
 -- the part of the rule on the lengths of a prefix
 abbrev pub rule_number : PrefixRule → ℕ
@@ -24,15 +70,15 @@ rule_number MaxUnderflow = 3
 
 -- the status of a fault of one unit
 abbrev pub fault_status : ViewFault → ℕ
-fault_status Short = 1
-fault_status (UnitType t) = 2
-fault_status (UnitVersion v) = 3
-fault_status TooLong = 4
-fault_status UnitLength = 5
-fault_status EmptyProviders = 6
-fault_status (Prefix rule) = 7
-fault_status faults.TooMany = 8
-fault_status (Writer e) = 255
+fault_status Short = short
+fault_status (UnitType t) = unit_type
+fault_status (UnitVersion v) = unit_version
+fault_status TooLong = too_long
+fault_status UnitLength = unit_length
+fault_status EmptyProviders = empty_providers
+fault_status (Prefix rule) = prefix
+fault_status faults.TooMany = too_many
+fault_status (Writer e) = writer
 
 -- the type or the version that is refused, or the rule that is broken
 abbrev pub fault_detail : ViewFault → ℕ
@@ -44,16 +90,16 @@ fault_detail _ = 0
 -- the status of why a run stopped
 abbrev pub stop_status : IntoFault → ℕ
 stop_status (Refused e) = fault_status e
-stop_status TooMany = 8
-stop_status NoRoom = 9
+stop_status TooMany = too_many
+stop_status NoRoom = no_room
 
 abbrev pub stop_detail : IntoFault → ℕ
 stop_detail (Refused e) = fault_detail e
 stop_detail _ = 0
 
--- the status and the detail of a run, 0 where it came to the end of data
+-- the status and the detail of a run, which is accepted where it came to the end of data
 abbrev pub run_status : Result Unit IntoFault → ℕ
-run_status (Ok done) = 0
+run_status (Ok done) = accepted
 run_status (Err f) = stop_status f
 
 abbrev pub run_detail : Result Unit IntoFault → ℕ
@@ -80,11 +126,11 @@ pub record TellsSequence (what : Written) (b : List ℕ) (ms : List Meaning) (e 
   pub written : a.written ≡ length (sequence_form (what.units ms) (what.end e))
   pub fits : a.written ≤ length before
   pub output : after ≡ sequence_form (what.units ms) (what.end e) ++ drop a.written before
-  pub status : a.status ≡ 0
+  pub status : a.status ≡ accepted
   pub detail : a.detail ≡ 0
-  pub answered : code ≡ 0
+  pub answered : code ≡ accepted
 
--- An input that begins with a sequence of fewer than limit units has status 0, where the output is
+-- An input that begins with a sequence of fewer than limit units is accepted, where the output is
 -- as long as what is written, or has this many bytes, which are enough for all inputs of that
 -- length.
 abbrev pub Succeeds : Written → (limit enough : ℕ) → (input before after : List ℕ) → RtrAnswer → ℕ
@@ -95,8 +141,8 @@ Succeeds what limit enough input before after a code =
     ⊎ (length (sequence_form (what.units ms) (what.end e)) ≤ length before) →
     TellsSequence what b ms e before after a code
 
--- no other input has status 0
+-- no other input is
 abbrev pub SucceedsOnly : Written → ℕ → (input before after : List ℕ) → RtrAnswer → ℕ → Type 0
 SucceedsOnly what limit input before after a code =
-    code ≡ 0 → (b : List ℕ) × (ms : List Meaning) × (e : EndMeaning) × Accepts input b ms e
+    code ≡ accepted → (b : List ℕ) × (ms : List Meaning) × (e : EndMeaning) × Accepts input b ms e
     × (length ms < limit) × TellsSequence what b ms e before after a code

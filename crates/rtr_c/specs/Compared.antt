@@ -4,22 +4,23 @@ use Rattle.rtr_units.specs.Causes.{short, unit_type, unit_version, too_long, uni
 use Rattle.rtr_units.specs.Causes.{empty_providers, refused, Cause, by_reader, by_writer, too_many}
 use Rattle.rtr_units.specs.Causes.{no_memory, wrong, cause_of}
 use Rattle.rtr_units.specs.declared.fault.Fault.{Fault}
+use Rattle.rtr_c.specs.Answers as status
 
 -- the status of a cause
 abbrev pub cause_status : Cause → ℕ
-cause_status (wrong short) = 1
-cause_status (wrong (unit_type t)) = 2
-cause_status (wrong (unit_version v)) = 3
-cause_status (wrong too_long) = 4
-cause_status (wrong unit_length) = 5
-cause_status (wrong empty_providers) = 6
-cause_status (wrong (refused report)) = 7
-cause_status too_many = 8
-cause_status no_memory = 11
-cause_status by_reader = 255
-cause_status by_writer = 255
+cause_status (wrong short) = status.short
+cause_status (wrong (unit_type t)) = status.unit_type
+cause_status (wrong (unit_version v)) = status.unit_version
+cause_status (wrong too_long) = status.too_long
+cause_status (wrong unit_length) = status.unit_length
+cause_status (wrong empty_providers) = status.empty_providers
+cause_status (wrong (refused report)) = status.prefix
+cause_status too_many = status.too_many
+cause_status no_memory = status.no_memory
+cause_status by_reader = status.writer
+cause_status by_writer = status.writer
 
--- the answer comes with status 0; a fault leaves what was there
+-- the answer comes with the status of what is accepted; a fault leaves what was there
 abbrev pub TellsSame : Result Bool Fault → (before after : Bool) → ℕ → Type 0
-TellsSame (Ok same) before after code = (after ≡ same) × (code ≡ 0)
+TellsSame (Ok same) before after code = (after ≡ same) × (code ≡ status.accepted)
 TellsSame (Err f) before after code = (after ≡ before) × (code ≡ cause_status (cause_of f))

@@ -2,21 +2,22 @@
 -- 5.10, of an ASPA as in the Rust crate).
 use Rattle.std.specs.Prelude.{◌≡◌, ℕ, ◌%◌, ◌≤◌, List}
 use Rattle.std.specs.Prelude.{◌++◌, length, take, drop, Option, Some, None}
-use Rattle.std.specs.Prelude.{Result, Ok, Err, slice_index, replicate}
+use Rattle.std.specs.Prelude.{Result, Ok, Err, replicate}
 use Rattle.rtr_base.specs.Addresses.{Family, v4, v6, resolved_len}
-use Rattle.rtr_base.specs.Bytes.{be, value}
+use Rattle.rtr_base.specs.Bytes.{be}
 use Rattle.rtr_base.specs.declared.payload.Timing.{Timing}
 use Rattle.rtr_units.specs.End.{EndMeaning}
 use Rattle.rtr_units.specs.Ends.{end_meaning}
 use Rattle.rtr_units.specs.PrefixUnits.{prefix_type}
-use Rattle.rtr_units.specs.Header.{version_field}
+use Rattle.rtr_payload.specs.AspaUnits.{AspaFields, aspa_at}
+use Rattle.rtr_payload.specs.KeyUnits.{KeyFields, key_at}
 use Rattle.rtr_payload.specs.declared.payload.RouteOrigin.{RouteOrigin}
 use Rattle.rtr_views.specs.Faults.{IsFirstFault}
 use Rattle.rtr_views.specs.Views.{IsViewOf}
 use Rattle.rtr_views.specs.declared.fault.ViewFault.{ViewFault}
 use Rattle.rtr_views.specs.declared.view.UnitView.{UnitView}
 use Rattle.rtr_views.specs.declared.view.UnitView.TheVariants as views
-use Rattle.rtr_c.specs.Answers.{fault_status, fault_detail}
+use Rattle.rtr_c.specs.Answers.{accepted, fault_status, fault_detail}
 use Rattle.rtr_c.specs.declared.unit.RtrUnit.{RtrUnit}
 
 -- a unit of no kind
@@ -80,34 +81,42 @@ end_shown n e = timed e.timing (record none {
   version = e.version;
 })
 
+-- the key info follows 32 bytes
+abbrev pub key_shown : ℕ → KeyFields → RtrUnit
+key_shown n u = record none {
+  size = n;
+  part_start = 32;
+  part_length = length u.key.info;
+  asn = u.key.asn;
+  kind = 9;
+  version = u.version;
+  action = u.flags % 2;
+  key_identifier = u.key.identifier;
+}
+
+-- the providers follow 12 bytes, and have this many, on a withdrawal too
+abbrev pub aspa_shown : (n providers : ℕ) → AspaFields → RtrUnit
+aspa_shown n providers u = record none {
+  size = n;
+  part_start = 12;
+  part_length = providers;
+  customer = u.aspa.customer;
+  kind = 11;
+  version = u.version;
+  action = u.flags % 2;
+}
+
 -- what is shown of a view of n bytes at the front of an input
 abbrev pub shown : UnitView → ℕ → RtrUnit
 shown (views.Origin v) n = origin_shown v.version v.flags n v.origin
-shown (views.RouterKey v) n = record none {
-  size = n;
-  part_start = 32;
-  part_length = length (drop 32 v.unit.now);
-  asn = value (take 4 (drop 28 v.unit.now));
-  kind = 9;
-  version = version_field v.unit.now;
-  action = slice_index v.unit.now 2 % 2;
-  key_identifier = take 20 (drop 8 v.unit.now);
-}
-shown (views.Aspa v) n = record none {
-  size = n;
-  part_start = 12;
-  part_length = length (drop 12 v.unit.now);
-  customer = value (take 4 (drop 8 v.unit.now));
-  kind = 11;
-  version = version_field v.unit.now;
-  action = slice_index v.unit.now 2 % 2;
-}
+shown (views.RouterKey v) n = key_shown n (key_at v.unit.now)
+shown (views.Aspa v) n = aspa_shown n (length (drop 12 v.unit.now)) (aspa_at v.unit.now)
 shown (views.End e) n = end_shown n (end_meaning e)
 
 -- the first unit or end of data of the input is shown, or its first fault is told
 abbrev pub ShowsFirst : Result (UnitView × ℕ) ViewFault → List ℕ → RtrUnit → ℕ → Type 0
 ShowsFirst (Ok (v, n)) input u code =
-    IsViewOf v (take n input) × (n ≤ length input) × (u ≡ shown v n) × (code ≡ 0)
+    IsViewOf v (take n input) × (n ≤ length input) × (u ≡ shown v n) × (code ≡ accepted)
 ShowsFirst (Err e) input u code =
     IsFirstFault input e × (u ≡ record none { detail = fault_detail e })
     × (code ≡ fault_status e)

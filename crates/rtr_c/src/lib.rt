@@ -1,5 +1,5 @@
-//! What programs in C, Go and Rust call: units and sequences in memory. Only `rtr_same_meaning`
-//! asks for more.
+//! What programs in C, Go and Rust call: units and sequences in memory. `rtr_same_meaning` alone
+//! asks for memory.
 //!
 //! Each call reads and writes the slices that it is given, and nothing else. What it answers
 //! crosses as numbers; `bindings/c/rtr.h` says what each means.

@@ -3,7 +3,7 @@
 ghost use Rattle.std.specs.Prelude.{◌≡◌};
 ghost use Rattle.rtr_c.specs.Shown.{none};
 
-/// A payload unit or an end of data. What its kind has not is zero.
+/// A payload unit or an end of data. Fields that its kind doesn't have are zero.
 #[repr(C)]
 #[derive(Drop)]
 pub struct RtrUnit {

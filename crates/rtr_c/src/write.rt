@@ -14,13 +14,13 @@ use crate::unit::RtrUnit;
 use rtr_payload::pdu::PrefixUnit;
 use rtr_payload::prefix_rule::{ipv4_prefix, ipv6_prefix};
 use rtr_units::numbers::{u32_at, u128_at};
-use rtr_views::placing::place;
+use rtr_views::placing::{flagged_header, place};
 use rtr_wire::base::Asn;
 use rtr_wire::payload::{RouteOrigin, Timing};
 use rtr_wire::pdu::{Aspa, EndOfData, Ipv4Prefix, Ipv6Prefix, RouterKey, Unit};
 use rtr_wire::state::{Serial, State};
 
-/// The most bytes of key info that a router key has that is read.
+/// The most bytes of key info that a router key may have to be read.
 const MAX_KEY_INFO: usize = 65503;
 /// The most bytes of providers that an ASPA unit has.
 const MAX_PROVIDERS: usize = 65520;
@@ -137,8 +137,8 @@ fn key_front(unit: &RtrUnit, size: u32) -> [u8; 32]
         ++ (unit.now.key_identifier ++ be unit.now.asn 4) }
 {
     let mut front = [0; 32];
-    front[..4].copy_from_slice(&[unit.version, RouterKey::PDU, unit.action, 0]);
-    front[4..8].copy_from_slice(&size.to_be_bytes());
+    let header = flagged_header(unit.version, RouterKey::PDU, unit.action, size);
+    front[..8].copy_from_slice(&header);
     front[8..28].copy_from_slice(&unit.key_identifier);
     front[28..].copy_from_slice(&unit.asn.to_be_bytes());
     front
@@ -180,8 +180,8 @@ fn aspa_front(unit: &RtrUnit, size: u32) -> [u8; 12]
         ++ be unit.now.customer 4 }
 {
     let mut front = [0; 12];
-    front[..4].copy_from_slice(&[unit.version, Aspa::PDU, unit.action, 0]);
-    front[4..8].copy_from_slice(&size.to_be_bytes());
+    let header = flagged_header(unit.version, Aspa::PDU, unit.action, size);
+    front[..8].copy_from_slice(&header);
     front[8..].copy_from_slice(&unit.customer.to_be_bytes());
     front
 }

@@ -40,20 +40,26 @@ goes_on x n a b c p (line, is, wrote) = record {
 
 pub text_line : (x : Unit {0}) (a b : WriterState) → PutsLine (Ok x) a b →
     Prints Text (Ok false) a b
-text_line x a b ((line, is, wrote), counts) = ((
-  line ∷ [],
-  (is, tt),
-  subst (Appends a.held b.held) (sym
-      (append-nil line)) wrote,
-  (refl, refl),
-), counts)
+text_line x a b ((line, is, wrote), counts) = (
+  (
+    line ∷ [],
+    (is, tt),
+    subst (Appends a.held b.held) (sym
+        (append-nil line)) wrote,
+    (refl, refl),
+  ),
+  counts,
+)
 
 pub json_line : (x : Unit {0}) (a b : WriterState) → PutsLine (Ok x) a b →
     Prints Json (Ok false) a b
-json_line x a b ((line, is, wrote), counts) = ((
-  line ∷ [],
-  (is, tt),
-  subst (Appends a.held b.held) (sym
-      (append-nil line)) wrote,
-  (refl, refl),
-), counts)
+json_line x a b ((line, is, wrote), counts) = (
+  (
+    line ∷ [],
+    (is, tt),
+    subst (Appends a.held b.held) (sym
+        (append-nil line)) wrote,
+    (refl, refl),
+  ),
+  counts,
+)

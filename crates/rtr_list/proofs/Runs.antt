@@ -1,7 +1,7 @@
 -- Units that are read and printed one after the other are a run.
 use Rattle.std.proofs.Common.{◌≡◌, ℕ, ◌+◌, ◌-◌, ◌^◌, not, Bool, false, List, [], ◌∷◌}
 use Rattle.std.proofs.Common.{◌++◌, length, Option, Result, Ok, Err, refl, sym, ap, subst, ◌∙◌}
-use Rattle.std.proofs.Common.{append-nil, append_assoc, arith}
+use Rattle.std.proofs.Common.{append-nil, append_assoc, arith, inl, inr}
 use Rattle.std.proofs.lemmas.Bool.Decides.{nat_tests}
 use Rattle.std.specs.Prelude.{nat_lt, ◌||◌}
 use Rattle.std.specs.List.{concat}
@@ -148,7 +148,7 @@ ends_stopped : (c : Cause) (units : List (List ℕ)) (t : List ℕ) (left : Opti
 ends_stopped by_reader units t left stops = (stops, refl)
 ends_stopped by_writer units t left stops = absurd stops
 ends_stopped too_many units t left stops = absurd stops
-ends_stopped no_memory units t left stops = refl
+ends_stopped no_memory units t left stops = (inr stops, refl)
 ends_stopped (wrong f) units t left stops = (stops, refl)
 
 pub stops_reading : (what : Wanted) (found : Bool) (n : ℕ) (e : Fault) (old new : ReaderState) (before after : WriterState) →
@@ -197,7 +197,7 @@ ends_broken : (c : Cause) (units : List (List ℕ)) (left : Option (List ℕ)) (
 ends_broken by_reader units left part stops = absurd stops
 ends_broken by_writer units left part stops = (refl, stops)
 ends_broken too_many units left part stops = absurd stops
-ends_broken no_memory units left part stops = stops
+ends_broken no_memory units left part stops = (inl refl, stops)
 ends_broken (wrong f) units left part stops = absurd stops
 
 pub stops_printing : (what : Wanted) (found : Bool) (n : ℕ) (e : Fault) (u : List ℕ) →

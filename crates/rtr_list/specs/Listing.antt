@@ -4,7 +4,7 @@
 -- line, or a line of each rule that the unit breaks. It ends where the input does, at its first
 -- fault, or where the reader, the writer or memory fails.
 use Rattle.std.specs.Prelude.{◌≡◌, ℕ, ◌+◌, ◌-◌, ◌^◌, ◌≤◌, List, [], ◌++◌, length, nat_lt, ⊤}
-use Rattle.std.specs.Prelude.{Bool, false, not, min, Option, Result, Ok, Err}
+use Rattle.std.specs.Prelude.{Bool, false, not, min, Option, Result, Ok, Err, ◌⊎◌}
 use Rattle.std.specs.Io.KnownBytes.{Consumes, Appends, IsAtEnd}
 use Rattle.std.specs.List.{AllByRecursion, concat}
 use Rattle.rtr_units.specs.declared.fault.Fault.{Fault}
@@ -103,8 +103,9 @@ Ends (Err by_writer) units rest left part = (rest ≡ []) × IsPartOfLine part
 -- at the most units that are read
 Ends (Err too_many) units rest left part =
     (length units ≡ 2 ^ 64 - 1) × (rest ≡ []) × (part ≡ [])
--- for want of memory
-Ends (Err no_memory) units rest left part = part ≡ []
+-- for want of memory, for a unit's line or for a unit, inside which reading stopped then
+Ends (Err no_memory) units rest left part =
+    ((rest ≡ []) ⊎ StopsInAny no_memory rest left) × (part ≡ [])
 -- at a fault of the input
 Ends (Err (wrong fault)) units rest left part = StopsInAny (wrong fault) rest left × (part ≡ [])
 

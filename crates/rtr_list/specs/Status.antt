@@ -2,7 +2,8 @@
 use Rattle.std.specs.Prelude.{◌≡◌, ℕ, Bool, true, false, Result, Ok, Err}
 use Rattle.std.specs.Io.KnownBytes.{Keeps}
 use Rattle.rtr_units.specs.declared.fault.Fault.{Fault}
-use Rattle.rtr_units.specs.Causes.{Cause, by_reader, by_writer, too_many, no_memory, wrong, by_cause}
+use Rattle.rtr_units.specs.Causes.{Cause, by_reader, by_writer, too_many, no_memory, wrong}
+use Rattle.rtr_units.specs.Causes.{by_cause}
 use Rattle.rtr_units.specs.Stream.{ReaderState, WriterState, count_after}
 use Rattle.rtr_list.specs.Listing.{Lists}
 use Rattle.rtr_list.specs.declared.run.Wanted.{Wanted}

@@ -1,5 +1,5 @@
-//! Addresses as pieces of a line: the texts of std, without its formatter, which takes most of the
-//! time of a line.
+//! Addresses as pieces of a line: the texts of std, without its formatter, which takes three times
+//! as long for IPv6.
 
 ghost use Rattle.std.specs.Prelude.{◌≡◌, ◌+◌, ◌≤◌, ◌<◌, ◌++◌, length, OnOk};
 ghost use Rattle.std.specs.Char.{digit_char};

@@ -1,10 +1,8 @@
 -- What the program is asked for by the words after its name: this program's own.
-use Rattle.std.specs.Prelude.{ℕ, ◌≤◌, Option, Some, None, List, [], ◌∷◌, map}
+use Rattle.std.specs.Prelude.{ℕ, Option, Some, None, List, [], ◌∷◌, map}
 use Rattle.std.specs.Prelude.{codes, bytes_eq, if◌then◌else◌}
 use Rattle.std.specs.Prelude.{String, string_bytes}
 use Rattle.rtr_wire.specs.Sequences.{Written, everything, for_version}
-use Rattle.rtr_normalise.specs.declared.run.Wanted.{Wanted}
-use Rattle.rtr_normalise.specs.declared.run.Wanted.TheVariants as wants
 
 -- the number of a version asks for what that version has, and any other text for nothing
 abbrev pub asked_version : List ℕ → Option Written
@@ -24,13 +22,3 @@ asked_texts others = None
 -- the same by the words
 abbrev pub asked : {Z : Type 0} → List (String Z) → Option Written
 asked words = asked_texts (map string_bytes words)
-
--- what is written of the input, as the program holds what it is asked for
-abbrev pub written : Wanted → Written
-written wants.Everything = everything
-written (wants.Version v) = for_version v
-
--- the version is one that there is
-abbrev pub IsKnown : Wanted → Type 0
-IsKnown wants.Everything = Unit {0}
-IsKnown (wants.Version v) = v ≤ 2

@@ -7,7 +7,7 @@ use Rattle.std.proofs.KnownBytes.{Appends-trans}
 use Rattle.std.proofs.lemmas.List.{drop-append-le, take-append-le, take-append-drop, length-drop}
 use Rattle.std.proofs.Math.Seq.{drop-append-add}
 use Rattle.rtr_units.specs.declared.fault.Fault.{Fault}
-use Rattle.rtr_units.specs.Stream.{PutsForm, WriterState, WritesPart, writer_count}
+use Rattle.rtr_units.specs.Stream.{PutsForm, StopsWriting, WriterState, WritesPart, writer_count}
 use Rattle.rtr_units.specs.Causes.{by_cause}
 
 -- a piece of the fixed part
@@ -28,7 +28,7 @@ drop_joined h t n f l k =
     ap (λ (m : ℕ). drop m (h ++ t)) sum ∙ drop-append-add h t (f - n)
 
 -- the fixed part was written, and then the body was or was not
-joined : {T : Type 0} (r : Result T Fault) (old mid new : Option (List ℕ)) (a b : List ℕ) → Appends old mid a → MatchResult r (λ x. Appends mid new b) (λ e. WritesPart e mid new b) → MatchResult r (λ x. Appends old new (a ++ b)) (λ e. WritesPart e old new (a ++ b))
+joined : {T : Type 0} (r : Result T Fault) (old mid new : Option (List ℕ)) (a b : List ℕ) → Appends old mid a → MatchResult r (λ x. Appends mid new b) (λ e. WritesPart (StopsWriting e) mid new b) → MatchResult r (λ x. Appends old new (a ++ b)) (λ e. WritesPart (StopsWriting e) old new (a ++ b))
 joined (Ok x) old mid new a b h k = Appends-trans old mid new a b h k
 joined (Err e) old mid new a b h k = (a ++ k.0, k.1, Appends-trans old mid new a k.0 h k.2, ap (λ (l : List ℕ). a ++ l) k.3 ∙ sym (append_assoc a k.0 k.1), k.4, k.5)
 

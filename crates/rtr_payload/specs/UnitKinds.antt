@@ -1,6 +1,6 @@
 -- The kinds of units that carry payload, by what is wrong with their headers and whether memory is
--- asked for. The order of the faults, and that key info and providers are read into memory, are this
--- library's own.
+-- asked for. The order of the faults, and that key info and providers are read into memory, are
+-- this library's own.
 use Rattle.std.specs.Prelude.{ℕ, true, ◌||◌, slice_index, ◌==◌}
 use Rattle.rtr_units.specs.Header.{version_field, type_field, length_field}
 use Rattle.rtr_units.specs.Reading.{Kind}

@@ -8,13 +8,13 @@ ghost use Rattle.rtr_payload.specs.Payloads.{aspa};
 ghost use Rattle.rtr_payload.specs.Providers.{AreProviders, AreProviderBytes};
 ghost use Rattle.rtr_payload.specs.Units.{aspa_unit, form};
 
-use crate::frame::{MAX_SIZE, asn_at};
+use crate::frame::asn_at;
 use crate::framed::{Body, Framed};
 use crate::providers::ProviderAsns;
 use bytes::Bytes;
 use rtr_base::asn::Asn;
 use rtr_units::fault::Fault;
-use rtr_units::header::Header;
+use rtr_units::header::{Header, MAX_SIZE};
 use std::alloc::AllocError;
 
 /// The bytes of an ASPA unit before its providers.

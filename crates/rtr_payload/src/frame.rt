@@ -1,6 +1,6 @@
 //! Frames: what follows the header of a router key or an ASPA unit, in one piece.
 
-ghost use Rattle.std.specs.Prelude.{◌≡◌, ◌+◌, ◌≤◌, length, take, drop, IfOk, not};
+ghost use Rattle.std.specs.Prelude.{◌≡◌, ◌+◌, ◌≤◌, length, take, drop, IfOk};
 ghost use Rattle.rtr_base.specs.Bytes.{IsBytes, value};
 ghost use Rattle.rtr_units.specs.Reading.{by_bytes};
 ghost use Rattle.rtr_payload.specs.PrivateCalls.{ReadsFrame};
@@ -11,9 +11,6 @@ use rtr_units::fault::Fault;
 use rtr_units::piece::fill;
 use rtr_units::source::Source;
 use std::alloc::Global;
-
-/// The most bytes that a variable unit that is read has, header included.
-pub const MAX_SIZE: u32 = 65535;
 
 /// Reads the next `size` bytes.
 ///
@@ -29,10 +26,7 @@ pub fn read_frame<R: Source>(alloc: Global, size: usize, reader: &mut R) -> Resu
         Ok(frame) => frame,
         Err(_) => return Err(Fault::Memory),
     };
-    match fill(reader, frame.as_mut_slice()) {
-        Ok(()) => {}
-        Err(e) => return Err(e),
-    }
+    fill(reader, frame.as_mut_slice())?;
     match Bytes::from_vec(frame) {
         Ok(frame) => Ok(frame),
         Err(_) => Err(Fault::Memory),

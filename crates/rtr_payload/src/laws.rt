@@ -22,9 +22,9 @@ ghost use Rattle.rtr_payload.specs.Units.{Fields, fields_like, LengthsAgree, IsU
 ghost use Rattle.rtr_payload.specs.Units.{form, form_of, written, stripped};
 
 use crate::aspa::Aspa;
-use crate::frame::MAX_SIZE;
 use crate::providers::ProviderAsns;
 use crate::router_key::RouterKey;
+use rtr_units::header::MAX_SIZE;
 
 /// The types of the units, and the limits on their sizes: the bytes of a unit that is read, and the
 /// providers of an ASPA. `pdu::RouterKey::max_key_info_size` says the bytes of key info. Answered are

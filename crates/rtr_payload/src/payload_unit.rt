@@ -210,13 +210,8 @@ impl PayloadUnit for RouterKey {
         header: Header,
         reader: &mut R,
     ) -> Result<(), Fault> {
-        match RouterKey::read_payload(alloc, header, reader) {
-            Ok(unit) => {
-                *self = unit;
-                Ok(())
-            }
-            Err(e) => Err(e),
-        }
+        *self = RouterKey::read_payload(alloc, header, reader)?;
+        Ok(())
     }
 
     #[inline(always)]
@@ -289,13 +284,8 @@ impl PayloadUnit for Aspa {
         header: Header,
         reader: &mut R,
     ) -> Result<(), Fault> {
-        match Aspa::read_payload(alloc, header, reader) {
-            Ok(unit) => {
-                *self = unit;
-                Ok(())
-            }
-            Err(e) => Err(e),
-        }
+        *self = Aspa::read_payload(alloc, header, reader)?;
+        Ok(())
     }
 
     #[inline(always)]

@@ -7,13 +7,13 @@ ghost use Rattle.rtr_payload.specs.KeyUnits.{key_at, IsKey};
 ghost use Rattle.rtr_payload.specs.Payloads.{key};
 ghost use Rattle.rtr_payload.specs.Units.{form, key_unit};
 
-use crate::frame::{MAX_SIZE, asn_at};
+use crate::frame::asn_at;
 use crate::framed::{Body, Framed};
 use crate::key_info::{MAX_LEN, RouterKeyInfo};
 use bytes::Bytes;
 use rtr_base::asn::Asn;
 use rtr_units::fault::Fault;
-use rtr_units::header::Header;
+use rtr_units::header::{Header, MAX_SIZE};
 use std::alloc::AllocError;
 
 /// The bytes of a router key before its key info.

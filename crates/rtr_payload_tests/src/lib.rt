@@ -1,5 +1,5 @@
-//! Tests of the units of `rtr_payload`, what they hold and what they mean: whether the clauses say what is
-//! meant, and what no clause says; and that equal meanings are one member of std's sets.
+//! Tests of the units of `rtr_payload`, what they hold and what they mean: whether the clauses say
+//! what is meant, and what no clause says; and that equal meanings are one member of std's sets.
 #![tactic(auto)]
 
 #[cfg(test)]

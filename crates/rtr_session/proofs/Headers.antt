@@ -3,19 +3,19 @@ use Rattle.std.proofs.Common.{ap, Result, Ok, Err, sym, subst, ◌∙◌, ◌≡
 use Rattle.rtr_units.specs.Causes.{unit_type, Cause, by_reader, by_writer, too_many, no_memory, wrong}
 use Rattle.rtr_units.specs.Header.{length_field}
 use Rattle.rtr_units.specs.Stream.{FallsShort, ReaderState, reader_count}
-use Rattle.rtr_units.specs.Reading.{FillsPiece}
+use Rattle.rtr_units.specs.Reading.{FillsPiece, least_length}
 use Rattle.rtr_units.specs.Causes.{by_cause}
 use Rattle.rtr_units.specs.declared.fault.Fault.{Fault}
 use Rattle.std.specs.Io.KnownBytes.{Consumes}
 use Rattle.std.proofs.KnownBytes.{Consumes-trans}
 use Rattle.rtr_units.proofs.Headers.{same_header}
 use Rattle.rtr_units.proofs.UnitsRead.{ByHeader, rest_stops, header_stops}
-use Rattle.rtr_session.specs.Headers.{report_unit, report_length}
+use Rattle.rtr_session.specs.Headers.{report_unit}
 use Rattle.rtr_session.specs.Reports.{StopsInReport, ReadsReport, ReadsReportAfter}
 
 pub report_by : ByHeader report_unit
 report_by = record {
-  fault = λ h t l. (λ i. let s = same_header h t l in cond (eqb (s.kind i) 10) (report_length (s.size i)) (Some (unit_type (s.kind i))));
+  fault = λ h t l. (λ i. let s = same_header h t l in cond (eqb (s.kind i) 10) (least_length 16 (s.size i)) (Some (unit_type (s.kind i))));
   asks = λ h t l. refl;
 }
 

@@ -7,7 +7,9 @@ use Rattle.rtr_base.specs.Bytes.{be, value, IsBytes}
 use Rattle.rtr_base.proofs.Numbers.{be-value, value-be, IsBytes-take, IsBytes-drop}
 use Rattle.rtr_units.specs.Header.{header, version_field, session_field, length_field}
 use Rattle.rtr_units.proofs.Headers.{header_read}
-use Rattle.rtr_session.specs.Reports.{IsReport, HasParts, IsCounted, IsCutShort}
+use Rattle.rtr_session.specs.PrivateCalls.{IsCounted, IsCutShort}
+use Rattle.rtr_session.specs.Reports.{IsReport, HasParts}
+use Rattle.rtr_session.proofs.Reports.{report_fields}
 
 pub at_none : {A : Type 0} (o : Option A) (P : Type 0) (Q : A → Type 0) → o ≡ None → P → MatchOption o P Q
 at_none o P Q is p = subst (λ o. MatchOption o P Q) (sym is) p
@@ -55,11 +57,12 @@ module _ (u : List ℕ) (is : IsReport u) where
   pub parts_small : (p t : List ℕ) → HasParts u p t → (length p < 65536) × (length t < 65536)
   parts_small p t has =
       let size : length u ≡ 16 + length p + length t = ap length has ∙ omega (arith, length-append (p ++ be (length t) 4) t, length-append p (be (length t) 4)) in
-      let most = is.most in
+      let most = (report_fields u is).most in
       (omega arith, omega arith)
 
   pub parts_made : (p r t : List ℕ) → IsCounted (drop 8 u) p r → IsCounted r t [] → HasParts u p t
   parts_made p r t first second =
+      let is = report_fields u is in
       let bytes : IsBytes (drop 8 u) = IsBytes-drop 8 u is.are_bytes in
       let least = is.least in
       let rest : r ≡ be (length t) 4 ++ t = counted_is r t [] (counted_rest (drop 8 u) p r bytes first) second ∙ ap (λ l. be (length t) 4 ++ l) (append-nil t) in

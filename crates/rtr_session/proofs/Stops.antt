@@ -1,37 +1,38 @@
 -- Where reading a unit of any type stops, by what reading one of its type says.
-use Rattle.std.proofs.Common.{◌≡◌, ℕ, ◌<◌, ◌≤◌, ◌⊎◌, List, [], ◌++◌, length, get_or, Option, Some, refl, sym, ap, ◌∙◌, arith, inl, inr, length-append}
+use Rattle.std.proofs.Common.{◌≡◌, ℕ, ◌<◌, ◌≤◌, ◌⊎◌, List, [], ◌++◌, length, get_or, Option, Some, Err, refl, sym, ap, ◌∙◌, arith, inl, inr, length-append}
 use Rattle.std.specs.Prelude.{IsTrue, ◌==◌, ◌||◌}
 use Rattle.std.proofs.lemmas.Bool.Decides.{nat_tests}
 use Rattle.rtr_base.specs.Addresses.{v4, v6}
-use Rattle.rtr_units.specs.Causes.{short, unit_type, unit_version, too_long, unit_length, empty_providers, refused, Cause, by_reader, by_writer, too_many, no_memory, wrong}
+use Rattle.rtr_units.specs.Causes.{short, unit_type, unit_version, too_long, unit_length, empty_providers, refused, Cause, by_reader, by_writer, too_many, no_memory, wrong, cause_of}
+use Rattle.rtr_units.specs.declared.fault.Fault.{Fault}
 use Rattle.rtr_units.specs.Ends.{end_unit}
 use Rattle.rtr_units.specs.Header.{version_field, type_field, length_field}
-use Rattle.rtr_units.specs.Reading.{Kind, of_size, Stops, Takes}
-use Rattle.rtr_units.specs.Stream.{FallsShort}
+use Rattle.rtr_units.specs.Reading.{Kind, exact_length, least_length, of_size, ReadsAfter, Stops, Takes}
+use Rattle.rtr_units.specs.Stream.{FallsShort, ReaderState}
 use Rattle.rtr_units.proofs.Headers.{same_header}
 use Rattle.rtr_units.proofs.UnitsRead.{AlikeAfter, alike_stops, header_stops, at_header, typed_is}
 use Rattle.rtr_payload.specs.Steps.{header_fault}
 use Rattle.rtr_payload.specs.UnitKinds.{variable_unit, payload_unit}
 use Rattle.rtr_payload.proofs.Reading.{prefix_alike, end_alike, key_alike, aspa_alike}
-use Rattle.rtr_session.specs.Headers.{any_header_fault, session_unit, report_unit, report_sized, report_length, sized}
-use Rattle.rtr_session.specs.Reads.{StopsInAny}
+use Rattle.rtr_session.specs.Headers.{any_header_fault, session_unit, report_unit, report_sized}
+use Rattle.rtr_session.specs.Reads.{ReadsAnyAfter, StopsInAny}
 use Rattle.rtr_session.specs.Reports.{StopsInReport}
 
 -- ---- what is wrong with a header, by its type
 
 module _ (v g n : ℕ) where
-  of_twelve : (t : ℕ) → (t ≡ 0) ⊎ (t ≡ 1) → any_header_fault v t g n ≡ sized 12 n
+  of_twelve : (t : ℕ) → (t ≡ 0) ⊎ (t ≡ 1) → any_header_fault v t g n ≡ exact_length 12 n
   unfolding any_header_fault
   of_twelve t (inl e) = rw e refl
   of_twelve t (inr e) = rw e refl
 
-  of_eight : (t : ℕ) → (t ≡ 2) ⊎ ((t ≡ 3) ⊎ (t ≡ 8)) → any_header_fault v t g n ≡ sized 8 n
+  of_eight : (t : ℕ) → (t ≡ 2) ⊎ ((t ≡ 3) ⊎ (t ≡ 8)) → any_header_fault v t g n ≡ exact_length 8 n
   unfolding any_header_fault
   of_eight t (inl e) = rw e refl
   of_eight t (inr (inl e)) = rw e refl
   of_eight t (inr (inr e)) = rw e refl
 
-  of_ten : any_header_fault v 10 g n ≡ report_length n
+  of_ten : any_header_fault v 10 g n ≡ least_length 16 n
   unfolding any_header_fault
   of_ten = refl
 
@@ -114,11 +115,17 @@ module _ (kind : Kind) (u : List ℕ) (some : 0 < length u) (same : kind.fault u
   stops_any (wrong (refused x)) left ten s = alike_stops kind session_unit u same asks (wrong (refused x)) left s
 
 -- after a header h that is not of a report
-pub any_takes : (kind : Kind) (h : List ℕ) → length h ≡ 8 → ¬ (type_field h ≡ 10) → AlikeAfter kind session_unit h → (c : Cause) (old left : Option (List ℕ))
+any_takes : (kind : Kind) (h : List ℕ) → length h ≡ 8 → ¬ (type_field h ≡ 10) → AlikeAfter kind session_unit h → (c : Cause) (old left : Option (List ℕ))
     → Takes old left (λ t. Stops kind c (h ++ t) left) → Takes old left (λ t. StopsInAny c (h ++ t) left)
 any_takes kind h l other alike c old left (t, took, s) =
     let is = (same_header h t (omega (arith, l))).kind in
     (t, took, stops_any kind (h ++ t) (omega (arith, l, length-append h t)) (alike.fault t) (alike.asks t) c left (λ _ ten. absurd (other (sym is ∙ ten))) s)
+
+-- the same, said by the answer: a fault f stopped reading a unit of this kind
+pub stopped : (h : List ℕ) (k : ℕ) (kind : Kind) → length h ≡ 8 → type_field h ≡ k → ¬ (k ≡ 10) → (8 ≤ length h → type_field h ≡ k → AlikeAfter kind session_unit h) → (f : Fault) (old new : ReaderState)
+    → ReadsAfter kind h (Err (cause_of f)) old new → ReadsAnyAfter h (Err f) old new
+stopped h k kind l is other alike f old new (bytes, (takes, counts)) =
+    (any_takes kind h l (λ ten. other (sym is ∙ ten)) (alike (omega (arith, l)) is) (cause_of f) old.left new.left takes, counts)
 
 -- after the header h of a report
 report_extra : (c : Cause) (u : List ℕ) (left : Option (List ℕ)) → StopsInReport c u left → Stops report_unit c u left × (c ≡ no_memory → length u ≡ 8)

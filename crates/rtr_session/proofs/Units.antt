@@ -22,6 +22,7 @@ use Rattle.rtr_payload.proofs.FieldsRead.{prefix_has}
 use Rattle.rtr_session.specs.Fields.{AnyFields, serial_notify, serial_query, reset_query, cache_response, payload, end_of_data, cache_reset, error_report, HasAnyFields}
 use Rattle.rtr_session.specs.Reports.{IsReport}
 use Rattle.rtr_session.specs.Values.{serial_of, bare_of}
+use Rattle.rtr_session.proofs.Reports.{report_fields}
 
 -- ---- units of a fixed size
 
@@ -117,6 +118,7 @@ end_reads h e old new r end = ((taken_rest end_unit h (end_bytes e) old new r, e
 
 pub report_has : (u : List ℕ) → IsReport u → HasAnyFields u (error_report (version_field u) (session_field u) (drop 8 u))
 report_has u is =
+    let is = report_fields u is in
     let h = is.are_bytes in
     let least = is.least in
     let most = is.most in

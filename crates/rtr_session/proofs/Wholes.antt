@@ -16,6 +16,7 @@ use Rattle.rtr_session.specs.Fields.{AnyFields, serial_notify, serial_query, res
 use Rattle.rtr_session.specs.Headers.{any_header_fault, session_unit}
 use Rattle.rtr_session.specs.Reports.{IsReport}
 use Rattle.rtr_session.specs.Values.{serial_of, bare_of}
+use Rattle.rtr_session.proofs.Reports.{fields_report}
 use Rattle.rtr_session.proofs.Units.{notify_has, query_has, reset_query_has, response_has, cache_reset_has, payload_has, end_has, report_has}
 
 -- ---- a unit is whole
@@ -82,7 +83,7 @@ whole_any b w =
       | inr (inr (inr (inl (t, n)))) ↦ (bare_of cache_response b, response_has b (record { bytes = (size ∙ n, h); kind = t; size = n }))
       | inr (inr (inr (inr (inl (t, n))))) ↦ (bare_of cache_reset b, cache_reset_has b (record { bytes = (size ∙ n, h); kind = t; size = n }))
       | inr (inr (inr (inr (inr (inl (t, least, most)))))) ↦
-          let is : IsReport b = record { kind = t; size = sym size; least = omega arith; most = omega arith; are_bytes = h } in
+          let is : IsReport b = fields_report b (record { kind = t; size = sym size; least = omega arith; most = omega arith; are_bytes = h }) in
           (error_report (version_field b) (session_field b) (drop 8 b), report_has b is)
       | inr (inr (inr (inr (inr (inr in_order))))) ↦
           let all : Whole b = record { long = w.header; in_order = in_order; size = sym size } in

@@ -1,32 +1,21 @@
 -- The kinds of units of a session: any, and error reports alone. The order of the faults, and that
 -- an error report is read into memory, are this library's own.
-use Rattle.std.specs.Prelude.{ℕ, true, slice_index, Option, Some, None, ◌||◌, ◌==◌, nat_lt}
-use Rattle.std.specs.Prelude.{if◌then◌else◌}
-use Rattle.rtr_units.specs.Causes.{Refusal, too_long, unit_length}
+use Rattle.std.specs.Prelude.{ℕ, true, slice_index, Option, ◌||◌, ◌==◌, if◌then◌else◌}
+use Rattle.rtr_units.specs.Causes.{Refusal}
 use Rattle.rtr_units.specs.Header.{version_field, type_field, length_field}
-use Rattle.rtr_units.specs.Reading.{Kind, of_type}
+use Rattle.rtr_units.specs.Reading.{Kind, exact_length, least_length, of_type}
 use Rattle.rtr_payload.specs.Steps.{header_fault}
-
--- the length field n has to be m
-abbrev pub sized : ℕ → ℕ → Option Refusal
-sized m n = if n == m then None else Some unit_length
-
--- the length field n of an error report: a header and two lengths at least (RFC 8210 section 5.11),
--- and at most 65535 (that limit as in the Rust crate)
-abbrev pub report_length : ℕ → Option Refusal
-report_length n = if nat_lt 65535 n then Some too_long
-    else if nat_lt n 16 then Some unit_length
-    else None
 
 -- By the version v, the type t, byte 2 and the length field n: serial notify and serial query (RFC
 -- 8210 sections 5.2 and 5.3) have 12 bytes; reset query, cache response and cache reset (sections
--- 5.4, 5.5 and 5.9) have 8; then error reports; what is wrong with the others is said of payload
--- units and ends of data, and of the types that no unit has.
+-- 5.4, 5.5 and 5.9) have 8; error reports (section 5.11) a header and two lengths at least; what is
+-- wrong with the others is said of payload units and ends of data, and of the types that no unit
+-- has.
 unfoldable pub any_header_fault : ℕ → ℕ → ℕ → ℕ → Option Refusal
 any_header_fault v t g n =
-    if (t == 0) || (t == 1) then sized 12 n
-    else if (t == 2) || (t == 3) || (t == 8) then sized 8 n
-    else if t == 10 then report_length n
+    if (t == 0) || (t == 1) then exact_length 12 n
+    else if (t == 2) || (t == 3) || (t == 8) then exact_length 8 n
+    else if t == 10 then least_length 16 n
     else header_fault v t g n
 
 -- units of any type
@@ -39,7 +28,7 @@ session_unit = record {
 
 -- units that are as long as an error report may be, whatever type they name
 abbrev pub report_sized : Kind
-report_sized = record { fault = λ u. report_length (length_field u); asks = λ u. true }
+report_sized = record { fault = λ u. least_length 16 (length_field u); asks = λ u. true }
 
 -- error reports, whose type is checked first
 abbrev pub report_unit : Kind

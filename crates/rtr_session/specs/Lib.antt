@@ -1,5 +1,6 @@
-pub mod Headers
-pub mod Reports
 pub mod Fields
-pub mod Values
+pub mod Headers
+pub mod PrivateCalls
 pub mod Reads
+pub mod Reports
+pub mod Values

@@ -4,12 +4,10 @@ use Rattle.std.specs.Prelude.{◌≡◌, ℕ, ◌<◌, List, [], ◌++◌, lengt
 use Rattle.std.specs.Prelude.{Result, Ok, Err}
 use Rattle.std.specs.Io.KnownBytes.{Consumes, IsAtEnd}
 use Rattle.rtr_units.specs.declared.fault.Fault.{Fault}
-use Rattle.rtr_units.specs.declared.header.Header.{Header}
 use Rattle.rtr_units.specs.Causes.{short, Cause, no_memory, wrong, cause_of, by_cause}
 use Rattle.rtr_units.specs.Header.{type_field}
 use Rattle.rtr_units.specs.Reading.{Stops, Takes}
 use Rattle.rtr_units.specs.Stream.{ReaderState, reader_count}
-use Rattle.rtr_units.specs.Views.{header_bytes}
 use Rattle.rtr_session.specs.Fields.{HasAnyFields}
 use Rattle.rtr_session.specs.Headers.{session_unit}
 use Rattle.rtr_session.specs.Values.{any_bytes, any_fields}
@@ -28,19 +26,9 @@ StopsInAny cause t left = Stops session_unit cause t left
 abbrev pub HasEnded : Option (List ℕ) → Option (List ℕ) → Type 0
 HasEnded old left = Consumes old left [] × IsAtEnd left
 
--- a header was read, or there was none, or reading stopped inside it
-abbrev pub ReadsHeaderBytes :
-    Result (Option Header) Fault → Option (List ℕ) → Option (List ℕ) → Type 0
-ReadsHeaderBytes (Ok None) old left = HasEnded old left
-ReadsHeaderBytes (Ok (Some h)) old left = Consumes old left (header_bytes h)
-ReadsHeaderBytes (Err e) old left = Takes old left (λ t. StopsInAny (cause_of e) t left)
-
-abbrev pub ReadsHeader : Result (Option Header) Fault → ReaderState → ReaderState → Type 0
-ReadsHeader r old new =
-    ReadsHeaderBytes r old.left new.left × (new.failed ≡ reader_count (by_cause r) old.failed)
-
 -- a unit was read, or there was none, or reading stopped
-abbrev pub ReadsAnyBytes : Result (Option AnyUnit) Fault → Option (List ℕ) → Option (List ℕ) → Type 0
+abbrev pub ReadsAnyBytes :
+    Result (Option AnyUnit) Fault → Option (List ℕ) → Option (List ℕ) → Type 0
 ReadsAnyBytes (Ok None) old left = HasEnded old left
 ReadsAnyBytes (Ok (Some u)) old left = Consumes old left (any_bytes u) ×
     HasAnyFields (any_bytes u) (any_fields u)

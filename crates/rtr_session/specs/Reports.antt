@@ -1,37 +1,23 @@
 -- Error reports that are read (RFC 8210 section 5.11, RFC 6810 section 5.10).
-use Rattle.std.specs.Prelude.{◌≡◌, ℕ, ◌<◌, ◌≤◌, List, ◌++◌, length, take, drop, Option}
+use Rattle.std.specs.Prelude.{◌≡◌, ℕ, List, ◌++◌, length, Option}
 use Rattle.std.specs.Prelude.{Result, Ok, Err}
 use Rattle.std.specs.Io.KnownBytes.{Consumes}
-use Rattle.rtr_base.specs.Bytes.{IsBytes, value}
 use Rattle.rtr_units.specs.declared.fault.Fault.{Fault}
 use Rattle.rtr_units.specs.Causes.{Cause, no_memory, cause_of, by_cause}
-use Rattle.rtr_units.specs.Header.{version_field, type_field, session_field, length_field}
-use Rattle.rtr_units.specs.Reading.{Stops, Takes}
+use Rattle.rtr_units.specs.Header.{version_field, session_field}
+use Rattle.rtr_units.specs.Reading.{IsWhole, Stops, Takes}
 use Rattle.rtr_units.specs.Report.{report}
 use Rattle.rtr_units.specs.Stream.{ReaderState, reader_count}
 use Rattle.rtr_session.specs.Headers.{report_unit}
 
--- these are the bytes of an error report, whatever the lengths inside it say: a header and two
--- lengths at least, and at most 65535 bytes (that limit as in the Rust crate)
-pub record IsReport (u : List ℕ) : Type 0 where
-  pub kind : type_field u ≡ 10
-  pub size : length_field u ≡ length u
-  pub least : 16 ≤ length u
-  pub most : length u ≤ 65535
-  pub are_bytes : IsBytes u
+-- these are the bytes of an error report, whatever the lengths inside it say
+abbrev pub IsReport : List ℕ → Type 0
+IsReport = IsWhole report_unit
 
 -- The lengths inside the report u fit: the unit p that it speaks of and the text t, each after its
 -- length of four bytes, fill it exactly (RFC 8210 section 5.11).
 abbrev pub HasParts : List ℕ → List ℕ → List ℕ → Type 0
 HasParts u p t = u ≡ report (version_field u) (session_field u) p t
-
--- the bytes b begin with a length of four bytes and the bytes x, as many as it says, before r
-abbrev pub IsCounted : List ℕ → List ℕ → List ℕ → Type 0
-IsCounted b x r = (4 ≤ length b) × (value (take 4 b) ≡ length x) × (drop 4 b ≡ x ++ r)
-
--- the bytes b have no length of four bytes at their front, or fewer bytes follow than it says
-abbrev pub IsCutShort : List ℕ → Type 0
-IsCutShort b = 4 ≤ length b → length (drop 4 b) < value (take 4 b)
 
 -- Why reading an error report stopped where the bytes t of it were there; `left` is what the reader
 -- then has. Memory is asked for once, right after the header.
@@ -57,4 +43,5 @@ ReadsReportAfterBytes h (Err e) old left =
 
 abbrev pub ReadsReportAfter : List ℕ → Result (List ℕ) Fault → ReaderState → ReaderState → Type 0
 ReadsReportAfter h r old new =
-    ReadsReportAfterBytes h r old.left new.left × (new.failed ≡ reader_count (by_cause r) old.failed)
+    ReadsReportAfterBytes h r old.left new.left ×
+    (new.failed ≡ reader_count (by_cause r) old.failed)

@@ -1,4 +1,5 @@
--- What the values of units of any type are: their bytes, and the fields that stand in them.
+-- What the values of units of any type are: their bytes, and the fields that stand in them (this
+-- library's own; the places of the fields by RFC 8210 sections 5.1 to 5.11).
 use Rattle.std.specs.Prelude.{ℕ, List, drop}
 use Rattle.rtr_units.specs.Ends.{end_bytes, end_meaning}
 use Rattle.rtr_units.specs.Header.{version_field, session_field}

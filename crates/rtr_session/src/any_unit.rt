@@ -1,11 +1,11 @@
 //! A unit of any type.
 
-ghost use Rattle.std.specs.Prelude.{◌≡◌, length, not};
+ghost use Rattle.std.specs.Prelude.{◌≡◌, length};
 ghost use Rattle.rtr_units.specs.Header.{version_field};
 ghost use Rattle.rtr_units.specs.Stream.{PutsForm};
 ghost use Rattle.rtr_units.specs.Views.{header_bytes};
 ghost use Rattle.rtr_session.specs.Fields.{any_session};
-ghost use Rattle.rtr_session.specs.Reads.{ReadsHeader};
+ghost use Rattle.rtr_session.specs.PrivateCalls.{ReadsHeader};
 
 use crate::report::Report;
 use rtr_payload::pdu::{Aspa, Payload, RouterKey};
@@ -147,7 +147,7 @@ impl AnyUnit {
     }
 
     /// The session, of the units that name one: serial notify, serial query, cache response and end
-    /// of data. Where it stands the others have other things.
+    /// of data. The others have something else at that place.
     pub fn session(&self) -> Option<u16>
         ensures { result ≡ any_session (any_fields self.now) }
     {

@@ -6,7 +6,8 @@ ghost use Rattle.rtr_session.specs.Fields.{AnyFields, HasAnyFields};
 ghost use Rattle.rtr_session.specs.Headers.{session_unit};
 ghost use Rattle.rtr_session.specs.Reports.{IsReport, HasParts};
 
-use crate::report::{MAX_SIZE, MIN_SIZE, Report};
+use crate::report::{MIN_SIZE, Report};
+use rtr_units::header::MAX_SIZE;
 
 /// The type of an error report, and the limits on the bytes of one that is read.
 pub fn type_and_limits()

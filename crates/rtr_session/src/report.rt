@@ -1,6 +1,6 @@
 //! Error reports that are read (RFC 8210 section 5.11, RFC 6810 section 5.10).
 
-ghost use Rattle.std.specs.Prelude.{◌≡◌, ◌≤◌, ◌++◌, ℕ, List, length, take, nat_eq, not};
+ghost use Rattle.std.specs.Prelude.{◌≡◌, ◌≤◌, ◌++◌, ℕ, List, length, take, nat_eq};
 ghost use Rattle.std.specs.Prelude.{MatchOption};
 ghost use Rattle.std.proofs.Common.{rules};
 ghost use Rattle.std.specs.Cmp.{partial_equiv_from_equiv};
@@ -12,11 +12,11 @@ ghost use Rattle.rtr_units.specs.Header.{version_field, session_field};
 ghost use Rattle.rtr_units.specs.Stream.{PutsForm};
 ghost use Rattle.rtr_units.specs.Views.{header_bytes};
 ghost use Rattle.rtr_session.specs.Reports.{IsReport, HasParts, ReadsReport, ReadsReportAfter};
-ghost use Rattle.rtr_session.specs.Reports.{IsCounted, IsCutShort};
+ghost use Rattle.rtr_session.specs.PrivateCalls.{IsCounted, IsCutShort};
 
 use rtr_base::pdu::ErrorCode;
 use rtr_units::fault::Fault;
-use rtr_units::header::Header;
+use rtr_units::header::{Header, MAX_SIZE};
 use rtr_units::numbers::{u16_at, u32_at};
 use rtr_units::piece::{fill, put};
 use rtr_units::source::{Sink, Source};
@@ -26,9 +26,6 @@ use std::marker::Model;
 
 /// The bytes of the smallest report: a header and two lengths.
 pub(crate) const MIN_SIZE: u32 = 16;
-
-/// The most bytes that a report that is read has, header included, as in the Rust crate `rpki`.
-pub(crate) const MAX_SIZE: u32 = 65535;
 
 /// An error report that was read, seen as the list of its bytes: 16 to 65535, as many as its length
 /// field says.

@@ -1,9 +1,9 @@
 //! Error reports: the unit that they speak of, and their text.
 
-use crate::{expect_equal, said};
+use crate::said;
 use rtr_base::pdu::ErrorCode;
 use rtr_session::Report;
-use rtr_support::{bytes, filler, hash_of};
+use rtr_support::{bytes, expect_equal, filler, hash_of};
 use rtr_units::header::Header;
 use rtr_units::source::SliceSource;
 use std::alloc::Global;
@@ -13,7 +13,8 @@ use std::test::Fail;
 /// A report, the unit that it speaks of, and its text.
 type Row = (&'static str, Option<&'static str>, Option<&'static str>);
 
-/// Reports whose lengths fill them, then such whose first or second length is too great, is cut, or leaves bytes over.
+/// Reports whose lengths fill them, then such whose first or second length is too great, is cut, or
+/// leaves bytes over.
 #[rattlefmt::skip]
 const ROWS: &[Row] = &[
     ("00 0a 00 03 00 00 00 10 00 00 00 00 00 00 00 00", Some(""), Some("")),

@@ -1,10 +1,10 @@
 //! Units of each kind, alone and in one session, whole and cut.
 
-use crate::{expect_equal, said};
+use crate::said;
 use rtr_payload::pdu::Payload;
 use rtr_session::AnyUnit;
 use rtr_support::{
-    END_0, END_1, IPV6_STRAY, KEY, ONES, Pieces, Recorder, STEPS, WHOLE, bytes, front,
+    END_0, END_1, IPV6_STRAY, KEY, ONES, Pieces, Recorder, STEPS, WHOLE, bytes, expect_equal, front,
 };
 use rtr_units::header::Header;
 use rtr_units::source::{Counted, SliceSource};
@@ -123,8 +123,8 @@ fn session(alloc: Global) -> Result<(Vec<u8>, Vec<usize>), Fail> {
     Ok((all, ends))
 }
 
-/// Reads all units of a session that is cut: those that are whole, and then a clean end where the cut lies between two
-/// units.
+/// Reads all units of a session that is cut: those that are whole, and then a clean end where the
+/// cut lies between two units.
 fn read_cut(rt: &impl Abort, alloc: Global, cut: &[u8], ends: &[usize]) -> Result<(), Fail> {
     let mut reader = SliceSource::new(cut);
     for end in ends {

@@ -1,4 +1,5 @@
-//! What tests share: bytes written as hex, and readers and writers that give and take them in pieces and fail.
+//! What tests share: bytes written as hex, and readers and writers that give and take them in
+//! pieces and fail.
 #![tactic(auto)]
 
 use std::alloc::Global;
@@ -49,8 +50,8 @@ pub const END_1: &str = "01 07 12 34 00 00 00 18 de ad be ef 00 00 0e 10 00 00 0
 /// What follows the version in `END_1`.
 pub const END_REST: &str = "07 12 34 00 00 00 18 de ad be ef 00 00 0e 10 00 00 02 58 00 00 1c 20";
 
-/// Asserts that the two are equal. A test that calls it is proved sooner than one in which the macro
-/// stands.
+/// Asserts that the two are equal. A test that calls it is proved sooner than one in which the
+/// macro stands.
 pub fn expect_equal<T: PartialEq + Debug + Drop>(rt: &impl Abort, left: T, right: T) {
     assert_eq!(rt; left, right);
 }
@@ -69,7 +70,8 @@ pub fn expect_text<T: Display>(
     Ok(())
 }
 
-/// The bytes that the texts stand for, one text after the other: pairs of hex digits between spaces.
+/// The bytes that the texts stand for, one text after the other: pairs of hex digits between
+/// spaces.
 pub fn bytes(alloc: Global, texts: &[&str]) -> Result<Vec<u8>, Fail> {
     let mut all = Vec::new(alloc);
     for text in texts {
@@ -121,8 +123,8 @@ pub const WHOLE: &[usize] = &[usize::MAX];
 /// A call that doesn't come.
 pub const NEVER: usize = 0;
 
-/// A reader over bytes in memory, that gives at most the sizes of a pattern in turn. Its errors are interruptions,
-/// which nobody is to retry.
+/// A reader over bytes in memory, that gives at most the sizes of a pattern in turn. Its errors are
+/// interruptions, which nobody is to retry.
 #[derive(Drop)]
 pub struct Pieces<'a> {
     rest: &'a [u8],
@@ -213,7 +215,8 @@ impl<'a> Read for Pieces<'a> {
     }
 }
 
-/// A writer that keeps what it takes, at most so many bytes a call. Its errors are interruptions too.
+/// A writer that keeps what it takes, at most so many bytes a call. Its errors are interruptions
+/// too.
 #[derive(Drop)]
 pub struct Recorder {
     held: Vec<u8>,

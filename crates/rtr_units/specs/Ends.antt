@@ -5,8 +5,8 @@ use Rattle.std.specs.Prelude.{ℕ, Bool, true, false, List, Some, nat_lt, ◌==�
 use Rattle.rtr_units.specs.Causes.{unit_version}
 use Rattle.rtr_units.specs.End.{EndMeaning, untimed_meaning, timed_meaning}
 use Rattle.rtr_units.specs.End.{end_v0_bytes, end_v1_bytes}
-use Rattle.rtr_units.specs.Header.{version_field}
-use Rattle.rtr_units.specs.Reading.{Kind, of_size}
+use Rattle.rtr_units.specs.Header.{version_field, length_field}
+use Rattle.rtr_units.specs.Reading.{Kind, exact_length}
 use Rattle.rtr_units.specs.declared.end.EndOfData.{EndOfData}
 use Rattle.rtr_units.specs.declared.end.EndOfData.TheVariants.{V0, V1}
 
@@ -32,6 +32,6 @@ abbrev pub end_unit : Kind
 end_unit = record {
   fault = λ u.
       if nat_lt 2 (version_field u) then Some (unit_version (version_field u))
-      else (of_size (end_length (version_field u))).fault u;
+      else exact_length (end_length (version_field u)) (length_field u);
   asks = λ u. false;
 }

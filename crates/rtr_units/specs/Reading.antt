@@ -1,8 +1,9 @@
--- What a call that reads a unit leaves, said by bytes. A unit is what the RFCs call a PDU: a header,
--- and what follows it up to its length field (RFC 8210 section 5.1, RFC 6810 section 5.1). The order
--- of the faults, and where memory is asked for, are this library's own.
-use Rattle.std.specs.Prelude.{◌≡◌, ◌⊎◌, ℕ, ◌<◌, ◌≤◌, Bool, false, List, ◌++◌, length, IsTrue, nat_lt}
-use Rattle.std.specs.Prelude.{MatchResult, Option, Some, None, Result, Ok, Err, ◌==◌, if◌then◌else◌}
+-- What a call that reads a unit leaves, said by bytes. A unit is what the RFCs call a PDU: a
+-- header, and what follows it up to its length field (RFC 8210 section 5.1, RFC 6810 section 5.1).
+-- The order of the faults, and where memory is asked for, are this library's own.
+use Rattle.std.specs.Prelude.{◌≡◌, ◌⊎◌, ℕ, ◌<◌, ◌≤◌, Bool, false, List, ◌++◌, length, IsTrue}
+use Rattle.std.specs.Prelude.{MatchResult, Option, Some, None, Result, Ok, Err, nat_lt, ◌==◌}
+use Rattle.std.specs.Prelude.{if◌then◌else◌}
 use Rattle.std.specs.Io.KnownBytes.{Consumes, IsAtEnd}
 use Rattle.rtr_base.specs.Bytes.{IsBytes}
 use Rattle.rtr_units.specs.Causes.{Refusal, short, unit_type, too_long, unit_length}
@@ -19,12 +20,20 @@ pub record Kind : Type 0 where
   pub fault : List ℕ → Option Refusal
   pub asks : List ℕ → Bool
 
+-- the length field n has to be m
+abbrev pub exact_length : ℕ → ℕ → Option Refusal
+exact_length m n = if n == m then None else Some unit_length
+
+-- the length field n has to be m at least, and 65535 at most (that limit as in the Rust crate
+-- `rpki`)
+abbrev pub least_length : ℕ → ℕ → Option Refusal
+least_length m n = if nat_lt 65535 n then Some too_long
+    else if nat_lt n m then Some unit_length
+    else None
+
 -- the units of n bytes
 abbrev pub of_size : ℕ → Kind
-of_size n = record {
-  fault = λ u. if length_field u == n then None else Some unit_length;
-  asks = λ u. false;
-}
+of_size n = record { fault = λ u. exact_length n (length_field u); asks = λ u. false }
 
 -- those of a kind that have type p, which is checked first
 abbrev pub of_type : ℕ → Kind → Kind
@@ -33,16 +42,9 @@ of_type p kind = record {
   asks = kind.asks;
 }
 
--- the units that are read past, of any type: of at most 65535 bytes (that limit as in the Rust crate
--- `rpki`), and at least a header
+-- the units that are read past, of any type: a header at least
 abbrev pub any_unit : Kind
-any_unit = record {
-  fault = λ u.
-      if nat_lt 65535 (length_field u) then Some too_long
-      else if nat_lt (length_field u) 8 then Some unit_length
-      else None;
-  asks = λ u. false;
-}
+any_unit = record { fault = λ u. least_length 8 (length_field u); asks = λ u. false }
 
 -- u is a whole unit: its header is in order, and it is as long as that says
 pub record IsWhole (kind : Kind) (u : List ℕ) : Type 0 where

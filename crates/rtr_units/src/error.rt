@@ -1,7 +1,6 @@
 //! The error report (RFC 6810 section 5.10, RFC 8210 section 5.11).
 
-ghost use Rattle.std.specs.Prelude.{◌≡◌, ◌+◌, ◌≤◌, ℕ, List, [], length, nat_eq, IfOk, MatchResult};
-ghost use Rattle.std.specs.Prelude.{not};
+ghost use Rattle.std.specs.Prelude.{◌≡◌, ◌+◌, ◌≤◌, ℕ, List, [], length, nat_eq, IfOk};
 ghost use Rattle.std.proofs.Common.{rules};
 ghost use Rattle.std.specs.Borrow.{sem};
 ghost use Rattle.std.specs.Cmp.{partial_equiv_from_equiv};
@@ -11,18 +10,15 @@ ghost use Rattle.std.specs.Hash as fed;
 ghost use Rattle.rtr_units.specs.Reading.{FillsPiece, ReadsAfter, any_unit, by_bytes};
 ghost use Rattle.rtr_units.specs.Report.{report};
 ghost use Rattle.rtr_units.specs.Stream.{PutsForm};
-ghost use Rattle.rtr_units.specs.Views.{header_bytes, AreBytes};
+ghost use Rattle.rtr_units.specs.Views.{header_bytes};
 
 use crate::fault::Fault;
-use crate::header::Header;
+use crate::header::{Header, MAX_SIZE};
 use crate::piece::{fill, put};
 use crate::source::{Sink, Source};
 use std::alloc::{AllocError, Global};
 use std::hash::{Hash, Hasher};
 use std::marker::Model;
-
-/// The greatest length of a unit that is read past, as in the Rust crate `rpki`.
-const GREATEST_LENGTH: u32 = 65535;
 
 /// An error report, seen as the list of its bytes.
 #[derive(Drop, Debug)]
@@ -85,7 +81,7 @@ impl Error {
             (by_bytes (λ _. u) result) (R.state reader.old) (R.state reader.new) }
     {
         let length = header.length();
-        if length > GREATEST_LENGTH {
+        if length > MAX_SIZE {
             return Err(Fault::TooLong);
         }
         if length < 8 {
@@ -130,7 +126,8 @@ impl Error {
 
 /// Reads past this many bytes.
 fn skip<R: Source>(reader: &mut R, size: usize) -> Result<(), Fault>
-    ensures { (t : List ℕ) × FillsPiece size (by_bytes (λ _. t) result) (R.state reader.old) (R.state reader.new) }
+    ensures { (t : List ℕ) × FillsPiece size (by_bytes (λ _. t) result)
+        (R.state reader.old) (R.state reader.new) }
 {
     let mut buffer = [0; 1024];
     let mut left = size;

@@ -1,9 +1,8 @@
 //! The header of a unit (RFC 6810 and RFC 8210 section 5.1).
 
-ghost use Rattle.std.specs.Prelude.{◌≡◌, ◌<◌, ◌≤◌, ◌^◌, ℕ, List, length, replicate, MatchResult};
-ghost use Rattle.std.specs.Prelude.{IfOk, IsOk, IfErr, ◌↔◌, not};
+ghost use Rattle.std.specs.Prelude.{◌≡◌, ◌<◌, ◌≤◌, ◌^◌, ℕ, List, length, replicate};
+ghost use Rattle.std.specs.Prelude.{IfOk, IsOk, IfErr, ◌↔◌};
 ghost use Rattle.std.specs.Borrow.{sem};
-ghost use Rattle.std.specs.Io.KnownBytes.{Consumes};
 ghost use Rattle.rtr_base.specs.Bytes.{IsBytes};
 ghost use Rattle.rtr_units.specs.Header.{header, version_field, type_field, session_field};
 ghost use Rattle.rtr_units.specs.Header.{length_field};
@@ -16,6 +15,10 @@ use crate::fault::Fault;
 use crate::numbers::{u16_at, u32_at};
 use crate::piece::{fill, put};
 use crate::source::{Sink, Source};
+
+/// The most bytes that a unit of no fixed size has that is read or read past, header included, as in
+/// the Rust crate `rpki`.
+pub const MAX_SIZE: u32 = 65535;
 
 /// The header that each unit begins with: eight bytes.
 #[derive(Clone, Copy, Debug, PartialEq, Eq, Hash)]
@@ -52,7 +55,8 @@ impl Header {
     /// Reads a header: eight bytes, which are not checked.
     #[inline(always)]
     pub fn read<R: Source>(reader: &mut R) -> Result<Self, Fault>
-        ensures { FillsPiece 8 (by_bytes header_bytes result) (R.state reader.old) (R.state reader.new) }
+        ensures { FillsPiece 8 (by_bytes header_bytes result)
+            (R.state reader.old) (R.state reader.new) }
     {
         let mut header = Header::default();
         match fill(reader, header.as_mut()) {

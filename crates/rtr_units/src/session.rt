@@ -1,10 +1,9 @@
 //! Units by which a router and a cache speak of their states (RFC 6810 and RFC 8210 sections 5.2 to
 //! 5.5 and 5.9).
 
-ghost use Rattle.std.specs.Prelude.{◌≡◌, ◌≤◌, ℕ, List, length, replicate, MatchResult, not, refl};
+ghost use Rattle.std.specs.Prelude.{◌≡◌, ◌≤◌, ℕ, List, length, replicate, refl};
 ghost use Rattle.std.proofs.Common.{rules};
 ghost use Rattle.std.specs.Borrow.{sem};
-ghost use Rattle.std.specs.Io.KnownBytes.{Consumes};
 ghost use Rattle.rtr_base.specs.Bytes.{be, value, IsBytes};
 ghost use Rattle.rtr_units.specs.Queries.{bare_list, serial_list};
 ghost use Rattle.rtr_units.specs.Header.{session_field};
@@ -13,7 +12,6 @@ ghost use Rattle.rtr_units.specs.Stream.{PutsForm};
 ghost use Rattle.rtr_units.specs.Queries.{notify_bytes, query_bytes, reset_query_bytes};
 ghost use Rattle.rtr_units.specs.Queries.{response_bytes, cache_reset_bytes, query_payload_bytes};
 ghost use Rattle.rtr_units.specs.Queries.{serial_field};
-ghost use Rattle.rtr_units.specs.Views.{AreBytes};
 
 use crate::cells::Cells;
 use crate::fault::Fault;
@@ -216,7 +214,8 @@ impl SerialQueryPayload {
     /// Reads four bytes.
     #[inline(always)]
     pub fn read<R: Source>(reader: &mut R) -> Result<Self, Fault>
-        ensures { FillsPiece 4 (by_bytes query_payload_bytes result) (R.state reader.old) (R.state reader.new) }
+        ensures { FillsPiece 4 (by_bytes query_payload_bytes result)
+            (R.state reader.old) (R.state reader.new) }
     {
         let mut payload = SerialQueryPayload::default();
         match fill(reader, payload.as_mut()) {

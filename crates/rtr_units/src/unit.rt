@@ -3,7 +3,7 @@
 //! A unit is what the RFCs call a PDU: a header and what follows it, up to its length field.
 
 ghost use Rattle.std.specs.Prelude.{◌≡◌, ℕ, ◌^◌, ◌<◌, ◌≤◌, List, length, replicate, IfErr};
-ghost use Rattle.std.specs.Prelude.{MatchResult, Ok, [], not};
+ghost use Rattle.std.specs.Prelude.{MatchResult, Ok, []};
 ghost use Rattle.std.specs.Borrow.{sem, Lends, Array, u8};
 ghost use Rattle.std.specs.Io.KnownBytes.{Consumes};
 ghost use Rattle.rtr_base.specs.Bytes.{IsBytes};

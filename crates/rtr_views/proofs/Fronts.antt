@@ -12,22 +12,25 @@ use Rattle.rtr_units.specs.End.{End, untimed_meaning, timed_meaning}
 use Rattle.rtr_units.proofs.EndUnits.{end_with_timing}
 use Rattle.rtr_units.proofs.EndsRead.{untimed_has}
 use Rattle.rtr_units.proofs.Headers.{same_header}
+use Rattle.rtr_units.proofs.UnitsRead.{typed_is}
+use Rattle.rtr_units.specs.Reading.{IsWhole, of_type}
 use Rattle.rtr_units.specs.PrefixUnits.{prefix_at}
 use Rattle.rtr_payload.specs.declared.prefix_rule.PrefixRule.{PrefixRule}
 use Rattle.rtr_payload.specs.Units.{prefix_unit, key_unit, aspa_unit}
 use Rattle.rtr_payload.specs.KeyUnits.{key_at}
 use Rattle.rtr_payload.specs.AspaUnits.{aspa_at}
 use Rattle.rtr_payload.specs.Steps.{first_fault, first_of, first_unit, header_fault, header_step, length_step, lengths_fault, rule_of, refusal_report}
+use Rattle.rtr_payload.specs.UnitKinds.{variable_unit}
 use Rattle.rtr_payload.specs.Units.{HasFields}
 use Rattle.rtr_payload.proofs.FieldsRead.{prefix_has}
 use Rattle.rtr_payload.proofs.Frames.{behind_header, eleven_in_order}
 use Rattle.rtr_payload.proofs.Variable.{aspa_short, aspa_uneven, aspa_empty}
 use Rattle.rtr_payload.proofs.Refusals.{prefix_refused}
-use Rattle.rtr_views.specs.Wholes.{IsFirstUnit, IsWholeKey, IsWholeAspa}
+use Rattle.rtr_views.specs.PrivateCalls.{IsFirstUnit}
 use Rattle.rtr_views.specs.Faults.{IsFirstFault}
 use Rattle.rtr_views.specs.declared.fault.ViewFault.{ViewFault}
 use Rattle.rtr_views.specs.declared.fault.ViewFault.TheVariants.{TooLong}
-use Rattle.rtr_views.proofs.Forms.{whole_key, whole_aspa}
+use Rattle.rtr_views.proofs.Forms.{IsWholeKey, IsWholeAspa, whole_key, whole_aspa}
 
 -- a fault of the header comes first
 pub header_shows : (r : List ℕ) (f : Refusal) → 8 ≤ length r → header_step r ≡ Some f → first_fault r ≡ Some f
@@ -49,11 +52,6 @@ cut_first r long some within =
       flags = sym same.flags ∙ ap (λ b. get_or b 2 0) all;
       field = sym same.size ∙ ap length_field all;
     }
-
--- a header in order names at least its own bytes
-pub least_size : (v t g n : ℕ) → header_fault v t g n ≡ None → 8 ≤ n
-unfolding header_fault
-least_size v t g n e = grind (arith, nat_tests)
 
 -- ---- prefixes
 
@@ -119,6 +117,20 @@ end_front_0 r u h kind version field is =
 pub end_front_1 : (r u : List ℕ) → IsBytes r → type_field r ≡ 7 → version_field r ≤ 2 → version_field r ≢ 0 → length_field r ≡ 24 → IsFirstUnit r u → End u (timed_meaning u)
 end_front_1 r u h kind small later field is =
     end_with_timing u (rw is.cut (IsBytes-take (length_field r) r h)) (is.size ∙ field) (omega (arith, is.version)) (λ e. later (sym is.version ∙ e)) (is.kind ∙ kind) (is.field ∙ field)
+
+-- ---- what is viewed is whole
+
+pub first_whole : (k : ℕ) (r u : List ℕ) → IsBytes r → IsFirstUnit r u → type_field r ≡ k → header_step r ≡ None → 8 ≤ length u → IsWhole (of_type k (variable_unit k)) u
+first_whole k r u h is kind order long =
+    let same : header_step u ≡ header_step r = λ i. header_fault (is.version i) (is.kind i) (is.flags i) (is.field i) in
+    let kind_u : type_field u ≡ k = is.kind ∙ kind in
+    let named : header_step u ≡ header_fault (version_field u) k (get_or u 2 0) (length_field u) = ap (λ t. header_fault (version_field u) t (get_or u 2 0) (length_field u)) kind_u in
+    record {
+      header = long;
+      in_order = typed_is k (variable_unit k) u kind_u ∙ sym named ∙ same ∙ order;
+      size = is.size ∙ sym is.field;
+      are_bytes = rw is.cut (IsBytes-take (length_field r) r h);
+    }
 
 -- ---- what is viewed, by its length
 

@@ -1,11 +1,16 @@
--- What a fault of a call on views says.
-use Rattle.std.specs.Prelude.{◌≡◌, ℕ, ◌<◌, Bool, true, false, List, ◌++◌, length, Option, Some, Result, Err, MatchResult, ⊤, not}
+-- What a fault of a call on views says (this library's own; which fault comes first, as of units).
+use Rattle.std.specs.Prelude.{◌≡◌, ℕ, Bool, true, false, not, List, Some, Result, Err}
+use Rattle.std.specs.Prelude.{MatchResult, ⊤}
 use Rattle.std.specs.Io.KnownBytes.{Appends}
-use Rattle.rtr_units.specs.Causes.{short, unit_type, unit_version, too_long, unit_length, empty_providers, refused}
-use Rattle.rtr_units.specs.Stream.{WriterState, count_after}
+use Rattle.rtr_units.specs.Causes.{short, unit_type, unit_version, too_long, unit_length}
+use Rattle.rtr_units.specs.Causes.{empty_providers, refused}
+use Rattle.rtr_units.specs.Stream.{WriterState, WritesPart, count_after}
 use Rattle.rtr_payload.specs.Steps.{first_fault, first_unit, refusal_report}
 use Rattle.rtr_views.specs.declared.fault.ViewFault.{ViewFault}
-use Rattle.rtr_views.specs.declared.fault.ViewFault.TheVariants.{Writer, Short, UnitType, UnitLength, TooLong, EmptyProviders, UnitVersion, Prefix, TooMany}
+use Rattle.rtr_views.specs.declared.fault.ViewFault.TheVariants.{Writer, Short, UnitType}
+use Rattle.rtr_views.specs.declared.fault.ViewFault.TheVariants.{UnitLength, TooLong}
+use Rattle.rtr_views.specs.declared.fault.ViewFault.TheVariants.{EmptyProviders, UnitVersion}
+use Rattle.rtr_views.specs.declared.fault.ViewFault.TheVariants.{Prefix, TooMany}
 
 -- The fault names the first fault of the list r. Of a prefix that breaks its rule it names the part
 -- that is broken, and of the report that part is told alone.
@@ -30,16 +35,10 @@ abbrev pub IsWriterFault : ViewFault → Type 0
 IsWriterFault (Writer e) = ⊤
 IsWriterFault _ = ⊥
 
--- a piece was to be written: a proper prefix of it was, and then the writer failed
-abbrev pub WritesPiecePart : ViewFault → Option (List ℕ) → Option (List ℕ) → List ℕ → Type 0
-WritesPiecePart fault old new piece =
-    (t others : List ℕ) × Appends old new t × (piece ≡ t ++ others) × (0 < length others)
-    × IsWriterFault fault
-
 -- what a call that writes this piece leaves
 abbrev pub PutsPiece :
     {T : Type 0} → Result T ViewFault → WriterState → WriterState → List ℕ → Type 0
 PutsPiece r old new piece =
     MatchResult r (λ _. Appends old.held new.held piece)
-    (λ e. WritesPiecePart e old.held new.held piece)
+    (λ e. WritesPart (IsWriterFault e) old.held new.held piece)
     × (new.failed ≡ count_after old.failed (not (is_view_writer_fault r)))

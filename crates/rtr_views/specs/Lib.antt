@@ -1,5 +1,5 @@
-pub mod Wholes
 pub mod Faults
 pub mod Origins
-pub mod Views
 pub mod Placing
+pub mod PrivateCalls
+pub mod Views

@@ -1,4 +1,4 @@
--- What views show of prefix units.
+-- What views show of prefix units (RFC 8210 sections 5.6 and 5.7; the view is this library's own).
 use Rattle.std.specs.Prelude.{◌≡◌, ℕ, List, Some}
 use Rattle.rtr_base.specs.Actions.{act}
 use Rattle.rtr_base.specs.Addresses.{Family}

@@ -1,4 +1,5 @@
--- What a call leaves that writes a list of bytes into a slice, where there is room for it.
+-- What a call leaves that writes a list of bytes into a slice, where there is room for it (this
+-- library's own).
 use Rattle.std.specs.Prelude.{◌≡◌, ℕ, ◌<◌, ◌≤◌, List, ◌++◌, length, drop, Option, Some, None}
 
 -- All of it was written to the front of the slice, and what follows is as it was; or there was no

@@ -1,8 +1,10 @@
--- What views show of the bytes that they are views of.
+-- What views show of the bytes that they are views of (this library's own; the units by RFC 8210
+-- sections 5.6 to 5.8 and 5.10, ASPA units as in the Rust crate).
 use Rattle.std.specs.Prelude.{◌≡◌, ℕ, List}
 use Rattle.rtr_base.specs.Addresses.{Family}
 use Rattle.rtr_units.specs.End.{End}
 use Rattle.rtr_units.specs.Ends.{end_bytes, end_meaning}
+use Rattle.rtr_units.specs.Header.{version_field}
 use Rattle.rtr_payload.specs.Payloads.{Meaning}
 use Rattle.rtr_payload.specs.AspaUnits.{aspa_at}
 use Rattle.rtr_payload.specs.KeyUnits.{key_at}
@@ -25,6 +27,13 @@ ViewMeans (views.Origin v) m = m ≡ origin_meaning v
 ViewMeans (views.RouterKey v) m = m ≡ meaning (key_unit (key_at v.unit.now))
 ViewMeans (views.Aspa v) m = m ≡ meaning (aspa_unit (aspa_at v.unit.now))
 ViewMeans (views.End e) m = ⊥
+
+-- the version of what is viewed: of an end of data that of its meaning, and so 0 without timings
+abbrev pub version_shown : UnitView → ℕ
+version_shown (views.Origin v) = v.version
+version_shown (views.RouterKey v) = version_field v.unit.now
+version_shown (views.Aspa v) = version_field v.unit.now
+version_shown (views.End e) = (end_meaning e).version
 
 -- the written form of what is viewed: of a payload unit that of its meaning, and of an end of data
 -- its bytes

@@ -1,11 +1,13 @@
 //! Views of ASPA units (as in the Rust crate).
 
 ghost use Rattle.std.specs.Prelude.{◌≡◌, ◌≤◌, length, take, drop};
-ghost use Rattle.std.specs.Prelude.{IfOk, IfErr, not};
+ghost use Rattle.std.specs.Prelude.{IfOk, IfErr};
 ghost use Rattle.rtr_units.specs.Header.{version_field, type_field};
+ghost use Rattle.rtr_units.specs.Reading.{IsWhole, of_type};
 ghost use Rattle.rtr_payload.specs.AspaUnits.{aspa_at};
+ghost use Rattle.rtr_payload.specs.UnitKinds.{variable_unit};
 ghost use Rattle.rtr_payload.specs.Units.{aspa_unit, meaning, form_of};
-ghost use Rattle.rtr_views.specs.Wholes.{IsFirstUnit, IsWholeAspa};
+ghost use Rattle.rtr_views.specs.PrivateCalls.{IsFirstUnit};
 ghost use Rattle.rtr_views.specs.Faults.{IsFirstFault, PutsPiece};
 
 use crate::cut::{first_unit, size_at};
@@ -24,7 +26,9 @@ pub(crate) const FIXED: usize = 12;
 #[derive(Clone, Copy, Debug)]
 pub struct AspaView<'a> {
     pub(crate) unit: &'a [u8],
-    ghost whole: { IsWholeAspa unit.now },
+    ghost whole: { IsWhole (of_type 11 (variable_unit 11)) unit.now },
+    ghost least: { 12 ≤ length unit.now },
+    ghost most: { length unit.now ≤ 65535 },
 }
 
 impl<'a> AspaView<'a> {

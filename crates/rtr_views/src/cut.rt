@@ -4,7 +4,7 @@ ghost use Rattle.std.specs.Prelude.{◌≡◌, ◌≤◌, ◌<◌, None, length,
 ghost use Rattle.rtr_units.specs.Header.{length_field};
 ghost use Rattle.rtr_payload.specs.Steps.{header_step};
 ghost use Rattle.rtr_views.specs.Faults.{IsFirstFault};
-ghost use Rattle.rtr_views.specs.Wholes.{IsFirstUnit};
+ghost use Rattle.rtr_views.specs.PrivateCalls.{IsFirstUnit};
 
 use crate::fault::ViewFault;
 use rtr_units::numbers::u16_at;

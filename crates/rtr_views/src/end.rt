@@ -5,7 +5,7 @@ ghost use Rattle.rtr_units.specs.End.{End};
 ghost use Rattle.rtr_units.specs.Ends.{end_bytes, end_meaning};
 ghost use Rattle.rtr_units.specs.Header.{type_field};
 ghost use Rattle.rtr_views.specs.Faults.{IsFirstFault};
-ghost use Rattle.rtr_views.specs.Wholes.{IsFirstUnit};
+ghost use Rattle.rtr_views.specs.PrivateCalls.{IsFirstUnit};
 
 use crate::cut::first_unit;
 use crate::fault::ViewFault;

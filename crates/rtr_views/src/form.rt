@@ -1,12 +1,13 @@
 //! Pieces of forms, as they are written.
 
-ghost use Rattle.std.specs.Prelude.{◌≡◌, ◌+◌, ◌<◌, ◌^◌, ◌∷◌, ◌++◌, length, not};
+ghost use Rattle.std.specs.Prelude.{◌≡◌, ◌+◌, ◌<◌, ◌^◌, ◌∷◌, ◌++◌, length};
 ghost use Rattle.rtr_base.specs.Actions.{flags_of};
 ghost use Rattle.rtr_base.specs.Bytes.{be};
 ghost use Rattle.rtr_units.specs.Ends.{end_bytes};
 ghost use Rattle.rtr_views.specs.Faults.{PutsPiece};
 
 use crate::fault::ViewFault;
+use crate::placing::flagged_header;
 use rtr_base::payload::Action;
 use rtr_units::end::EndOfData;
 use rtr_units::fault::Fault;
@@ -25,17 +26,6 @@ pub fn put_piece<W: Sink>(writer: &mut W, piece: &[u8]) -> Result<(), ViewFault>
     }
 }
 
-/// The header of a router key or an ASPA unit, which holds flags where others have a session.
-#[inline(always)]
-pub fn flagged_header(version: u8, pdu: u8, action: Action, size: u32) -> [u8; 8]
-    ensures { result ≡ version ∷ pdu ∷ flags_of action ∷ 0 ∷ be size 4 }
-{
-    let mut header = [0; 8];
-    header[..4].copy_from_slice(&[version, pdu, action.into_flags(), 0]);
-    header[4..].copy_from_slice(&size.to_be_bytes());
-    header
-}
-
 /// Writes a router key or an ASPA unit: a header that is made of the fields, and then what follows
 /// it, `rest`.
 #[inline(always)]
@@ -51,7 +41,8 @@ pub fn put_flagged<W: Sink>(
         ((version ∷ pdu ∷ flags_of action ∷ 0 ∷ be (8 + length rest.now) 4) ++ rest.now) }
 {
     let size = 8 + rest.len() as u32;
-    match put_piece(writer, &flagged_header(version, pdu, action, size)) {
+    let header = flagged_header(version, pdu, action.into_flags(), size);
+    match put_piece(writer, &header) {
         Ok(()) => put_piece(writer, rest),
         Err(e) => Err(e),
     }

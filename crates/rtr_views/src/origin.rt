@@ -1,6 +1,6 @@
 //! Views of prefix units (RFC 8210 sections 5.6 and 5.7).
 
-ghost use Rattle.std.specs.Prelude.{◌≡◌, ◌≤◌, Some, length, IfOk, IfErr, not};
+ghost use Rattle.std.specs.Prelude.{◌≡◌, ◌≤◌, Some, length, IfOk, IfErr};
 ghost use Rattle.rtr_base.specs.Addresses.{v4, v6};
 ghost use Rattle.rtr_units.specs.Header.{type_field, length_field};
 ghost use Rattle.rtr_units.specs.PrefixUnits.{prefix_at};

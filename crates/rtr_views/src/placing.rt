@@ -9,10 +9,9 @@ ghost use Rattle.rtr_payload.specs.KeyUnits.{key_at};
 ghost use Rattle.rtr_payload.specs.Units.{key_unit, aspa_unit, meaning, form_of};
 ghost use Rattle.rtr_views.specs.Origins.{origin_meaning};
 ghost use Rattle.rtr_views.specs.Placing.{Places};
-ghost use Rattle.rtr_views.specs.Views.{ViewMeans, view_form};
+ghost use Rattle.rtr_views.specs.Views.{ViewMeans, version_shown, view_form};
 
 use crate::aspa::{AspaView, FIXED};
-use crate::form::flagged_header;
 use crate::origin::OriginView;
 use crate::router_key::RouterKeyView;
 use crate::view::UnitView;
@@ -37,6 +36,17 @@ pub fn place(front: &[u8], back: &[u8], output: &mut [u8]) -> Option<usize>
     Some(size)
 }
 
+/// The header of a router key or an ASPA unit, which holds flags where others have a session.
+#[inline(always)]
+pub fn flagged_header(version: u8, pdu: u8, flags: u8, size: u32) -> [u8; 8]
+    ensures { result ≡ version ∷ pdu ∷ flags ∷ 0 ∷ be size 4 }
+{
+    let mut header = [0; 8];
+    header[..4].copy_from_slice(&[version, pdu, flags, 0]);
+    header[4..].copy_from_slice(&size.to_be_bytes());
+    header
+}
+
 /// Writes a router key or an ASPA unit: a header that is made of the fields, and then `rest`,
 /// which is what follows the header.
 #[inline(always)]
@@ -53,7 +63,8 @@ fn place_flagged(
         output.old output.new }
 {
     let size = 8 + rest.len() as u32;
-    place(&flagged_header(version, pdu, action, size), rest, output)
+    let header = flagged_header(version, pdu, action.into_flags(), size);
+    place(&header, rest, output)
 }
 
 impl OriginView {
@@ -109,7 +120,8 @@ impl<'a> UnitView<'a> {
     /// The version of the protocol: 0 for an end of data without timing parameters.
     #[inline(always)]
     pub fn version(&self) -> u8
-        ensures { (m : Meaning) → ViewMeans self.now m → result ≡ m.version }
+        ensures shown { result ≡ version_shown self.now }
+        ensures means { (m : Meaning) → ViewMeans self.now m → result ≡ m.version }
     {
         match self {
             UnitView::Origin(view) => view.version(),

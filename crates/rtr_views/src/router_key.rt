@@ -1,11 +1,13 @@
 //! Views of router keys (RFC 8210 section 5.10).
 
 ghost use Rattle.std.specs.Prelude.{◌≡◌, ◌≤◌, length, take, drop};
-ghost use Rattle.std.specs.Prelude.{IfOk, IfErr, not};
+ghost use Rattle.std.specs.Prelude.{IfOk, IfErr};
 ghost use Rattle.rtr_units.specs.Header.{version_field, type_field};
+ghost use Rattle.rtr_units.specs.Reading.{IsWhole, of_type};
 ghost use Rattle.rtr_payload.specs.KeyUnits.{key_at};
+ghost use Rattle.rtr_payload.specs.UnitKinds.{variable_unit};
 ghost use Rattle.rtr_payload.specs.Units.{key_unit, meaning, form_of};
-ghost use Rattle.rtr_views.specs.Wholes.{IsFirstUnit, IsWholeKey};
+ghost use Rattle.rtr_views.specs.PrivateCalls.{IsFirstUnit};
 ghost use Rattle.rtr_views.specs.Faults.{IsFirstFault, PutsPiece};
 
 use crate::cut::{first_unit, size_at};
@@ -24,7 +26,9 @@ const FIXED: usize = 32;
 #[derive(Clone, Copy, Debug)]
 pub struct RouterKeyView<'a> {
     pub(crate) unit: &'a [u8],
-    ghost whole: { IsWholeKey unit.now },
+    ghost whole: { IsWhole (of_type 9 (variable_unit 9)) unit.now },
+    ghost least: { 32 ≤ length unit.now },
+    ghost most: { length unit.now ≤ 65535 },
 }
 
 impl<'a> RouterKeyView<'a> {

@@ -1,6 +1,6 @@
 //! Views of what a slice begins with.
 
-ghost use Rattle.std.specs.Prelude.{◌≡◌, ◌≤◌, length, take, IfOk, IfErr, not};
+ghost use Rattle.std.specs.Prelude.{◌≤◌, length, take, IfOk, IfErr};
 ghost use Rattle.rtr_views.specs.Faults.{IsFirstFault, PutsPiece};
 ghost use Rattle.rtr_views.specs.Views.{IsViewOf, view_form};
 

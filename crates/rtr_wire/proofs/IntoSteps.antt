@@ -15,10 +15,10 @@ use Rattle.rtr_views.specs.Views.{IsViewOf, ViewMeans}
 use Rattle.rtr_views.specs.declared.view.UnitView.{UnitView}
 use Rattle.rtr_views.specs.declared.view.UnitView.TheVariants as views
 use Rattle.rtr_views.proofs.Agreement.{view_means}
-use Rattle.rtr_wire.specs.Outcome.{StepTells, Steps}
+use Rattle.rtr_wire.specs.PrivateCalls.{StepTells, Steps, StopsStepInto, PlacesUnit, Stepped}
 use borrow.Rule.Slice.PartMut.{put_mid}
 use Rattle.rtr_views.specs.Faults.{IsFirstFault}
-use Rattle.rtr_wire.specs.Into.{LacksRoom, WhyStopped, FillsInto, StopsStepInto, PlacesUnit, Stepped}
+use Rattle.rtr_wire.specs.Into.{LacksRoom, WhyStopped, FillsInto}
 use Rattle.rtr_wire.specs.declared.into.IntoFault.{IntoFault}
 use Rattle.rtr_wire.specs.declared.into.IntoFault.TheVariants.{NoRoom, TooMany, Refused}
 use Rattle.rtr_wire.specs.Sequences.{Written, forms, in_version}

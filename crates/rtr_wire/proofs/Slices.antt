@@ -8,14 +8,14 @@ use Rattle.rtr_base.specs.Bytes.{IsBytes}
 use Rattle.rtr_units.specs.declared.fault.Fault.{Fault}
 use Rattle.rtr_units.specs.Causes.{Refusal, short, unit_type, unit_version, too_long, unit_length, empty_providers, refused, Cause, by_reader, by_writer, too_many, no_memory, wrong}
 use Rattle.rtr_units.specs.Ends.{end_meaning}
-use Rattle.rtr_units.specs.Stream.{ReaderState, WriterState, count_after}
+use Rattle.rtr_units.specs.Stream.{ReaderState, WriterState, WritesPart, count_after}
 use Rattle.rtr_payload.specs.Payloads.{Meaning}
 use Rattle.rtr_payload.specs.KeyUnits.{key_at}
 use Rattle.rtr_payload.specs.Units.{key_unit, aspa_unit}
 use Rattle.rtr_payload.specs.AspaUnits.{aspa_at}
 use Rattle.rtr_payload.specs.Steps.{first_fault, first_unit, refusal_report, taken}
 use Rattle.rtr_payload.specs.Units.{meaning, form_of}
-use Rattle.rtr_views.specs.Faults.{IsFirstFault, WritesPiecePart, is_view_writer_fault}
+use Rattle.rtr_views.specs.Faults.{IsFirstFault, IsWriterFault, is_view_writer_fault}
 use Rattle.rtr_views.specs.Origins.{origin_meaning}
 use Rattle.rtr_views.specs.Views.{IsViewOf, ViewMeans, view_form}
 use Rattle.rtr_views.specs.declared.fault.ViewFault.{ViewFault}
@@ -23,12 +23,12 @@ use Rattle.rtr_views.specs.declared.fault.ViewFault.TheVariants.{Writer, Short, 
 use Rattle.rtr_views.specs.declared.view.UnitView.{UnitView}
 use Rattle.rtr_views.specs.declared.view.UnitView.TheVariants as views
 use Rattle.rtr_views.proofs.Agreement.{view_means, form_meant}
-use Rattle.rtr_wire.specs.Outcome.{StepTells, Steps}
+use Rattle.rtr_wire.specs.PrivateCalls.{StepTells, Steps, StopsStep, is_payload_unit, passed}
 use Rattle.rtr_units.specs.Causes.{by_cause}
 use Rattle.rtr_wire.specs.Run.{Run, Ends, IsPartOfForm, BlamesNobody, Normalises}
 use Rattle.rtr_wire.specs.Sequences.{AreUnits, everything, forms}
 use Rattle.rtr_wire.specs.declared.run.Passed.TheVariants as passes
-use Rattle.rtr_wire.specs.SliceRun.{view_cause, slice_answer, NormalisesSlice, is_payload_unit, passed, StopsStep}
+use Rattle.rtr_wire.specs.SliceRun.{view_cause, slice_answer, NormalisesSlice}
 use Rattle.rtr_wire.proofs.Calls.{over}
 use Rattle.rtr_wire.proofs.OneAnswer.{one_run, no_unit, no_end, refused_at}
 use Rattle.rtr_wire.proofs.SomeAnswer.{next}
@@ -53,7 +53,7 @@ part_of_view (views.RouterKey v) b t others is e some = let m = meaning (key_uni
 part_of_view (views.Aspa v) b t others is e some = let m = meaning (aspa_unit (aspa_at v.unit.now)) in inl (m, view_means (views.Aspa v) b m is refl, (others, append-nil (form_of m) ∙ e, some))
 part_of_view (views.End d) b t others (is, end) e some = inr (end_meaning d, end, (others, sym end.bytes ∙ sym is ∙ e, some))
 
-pub not_written : (v : UnitView) (e : ViewFault) (r b left : List ℕ) (held holds : Option (List ℕ)) → IsViewOf v b → r ≡ b ++ left → WritesPiecePart e held holds (view_form v) → StopsStep e r held holds
+pub not_written : (v : UnitView) (e : ViewFault) (r b left : List ℕ) (held holds : Option (List ℕ)) → IsViewOf v b → r ≡ b ++ left → WritesPart (IsWriterFault e) held holds (view_form v) → StopsStep e r held holds
 not_written v (Writer x) r b left held holds is parts (t, others, wrote, e, some, by) = (b, left, t, parts, wrote, part_of_view v b t others is e some)
 not_written v Short r b left held holds is parts (t, others, wrote, e, some, by) = absurd by
 not_written v (UnitType k) r b left held holds is parts (t, others, wrote, e, some, by) = absurd by

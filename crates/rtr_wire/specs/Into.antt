@@ -1,18 +1,15 @@
 -- What a run from a slice into another writes and answers (this library's own).
 use Rattle.std.specs.Prelude.{◌≡◌, ℕ, ◌+◌, ◌<◌, ◌≤◌, ◌⊎◌, List, [], ◌∷◌, ◌++◌, length, drop}
-use Rattle.std.specs.Prelude.{Option, Some, Result, Ok, Err}
+use Rattle.std.specs.Prelude.{Result, Ok, Err}
 use Rattle.rtr_units.specs.End.{EndMeaning, End, end_list}
 use Rattle.rtr_payload.specs.Payloads.{Meaning}
-use Rattle.rtr_payload.specs.Units.{IsUnit, form_of}
+use Rattle.rtr_payload.specs.Units.{IsUnit}
 use Rattle.rtr_views.specs.Faults.{IsFirstFault}
-use Rattle.rtr_views.specs.Placing.{Places}
 use Rattle.rtr_views.specs.declared.fault.ViewFault.TheVariants.{UnitVersion}
-use Rattle.rtr_wire.specs.Outcome.{StepTells}
-use Rattle.rtr_wire.specs.Sequences.{AreUnits, Written, forms, in_version}
+use Rattle.rtr_wire.specs.Sequences.{AreUnits, Written, forms}
 use Rattle.rtr_wire.specs.declared.into.IntoFault.{IntoFault}
 use Rattle.rtr_wire.specs.declared.into.IntoFault.TheVariants.{NoRoom, TooMany, Refused}
 use Rattle.rtr_wire.specs.declared.into.Progress.{Progress}
-use Rattle.rtr_wire.specs.declared.into.Step.{Step}
 
 -- the next unit or end of data is there, and what is to be written for it has more bytes than this
 abbrev pub LacksRoom : Written → List ℕ → ℕ → Type 0
@@ -65,30 +62,3 @@ pub record refuses_version (version : ℕ) (p : Progress) (result : Result Unit 
   pub progress : p ≡ record { units = 0; forms = 0; taken = 0; written = 0 }
   pub fault : result ≡ Err (Refused (UnitVersion version))
   pub output : after ≡ before
-
--- ---- one step
-
--- the form of m in version v is written where there is room for it
-abbrev pub PlacesUnit : ℕ → Meaning → Option ℕ → List ℕ → List ℕ → Type 0
-PlacesUnit v m placed before after = Places placed (form_of (in_version v m)) before after
-
--- one unit was taken, and what is to be written for it was written; or an end of data
-pub record Stepped (what : Written) (s : Step) (rest before after : List ℕ) : Type 0 where
-  pub took : List ℕ
-  pub wrote : List ℕ
-  pub parts : rest ≡ took ++ drop s.taken rest
-  pub taken : s.taken ≡ length took
-  pub written : s.written ≡ length wrote
-  pub fits : s.written ≤ length before
-  pub output : after ≡ wrote ++ drop s.written before
-  pub tells : StepTells what (Ok s.passed) took wrote (Some (drop s.taken rest))
-
-abbrev pub StopsStepInto : Written → IntoFault → List ℕ → ℕ → Type 0
-StopsStepInto what NoRoom rest room = LacksRoom what rest room
-StopsStepInto what TooMany rest room = ⊥
-StopsStepInto what (Refused e) rest room = IsFirstFault rest e
-
-abbrev pub StepsInto : Written → Result Step IntoFault → (rest before after : List ℕ) → Type 0
-StepsInto what (Ok s) rest before after = Stepped what s rest before after
-StepsInto what (Err f) rest before after =
-    (after ≡ before) × StopsStepInto what f rest (length before)

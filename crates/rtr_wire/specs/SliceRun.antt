@@ -1,20 +1,19 @@
 -- What a run of `normalise_slice` reads, writes and answers: a run as one of `normalise`, over
 -- bytes that are known, for which neither a reader nor memory can fail.
-use Rattle.std.specs.Prelude.{◌≡◌, ℕ, Bool, true, false, not, List, ◌++◌, length, Option, Some, Result, Ok, Err, IfOk, IsOk}
+use Rattle.std.specs.Prelude.{◌≡◌, ℕ, not, List, ◌++◌, length, Result, Ok, Err, IfOk, IsOk}
 use Rattle.std.specs.Io.KnownBytes.{Appends}
-use Rattle.rtr_units.specs.Causes.{short, unit_type, unit_version, too_long, unit_length, empty_providers, refused, Cause, by_writer, too_many, wrong}
+use Rattle.rtr_units.specs.Causes.{short, unit_type, unit_version, too_long, unit_length}
+use Rattle.rtr_units.specs.Causes.{empty_providers, refused, Cause, by_writer, too_many, wrong}
 use Rattle.rtr_units.specs.Stream.{WriterState, count_after}
 use Rattle.rtr_payload.specs.Steps.{refusal_report}
 use Rattle.rtr_views.specs.Faults.{is_view_writer_fault}
 use Rattle.rtr_views.specs.declared.fault.ViewFault.{ViewFault}
-use Rattle.rtr_views.specs.declared.fault.ViewFault.TheVariants.{Writer, Short, UnitType, UnitLength, TooLong, EmptyProviders, UnitVersion, Prefix, TooMany}
-use Rattle.rtr_views.specs.declared.view.UnitView.{UnitView}
-use Rattle.rtr_views.specs.declared.view.UnitView.TheVariants as views
-use Rattle.rtr_wire.specs.Outcome.{StepTells}
+use Rattle.rtr_views.specs.declared.fault.ViewFault.TheVariants.{Writer, Short, UnitType}
+use Rattle.rtr_views.specs.declared.fault.ViewFault.TheVariants.{UnitLength, TooLong}
+use Rattle.rtr_views.specs.declared.fault.ViewFault.TheVariants.{EmptyProviders, UnitVersion}
+use Rattle.rtr_views.specs.declared.fault.ViewFault.TheVariants.{Prefix, TooMany}
 use Rattle.rtr_wire.specs.Run.{HasRun, Run, BlamesNobody}
 use Rattle.rtr_wire.specs.Sequences.{everything}
-use Rattle.rtr_wire.specs.declared.run.Passed.{Passed}
-use Rattle.rtr_wire.specs.declared.run.Passed.TheVariants as passes
 
 -- the cause that a fault names; a part of the rule on prefix lengths names the report on the unit u
 -- that breaks it
@@ -34,8 +33,8 @@ abbrev pub slice_answer : List ℕ → Result (ℕ × ℕ) ViewFault → Result 
 slice_answer u (Ok (n, k)) = Ok n
 slice_answer u (Err e) = Err (view_cause u e)
 
--- The whole promise of normalise_slice, with its limit, its result and its input: `old` and `new` are
--- what the writer has before and after it.
+-- The whole promise of normalise_slice, with its limit, its result and its input: `old` and `new`
+-- are what the writer has before and after it.
 pub record NormalisesSlice (limit : ℕ) (result : Result (ℕ × ℕ) ViewFault) (input : List ℕ)
     (old new : WriterState) : Type 0 where
   -- the call took these bytes from the front of the input, left these, and added these to what the
@@ -57,24 +56,3 @@ pub record NormalisesSlice (limit : ℕ) (result : Result (ℕ × ℕ) ViewFault
       BlamesNobody (slice_answer last result) → IsOk result
   -- the writer is blamed exactly where its count of failures rose
   pub writer_failures : new.failed ≡ count_after old.failed (not (is_view_writer_fault result))
-
--- ---- one step
-
--- what a step passed, by whether it was a payload unit, and no end of data
-abbrev pub passed : Bool → Passed
-passed true = passes.Written
-passed false = passes.End
-
--- whether the view is one of a payload unit
-abbrev pub is_payload_unit : UnitView → Bool
-is_payload_unit (views.Origin v) = true
-is_payload_unit (views.RouterKey v) = true
-is_payload_unit (views.Aspa v) = true
-is_payload_unit (views.End e) = false
-
--- why a step stopped at the front of the rest: some last bytes were taken, and perhaps a part of
--- their form written
-abbrev pub StopsStep : ViewFault → List ℕ → Option (List ℕ) → Option (List ℕ) → Type 0
-StopsStep e rest held holds =
-    (last left w : List ℕ) × (rest ≡ last ++ left) × Appends held holds w
-    × StepTells everything (Err (view_cause last e)) last w (Some left)

@@ -4,12 +4,13 @@ ghost use Rattle.std.specs.Prelude.{◌≡◌, ◌≢◌, ◌+◌, ◌-◌, ◌�
 ghost use Rattle.rtr_payload.specs.Payloads.{Meaning, smallest_version as smallest};
 ghost use Rattle.rtr_views.specs.Placing.{Places};
 ghost use Rattle.rtr_views.specs.Views.{ViewMeans};
-ghost use Rattle.rtr_wire.specs.Into.{FillsInto, StepsInto, PlacesUnit, refuses_version};
+ghost use Rattle.rtr_wire.specs.Into.{FillsInto, refuses_version};
+ghost use Rattle.rtr_wire.specs.PrivateCalls.{StepsInto, PlacesUnit};
 ghost use Rattle.rtr_wire.specs.Sequences.{everything, for_version};
 
 use crate::run::{LAST_VERSION, Passed};
 use crate::writing::{Everything, ForVersion, Writing};
-use rtr_payload::pdu::{Aspa, RouterKey};
+use rtr_payload::pdu::{Aspa, PayloadUnit, RouterKey};
 use rtr_units::fixed::{Ipv4Prefix, Ipv6Prefix};
 use rtr_units::unit::Unit;
 use rtr_views::fault::ViewFault;
@@ -31,13 +32,16 @@ pub struct Progress {
 }
 
 /// Why a call stopped before an end of data.
-#[derive(Debug, Drop)]
+#[derive(Debug, Drop, thiserror::Error)]
 pub enum IntoFault {
     /// The output has no room for what is to be written next.
+    #[error("no room in the output")]
     NoRoom,
     /// As many units as were allowed were taken.
+    #[error("too many units")]
     TooMany,
-    /// What follows in the input is refused.
+    /// What follows in the input is refused. Text and source are those of the fault.
+    #[error(transparent)]
     Refused(ViewFault),
 }
 
@@ -224,8 +228,8 @@ fn smallest_version(view: &UnitView<'_>) -> u8
     ensures { (m : Meaning) → ViewMeans view.now m → result ≡ smallest m.payload }
 {
     match view {
-        UnitView::Origin(_) => 0,
-        UnitView::RouterKey(_) => 1,
-        UnitView::Aspa(_) | UnitView::End(_) => 2,
+        UnitView::Origin(_) => Ipv4Prefix::SMALLEST_VERSION,
+        UnitView::RouterKey(_) => RouterKey::SMALLEST_VERSION,
+        UnitView::Aspa(_) | UnitView::End(_) => Aspa::SMALLEST_VERSION,
     }
 }

@@ -3,9 +3,9 @@
 ghost use Rattle.std.specs.Prelude.{◌≡◌, Ok, Some, IfOk, IfErr, not};
 ghost use Rattle.rtr_units.specs.Stream.{count_after};
 ghost use Rattle.rtr_views.specs.Faults.{is_view_writer_fault};
-ghost use Rattle.rtr_wire.specs.Outcome.{Steps};
+ghost use Rattle.rtr_wire.specs.PrivateCalls.{Steps, StopsStep, is_payload_unit, passed};
 ghost use Rattle.rtr_wire.specs.Sequences.{everything};
-ghost use Rattle.rtr_wire.specs.SliceRun.{NormalisesSlice, StopsStep, is_payload_unit, passed};
+ghost use Rattle.rtr_wire.specs.SliceRun.{NormalisesSlice};
 
 use rtr_payload::pdu::{Aspa, RouterKey};
 use rtr_units::fixed::{Ipv4Prefix, Ipv6Prefix};
@@ -44,14 +44,15 @@ pub fn normalise_slice<W: Sink>(
     Err(ViewFault::TooMany)
 }
 
-/// Views one unit, and writes its form. Answers whether it was a payload unit, and no end of data, and
-/// what follows it.
+/// Views one unit, and writes its form. Answers whether it was a payload unit, and no end of data,
+/// and what follows it.
 ///
-/// Each type goes its own way, on which the compiler knows the kind of the view at each step. The answer
-/// of the rare ones is wrapped again, so that the others' need not lie in memory.
+/// Each type goes its own way, on which the compiler knows the kind of the view at each step. The
+/// answer of the rare ones is wrapped again, so that the others' need not lie in memory.
 #[inline(always)]
 fn step<'a, W: Sink>(rest: &'a [u8], writer: &mut W) -> Result<(bool, &'a [u8]), ViewFault>
-    ensures unit { IfOk result (λ p. Steps everything (Ok (passed p.0)) (Some rest.now) (Some p.1.now)
+    ensures unit { IfOk result (λ p. Steps everything (Ok (passed p.0))
+        (Some rest.now) (Some p.1.now)
         (W.state writer.old).held (W.state writer.new).held) }
     ensures fault { IfErr result (λ e. StopsStep e rest.now
         (W.state writer.old).held (W.state writer.new).held) }
@@ -71,13 +72,15 @@ fn step<'a, W: Sink>(rest: &'a [u8], writer: &mut W) -> Result<(bool, &'a [u8]),
     }
 }
 
-/// The step for units of one type, or of any other: the type is named so that each has code of its own.
+/// The step for units of one type, or of any other: the type is named so that each has code of its
+/// own.
 #[inline(always)]
 fn view_step<'a, const TYPE: u8, W: Sink>(
     rest: &'a [u8],
     writer: &mut W,
 ) -> Result<(bool, &'a [u8]), ViewFault>
-    ensures unit { IfOk result (λ p. Steps everything (Ok (passed p.0)) (Some rest.now) (Some p.1.now)
+    ensures unit { IfOk result (λ p. Steps everything (Ok (passed p.0))
+        (Some rest.now) (Some p.1.now)
         (W.state writer.old).held (W.state writer.new).held) }
     ensures fault { IfErr result (λ e. StopsStep e rest.now
         (W.state writer.old).held (W.state writer.new).held) }

@@ -6,7 +6,7 @@ ghost use Rattle.rtr_payload.specs.Payloads.{Meaning, smallest_version};
 ghost use Rattle.rtr_units.specs.End.{End, end_list};
 ghost use Rattle.rtr_units.specs.Ends.{end_bytes, end_meaning};
 ghost use Rattle.rtr_wire.specs.Sequences.{Written, everything, for_version, in_version};
-ghost use Rattle.rtr_wire.specs.PerUnit.{version_joins, version_one, version_origins};
+ghost use Rattle.rtr_wire.specs.PrivateWriting.{version_joins, version_one, version_origins};
 
 use rtr_units::end::EndOfData;
 
@@ -37,7 +37,8 @@ pub(crate) trait Writing: Copy {
 
     /// What is written for one unit.
     ghost one: { (s : Self) (m : Meaning) → (what s).units (m ∷ []) ≡
-        (if has s (smallest_version m.payload) then in_version (version_for s m.version) m ∷ [] else []) };
+        (if has s (smallest_version m.payload)
+            then in_version (version_for s m.version) m ∷ [] else []) };
 
     /// Units are written one by one.
     ghost joins: { (s : Self) (ms ns : List Meaning) →

@@ -1,6 +1,7 @@
 //! The texts of faults.
 
 use rtr_support::{bytes, expect_equal};
+use rtr_wire::IntoFault;
 use rtr_wire::base::Prefix;
 use rtr_wire::pdu::{Fault, PrefixRule, ViewFault};
 use std::io;
@@ -34,6 +35,30 @@ fn texts_of_view_faults(rt: HostRuntime) -> Result<(), Fail> {
     let faults: Vec<(ViewFault, &'static str)> = Vec::from_array(alloc, texts())?;
     for (fault, text) in &faults {
         let shown = format!(in alloc; "{fault}")?;
+        expect_equal(&rt, shown.as_str(), *text);
+    }
+    Ok(())
+}
+
+/// Why a call into a slice stopped: with the text of the view's fault where one refused.
+#[test]
+fn texts_of_stops(rt: HostRuntime) -> Result<(), Fail> {
+    let alloc = rt.alloc();
+    let stops = [
+        (IntoFault::NoRoom, "no room in the output"),
+        (IntoFault::TooMany, "too many units"),
+        (
+            IntoFault::Refused(ViewFault::UnitType(10)),
+            "unit type 10 is not allowed here",
+        ),
+        (
+            IntoFault::Refused(ViewFault::Writer(io::Error::from(ErrorKind::WriteZero))),
+            "write failed",
+        ),
+    ];
+    let stops: Vec<(IntoFault, &'static str)> = Vec::from_array(alloc, stops)?;
+    for (stop, text) in &stops {
+        let shown = format!(in alloc; "{stop}")?;
         expect_equal(&rt, shown.as_str(), *text);
     }
     Ok(())

@@ -1,4 +1,5 @@
-//! Router keys, ASPA units and payload units of any kind, made, written and read with what the crate shows.
+//! Router keys, ASPA units and payload units of any kind, made, written and read with what the
+//! crate shows.
 
 use rtr_support::{IPV4, KEY, bytes, expect_equal};
 use rtr_wire::base::{Asn, KeyIdentifier, MaxLenPrefix, Prefix};
@@ -11,7 +12,9 @@ use std::test::Fail;
 
 /// The key identifier of `KEY`.
 #[rattlefmt::skip]
-const IDENTIFIER: [u8; 20] = [1, 2, 3, 4, 5, 6, 7, 8, 9, 10, 11, 12, 13, 14, 15, 16, 17, 18, 19, 20];
+const IDENTIFIER: [u8; 20] = [
+    1, 2, 3, 4, 5, 6, 7, 8, 9, 10, 11, 12, 13, 14, 15, 16, 17, 18, 19, 20,
+];
 
 /// An ASPA unit that announces two providers.
 const ASPA: &str = "02 0b 01 00 00 00 00 14 00 01 00 0f 00 01 00 0d 00 01 00 0e";
@@ -57,7 +60,8 @@ fn reads(
     Ok(())
 }
 
-/// Asserts that the unit of the payload is written as these bytes, and that they are read as the payload.
+/// Asserts that the unit of the payload is written as these bytes, and that they are read as the
+/// payload.
 fn passes(
     rt: &impl Abort,
     alloc: Global,

@@ -1,11 +1,12 @@
 use Rattle.std.proofs.Common.{◌≡◌, sym, ap, ◌∙◌, arith, take, subst}
 use Rattle.rtr_payload.specs.Steps.{first_unit}
-use Rattle.rtr_views.proofs.Fronts.{cut_first, least_size}
-use Rattle.rtr_views.specs.Wholes.{IsFirstUnit}
+use Rattle.rtr_payload.proofs.Rests.{eight_said}
+use Rattle.rtr_views.proofs.Fronts.{cut_first}
+use Rattle.rtr_views.specs.PrivateCalls.{IsFirstUnit}
 use Rattle.rtr_views.proofs.cut.first_unit.Goals as goal
 
 pub returns-clause-unit : goal.returns-clause-unit
 returns-clause-unit c =
     let r = c.args.input.now in
     let is : c.split_at.result.0.now ≡ first_unit r = c.split_at.ensures.front ∙ ap (λ n. take n r) (sym c.requires.size) in
-    subst (IsFirstUnit r) (sym is) (cut_first r c.requires.header (least_size _ _ _ _ c.requires.in_order) (omega (arith, c.requires.size, c.if-size-input.false)))
+    subst (IsFirstUnit r) (sym is) (cut_first r c.requires.header (eight_said _ _ _ _ c.requires.in_order) (omega (arith, c.requires.size, c.if-size-input.false)))

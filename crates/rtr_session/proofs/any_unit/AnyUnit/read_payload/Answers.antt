@@ -9,99 +9,54 @@ use Rattle.rtr_units.specs.Reading.{of_size}
 use Rattle.rtr_units.specs.Views.{header_bytes}
 use Rattle.rtr_payload.specs.UnitKinds.{variable_unit}
 use Rattle.rtr_session.specs.Fields.{serial_notify, serial_query, reset_query, cache_response, cache_reset}
-use Rattle.rtr_session.proofs.Stops.{twelve_alike, eight_alike, ipv4_any, ipv6_any, end_any, key_any, aspa_any, any_takes, report_takes, unknown_type}
+use Rattle.rtr_session.proofs.Stops.{twelve_alike, eight_alike, ipv4_any, ipv6_any, end_any, key_any, aspa_any, stopped, report_takes, unknown_type}
 use Rattle.rtr_session.proofs.Units.{serial_reads, bare_reads, notify_has, query_has, reset_query_has, response_has, cache_reset_has, prefix_reads, end_reads, variable_reads, report_has}
 use Rattle.rtr_session.proofs.any_unit.AnyUnit.read_payload.Goals as goal
 
 pub returns-in_err-read_payload-in-0 : goal.returns-in_err-read_payload-in-0
 returns-in_err-read_payload-in-0 g c =
     let p = err_from_is_err_and c.from_residual.result c.from_residual.ensures.1 in
-    let h = header_bytes c.args.header in
-    let l : length h ≡ 8 = c.pdu.ensures.header.0 in
-    let kind : type_field h ≡ 0 = sym c.pdu.ensures.value ∙ c.in-0.is in
-    let long : 8 ≤ length h = omega (arith, l) in
-    let (is, (takes, counts)) = c.in_err-read_payload-in-0.ensures in
-    rw (p.1, p.2) (any_takes (of_size 12) h l (λ ten. absurd (omega (arith, kind, ten))) (twelve_alike h long 0 kind (inl refl)) (cause_of c.in_err-read_payload-in-0.field-0.0) _ _ takes, counts)
+    rw (p.1, p.2) (stopped _ 0 (of_size 12) c.pdu.ensures.header.0 (sym c.pdu.ensures.value ∙ c.in-0.is) (omega arith) (λ long kind. twelve_alike _ long 0 kind (inl refl)) c.in_err-read_payload-in-0.field-0.0 _ _ c.in_err-read_payload-in-0.ensures)
 
 pub returns-in_err-read_payload-in-1 : goal.returns-in_err-read_payload-in-1
 returns-in_err-read_payload-in-1 g c =
     let p = err_from_is_err_and c.from_residual-in_err-read_payload-in-1.result c.from_residual-in_err-read_payload-in-1.ensures.1 in
-    let h = header_bytes c.args.header in
-    let l : length h ≡ 8 = c.pdu.ensures.header.0 in
-    let kind : type_field h ≡ 1 = sym c.pdu.ensures.value ∙ c.in-1.is in
-    let long : 8 ≤ length h = omega (arith, l) in
-    let (is, (takes, counts)) = c.in_err-read_payload-in-1.ensures in
-    rw (p.1, p.2) (any_takes (of_size 12) h l (λ ten. absurd (omega (arith, kind, ten))) (twelve_alike h long 1 kind (inr refl)) (cause_of c.in_err-read_payload-in-1.field-0.0) _ _ takes, counts)
+    rw (p.1, p.2) (stopped _ 1 (of_size 12) c.pdu.ensures.header.0 (sym c.pdu.ensures.value ∙ c.in-1.is) (omega arith) (λ long kind. twelve_alike _ long 1 kind (inr refl)) c.in_err-read_payload-in-1.field-0.0 _ _ c.in_err-read_payload-in-1.ensures)
 
 pub returns-in_err-read_payload-in-2 : goal.returns-in_err-read_payload-in-2
 returns-in_err-read_payload-in-2 g c =
     let p = err_from_is_err_and c.from_residual-in_err-read_payload-in-2.result c.from_residual-in_err-read_payload-in-2.ensures.1 in
-    let h = header_bytes c.args.header in
-    let l : length h ≡ 8 = c.pdu.ensures.header.0 in
-    let kind : type_field h ≡ 2 = sym c.pdu.ensures.value ∙ c.in-2.is in
-    let long : 8 ≤ length h = omega (arith, l) in
-    let (is, (takes, counts)) = c.in_err-read_payload-in-2.ensures in
-    rw (p.1, p.2) (any_takes (of_size 8) h l (λ ten. absurd (omega (arith, kind, ten))) (eight_alike h long 2 kind (inl refl)) (cause_of c.in_err-read_payload-in-2.field-0.0) _ _ takes, counts)
+    rw (p.1, p.2) (stopped _ 2 (of_size 8) c.pdu.ensures.header.0 (sym c.pdu.ensures.value ∙ c.in-2.is) (omega arith) (λ long kind. eight_alike _ long 2 kind (inl refl)) c.in_err-read_payload-in-2.field-0.0 _ _ c.in_err-read_payload-in-2.ensures)
 
 pub returns-in_err-read_payload-in-3 : goal.returns-in_err-read_payload-in-3
 returns-in_err-read_payload-in-3 g c =
     let p = err_from_is_err_and c.from_residual-in_err-read_payload-in-3.result c.from_residual-in_err-read_payload-in-3.ensures.1 in
-    let h = header_bytes c.args.header in
-    let l : length h ≡ 8 = c.pdu.ensures.header.0 in
-    let kind : type_field h ≡ 3 = sym c.pdu.ensures.value ∙ c.in-3.is in
-    let long : 8 ≤ length h = omega (arith, l) in
-    let (is, (takes, counts)) = c.in_err-read_payload-in-3.ensures in
-    rw (p.1, p.2) (any_takes (of_size 8) h l (λ ten. absurd (omega (arith, kind, ten))) (eight_alike h long 3 kind (inr (inl refl))) (cause_of c.in_err-read_payload-in-3.field-0.0) _ _ takes, counts)
+    rw (p.1, p.2) (stopped _ 3 (of_size 8) c.pdu.ensures.header.0 (sym c.pdu.ensures.value ∙ c.in-3.is) (omega arith) (λ long kind. eight_alike _ long 3 kind (inr (inl refl))) c.in_err-read_payload-in-3.field-0.0 _ _ c.in_err-read_payload-in-3.ensures)
 
 pub returns-in_err-read_payload-in-4 : goal.returns-in_err-read_payload-in-4
 returns-in_err-read_payload-in-4 g c =
     let p = err_from_is_err_and c.from_residual-in_err-read_payload-in-4.result c.from_residual-in_err-read_payload-in-4.ensures.1 in
-    let h = header_bytes c.args.header in
-    let l : length h ≡ 8 = c.pdu.ensures.header.0 in
-    let kind : type_field h ≡ 4 = sym c.pdu.ensures.value ∙ c.in-4.is in
-    let long : 8 ≤ length h = omega (arith, l) in
-    let (is, (takes, counts)) = c.in_err-read_payload-in-4.ensures in
-    rw (p.1, p.2) (any_takes (of_size 20) h l (λ ten. absurd (omega (arith, kind, ten))) (ipv4_any h long kind) (cause_of c.in_err-read_payload-in-4.field-0.0) _ _ takes, counts)
+    rw (p.1, p.2) (stopped _ 4 (of_size 20) c.pdu.ensures.header.0 (sym c.pdu.ensures.value ∙ c.in-4.is) (omega arith) (λ long kind. ipv4_any _ long kind) c.in_err-read_payload-in-4.field-0.0 _ _ c.in_err-read_payload-in-4.ensures)
 
 pub returns-in_err-read_payload-in-6 : goal.returns-in_err-read_payload-in-6
 returns-in_err-read_payload-in-6 g c =
     let p = err_from_is_err_and c.from_residual-in_err-read_payload-in-6.result c.from_residual-in_err-read_payload-in-6.ensures.1 in
-    let h = header_bytes c.args.header in
-    let l : length h ≡ 8 = c.pdu.ensures.header.0 in
-    let kind : type_field h ≡ 6 = sym c.pdu.ensures.value ∙ c.in-6.is in
-    let long : 8 ≤ length h = omega (arith, l) in
-    let (is, (takes, counts)) = c.in_err-read_payload-in-6.ensures in
-    rw (p.1, p.2) (any_takes (of_size 32) h l (λ ten. absurd (omega (arith, kind, ten))) (ipv6_any h long kind) (cause_of c.in_err-read_payload-in-6.field-0.0) _ _ takes, counts)
+    rw (p.1, p.2) (stopped _ 6 (of_size 32) c.pdu.ensures.header.0 (sym c.pdu.ensures.value ∙ c.in-6.is) (omega arith) (λ long kind. ipv6_any _ long kind) c.in_err-read_payload-in-6.field-0.0 _ _ c.in_err-read_payload-in-6.ensures)
 
 pub returns-in_err-read_payload-in-7 : goal.returns-in_err-read_payload-in-7
 returns-in_err-read_payload-in-7 g c =
     let p = err_from_is_err_and c.from_residual-in_err-read_payload-in-7.result c.from_residual-in_err-read_payload-in-7.ensures.1 in
-    let h = header_bytes c.args.header in
-    let l : length h ≡ 8 = c.pdu.ensures.header.0 in
-    let kind : type_field h ≡ 7 = sym c.pdu.ensures.value ∙ c.in-7.is in
-    let long : 8 ≤ length h = omega (arith, l) in
-    let (is, (takes, counts)) = c.in_err-read_payload-in-7.ensures.bytes in
-    rw (p.1, p.2) (any_takes end_unit h l (λ ten. absurd (omega (arith, kind, ten))) (end_any h long kind) (cause_of c.in_err-read_payload-in-7.field-0.0) _ _ takes, counts)
+    rw (p.1, p.2) (stopped _ 7 end_unit c.pdu.ensures.header.0 (sym c.pdu.ensures.value ∙ c.in-7.is) (omega arith) (λ long kind. end_any _ long kind) c.in_err-read_payload-in-7.field-0.0 _ _ c.in_err-read_payload-in-7.ensures.bytes)
 
 pub returns-in_err-read_payload-in-8 : goal.returns-in_err-read_payload-in-8
 returns-in_err-read_payload-in-8 g c =
     let p = err_from_is_err_and c.from_residual-in_err-read_payload-in-8.result c.from_residual-in_err-read_payload-in-8.ensures.1 in
-    let h = header_bytes c.args.header in
-    let l : length h ≡ 8 = c.pdu.ensures.header.0 in
-    let kind : type_field h ≡ 8 = sym c.pdu.ensures.value ∙ c.in-8.is in
-    let long : 8 ≤ length h = omega (arith, l) in
-    let (is, (takes, counts)) = c.in_err-read_payload-in-8.ensures in
-    rw (p.1, p.2) (any_takes (of_size 8) h l (λ ten. absurd (omega (arith, kind, ten))) (eight_alike h long 8 kind (inr (inr refl))) (cause_of c.in_err-read_payload-in-8.field-0.0) _ _ takes, counts)
+    rw (p.1, p.2) (stopped _ 8 (of_size 8) c.pdu.ensures.header.0 (sym c.pdu.ensures.value ∙ c.in-8.is) (omega arith) (λ long kind. eight_alike _ long 8 kind (inr (inr refl))) c.in_err-read_payload-in-8.field-0.0 _ _ c.in_err-read_payload-in-8.ensures)
 
 pub returns-in_err-unit-in-9 : goal.returns-in_err-unit-in-9
 returns-in_err-unit-in-9 g c =
     let p = err_from_is_err_and c.from_residual-in_err-unit-in-9.result c.from_residual-in_err-unit-in-9.ensures.1 in
-    let h = header_bytes c.args.header in
-    let l : length h ≡ 8 = c.pdu.ensures.header.0 in
-    let kind : type_field h ≡ 9 = sym c.pdu.ensures.value ∙ c.in-9.is in
-    let long : 8 ≤ length h = omega (arith, l) in
-    let (is, (takes, counts)) = c.in_err-unit-in-9.ensures.bytes in
-    rw (p.1, p.2) (any_takes (variable_unit 9) h l (λ ten. absurd (omega (arith, kind, ten))) (key_any h long kind) (cause_of c.in_err-unit-in-9.field-0.0) _ _ takes, counts)
+    rw (p.1, p.2) (stopped _ 9 (variable_unit 9) c.pdu.ensures.header.0 (sym c.pdu.ensures.value ∙ c.in-9.is) (omega arith) (λ long kind. key_any _ long kind) c.in_err-unit-in-9.field-0.0 _ _ c.in_err-unit-in-9.ensures.bytes)
 
 pub returns-in_err-read_payload-in-10 : goal.returns-in_err-read_payload-in-10
 returns-in_err-read_payload-in-10 g c =
@@ -115,12 +70,7 @@ returns-in_err-read_payload-in-10 g c =
 pub returns-in_err-unit-in-11 : goal.returns-in_err-unit-in-11
 returns-in_err-unit-in-11 g c =
     let p = err_from_is_err_and c.from_residual-in_err-unit-in-11.result c.from_residual-in_err-unit-in-11.ensures.1 in
-    let h = header_bytes c.args.header in
-    let l : length h ≡ 8 = c.pdu.ensures.header.0 in
-    let kind : type_field h ≡ 11 = sym c.pdu.ensures.value ∙ c.in-11.is in
-    let long : 8 ≤ length h = omega (arith, l) in
-    let (is, (takes, counts)) = c.in_err-unit-in-11.ensures.bytes in
-    rw (p.1, p.2) (any_takes (variable_unit 11) h l (λ ten. absurd (omega (arith, kind, ten))) (aspa_any h long kind) (cause_of c.in_err-unit-in-11.field-0.0) _ _ takes, counts)
+    rw (p.1, p.2) (stopped _ 11 (variable_unit 11) c.pdu.ensures.header.0 (sym c.pdu.ensures.value ∙ c.in-11.is) (omega arith) (λ long kind. aspa_any _ long kind) c.in_err-unit-in-11.field-0.0 _ _ c.in_err-unit-in-11.ensures.bytes)
 
 pub returns-in_ok-read_payload-in-0 : goal.returns-in_ok-read_payload-in-0
 returns-in_ok-read_payload-in-0 g c =
@@ -189,11 +139,12 @@ returns-in_ok-unit-in-11 g c =
 
 pub returns-in_default : goal.returns-in_default
 returns-in_default g c =
-    let h = header_bytes c.args.header in
-    (
-      ([],
-      Consumes-nil _,
-      unknown_type h c.pdu.result c.pdu.ensures.header.0 (sym c.pdu.ensures.value)
-          (omega arith) (omega arith) (omega arith) (omega arith) (omega arith) (omega arith) (omega arith) (omega arith) (omega arith) (omega arith) (omega arith)),
+    let h = header_bytes c.args.header in (
+      (
+        [],
+        Consumes-nil _,
+        unknown_type h c.pdu.result c.pdu.ensures.header.0 (sym c.pdu.ensures.value)
+            (omega arith) (omega arith) (omega arith) (omega arith) (omega arith) (omega arith) (omega arith) (omega arith) (omega arith) (omega arith) (omega arith),
+      ),
       refl,
     )

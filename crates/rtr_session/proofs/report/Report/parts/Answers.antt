@@ -1,5 +1,6 @@
 use Rattle.std.proofs.Common.{◌≡◌, ◌∙◌, ap, drop, subst}
-use Rattle.rtr_session.specs.Reports.{IsReport, IsCounted, IsCutShort}
+use Rattle.rtr_session.specs.PrivateCalls.{IsCounted, IsCutShort}
+use Rattle.rtr_session.specs.Reports.{IsReport}
 use Rattle.rtr_session.proofs.Parts.{at_none, none_left, some_left, parts_made, none_cut, none_second, none_more}
 use Rattle.rtr_session.proofs.report.Report.parts.Goals as goal
 

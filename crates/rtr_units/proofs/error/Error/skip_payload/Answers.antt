@@ -8,8 +8,8 @@ use Rattle.rtr_units.specs.Views.{header_bytes}
 use Rattle.rtr_units.proofs.UnitsRead.{any_is, any_long, any_low, any_by, at_header, rest_stops, rest_whole}
 use Rattle.rtr_units.proofs.error.Error.skip_payload.Goals as goal
 
-pub returns-then-length-gt-GREATEST_LENGTH : goal.returns-then-length-gt-GREATEST_LENGTH
-returns-then-length-gt-GREATEST_LENGTH g c =
+pub returns-then-length-gt-MAX_SIZE : goal.returns-then-length-gt-MAX_SIZE
+returns-then-length-gt-MAX_SIZE g c =
     let h = header_bytes c.args.header in
     let is = c.length-length.ensures.header in
     ([], (is, (([], Consumes-nil _, at_header any_unit too_long h is.0 (any_long h (omega (arith, c.length-length.ensures.value)))), refl)))

@@ -1,7 +1,7 @@
 use Rattle.std.proofs.Common.{arith, inl, inr, ◌≡◌, ℕ, ◌%◌, sym, ap, ◌∙◌}
 use Rattle.rtr_units.specs.Header.{length_field}
 use Rattle.rtr_payload.proofs.Variable.{aspa_too_long}
-use Rattle.rtr_views.proofs.Fronts.{long_shows, typed_shows, typed_in_order, aspa_length, aspa_no_providers, aspa_in_order}
+use Rattle.rtr_views.proofs.Fronts.{first_whole, long_shows, typed_shows, typed_in_order, aspa_length, aspa_no_providers, aspa_in_order}
 use Rattle.rtr_views.proofs.aspa.AspaView.first.Goals as goal
 use Rattle.rtr_views.proofs.aspa.AspaView.first.Goals.{then-size-lt-FIXED-via-then-size-lt-FIXED, then-size-lt-FIXED-via-else-size-lt-FIXED+then-size-ne0, else-size-eq-FIXED-via-then-size-eq-FIXED+else-input-eq1, else-size-eq-FIXED-via-else-size-eq-FIXED}
 
@@ -27,3 +27,14 @@ first_unit-requires-clause-in_order c =
       | else-size-eq-FIXED-via-then-size-eq-FIXED+else-input-eq1 w ↦ aspa_in_order _ _ _ (omega (arith, is, c.in-Ok.ensures.most)) (omega (arith, is, c.in-Ok.ensures.most)) fours (inr w.if-input-eq1.false)
       | else-size-eq-FIXED-via-else-size-eq-FIXED w ↦ aspa_in_order _ _ _ (omega (arith, is, c.in-Ok.ensures.most)) (omega (arith, is, c.in-Ok.ensures.most)) fours (inl (λ e. w.if-size-eq-FIXED.false (is ∙ e)))
     ])
+
+pub invariant_of-result-clause-whole : goal.invariant_of-result-clause-whole
+invariant_of-result-clause-whole c =
+    let r = c.args.input.now in
+    let is = c.in-Ok.ensures.size in
+    let fours : length_field r % 4 ≡ 0 = ap (λ (n : ℕ). n % 4) (sym is) ∙ c.if-size-ne0.false in
+    let order = typed_in_order r 11 c.requires.kind (elim c.else-size-eq-FIXED.branch [
+      | else-size-eq-FIXED-via-then-size-eq-FIXED+else-input-eq1 w ↦ aspa_in_order _ _ _ (omega (arith, is, c.in-Ok.ensures.most)) (omega (arith, is, c.in-Ok.ensures.most)) fours (inr w.if-input-eq1.false)
+      | else-size-eq-FIXED-via-else-size-eq-FIXED w ↦ aspa_in_order _ _ _ (omega (arith, is, c.in-Ok.ensures.most)) (omega (arith, is, c.in-Ok.ensures.most)) fours (inl (λ e. w.if-size-eq-FIXED.false (is ∙ e)))
+    ]) in
+    first_whole 11 r c.in-Ok-first_unit.unit.now (λ i. omega (arith, c.type_inv.input i)) c.in-Ok-first_unit.ensures.unit c.requires.kind order (omega (arith, c.in-Ok-first_unit.ensures.unit.size, is))

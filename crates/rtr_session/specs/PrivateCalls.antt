@@ -1,0 +1,31 @@
+-- What calls inside this crate leave. Only contracts of private functions cite these.
+use Rattle.std.specs.Prelude.{◌≡◌, ℕ, ◌<◌, ◌≤◌, List, ◌++◌, length, take, drop}
+use Rattle.std.specs.Prelude.{Option, Some, None, Result, Ok, Err}
+use Rattle.std.specs.Io.KnownBytes.{Consumes}
+use Rattle.rtr_base.specs.Bytes.{value}
+use Rattle.rtr_units.specs.Causes.{by_cause, cause_of}
+use Rattle.rtr_units.specs.Reading.{Takes}
+use Rattle.rtr_units.specs.Stream.{ReaderState, reader_count}
+use Rattle.rtr_units.specs.Views.{header_bytes}
+use Rattle.rtr_units.specs.declared.fault.Fault.{Fault}
+use Rattle.rtr_units.specs.declared.header.Header.{Header}
+use Rattle.rtr_session.specs.Reads.{HasEnded, StopsInAny}
+
+-- a header was read, or there was none, or reading stopped inside it
+abbrev pub ReadsHeaderBytes :
+    Result (Option Header) Fault → Option (List ℕ) → Option (List ℕ) → Type 0
+ReadsHeaderBytes (Ok None) old left = HasEnded old left
+ReadsHeaderBytes (Ok (Some h)) old left = Consumes old left (header_bytes h)
+ReadsHeaderBytes (Err e) old left = Takes old left (λ t. StopsInAny (cause_of e) t left)
+
+abbrev pub ReadsHeader : Result (Option Header) Fault → ReaderState → ReaderState → Type 0
+ReadsHeader r old new =
+    ReadsHeaderBytes r old.left new.left × (new.failed ≡ reader_count (by_cause r) old.failed)
+
+-- the bytes b begin with a length of four bytes and the bytes x, as many as it says, before r
+abbrev pub IsCounted : List ℕ → List ℕ → List ℕ → Type 0
+IsCounted b x r = (4 ≤ length b) × (value (take 4 b) ≡ length x) × (drop 4 b ≡ x ++ r)
+
+-- the bytes b have no length of four bytes at their front, or fewer bytes follow than it says
+abbrev pub IsCutShort : List ℕ → Type 0
+IsCutShort b = 4 ≤ length b → length (drop 4 b) < value (take 4 b)

@@ -1,0 +1,144 @@
+-- What calls inside this crate leave: one unit read and what is to be written for it written, in
+-- terms of the bytes that were taken and written. Only contracts of private functions cite these,
+-- and the law `plain_way`, which compares the plain calls with a step.
+use Rattle.std.specs.Prelude.{◌≡◌, ℕ, ◌≤◌, Bool, true, false, List, [], ◌∷◌, ◌++◌, length, drop}
+use Rattle.std.specs.Prelude.{Option, Some, None, Result, Ok, Err, IfSome}
+use Rattle.std.specs.Io.KnownBytes.{Consumes, Appends}
+use Rattle.rtr_units.specs.declared.fault.Fault.{Fault}
+use Rattle.rtr_units.specs.Causes.{Cause, by_writer, no_memory, too_many, by_cause}
+use Rattle.rtr_units.specs.End.{EndMeaning}
+use Rattle.rtr_units.specs.Views.{AreBytes}
+use Rattle.rtr_payload.specs.Payloads.{Meaning}
+use Rattle.rtr_payload.specs.Units.{IsUnit, LengthsAgree, meaning, form_of}
+use Rattle.rtr_payload.specs.UnitValues.{unit_fields, HasNoPayload}
+use Rattle.rtr_payload.specs.declared.pdu_payload.Payload.{Payload}
+use Rattle.rtr_views.specs.Faults.{IsFirstFault}
+use Rattle.rtr_views.specs.Placing.{Places}
+use Rattle.rtr_views.specs.declared.fault.ViewFault.{ViewFault}
+use Rattle.rtr_views.specs.declared.view.UnitView.{UnitView}
+use Rattle.rtr_views.specs.declared.view.UnitView.TheVariants as views
+use Rattle.rtr_wire.specs.declared.into.IntoFault.{IntoFault}
+use Rattle.rtr_wire.specs.declared.into.IntoFault.TheVariants.{NoRoom, TooMany, Refused}
+use Rattle.rtr_wire.specs.declared.into.Step.{Step}
+use Rattle.rtr_wire.specs.declared.run.Passed.{Passed}
+use Rattle.rtr_wire.specs.declared.run.Passed.TheVariants as passes
+use Rattle.rtr_wire.specs.Comparison.{Accepted}
+use Rattle.rtr_wire.specs.Into.{LacksRoom}
+use Rattle.rtr_wire.specs.Run.{IsProperPrefix, Ends}
+use Rattle.rtr_wire.specs.Sequences.{Written, everything, forms, in_version, sequence_form}
+use Rattle.rtr_wire.specs.SliceRun.{view_cause}
+
+-- ---- a step from a reader to a writer
+
+-- how many units were written by a step that read one
+abbrev pub number_of : Passed → Option ℕ
+number_of passes.Written = Some 1
+number_of passes.LeftOut = Some 0
+number_of passes.End = None
+
+-- the form of what is written for this meaning is w, and this step wrote it
+abbrev pub WritesMeaning : Written → Meaning → Passed → List ℕ → Type 0
+WritesMeaning what m step w =
+    (w ≡ forms (what.units (m ∷ []))) × (Some (length (what.units (m ∷ []))) ≡ number_of step)
+
+-- What writing for the unit u says of the bytes w that were written: they are all that is to be
+-- written, or a proper prefix of it; or none, where there is no payload or no memory for it.
+abbrev pub FormTells : Written → Payload → Result Passed Cause → List ℕ → Type 0
+FormTells what u (Ok step) w =
+    LengthsAgree (unit_fields u) × WritesMeaning what (meaning (unit_fields u)) step w
+FormTells what u (Err by_writer) w =
+    LengthsAgree (unit_fields u) ×
+    IsProperPrefix w (forms (what.units (meaning (unit_fields u) ∷ [])))
+FormTells what u (Err c) w = HasNoPayload u c × (w ≡ [])
+
+-- One unit was read, and what is to be written for it was written; or an end of data, at which a
+-- run ends, as it does at a fault. t was taken and w written.
+abbrev pub StepTells : Written → Result Passed Cause → List ℕ → List ℕ → Option (List ℕ) → Type 0
+StepTells what (Ok passes.End) t w left = IfSome left (λ left. Ends what (Ok 0) t left w)
+StepTells what (Ok step) t w left = (m : Meaning) × IsUnit t m × WritesMeaning what m step w
+StepTells what (Err too_many) t w left = ⊥
+StepTells what (Err c) t w left = IfSome left (λ left. Ends what (Err c) t left w)
+
+-- some bytes were taken and some written, and this holds of them
+abbrev pub Moves :
+    (old new held holds : Option (List ℕ)) → (List ℕ → List ℕ → Type 0) → Type 0
+Moves old new held holds P = (t w : List ℕ) × Consumes old new t × Appends held holds w × P t w
+
+abbrev pub WritesForm :
+    Written → Payload → Result Passed Fault → (held holds : Option (List ℕ)) → Type 0
+WritesForm what u r held holds = (w : List ℕ) × Appends held holds w ×
+    FormTells what u (by_cause r) w
+
+-- one unit: the reader's bytes before and after, the writer's before and after
+abbrev pub Steps :
+    Written → Result Passed Fault → (old new held holds : Option (List ℕ)) → Type 0
+Steps what r old new held holds =
+    Moves old new held holds (λ t w. StepTells what (by_cause r) t w new)
+
+-- one unit after its header h: what is said is said of all that was taken, of h and of what follows
+-- it
+abbrev pub StepsAfter :
+    Written → List ℕ → Result Passed Fault → (old new held holds : Option (List ℕ)) → Type 0
+StepsAfter what h r old new held holds =
+    AreBytes 8 h → (before : Option (List ℕ)) → Consumes before old h →
+    Steps what r before new held holds
+
+-- ---- a step from a slice to a writer
+
+-- what a step passed, by whether it was a payload unit, and no end of data
+abbrev pub passed : Bool → Passed
+passed true = passes.Written
+passed false = passes.End
+
+-- whether the view is one of a payload unit
+abbrev pub is_payload_unit : UnitView → Bool
+is_payload_unit (views.Origin v) = true
+is_payload_unit (views.RouterKey v) = true
+is_payload_unit (views.Aspa v) = true
+is_payload_unit (views.End e) = false
+
+-- why a step stopped at the front of the rest: some last bytes were taken, and perhaps a part of
+-- their form written
+abbrev pub StopsStep : ViewFault → List ℕ → Option (List ℕ) → Option (List ℕ) → Type 0
+StopsStep e rest held holds =
+    (last left w : List ℕ) × (rest ≡ last ++ left) × Appends held holds w
+    × StepTells everything (Err (view_cause last e)) last w (Some left)
+
+-- ---- a step from a slice into another
+
+-- the form of m in version v is written where there is room for it
+abbrev pub PlacesUnit : ℕ → Meaning → Option ℕ → List ℕ → List ℕ → Type 0
+PlacesUnit v m placed before after = Places placed (form_of (in_version v m)) before after
+
+-- one unit was taken, and what is to be written for it was written; or an end of data
+pub record Stepped (what : Written) (s : Step) (rest before after : List ℕ) : Type 0 where
+  pub took : List ℕ
+  pub wrote : List ℕ
+  pub parts : rest ≡ took ++ drop s.taken rest
+  pub taken : s.taken ≡ length took
+  pub written : s.written ≡ length wrote
+  pub fits : s.written ≤ length before
+  pub output : after ≡ wrote ++ drop s.written before
+  pub tells : StepTells what (Ok s.passed) took wrote (Some (drop s.taken rest))
+
+abbrev pub StopsStepInto : Written → IntoFault → List ℕ → ℕ → Type 0
+StopsStepInto what NoRoom rest room = LacksRoom what rest room
+StopsStepInto what TooMany rest room = ⊥
+StopsStepInto what (Refused e) rest room = IsFirstFault rest e
+
+abbrev pub StepsInto : Written → Result Step IntoFault → (rest before after : List ℕ) → Type 0
+StepsInto what (Ok s) rest before after = Stepped what s rest before after
+StepsInto what (Err f) rest before after =
+    (after ≡ before) × StopsStepInto what f rest (length before)
+
+-- ---- the form of an input, kept in memory
+
+-- the cause to a caller whose writer fails only where memory is refused
+abbrev pub in_memory_cause : Cause → Cause
+in_memory_cause by_writer = no_memory
+in_memory_cause c = c
+
+-- the form of what the input means
+abbrev pub IsFormOf : ℕ → List ℕ → List ℕ → Type 0
+IsFormOf limit input form =
+    (ms : List Meaning) × (e : EndMeaning) × Accepted limit input ms e × (form ≡ sequence_form ms e)
