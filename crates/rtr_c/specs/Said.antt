@@ -97,8 +97,8 @@ abbrev pub Part : Option (Bor (List ℕ)) → Option (List ℕ) → Type 0
 Part (Some part) is = is ≡ Some part.now
 Part None is = is ≡ None
 
--- A form is written where there is room for it, or refused for want of room; what has none is refused
--- with its status.
+-- A form is written where there is room for it, or refused for want of room; what has none is
+-- refused with its status.
 abbrev pub Writes : Result (List ℕ) ℕ → Result ℕ ℕ → (before after : List ℕ) → Type 0
 Writes (Ok f) (Ok n) before after = Places (Some n) f before after
 Writes (Ok f) (Err s) before after = (s ≡ status.no_room) × Places None f before after

@@ -27,8 +27,8 @@ use crate::router_key::RouterKey;
 use rtr_units::header::MAX_SIZE;
 
 /// The types of the units, and the limits on their sizes: the bytes of a unit that is read, and the
-/// providers of an ASPA. `pdu::RouterKey::max_key_info_size` says the bytes of key info. Answered are
-/// the types of router keys and of ASPA units.
+/// providers of an ASPA. `pdu::RouterKey::max_key_info_size` says the bytes of key info. Answered
+/// are the types of router keys and of ASPA units.
 pub fn types_and_limits() -> (u8, u8)
     ensures router_key { result.0 ≡ 9 }
     ensures aspa { result.1 ≡ 11 }

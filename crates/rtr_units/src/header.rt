@@ -16,8 +16,8 @@ use crate::numbers::{u16_at, u32_at};
 use crate::piece::{fill, put};
 use crate::source::{Sink, Source};
 
-/// The most bytes that a unit of no fixed size has that is read or read past, header included, as in
-/// the Rust crate `rpki`.
+/// The most bytes that a unit of no fixed size has that is read or read past, header included (as
+/// in the Rust crate `rpki`).
 pub const MAX_SIZE: u32 = 65535;
 
 /// The header that each unit begins with: eight bytes.

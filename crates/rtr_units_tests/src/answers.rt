@@ -1,9 +1,9 @@
 //! What tests say of answers, and the texts of faults.
 
 use rtr_base::state::{Serial, State};
+use rtr_support::expect_equal;
 use rtr_units::error::Error;
 use rtr_units::fault::Fault;
-use rtr_support::expect_equal;
 use std::io;
 use std::io::ErrorKind;
 use std::test::Fail;

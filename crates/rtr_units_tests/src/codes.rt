@@ -1,9 +1,9 @@
 //! The error codes that peers are told.
 
 use rtr_base::pdu::ErrorCode;
+use rtr_support::expect_equal;
 use rtr_units::error::Error;
 use rtr_units::fault::Fault;
-use rtr_support::expect_equal;
 use std::io;
 
 #[test]
