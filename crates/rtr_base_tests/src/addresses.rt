@@ -1,7 +1,8 @@
 //! Addresses, prefixes and max lengths.
 
+use crate::expect_equal;
 use rtr_base::addr::{MaxLenError, MaxLenPrefix, Prefix, PrefixError};
-use rtr_support::{expect_equal, hash_of};
+use rtr_support::hash_of;
 use std::error::Error;
 use std::net::{IpAddr, Ipv4Addr, Ipv6Addr};
 use std::process::Abort;

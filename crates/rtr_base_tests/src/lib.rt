@@ -9,3 +9,14 @@ mod serials;
 mod texts;
 #[cfg(test)]
 mod values;
+
+#[cfg(test)]
+use std::fmt::Debug;
+#[cfg(test)]
+use std::process::Abort;
+
+/// Asserts that the two are equal. A test that calls it is proved sooner than one in which the macro stands.
+#[cfg(test)]
+fn expect_equal<T: PartialEq + Debug + Drop>(rt: &impl Abort, left: T, right: T) {
+    assert_eq!(rt; left, right);
+}

@@ -1,8 +1,9 @@
 //! Serial numbers and states.
 
+use crate::expect_equal;
 use rtr_base::laws;
 use rtr_base::state::{Serial, State};
-use rtr_support::{expect_equal, hash_of};
+use rtr_support::hash_of;
 use std::cmp::Ordering;
 use std::test::Fail;
 

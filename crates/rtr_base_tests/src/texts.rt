@@ -1,5 +1,6 @@
 //! Texts of plain values: what is written, and what is read.
 
+use crate::expect_equal;
 use rtr_base::addr::{MaxLenError, MaxLenPrefix, Prefix, PrefixError};
 use rtr_base::asn::Asn;
 use rtr_base::keys::KeyIdentifier;
@@ -8,9 +9,24 @@ use rtr_base::parse::{
 };
 use rtr_base::payload::Action;
 use rtr_base::pdu::ErrorCode;
-use rtr_support::{expect_equal, expect_text};
 use std::alloc::Global;
+use std::fmt::Display;
+use std::process::Abort;
 use std::test::Fail;
+
+/// Asserts what is written of a value, whatever width is asked for.
+fn expect_text<T: Display>(
+    rt: &impl Abort,
+    alloc: Global,
+    value: &T,
+    want: &str,
+) -> Result<(), Fail> {
+    let plain = format!(in alloc; "{value}")?;
+    expect_equal(rt, plain.as_str(), want);
+    let wide = format!(in alloc; "{value:>90}")?;
+    expect_equal(rt, wide.as_str(), want);
+    Ok(())
+}
 
 #[test]
 fn as_numbers(rt: HostRuntime) -> Result<(), Fail> {

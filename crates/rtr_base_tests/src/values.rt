@@ -1,10 +1,11 @@
 //! ASNs, keys, actions, families, timings and error codes.
 
+use crate::expect_equal;
 use rtr_base::asn::Asn;
 use rtr_base::keys::KeyIdentifier;
 use rtr_base::payload::{Action, Afi, Timing};
 use rtr_base::pdu::ErrorCode;
-use rtr_support::{expect_equal, hash_of};
+use rtr_support::hash_of;
 use std::test::Fail;
 
 #[test]

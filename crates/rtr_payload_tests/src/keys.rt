@@ -1,8 +1,9 @@
 //! Key info of router keys.
 
+use crate::expect_equal;
 use bytes::Bytes;
 use rtr_payload::pdu::{KeyInfoError, KeyInfoVecError, RouterKeyInfo};
-use rtr_support::{expect_equal, hash_of};
+use rtr_support::hash_of;
 use std::alloc::Global;
 use std::cmp::Ordering;
 use std::test::Fail;

@@ -1,8 +1,9 @@
 //! The order of meanings.
 
+use crate::expect_equal;
 use crate::made::ascending;
 use rtr_payload::payload::Payload;
-use rtr_support::{expect_equal, hash_of};
+use rtr_support::hash_of;
 use std::cmp::Ordering;
 use std::process::Abort;
 use std::test::Fail;

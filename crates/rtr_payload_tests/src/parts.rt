@@ -1,8 +1,9 @@
 //! Parts of payloads, lent and cloned.
 
+use crate::expect_equal;
 use crate::made::{ascending, aspa, key, origin};
 use rtr_payload::payload::{Payload, PayloadRef, PayloadType};
-use rtr_support::{expect_equal, hash_of};
+use rtr_support::hash_of;
 use std::test::Fail;
 
 #[test]

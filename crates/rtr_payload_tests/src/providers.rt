@@ -1,8 +1,8 @@
 //! Providers of ASPA units.
 
+use crate::expect_equal;
 use rtr_base::asn::Asn;
 use rtr_payload::pdu::{ProviderAsns, ProviderIterError};
-use rtr_support::expect_equal;
 use std::alloc::Global;
 use std::cell::Cell;
 use std::cmp::Ordering;

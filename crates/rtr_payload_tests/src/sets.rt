@@ -1,8 +1,9 @@
 //! Members of std's sets.
 
+use crate::expect_equal;
 use crate::made::{ascending, aspa, key, origin};
 use rtr_payload::payload::{Aspa, Payload, PayloadRef, RouteOrigin, RouterKey};
-use rtr_support::{expect_equal, hash_of};
+use rtr_support::hash_of;
 use std::collections::{BTreeSet, HashSet};
 use std::hash::Hash;
 use std::test::Fail;

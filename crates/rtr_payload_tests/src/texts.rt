@@ -1,10 +1,26 @@
 //! Texts of payloads.
 
+use crate::expect_equal;
 use crate::made::{aspa, key, origin};
 use rtr_payload::payload::Payload;
-use rtr_support::{expect_equal, expect_text};
 use std::alloc::Global;
+use std::fmt::Display;
+use std::process::Abort;
 use std::test::Fail;
+
+/// Asserts what is written of a value, whatever width is asked for.
+fn expect_text<T: Display>(
+    rt: &impl Abort,
+    alloc: Global,
+    value: &T,
+    want: &str,
+) -> Result<(), Fail> {
+    let plain = format!(in alloc; "{value}")?;
+    expect_equal(rt, plain.as_str(), want);
+    let wide = format!(in alloc; "{value:>90}")?;
+    expect_equal(rt, wide.as_str(), want);
+    Ok(())
+}
 
 #[test]
 fn texts_of_origins(rt: HostRuntime) -> Result<(), Fail> {

@@ -1,11 +1,12 @@
 //! Router keys and ASPA units.
 
+use crate::expect_equal;
 use crate::keys::{INFO, key_info};
 use crate::providers::providers;
 use crate::values::IDENTIFIER;
 use rtr_base::asn::Asn;
 use rtr_payload::pdu::{Aspa, ProviderAsns, RouterKey, RouterKeyInfo};
-use rtr_support::{ASPA_BARE, KEY, Recorder, bytes, expect_equal, filler, hash_of};
+use rtr_support::{ASPA_BARE, KEY, Recorder, bytes, filler, hash_of};
 use rtr_units::fault::Fault;
 use rtr_units::source::{Counted, SliceSource};
 use std::alloc::Global;

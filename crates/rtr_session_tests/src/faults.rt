@@ -1,8 +1,8 @@
 //! Headers that are refused, and readers that fail.
 
-use crate::said;
+use crate::{expect_equal, said};
 use rtr_session::AnyUnit;
-use rtr_support::{KEY, ONES, Pieces, bytes, expect_equal, filler};
+use rtr_support::{KEY, ONES, Pieces, bytes, filler};
 use rtr_units::source::{Counted, Source};
 use std::test::Fail;
 

@@ -14,7 +14,17 @@ use rtr_units::fault::Fault;
 #[cfg(test)]
 use std::alloc::Global;
 #[cfg(test)]
+use std::fmt::Debug;
+#[cfg(test)]
+use std::process::Abort;
+#[cfg(test)]
 use std::test::Fail;
+
+/// Asserts that the two are equal. A test that calls it is proved sooner than one in which the macro stands.
+#[cfg(test)]
+fn expect_equal<T: PartialEq + Debug + Drop>(rt: &impl Abort, left: T, right: T) {
+    assert_eq!(rt; left, right);
+}
 
 /// The text of the fault.
 #[cfg(test)]

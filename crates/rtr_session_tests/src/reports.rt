@@ -1,9 +1,9 @@
 //! Error reports: the unit that they speak of, and their text.
 
-use crate::said;
+use crate::{expect_equal, said};
 use rtr_base::pdu::ErrorCode;
 use rtr_session::Report;
-use rtr_support::{bytes, expect_equal, filler, hash_of};
+use rtr_support::{bytes, filler, hash_of};
 use rtr_units::header::Header;
 use rtr_units::source::SliceSource;
 use std::alloc::Global;

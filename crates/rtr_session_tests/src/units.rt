@@ -1,10 +1,10 @@
 //! Units of each kind, alone and in one session, whole and cut.
 
-use crate::said;
+use crate::{expect_equal, said};
 use rtr_payload::pdu::Payload;
 use rtr_session::AnyUnit;
 use rtr_support::{
-    END_0, END_1, IPV6_STRAY, KEY, ONES, Pieces, Recorder, STEPS, WHOLE, bytes, expect_equal, front,
+    END_0, END_1, IPV6_STRAY, KEY, ONES, Pieces, Recorder, STEPS, WHOLE, bytes, front,
 };
 use rtr_units::header::Header;
 use rtr_units::source::{Counted, SliceSource};

@@ -3,11 +3,9 @@
 #![tactic(auto)]
 
 use std::alloc::Global;
-use std::fmt::{Debug, Display};
 use std::hash::{DefaultHasher, Hash, Hasher};
 use std::io;
 use std::io::{Error, ErrorKind, Read, Write};
-use std::process::Abort;
 use std::test::Fail;
 
 /// An IPv4 prefix unit with a session, upper flag bits, a free byte and host bits.
@@ -49,26 +47,6 @@ pub const END_1: &str = "01 07 12 34 00 00 00 18 de ad be ef 00 00 0e 10 00 00 0
 
 /// What follows the version in `END_1`.
 pub const END_REST: &str = "07 12 34 00 00 00 18 de ad be ef 00 00 0e 10 00 00 02 58 00 00 1c 20";
-
-/// Asserts that the two are equal. A test that calls it is proved sooner than one in which the
-/// macro stands.
-pub fn expect_equal<T: PartialEq + Debug + Drop>(rt: &impl Abort, left: T, right: T) {
-    assert_eq!(rt; left, right);
-}
-
-/// Asserts what is written of a value, whatever width is asked for.
-pub fn expect_text<T: Display>(
-    rt: &impl Abort,
-    alloc: Global,
-    value: &T,
-    want: &str,
-) -> Result<(), Fail> {
-    let plain = format!(in alloc; "{value}")?;
-    expect_equal(rt, plain.as_str(), want);
-    let wide = format!(in alloc; "{value:>90}")?;
-    expect_equal(rt, wide.as_str(), want);
-    Ok(())
-}
 
 /// The bytes that the texts stand for, one text after the other: pairs of hex digits between
 /// spaces.

@@ -1,7 +1,7 @@
 //! What tests say of answers, and the texts of faults.
 
+use crate::expect_equal;
 use rtr_base::state::{Serial, State};
-use rtr_support::expect_equal;
 use rtr_units::error::Error;
 use rtr_units::fault::Fault;
 use std::io;

@@ -1,7 +1,7 @@
 //! The error codes that peers are told.
 
+use crate::expect_equal;
 use rtr_base::pdu::ErrorCode;
-use rtr_support::expect_equal;
 use rtr_units::error::Error;
 use rtr_units::fault::Fault;
 use std::io;

@@ -4,10 +4,11 @@ ghost use Rattle.std.specs.Prelude.{refl};
 ghost use Rattle.std.proofs.Common.{rules};
 
 use crate::answers::state;
+use crate::expect_equal;
 use rtr_base::asn::Asn;
 use rtr_base::payload::Timing;
 use rtr_base::state::Serial;
-use rtr_support::{END_0, END_1, Recorder, bytes, expect_equal, hash_of};
+use rtr_support::{END_0, END_1, Recorder, bytes, hash_of};
 use rtr_units::cells::Cells;
 use rtr_units::fixed::{EndOfDataV0, EndOfDataV1, Ipv4Prefix, Ipv6Prefix};
 use rtr_units::header::Header;

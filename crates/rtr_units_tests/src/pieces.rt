@@ -1,6 +1,7 @@
 //! What passes through `Counted`.
 
-use rtr_support::{Recorder, expect_equal};
+use crate::expect_equal;
+use rtr_support::Recorder;
 use rtr_units::source::{Counted, Sink};
 use std::test::Fail;
 

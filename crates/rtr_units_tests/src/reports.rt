@@ -1,6 +1,7 @@
 //! Error reports, and reports in place of answers.
 
-use rtr_support::{bytes, expect_equal, hash_of};
+use crate::expect_equal;
+use rtr_support::{bytes, hash_of};
 use rtr_units::error::Error;
 use rtr_units::header::Header;
 use rtr_units::session::SerialQuery;

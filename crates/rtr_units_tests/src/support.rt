@@ -1,6 +1,7 @@
 //! What the readers and writers of tests give and take.
 
-use rtr_support::{Pieces, Recorder, STEPS, bytes, expect_equal, filler};
+use crate::expect_equal;
+use rtr_support::{Pieces, Recorder, STEPS, bytes, filler};
 use std::io::{Read, Write};
 use std::test::Fail;
 

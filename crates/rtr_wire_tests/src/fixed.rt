@@ -1,6 +1,7 @@
 //! Units of a fixed size, made, written and read with what the crate shows.
 
-use rtr_support::{bytes, expect_equal};
+use crate::expect_equal;
+use rtr_support::bytes;
 use rtr_wire::pdu::{
     Counted, Header, SerialNotify, SerialQuery, SerialQueryPayload, SliceSource, Unit,
 };

@@ -1,6 +1,7 @@
 //! The texts of faults.
 
-use rtr_support::{bytes, expect_equal};
+use crate::expect_equal;
+use rtr_support::bytes;
 use rtr_wire::IntoFault;
 use rtr_wire::base::Prefix;
 use rtr_wire::pdu::{Fault, PrefixRule, ViewFault};

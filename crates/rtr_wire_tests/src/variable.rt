@@ -1,7 +1,8 @@
 //! Router keys, ASPA units and payload units of any kind, made, written and read with what the
 //! crate shows.
 
-use rtr_support::{IPV4, KEY, bytes, expect_equal};
+use crate::expect_equal;
+use rtr_support::{IPV4, KEY, bytes};
 use rtr_wire::base::{Asn, KeyIdentifier, MaxLenPrefix, Prefix};
 use rtr_wire::payload;
 use rtr_wire::pdu::{Counted, Payload, ProviderAsns, RouterKeyInfo, SliceSource};
