@@ -1,4 +1,3 @@
-mod Digits
 mod Printing
 mod Runs
 mod Shown

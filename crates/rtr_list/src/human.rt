@@ -66,7 +66,7 @@ fn describe_payload(alloc: Global, line: &mut Line, unit: &Payload) -> Result<()
 
 fn describe_ipv4(line: &mut Line, unit: &Ipv4Prefix) -> Result<(), AllocError> {
     line.text(" ")?;
-    line.ipv4(unit.prefix())?;
+    line.show(unit.prefix())?;
     line.labelled("/", u64::from(unit.prefix_len()))?;
     line.labelled("-", u64::from(unit.max_len()))?;
     asn(line, unit.asn())
@@ -74,7 +74,7 @@ fn describe_ipv4(line: &mut Line, unit: &Ipv4Prefix) -> Result<(), AllocError> {
 
 fn describe_ipv6(line: &mut Line, unit: &Ipv6Prefix) -> Result<(), AllocError> {
     line.text(" ")?;
-    line.ipv6(unit.prefix())?;
+    line.show(unit.prefix())?;
     line.labelled("/", u64::from(unit.prefix_len()))?;
     line.labelled("-", u64::from(unit.max_len()))?;
     asn(line, unit.asn())

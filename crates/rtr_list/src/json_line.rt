@@ -1,35 +1,38 @@
 //! A unit as a JSON object (RFC 8259), with the fields by the names that RFC 8210 gives them.
-//!
-//! What never needs an escape is added as it stands: keys, numbers, addresses, hex and base64.
 
 use crate::line::Line;
 use hex::encode;
+use json::Writer;
+use rtr_base::asn::Asn;
 use rtr_base::payload::Action;
 use rtr_payload::pdu::{Aspa, Payload, RouterKey};
 use rtr_session::{AnyUnit, Report};
 use rtr_units::end::EndOfData;
-use rtr_units::fixed::{Ipv4Prefix, Ipv6Prefix};
 use rtr_units::unit::Unit;
 use std::alloc::{AllocError, Global};
+use std::fmt::{Display, Write};
 use std::str;
 
-/// Writes what the unit says.
+/// Writes what the unit says, in the memory of the line, which is used again.
 pub fn describe(
     alloc: Global,
-    line: &mut Line,
+    line: Line,
+    scratch: &mut String,
     offset: u64,
     unit: &AnyUnit,
-) -> Result<(), AllocError> {
-    line.labelled(r#"{"offset":"#, offset)?;
-    line.labelled(r#","length":"#, u64::from(unit.size()))?;
-    line.text(r#","kind":""#)?;
-    line.text(kind(unit))?;
-    line.labelled(r#"","version":"#, u64::from(unit.version()))?;
+) -> Result<Line, AllocError> {
+    let mut out = Writer::new(line.into_bytes());
+    out.begin_object()?;
+    number(&mut out, "offset", offset)?;
+    number(&mut out, "length", u64::from(unit.size()))?;
+    text(&mut out, "kind", kind(unit))?;
+    number(&mut out, "version", u64::from(unit.version()))?;
     if let Some(session) = unit.session() {
-        line.labelled(r#","session_id":"#, u64::from(session))?;
+        number(&mut out, "session_id", u64::from(session))?;
     }
-    fields(alloc, line, unit)?;
-    line.text("}")
+    fields(alloc, &mut out, scratch, unit)?;
+    out.end_object()?;
+    Ok(Line::from_bytes(out.into_inner()))
 }
 
 /// The name of the unit's type.
@@ -49,138 +52,156 @@ fn kind(unit: &AnyUnit) -> &'static str {
     }
 }
 
-fn fields(alloc: Global, line: &mut Line, unit: &AnyUnit) -> Result<(), AllocError> {
-    match unit {
-        AnyUnit::SerialNotify(unit) => serial(line, unit.serial().0),
-        AnyUnit::SerialQuery(unit) => serial(line, unit.serial().0),
-        AnyUnit::ResetQuery(unit) => zero(line, u64::from(unit.session())),
-        AnyUnit::CacheResponse(_) => Ok(()),
-        AnyUnit::Payload(unit) => payload_fields(alloc, line, unit),
-        AnyUnit::EndOfData(unit) => end_fields(line, unit),
-        AnyUnit::CacheReset(unit) => zero(line, u64::from(unit.session())),
-        AnyUnit::Error(report) => report_fields(alloc, line, report),
-    }
-}
-
-fn serial(line: &mut Line, serial: u32) -> Result<(), AllocError> {
-    line.labelled(r#","serial_number":"#, u64::from(serial))
-}
-
-/// The one field that RFC 8210 calls zero.
-fn zero(line: &mut Line, field: u64) -> Result<(), AllocError> {
-    line.labelled(r#","zero":["#, field)?;
-    line.text("]")
-}
-
-/// The two fields of a prefix unit that RFC 8210 calls zero, in their order.
-fn two_zeros(line: &mut Line, session: u16, byte: u8) -> Result<(), AllocError> {
-    line.labelled(r#","zero":["#, u64::from(session))?;
-    line.labelled(",", u64::from(byte))?;
-    line.text("]")
-}
-
-fn payload_fields(alloc: Global, line: &mut Line, unit: &Payload) -> Result<(), AllocError> {
-    line.labelled(r#","flags":"#, u64::from(unit.flags()))?;
-    line.text(match unit.action() {
-        Action::Announce => r#","action":"announce""#,
-        Action::Withdraw => r#","action":"withdraw""#,
-    })?;
-    let bytes = unit.as_partial_slice();
-    match unit {
-        Payload::V4(unit) => ipv4_fields(line, unit, byte(bytes, 11)),
-        Payload::V6(unit) => ipv6_fields(line, unit, byte(bytes, 11)),
-        Payload::RouterKey(unit) => key_fields(alloc, line, unit, byte(bytes, 3)),
-        Payload::Aspa(unit) => aspa_fields(line, unit, byte(bytes, 3)),
-    }
-}
-
-fn byte(bytes: &[u8], place: usize) -> u8 {
-    bytes.get(place).copied().unwrap_or(0)
-}
-
-fn ipv4_fields(line: &mut Line, unit: &Ipv4Prefix, reserved: u8) -> Result<(), AllocError> {
-    two_zeros(line, unit.session(), reserved)?;
-    line.text(r#","prefix":""#)?;
-    line.ipv4(unit.prefix())?;
-    line.labelled(r#"","prefix_length":"#, u64::from(unit.prefix_len()))?;
-    line.labelled(r#","max_length":"#, u64::from(unit.max_len()))?;
-    line.labelled(r#","asn":"#, u64::from(unit.asn().into_u32()))
-}
-
-fn ipv6_fields(line: &mut Line, unit: &Ipv6Prefix, reserved: u8) -> Result<(), AllocError> {
-    two_zeros(line, unit.session(), reserved)?;
-    line.text(r#","prefix":""#)?;
-    line.ipv6(unit.prefix())?;
-    line.labelled(r#"","prefix_length":"#, u64::from(unit.prefix_len()))?;
-    line.labelled(r#","max_length":"#, u64::from(unit.max_len()))?;
-    line.labelled(r#","asn":"#, u64::from(unit.asn().into_u32()))
-}
-
-fn key_fields(
+fn fields(
     alloc: Global,
-    line: &mut Line,
-    unit: &RouterKey,
-    reserved: u8,
+    out: &mut Writer,
+    scratch: &mut String,
+    unit: &AnyUnit,
 ) -> Result<(), AllocError> {
-    zero(line, u64::from(reserved))?;
-    line.text(r#","subject_key_identifier":""#)?;
-    line.text(encode(alloc, unit.key_identifier().as_slice())?.as_str())?;
-    line.labelled(r#"","asn":"#, u64::from(unit.asn().into_u32()))?;
-    line.text(r#","subject_public_key_info":""#)?;
-    line.text(unit.key_info().to_text(alloc)?.as_str())?;
-    line.text(r#"""#)
-}
-
-fn aspa_fields(line: &mut Line, unit: &Aspa, reserved: u8) -> Result<(), AllocError> {
-    zero(line, u64::from(reserved))?;
-    line.labelled(r#","customer_asn":"#, u64::from(unit.customer().into_u32()))?;
-    line.text(r#","provider_asns":["#)?;
-    let mut is_first = true;
-    for provider in unit.providers().iter() {
-        if !is_first {
-            line.text(",")?;
-        }
-        line.number(u64::from(provider.into_u32()))?;
-        is_first = false;
+    match unit {
+        AnyUnit::SerialNotify(unit) => number(out, "serial_number", u64::from(unit.serial().0)),
+        AnyUnit::SerialQuery(unit) => number(out, "serial_number", u64::from(unit.serial().0)),
+        AnyUnit::ResetQuery(unit) => zeros(out, &[unit.session()]),
+        AnyUnit::CacheResponse(_) => Ok(()),
+        AnyUnit::Payload(unit) => payload_fields(alloc, out, scratch, unit),
+        AnyUnit::EndOfData(unit) => end_fields(out, unit),
+        AnyUnit::CacheReset(unit) => zeros(out, &[unit.session()]),
+        AnyUnit::Error(report) => report_fields(alloc, out, report),
     }
-    line.text("]")
 }
 
-fn end_fields(line: &mut Line, unit: &EndOfData) -> Result<(), AllocError> {
-    serial(line, unit.serial().0)?;
+fn payload_fields(
+    alloc: Global,
+    out: &mut Writer,
+    scratch: &mut String,
+    unit: &Payload,
+) -> Result<(), AllocError> {
+    number(out, "flags", u64::from(unit.flags()))?;
+    text(out, "action", action_name(unit.action()))?;
+    payload_zeros(out, unit)?;
+    match unit {
+        Payload::V4(unit) => {
+            let lengths = (unit.prefix_len(), unit.max_len());
+            prefix_fields(out, scratch, unit.prefix(), lengths, unit.asn())
+        }
+        Payload::V6(unit) => {
+            let lengths = (unit.prefix_len(), unit.max_len());
+            prefix_fields(out, scratch, unit.prefix(), lengths, unit.asn())
+        }
+        Payload::RouterKey(unit) => key_fields(alloc, out, unit),
+        Payload::Aspa(unit) => aspa_fields(out, unit),
+    }
+}
+
+/// The reserved fields: bytes 2 and 3 and byte 11 of a prefix unit, byte 3 of the others.
+fn payload_zeros(out: &mut Writer, unit: &Payload) -> Result<(), AllocError> {
+    let bytes = unit.as_partial_slice();
+    let byte = |place: usize| u16::from(bytes.get(place).copied().unwrap_or(0));
+    match unit {
+        Payload::V4(unit) => zeros(out, &[unit.session(), byte(11)]),
+        Payload::V6(unit) => zeros(out, &[unit.session(), byte(11)]),
+        Payload::RouterKey(_) | Payload::Aspa(_) => zeros(out, &[byte(3)]),
+    }
+}
+
+/// The fields that RFC 8210 calls zero, in their order.
+fn zeros(out: &mut Writer, fields: &[u16]) -> Result<(), AllocError> {
+    out.key("zero")?;
+    out.begin_array()?;
+    for field in fields {
+        out.u64(u64::from(*field))?;
+    }
+    out.end_array()
+}
+
+fn prefix_fields<A: Display + Drop>(
+    out: &mut Writer,
+    scratch: &mut String,
+    address: A,
+    lengths: (u8, u8),
+    asn: Asn,
+) -> Result<(), AllocError> {
+    scratch.clear();
+    write!(scratch, "{address}")?;
+    text(out, "prefix", scratch.as_str())?;
+    number(out, "prefix_length", u64::from(lengths.0))?;
+    number(out, "max_length", u64::from(lengths.1))?;
+    number(out, "asn", u64::from(asn.into_u32()))
+}
+
+fn key_fields(alloc: Global, out: &mut Writer, unit: &RouterKey) -> Result<(), AllocError> {
+    let identifier = encode(alloc, unit.key_identifier().as_slice())?;
+    text(out, "subject_key_identifier", identifier.as_str())?;
+    number(out, "asn", u64::from(unit.asn().into_u32()))?;
+    let info = unit.key_info().to_text(alloc)?;
+    text(out, "subject_public_key_info", info.as_str())
+}
+
+fn aspa_fields(out: &mut Writer, unit: &Aspa) -> Result<(), AllocError> {
+    number(out, "customer_asn", u64::from(unit.customer().into_u32()))?;
+    out.key("provider_asns")?;
+    out.begin_array()?;
+    for provider in unit.providers().iter() {
+        out.u64(u64::from(provider.into_u32()))?;
+    }
+    out.end_array()
+}
+
+fn end_fields(out: &mut Writer, unit: &EndOfData) -> Result<(), AllocError> {
+    number(out, "serial_number", u64::from(unit.serial().0))?;
     if let Some(timing) = unit.timing() {
-        line.labelled(r#","refresh_interval":"#, u64::from(timing.refresh))?;
-        line.labelled(r#","retry_interval":"#, u64::from(timing.retry))?;
-        line.labelled(r#","expire_interval":"#, u64::from(timing.expire))?;
+        number(out, "refresh_interval", u64::from(timing.refresh))?;
+        number(out, "retry_interval", u64::from(timing.retry))?;
+        number(out, "expire_interval", u64::from(timing.expire))?;
     }
     Ok(())
 }
 
-fn report_fields(alloc: Global, line: &mut Line, report: &Report) -> Result<(), AllocError> {
-    line.labelled(r#","error_code":"#, u64::from(report.code().0))?;
-    line.text(r#","erroneous_pdu":"#)?;
-    bytes(alloc, line, report.pdu())?;
-    line.text(r#","error_text_bytes":"#)?;
-    bytes(alloc, line, report.text())?;
-    line.text(r#","error_text":"#)?;
+fn report_fields(alloc: Global, out: &mut Writer, report: &Report) -> Result<(), AllocError> {
+    number(out, "error_code", u64::from(report.code().0))?;
+    bytes(alloc, out, "erroneous_pdu", report.pdu())?;
+    bytes(alloc, out, "error_text_bytes", report.text())?;
     let shown = match report.text() {
         Some(text) => str::from_utf8(text).ok(),
         None => None,
     };
+    out.key("error_text")?;
     match shown {
-        Some(shown) => line.json_string(alloc, shown),
-        None => line.text("null"),
+        Some(shown) => out.string(shown),
+        None => out.null(),
     }
 }
 
 /// Bytes as hex, or null where there are none.
-fn bytes(alloc: Global, line: &mut Line, value: Option<&[u8]>) -> Result<(), AllocError> {
+fn bytes(
+    alloc: Global,
+    out: &mut Writer,
+    key: &str,
+    value: Option<&[u8]>,
+) -> Result<(), AllocError> {
+    out.key(key)?;
     match value {
         Some(bytes) => {
-            line.text(r#"""#)?;
-            line.text(encode(alloc, bytes)?.as_str())?;
-            line.text(r#"""#)
+            let shown = encode(alloc, bytes)?;
+            out.string(shown.as_str())
         }
-        None => line.text("null"),
+        None => out.null(),
+    }
+}
+
+fn number(out: &mut Writer, key: &str, value: u64) -> Result<(), AllocError> {
+    out.key(key)?;
+    out.u64(value)
+}
+
+fn text(out: &mut Writer, key: &str, value: &str) -> Result<(), AllocError> {
+    out.key(key)?;
+    out.string(value)
+}
+
+fn action_name(action: Action) -> &'static str {
+    match action {
+        Action::Announce => "announce",
+        Action::Withdraw => "withdraw",
     }
 }

@@ -3,14 +3,11 @@
 ghost use Rattle.std.specs.Prelude.{◌≡◌, ◌≢◌, ◌≤◌, ◌+◌, ◌<◌, ◌++◌, [], ◌∷◌, Err, OnOk, decimal};
 ghost use Rattle.std.specs.List.{All};
 ghost use Rattle.std.specs.Fmt.{AppendsText};
-ghost use Rattle.json.specs.Print.{print};
-ghost use Rattle.json.specs.Token.{string};
 ghost use Rattle.rtr_units.specs.Causes.{by_cause, by_reader};
 ghost use Rattle.rtr_list.specs.Lines.{IsLine};
 ghost use Rattle.rtr_list.specs.PrivateCalls.{PutsLine};
 
 use itoa::Buffer;
-use json::Writer;
 use rtr_units::fault::Fault;
 use rtr_units::piece::put;
 use rtr_units::source::Sink;
@@ -46,6 +43,20 @@ impl Line {
         }
     }
 
+    /// The line of these bytes.
+    pub fn from_bytes(bytes: Vec<u8>) -> Line
+        ensures { result ≡ bytes.items }
+    {
+        Line { bytes }
+    }
+
+    /// The bytes of the line.
+    pub fn into_bytes(self) -> Vec<u8>
+        ensures { result.items ≡ self }
+    {
+        self.bytes
+    }
+
     /// Takes all pieces away.
     pub fn clear(&mut self)
         ensures { self.new ≡ [] }
@@ -69,32 +80,11 @@ impl Line {
         self.bytes(text.as_bytes())
     }
 
-    /// Adds a number. Most have up to three digits, which are faster one by one.
+    /// Adds a number.
     pub fn number(&mut self, number: u64) -> Result<(), AllocError>
         ensures { OnOk result (self.new ≡ self.old ++ decimal number) }
     {
-        if number < 10 {
-            return self.digit(number);
-        }
-        if number < 100 {
-            self.digit(number / 10)?;
-            return self.digit(number % 10);
-        }
-        if number < 1000 {
-            self.digit(number / 100)?;
-            self.digit(number / 10 % 10)?;
-            return self.digit(number % 10);
-        }
         self.text(Buffer::new().format(number))
-    }
-
-    #[inline(always)]
-    fn digit(&mut self, digit: u64) -> Result<(), AllocError>
-        requires { digit < 10 }
-        ensures { OnOk result (self.new ≡ self.old ++ (48 + digit) ∷ []) }
-    {
-        self.bytes.push(b'0' + digit as u8)?;
-        Ok(())
     }
 
     /// Adds a label and a number after it.
@@ -113,15 +103,6 @@ impl Line {
             Ok(()) => Ok(()),
             Err(_) => Err(AllocError),
         }
-    }
-
-    /// Adds a text as a JSON string.
-    pub fn json_string(&mut self, alloc: Global, text: &str) -> Result<(), AllocError>
-        ensures { OnOk result (self.new ≡ self.old ++ print (string text.now ∷ [])) }
-    {
-        let mut out = Writer::new(Vec::new(alloc));
-        out.string(text)?;
-        self.bytes.extend_from_slice(out.into_inner().as_slice())
     }
 
     /// Ends the line. Control characters in it, of which its texts have none, are made spaces, so

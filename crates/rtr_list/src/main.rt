@@ -1,7 +1,6 @@
 //! Lists the units of a recorded session, one on a line, or what breaks the protocol's rules in it.
 #![tactic(auto)]
 
-mod address;
 mod check;
 mod finding;
 mod human;

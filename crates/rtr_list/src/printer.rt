@@ -17,6 +17,7 @@ use rtr_units::fault::Fault;
 use rtr_units::source::Sink;
 use std::alloc::{AllocError, Global};
 use std::marker::Model;
+use std::mem;
 
 /// What is printed of units that come one after the other, in memory that it uses again for each.
 /// It is seen as the number of bytes of the units before.
@@ -27,6 +28,8 @@ pub struct Printer {
     offset: u64,
     checker: Checker,
     line: Line,
+    /// The text of an address.
+    scratch: String,
 }
 
 impl Model for Printer {
@@ -47,6 +50,7 @@ impl Printer {
             offset: 0,
             checker: Checker::new(alloc),
             line: Line::new(alloc),
+            scratch: String::new(alloc),
         }
     }
 
@@ -112,11 +116,13 @@ impl Printer {
         ensures no_reader { by_cause result ≢ Err by_reader }
         ensures offset { self.new ≡ self.old }
     {
-        self.line.clear();
-        match json_line::describe(self.alloc, &mut self.line, self.offset, unit) {
-            Ok(()) => self.line.put(output),
-            Err(_) => Err(Fault::Memory),
+        let mut line = mem::replace(&mut self.line, Line::new(self.alloc));
+        line.clear();
+        match json_line::describe(self.alloc, line, &mut self.scratch, self.offset, unit) {
+            Ok(line) => self.line = line,
+            Err(_) => return Err(Fault::Memory),
         }
+        self.line.put(output)
     }
 
     fn print_findings<W: Sink>(&mut self, unit: &AnyUnit, output: &mut W) -> Result<bool, Fault>
