@@ -1,6 +1,6 @@
 //! Lines.
 
-ghost use Rattle.std.specs.Prelude.{◌≡◌, ◌≢◌, ◌≤◌, ◌+◌, ◌<◌, ◌++◌, [], ◌∷◌, Err, OnOk, decimal};
+ghost use Rattle.std.specs.Prelude.{◌≡◌, ◌≢◌, ◌≤◌, ◌++◌, [], Err, OnOk, decimal};
 ghost use Rattle.std.specs.List.{All};
 ghost use Rattle.std.specs.Fmt.{AppendsText};
 ghost use Rattle.rtr_units.specs.Causes.{by_cause, by_reader};
@@ -64,20 +64,12 @@ impl Line {
         self.bytes.clear();
     }
 
-    /// Adds bytes of a text.
-    #[inline(always)]
-    pub fn bytes(&mut self, text: &[u8]) -> Result<(), AllocError>
-        ensures { OnOk result (self.new ≡ self.old ++ text.now) }
-    {
-        self.bytes.extend_from_slice(text)
-    }
-
     /// Adds a text.
     #[inline(always)]
     pub fn text(&mut self, text: &str) -> Result<(), AllocError>
         ensures { OnOk result (self.new ≡ self.old ++ text.now) }
     {
-        self.bytes(text.as_bytes())
+        self.bytes.extend_from_slice(text.as_bytes())
     }
 
     /// Adds a number.
