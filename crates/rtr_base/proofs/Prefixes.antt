@@ -5,14 +5,8 @@ use Rattle.std.specs.declared.cmp.Ordering.TheVariants.{Less, Equal, Greater}
 use Rattle.std.specs.Ordering.{bool_cmp, nat_cmp, ordering_then}
 use Rattle.std.specs.FinMap.{nat_cmp-IsAntisymmetric, slice_cmp-IsAntisymmetric}
 use Rattle.std.proofs.lemmas.Cmp.{tied_itself}
-use Rattle.rtr_base.specs.Addresses.{Family, v4, v6, PrefixParts, compared, family_of, ip_version, prefix_cmp}
-use Rattle.rtr_base.specs.Addresses.{prefix_total}
-
-same_version : (f g : Family) → ip_version f ≡ ip_version g → f ≡ g
-same_version v4 v4 e = refl
-same_version v4 v6 e = absurd cc
-same_version v6 v4 e = absurd cc
-same_version v6 v6 e = refl
+use Rattle.rtr_base.specs.Addresses.{PrefixParts, compared, family_of, ip_version, prefix_cmp}
+use Rattle.rtr_base.specs.PrivateLaws.{prefix_total, same_version}
 
 same_numbers : (p q : PrefixParts) → compared p ≡ compared q → p ≡ q
 same_numbers p q e =
@@ -21,7 +15,7 @@ same_numbers p q e =
     let len : p.len ≡ q.len = cc in
     λ i. record { family = family i; address = address i; len = len i }
 
-pub prefix_exact : (p q : PrefixParts) → prefix_cmp p q ≡ Equal → p ≡ q
+prefix_exact : (p q : PrefixParts) → prefix_cmp p q ≡ Equal → p ≡ q
 prefix_exact p q h =
     same_numbers p q (slice_cmp-IsAntisymmetric nat_cmp-IsAntisymmetric (compared p) (compared q) h)
 
@@ -29,7 +23,8 @@ pub prefix_same : (p q : PrefixParts) → (prefix_cmp p q ≡ Equal) ↔ (p ≡ 
 prefix_same p q = (prefix_exact p q, λ e. ap (prefix_cmp p) (sym e) ∙ tied_itself prefix_total p)
 
 -- three orders that decide in turn
-regrouped : (f a l : Ordering) → ordering_then (ordering_then f a) l ≡ ordering_then f (ordering_then a (ordering_then l Equal))
+regrouped : (f a l : Ordering) →
+    ordering_then (ordering_then f a) l ≡ ordering_then f (ordering_then a (ordering_then l Equal))
 regrouped Less a l = refl
 regrouped Equal Less l = refl
 regrouped Equal Equal Less = refl
@@ -46,6 +41,7 @@ by_bit false false = refl
 
 -- the order as the code compares prefixes, by their bits, addresses and lengths
 pub prefix_chain : (b c : Bool) (a d l m : ℕ) →
-    ordering_then (ordering_then (bool_cmp c b) (nat_cmp a d)) (nat_cmp l m)
-    ≡ prefix_cmp (record { family = family_of b; address = a; len = l }) (record { family = family_of c; address = d; len = m })
+    ordering_then (ordering_then (bool_cmp c b) (nat_cmp a d)) (nat_cmp l m) ≡
+    prefix_cmp (record { family = family_of b; address = a; len = l })
+    (record { family = family_of c; address = d; len = m })
 prefix_chain b c a d l m = rw (by_bit b c) (regrouped _ (nat_cmp a d) (nat_cmp l m))

@@ -1,13 +1,12 @@
 -- Addresses and prefixes of addresses (RFC 8210 sections 5.6 and 5.7).
 use Rattle.std.specs.Prelude.{◌≡◌, ℕ, ◌-◌, ◌%◌, ◌^◌, ◌<◌, ◌≤◌, Option, unwrap_or, Bool, true, false}
-use Rattle.std.specs.Prelude.{refl, List, [], ◌∷◌}
+use Rattle.std.specs.Prelude.{List, [], ◌∷◌}
 use Rattle.std.specs.declared.cmp.Ordering.{Ordering}
 use Rattle.std.specs.declared.net.ip_addr.IpAddr.{IpAddr}
 use Rattle.std.specs.declared.net.ip_addr.IpAddr.TheVariants.{V4, V6}
 use Rattle.std.specs.Net.Addr.{ipv4_octets, ipv6_octets, ipv4_bits, ipv6_bits}
 use Rattle.std.specs.Ordering.{nat_cmp}
-use Rattle.std.specs.Cmp.{IsTotalOrder, on_total}
-use Rattle.std.specs.Cmp.Lexicographic.{slice_cmp, nat_list_cmp_total}
+use Rattle.std.specs.Cmp.Lexicographic.{slice_cmp}
 use Rattle.rtr_base.specs.Bytes.{be}
 use Rattle.rtr_base.specs.declared.addr.PrefixError.{PrefixError}
 use Rattle.rtr_base.specs.declared.addr.PrefixError.TheVariants.{LenOverflow, NonZeroHost}
@@ -103,10 +102,6 @@ compared p = ip_version p.family ∷ p.address ∷ p.len ∷ []
 abbrev pub prefix_cmp : PrefixParts → PrefixParts → Ordering
 prefix_cmp p q = slice_cmp nat_cmp (compared p) (compared q)
 
--- an instance of std's law on lists
-pub prefix_total : IsTotalOrder prefix_cmp
-prefix_total = on_total compared nat_list_cmp_total
-
 -- ---- the family as a bit, as this library keeps it
 
 abbrev pub family_of : Bool → Family
@@ -116,7 +111,3 @@ family_of false = v6
 abbrev pub v4_test : Family → Bool
 v4_test v4 = true
 v4_test v6 = false
-
-pub v4_test_again : (b : Bool) → v4_test (family_of b) ≡ b
-v4_test_again true = refl
-v4_test_again false = refl

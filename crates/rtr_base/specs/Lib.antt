@@ -4,6 +4,7 @@ pub mod Bytes
 pub mod Numerals
 pub mod PlainTexts
 pub mod PrivateCalls
+pub mod PrivateLaws
 pub mod ReadTexts
 pub mod Serial
 pub mod States

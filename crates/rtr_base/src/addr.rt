@@ -9,7 +9,8 @@ ghost use Rattle.std.specs.Ordering.{eq_by_cmp, as_partial_cmp};
 ghost use Rattle.std.specs.Net.Addr.{ipv4_bits, ipv6_bits};
 ghost use Rattle.rtr_base.specs.Addresses.{v4, v6, width, cleared, v4_test, IsPrefix};
 ghost use Rattle.rtr_base.specs.Addresses.{IsMaxLenPrefix, IsAddressOf, ip_number, resolved_len};
-ghost use Rattle.rtr_base.specs.Addresses.{prefix_at, prefix_cmp, prefix_total, BreaksPrefix};
+ghost use Rattle.rtr_base.specs.Addresses.{prefix_at, prefix_cmp, BreaksPrefix};
+ghost use Rattle.rtr_base.specs.PrivateLaws.{prefix_total};
 
 use std::cmp::Ordering;
 use std::error::Error;
@@ -28,7 +29,8 @@ pub struct Prefix {
 impl Model for Prefix {
     ghost use Rattle.std.specs.Prelude.{Bool};
     ghost use Rattle.std.proofs.Common.{ap};
-    ghost use Rattle.rtr_base.specs.Addresses.{PrefixParts, family_of, v4_test, v4_test_again};
+    ghost use Rattle.rtr_base.specs.Addresses.{PrefixParts, family_of, v4_test};
+    ghost use Rattle.rtr_base.specs.PrivateLaws.{v4_test_again};
     ghost use Rattle.rtr_base.specs.Addresses.{IsPrefix};
 
     ghost Value = { PrefixParts };

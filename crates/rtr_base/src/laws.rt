@@ -1,11 +1,13 @@
-//! Laws of serial numbers, and the constants of this crate.
+//! Laws of prefixes, serial numbers and texts, and the constants of this crate.
 
 ghost use Rattle.std.specs.Prelude.{◌≡◌, ℕ, ◌+◌, ◌%◌, ◌^◌, ◌<◌, ◌↔◌, None, Some, List, length};
 ghost use Rattle.std.specs.Prelude.{Ok, Result};
+ghost use Rattle.std.specs.Cmp.{IsTotalOrder};
 ghost use Rattle.std.specs.Ordering.{nat_cmp};
 ghost use Rattle.std.specs.declared.cmp.Ordering.TheVariants.{Equal};
 ghost use Rattle.hex.specs.Hex.{encode_lower};
 ghost use Rattle.rtr_base.specs.Addresses.{IsMaxLenPrefix, IsPrefix, MaxLenParts, PrefixParts};
+ghost use Rattle.rtr_base.specs.Addresses.{prefix_cmp};
 ghost use Rattle.rtr_base.specs.Bytes.{IsBytes};
 ghost use Rattle.rtr_base.specs.PlainTexts.{asn_text, max_len_text, prefix_text};
 ghost use Rattle.rtr_base.specs.ReadTexts.{ParsesAsn, ParsesKey, ParsesMaxLen, ParsesPrefix};
@@ -32,6 +34,12 @@ pub fn error_codes()
     ensures aspa_provider_list_error { ErrorCode.ASPA_PROVIDER_LIST_ERROR.0 ≡ 9 }
     ensures transport_error { ErrorCode.TRANSPORT_ERROR.0 ≡ 10 }
     ensures ordering_error { ErrorCode.ORDERING_ERROR.0 ≡ 11 }
+{}
+
+/// Prefixes are totally ordered, and equal in that order are exactly equal prefixes.
+pub fn prefix_order()
+    ensures total { IsTotalOrder prefix_cmp }
+    ensures exact { (p q : PrefixParts) → (prefix_cmp p q ≡ Equal) ↔ (p ≡ q) }
 {}
 
 /// Turned about, the order of two serial numbers is reversed. There is none exactly at half the

@@ -1,33 +1,47 @@
 //! Serial numbers and states.
 
 use crate::expect_equal;
+use crate::rows::named;
 use rtr_base::laws;
 use rtr_base::state::{Serial, State};
-use rtr_support::hash_of;
-use std::cmp::Ordering;
+use rtr_support::{check_rows, hash_of};
+use std::alloc::Global;
 use std::test::Fail;
 
-#[test]
-fn serials_compare(rt: HostRuntime) {
-    let table = [
-        (12, 12, Some(Ordering::Equal)),
-        (12, 13, Some(Ordering::Less)),
-        (13, 12, Some(Ordering::Greater)),
-        (12, 3000000012, Some(Ordering::Greater)),
-        (3000000012, 12, Some(Ordering::Less)),
-        (1, 0x80000001, None),
-        (0x80000001, 1, None),
-        (0, 0x60000000, Some(Ordering::Less)),
-        (0x60000000, 0xC0000000, Some(Ordering::Less)),
-        (0xC0000000, 0, Some(Ordering::Less)),
-    ];
-    for (left, right, want) in table {
-        assert_eq!(rt;
-            Serial(left).partial_cmp(&Serial(right)),
-            want,
-            "at {left} and {right}"
-        );
+const ORDERS: &str = "\
+12 and 12 -> Some(Equal)
+12 and 13 -> Some(Less)
+13 and 12 -> Some(Greater)
+12 and 3000000012 -> Some(Greater)
+3000000012 and 12 -> Some(Less)
+1 and 0x80000001 -> None
+0x80000001 and 1 -> None
+0 and 0x60000000 -> Some(Less)
+0x60000000 and 0xC0000000 -> Some(Less)
+0xC0000000 and 0 -> Some(Less)
+";
+
+/// The number that digits stand for, hex ones after `0x`.
+fn number(text: &str) -> Option<u32> {
+    match text.strip_prefix("0x") {
+        Some(digits) => u32::from_str_radix(digits, 16).ok(),
+        None => text.parse().ok(),
     }
+}
+
+fn order(alloc: Global, text: &str) -> Option<String> {
+    let (left, right) = text.split_once(" and ")?;
+    let (left, right) = (Serial(number(left)?), Serial(number(right)?));
+    named(alloc, &left.partial_cmp(&right))
+}
+
+#[test]
+fn serials_compare(rt: HostRuntime) -> Result<(), Fail> {
+    check_rows(rt.alloc(), ORDERS, order)
+}
+
+#[test]
+fn equal_serials(rt: HostRuntime) {
     assert!(rt; Serial(12) == Serial(12));
     assert!(rt; Serial(12) != Serial(112));
     expect_equal(&rt, hash_of(&Serial(12)), hash_of(&Serial(12)));
@@ -40,29 +54,6 @@ fn serials_add(rt: HostRuntime) {
     expect_equal(&rt, Serial(0).add(4), Serial(4));
     expect_equal(&rt, Serial(0xff000000).add(0x0f000000), Serial(0x0e000000));
     expect_equal(&rt, Serial(0xffffffff).add(0x7fffffff), Serial(0x7ffffffe));
-}
-
-#[test]
-fn serials_as_text(rt: HostRuntime) -> Result<(), Fail> {
-    let read = [("+5", 5), ("007", 7), ("4294967295", 4294967295)];
-    for (text, want) in read {
-        assert_eq!(rt; text.parse::<Serial>()?, Serial(want), "at {text}");
-    }
-    let shown = format!(in rt.alloc();
-        "{}, {:>20}, {:05}",
-        Serial(4294967295),
-        Serial(12),
-        Serial(7)
-    )?;
-    expect_equal(&rt, shown.as_str(), "4294967295, 12, 7");
-    Ok(())
-}
-
-#[test]
-fn texts_that_are_no_serials(rt: HostRuntime) {
-    for text in ["4294967296", "", "+", "-1", "++1", " 1", "1 ", "0x1"] {
-        assert!(rt; text.parse::<Serial>().is_err(), "at {text}");
-    }
 }
 
 #[test]

@@ -1,8 +1,11 @@
 -- An input that begins with a sequence has status 0, and no other input has.
-use Rattle.std.proofs.Common.{◌≡◌, ◌≢◌, ℕ, ◌+◌, ◌<◌, ◌≤◌, List, [], ◌∷◌, ◌++◌, length, drop, Some, Result, Ok, Err, refl, sym, ap, subst, ◌∙◌, append_assoc, arith, inl, inr}
+use Rattle.std.proofs.Common.{◌≡◌, ◌≢◌, ℕ, ◌+◌, ◌<◌, ◌≤◌, List, [], ◌∷◌, ◌++◌, length, drop, Some}
+use Rattle.std.proofs.Common.{Result, Ok, Err, refl, sym, ap, subst}
+use Rattle.std.proofs.Common.{◌∙◌, append_assoc, arith, inl, inr}
 use Rattle.std.proofs.lemmas.Bool.{cases_lt}
 use Rattle.std.proofs.lemmas.List.{length-append}
-use Rattle.rtr_units.specs.Causes.{Refusal, short, unit_type, unit_version, too_long, unit_length, empty_providers, refused}
+use Rattle.rtr_units.specs.Causes.{Refusal, short, unit_type, unit_version}
+use Rattle.rtr_units.specs.Causes.{too_long, unit_length, empty_providers, refused}
 use Rattle.rtr_units.specs.End.{EndMeaning, end_list}
 use Rattle.rtr_payload.specs.Payloads.{Meaning}
 use Rattle.rtr_payload.proofs.Apart.{begins_apart}
@@ -11,7 +14,7 @@ use Rattle.rtr_payload.specs.Steps.{first_fault, first_unit, refusal_report}
 use Rattle.rtr_views.specs.Faults.{IsFirstFault}
 use Rattle.rtr_views.specs.declared.fault.ViewFault.{ViewFault}
 use Rattle.rtr_views.specs.declared.fault.ViewFault.TheVariants as faults
-use Rattle.rtr_wire.specs.Into.{FillsInto, refuses_version}
+use Rattle.rtr_wire.specs.Into.{FillsInto, RefusesVersion}
 use Rattle.rtr_wire.specs.Sequences.{AreUnits, Accepts, Written, forms, sequence_form}
 use Rattle.rtr_wire.specs.declared.into.IntoFault.{IntoFault}
 use Rattle.rtr_wire.specs.declared.into.IntoFault.TheVariants.{NoRoom, TooMany, Refused}
@@ -20,11 +23,13 @@ use Rattle.rtr_wire.proofs.OneAnswer.{begins_end, no_unit, no_end}
 use Rattle.rtr_wire.proofs.Push.{forms_append, units_push}
 use Rattle.rtr_wire.proofs.Runs.{accepted_same, after as then, goes_on, kept_accepted}
 use Rattle.rtr_wire.proofs.Stepping.{Joins}
-use Rattle.rtr_c.specs.Answers.{Tells, TellsSequence, Succeeds, SucceedsOnly, fault_status, stop_status, run_status}
+use Rattle.rtr_c.specs.Answers.{Tells, TellsSequence, Succeeds, SucceedsOnly}
+use Rattle.rtr_c.specs.Answers.{fault_status, stop_status, run_status}
 use Rattle.rtr_c.specs.declared.answer.RtrAnswer.{RtrAnswer}
 
 -- some fault comes first
-some_fault : (r : List ℕ) (e : ViewFault) → IsFirstFault r e → (f : Refusal) × (first_fault r ≡ Some f)
+some_fault : (r : List ℕ) (e : ViewFault) → IsFirstFault r e →
+    (f : Refusal) × (first_fault r ≡ Some f)
 some_fault r (faults.Writer e) h = absurd h
 some_fault r faults.Short h = (short, h)
 some_fault r (faults.UnitType t) h = (unit_type t, h)
@@ -54,18 +59,23 @@ stop_some (Refused e) = fault_some e
 
 -- ---- a run that came to the end of data
 
-pub only : (what : Written) (limit : ℕ) (r : Result Unit IntoFault) (input before after : List ℕ) (p : Progress) (a : RtrAnswer) (code : ℕ) → FillsInto what limit r input before after p → Tells p r a code → SucceedsOnly what limit input before after a code
-only what limit (Err g) input before after p a code f t zero = absurd (stop_some g (sym t.answered ∙ zero))
+pub only : (what : Written) (limit : ℕ) (r : Result Unit IntoFault) (input before after : List ℕ)
+    (p : Progress) (a : RtrAnswer) (code : ℕ) → FillsInto what limit r input before after p →
+    Tells p r a code → SucceedsOnly what limit input before after a code
+only what limit (Err g) input before after p a code f t zero =
+    absurd (stop_some g (sym t.answered ∙ zero))
 only what limit (Ok done) input before after p a code f t zero =
     let (e, last, left, parts, end, below, taken, written) = f.ends in
-    let wrote : p.written ≡ length (sequence_form (what.units f.ms) (what.end e)) = f.written ∙ ap length written in (
+    let wrote : p.written ≡ length (sequence_form (what.units f.ms) (what.end e)) =
+    f.written ∙ ap length written in (
       f.us ++ last,
       f.ms,
       e,
       record {
         rest = left;
         parts = f.parts ∙ ap (λ r. f.us ++ r) parts ∙ sym (append_assoc f.us last left);
-        sequence = record { front = f.us; last = last; parts = refl; units = f.are_units; end = end };
+        sequence =
+            record { front = f.us; last = last; parts = refl; units = f.are_units; end = end };
       },
       below,
       record {
@@ -82,70 +92,132 @@ only what limit (Ok done) input before after p a code f t zero =
     )
 
 -- a version that is refused hasn't status 0
-pub unknown : (version : ℕ) (r : Result Unit IntoFault) (before after : List ℕ) (p : Progress) (a : RtrAnswer) (code : ℕ) → refuses_version version p r before after → Tells p r a code → code ≢ 0
-unknown version r before after p a code f t zero = let three : run_status r ≡ 3 = ap run_status f.fault in omega (arith, three, sym t.answered ∙ zero)
+pub unknown : (version : ℕ) (r : Result Unit IntoFault) (before after : List ℕ) (p : Progress)
+    (a : RtrAnswer) (code : ℕ) → RefusesVersion version p r before after → Tells p r a code →
+    code ≢ 0
+unknown version r before after p a code f t zero =
+    let three : run_status r ≡ 3 = ap run_status f.fault in
+    omega (arith, three, sym t.answered ∙ zero)
 
 -- ---- a run that stopped
 
 -- what was read up to a stop is kept, and an end of data comes next
-stopped : (what : Written) (limit : ℕ) (g : IntoFault) (input before after : List ℕ) (p : Progress) → FillsInto what limit (Err g) input before after p → g ≢ NoRoom → (b : List ℕ) (ms : List Meaning) (e : EndMeaning) → Accepts input b ms e → length ms < limit → ⊥
+stopped : (what : Written) (limit : ℕ) (g : IntoFault) (input before after : List ℕ)
+    (p : Progress) → FillsInto what limit (Err g) input before after p → g ≢ NoRoom → (b : List ℕ)
+    (ms : List Meaning) (e : EndMeaning) → Accepts input b ms e → length ms < limit → ⊥
 stopped what limit NoRoom input before after p f not b ms e acc few = not refl
 stopped what limit TooMany input before after p f not b ms e acc few =
     let full : length f.ms ≡ limit = f.ends.2 in
-    let same = kept_accepted input limit f.us f.rest b ms f.ms e (record { parts = f.parts; units = f.are_units; few = omega (arith, full); longest = inl (sym full) }) acc few in
+    let same = kept_accepted input limit f.us f.rest b ms f.ms e
+    (record {
+      parts = f.parts;
+      units = f.are_units;
+      few = omega (arith, full);
+      longest = inl (sym full);
+    })
+    acc few in
     omega (arith, full, few, ap length same.0)
 stopped what limit (Refused g) input before after p f not b ms e acc few =
     let (below, first) = f.ends.2 in
     let (fault, is) = some_fault f.rest g first in
-    let same = kept_accepted input limit f.us f.rest b ms f.ms e (record { parts = f.parts; units = f.are_units; few = omega (arith, below); longest = inr (no_unit f.rest fault is) }) acc few in
+    let same = kept_accepted input limit f.us f.rest b ms f.ms e
+    (record {
+      parts = f.parts;
+      units = f.are_units;
+      few = omega (arith, below);
+      longest = inr (no_unit f.rest fault is);
+    })
+    acc few in
     no_end f.rest fault is same.1
 
 -- ---- a run that lacked room
 
 -- units that begin a list of units are the first of them
-front_of : (a r c s : List ℕ) (ms ns : List Meaning) → AreUnits a ms → AreUnits c ns → a ++ r ≡ c ++ s → length ms ≤ length ns → (more : List Meaning) × (ns ≡ ms ++ more)
+front_of : (a r c s : List ℕ) (ms ns : List Meaning) → AreUnits a ms → AreUnits c ns →
+    a ++ r ≡ c ++ s → length ms ≤ length ns → (more : List Meaning) × (ns ≡ ms ++ more)
 front_of a r c s [] ns h j e l = (ns, refl)
 front_of a r c s (m ∷ ms) [] h j e l = absurd (omega (arith, l))
 front_of a r c s (m ∷ ms) (n ∷ ns) h j e l =
-    let f = units_same h.0 j.0 (h.1 ++ r) (j.1 ++ s) m n h.3 j.3 (sym (then a h.0 h.1 r h.2) ∙ e ∙ then c j.0 j.1 s j.2) in
+    let f = units_same h.0 j.0 (h.1 ++ r) (j.1 ++ s) m n h.3 j.3
+    (sym (then a h.0 h.1 r h.2) ∙ e ∙ then c j.0 j.1 s j.2) in
     let (more, is) = front_of h.1 r j.1 s ms ns h.4 j.4 f.2 (omega (arith, l)) in
     (more, λ i. sym f.1 i ∷ is i)
 
 -- the form of units is as long as that of some of them, of one more and of the others
-longer : (what : Written) → Joins what → (ns : List Meaning) (m : Meaning) (more ms : List Meaning) → ms ≡ (ns ++ m ∷ []) ++ more → length (forms (what.units ns)) + length (forms (what.units (m ∷ []))) ≤ length (forms (what.units ms))
+longer : (what : Written) → Joins what → (ns : List Meaning) (m : Meaning)
+    (more ms : List Meaning) → ms ≡ (ns ++ m ∷ []) ++ more →
+    length (forms (what.units ns)) + length (forms (what.units (m ∷ []))) ≤
+    length (forms (what.units ms))
 longer what joins ns m more ms is =
     let some = what.units ns in
     let one = what.units (m ∷ []) in
     let others = what.units more in
-    let all : what.units ms ≡ (some ++ one) ++ others = ap what.units is ∙ joins (ns ++ m ∷ []) more ∙ ap (λ l. l ++ others) (joins ns (m ∷ [])) in
-    let joined : forms (what.units ms) ≡ (forms some ++ forms one) ++ forms others = ap forms all ∙ forms_append (some ++ one) others ∙ ap (λ l. l ++ forms others) (forms_append some one) in
-    omega (arith, ap length joined, length-append (forms some ++ forms one) (forms others), length-append (forms some) (forms one))
+    let all : what.units ms ≡ (some ++ one) ++ others =
+    ap what.units is ∙ joins (ns ++ m ∷ []) more ∙ ap (λ l. l ++ others) (joins ns (m ∷ [])) in
+    let joined : forms (what.units ms) ≡ (forms some ++ forms one) ++ forms others =
+    ap forms all ∙ forms_append (some ++ one) others
+    ∙ ap (λ l. l ++ forms others) (forms_append some one) in
+    omega (
+      arith,
+      ap length joined,
+      length-append (forms some ++ forms one) (forms others),
+      length-append (forms some) (forms one),
+    )
 
 -- an output as long as the form doesn't lack room
-fitting : (what : Written) → Joins what → (limit : ℕ) (input before after : List ℕ) (p : Progress) → FillsInto what limit (Err NoRoom) input before after p → (b : List ℕ) (ms : List Meaning) (e : EndMeaning) → Accepts input b ms e → length (sequence_form (what.units ms) (what.end e)) ≤ length before → ⊥
+fitting : (what : Written) → Joins what → (limit : ℕ) (input before after : List ℕ) (p : Progress) →
+    FillsInto what limit (Err NoRoom) input before after p → (b : List ℕ) (ms : List Meaning)
+    (e : EndMeaning) → Accepts input b ms e →
+    length (sequence_form (what.units ms) (what.end e)) ≤ length before → ⊥
 fitting what joins limit input before after p f b ms e acc enough =
     let (next, left, parts, why) = f.ends.2.1 in
     let s = acc.sequence in
     let size = length-append (forms (what.units ms)) (end_list (what.end e)) in
     let before_it : p.written ≡ length (forms (what.units f.ms)) = f.written ∙ ap length f.ends.1 in
-    let both : (f.us ++ next) ++ left ≡ s.front ++ (s.last ++ acc.rest) = append_assoc f.us next left ∙ ap (λ r. f.us ++ r) (sym parts) ∙ sym f.parts ∙ acc.parts ∙ then b s.front s.last acc.rest s.parts in
+    let both : (f.us ++ next) ++ left ≡ s.front ++ (s.last ++ acc.rest) =
+    append_assoc f.us next left ∙ ap (λ r. f.us ++ r) (sym parts) ∙ sym f.parts ∙ acc.parts
+    ∙ then b s.front s.last acc.rest s.parts in
     elim why [
       | inl (m, unit, less) ↦
           let units = units_push f.us next f.ms m f.are_units unit in
           elim (cases_lt (length ms) (length (f.ms ++ m ∷ []))) [
-            | inl lt ↦ begins_apart (s.last ++ acc.rest) (goes_on s.front (s.last ++ acc.rest) (f.us ++ next) left ms (f.ms ++ m ∷ []) s.units units (sym both) lt) (begins_end s.last acc.rest e s.end)
+            | inl lt ↦
+                begins_apart (s.last ++ acc.rest)
+                (goes_on s.front (s.last ++ acc.rest) (f.us ++ next) left ms (f.ms ++ m ∷ [])
+                s.units units (sym both) lt)
+                (begins_end s.last acc.rest e s.end)
             | inr le ↦
-                let (more, is) = front_of (f.us ++ next) left s.front (s.last ++ acc.rest) (f.ms ++ m ∷ []) ms units s.units both le in
-                omega (arith, longer what joins f.ms m more ms is, less, enough, size, before_it, f.room_is)
+                let (more, is) = front_of (f.us ++ next) left s.front (s.last ++ acc.rest)
+                (f.ms ++ m ∷ []) ms units s.units both le in
+                omega (
+                  arith,
+                  longer what joins f.ms m more ms is,
+                  less,
+                  enough,
+                  size,
+                  before_it,
+                  f.room_is,
+                )
           ]
       | inr (d, end, less) ↦
           let whole : Accepts input (f.us ++ next) f.ms d = record {
             rest = left;
             parts = f.parts ∙ ap (λ r. f.us ++ r) parts ∙ sym (append_assoc f.us next left);
-            sequence = record { front = f.us; last = next; parts = refl; units = f.are_units; end = end };
+            sequence =
+                record { front = f.us; last = next; parts = refl; units = f.are_units; end = end };
           } in
-          let (bytes, meanings, ends) = accepted_same input (f.us ++ next) b f.ms ms d e whole acc in
-          omega (arith, ap (λ ms. length (forms (what.units ms))) meanings, ap (λ e. length (end_list (what.end e))) ends, less, enough, size, before_it, f.room_is)
+          let (bytes, meanings, ends) =
+          accepted_same input (f.us ++ next) b f.ms ms d e whole acc in
+          omega (
+            arith,
+            ap (λ ms. length (forms (what.units ms))) meanings,
+            ap (λ e. length (end_list (what.end e))) ends,
+            less,
+            enough,
+            size,
+            before_it,
+            f.room_is,
+          )
     ]
 
 -- ---- whole
@@ -153,19 +225,26 @@ fitting what joins limit input before after p f b ms e acc enough =
 abbrev NotNoRoom : Result Unit IntoFault → Type 0
 NotNoRoom r = r ≢ Err NoRoom
 
-pub accepted : (what : Written) → Joins what → (limit enough : ℕ) (r : Result Unit IntoFault) (input before after : List ℕ) (p : Progress) (a : RtrAnswer) (code : ℕ) → FillsInto what limit r input before after p → Tells p r a code → (enough ≤ length before → r ≢ Err NoRoom) → Succeeds what limit enough input before after a code
-accepted what joins limit enough (Err g) input before after p a code f t always b ms e acc few room =
+pub accepted : (what : Written) → Joins what → (limit enough : ℕ) (r : Result Unit IntoFault)
+    (input before after : List ℕ) (p : Progress) (a : RtrAnswer) (code : ℕ) →
+    FillsInto what limit r input before after p → Tells p r a code →
+    (enough ≤ length before → r ≢ Err NoRoom) → Succeeds what limit enough input before after a code
+accepted what joins limit enough (Err g) input before after p a code f t always b ms e acc
+    few room =
     absurd (stopped what limit g input before after p f (by_room g f always) b ms e acc few)
   where
-    by_room : (g : IntoFault) → FillsInto what limit (Err g) input before after p → (enough ≤ length before → NotNoRoom (Err g)) → g ≢ NoRoom
+    by_room : (g : IntoFault) → FillsInto what limit (Err g) input before after p →
+        (enough ≤ length before → NotNoRoom (Err g)) → g ≢ NoRoom
     by_room NoRoom f always is = elim room [
       | inl long ↦ always long refl
       | inr fits ↦ fitting what joins limit input before after p f b ms e acc fits
     ]
     by_room TooMany f always is = absurd cc
     by_room (Refused e) f always is = absurd cc
-accepted what joins limit enough (Ok done) input before after p a code f t always b ms e acc few room =
-    let (c, ns, d, found, below, told) = only what limit (Ok done) input before after p a code f t t.answered in
+accepted what joins limit enough (Ok done) input before after p a code f t always b ms e acc
+    few room =
+    let (c, ns, d, found, below, told) =
+    only what limit (Ok done) input before after p a code f t t.answered in
     let (bytes, meanings, ends) = accepted_same input c b ns ms d e found acc in
     subst (λ x. TellsSequence what x ms e before after a code) bytes
     (subst (λ x. TellsSequence what c x e before after a code) meanings

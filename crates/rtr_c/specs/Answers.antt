@@ -3,9 +3,10 @@ use Rattle.std.specs.Prelude.{◌≡◌, ◌<◌, ◌≤◌, ◌⊎◌, ℕ, Lis
 use Rattle.std.specs.Prelude.{Result, Ok, Err}
 use Rattle.rtr_units.specs.End.{EndMeaning}
 use Rattle.rtr_payload.specs.Payloads.{Meaning}
-use Rattle.rtr_payload.specs.declared.prefix_rule.PrefixRule.{PrefixRule}
-use Rattle.rtr_payload.specs.declared.prefix_rule.PrefixRule.TheVariants.{LenOverflow}
-use Rattle.rtr_payload.specs.declared.prefix_rule.PrefixRule.TheVariants.{MaxOverflow, MaxUnderflow}
+use Rattle.rtr_payload.specs.declared.pdu.prefix_rule.PrefixRule.{PrefixRule}
+use Rattle.rtr_payload.specs.declared.pdu.prefix_rule.PrefixRule.TheVariants.{LenOverflow}
+use Rattle.rtr_payload.specs.declared.pdu.prefix_rule.PrefixRule.TheVariants.{MaxOverflow}
+use Rattle.rtr_payload.specs.declared.pdu.prefix_rule.PrefixRule.TheVariants.{MaxUnderflow}
 use Rattle.rtr_views.specs.declared.fault.ViewFault.{ViewFault}
 use Rattle.rtr_views.specs.declared.fault.ViewFault.TheVariants.{Writer, Short, UnitType}
 use Rattle.rtr_views.specs.declared.fault.ViewFault.TheVariants.{UnitLength, TooLong}

@@ -3,7 +3,6 @@
 use Rattle.std.specs.Prelude.{◌≡◌, ℕ, ◌+◌, ◌%◌, ◌||◌, not, List, [], length, take, drop}
 use Rattle.std.specs.Prelude.{Option, Some, None, Result, Ok}
 use Rattle.std.specs.Prelude.{Err, nat_lt, nat_le, ◌==◌, if◌then◌else◌}
-use Rattle.std.specs.Borrow.{Bor}
 use Rattle.rtr_base.specs.Addresses.{Family, v4, v6, width, cleared}
 use Rattle.rtr_base.specs.Bytes.{value}
 use Rattle.rtr_base.specs.declared.payload.Timing.{Timing}
@@ -12,7 +11,7 @@ use Rattle.rtr_units.specs.PrefixUnits.{address_bytes}
 use Rattle.rtr_payload.specs.Payloads.{origin, key, aspa}
 use Rattle.rtr_payload.specs.Providers.{words_of}
 use Rattle.rtr_payload.specs.Steps.{broken_rule}
-use Rattle.rtr_payload.specs.declared.prefix_rule.PrefixRule.{PrefixRule}
+use Rattle.rtr_payload.specs.declared.pdu.prefix_rule.PrefixRule.{PrefixRule}
 use Rattle.rtr_payload.specs.Units.{form}
 use Rattle.rtr_views.specs.Placing.{Places}
 use Rattle.rtr_c.specs.Answers as status
@@ -91,11 +90,6 @@ said u input =
     else if u.kind == 9 then key_said u (part_said u input)
     else if u.kind == 11 then aspa_said u (part_said u input)
     else Err status.unit_type
-
--- the part was found, or lies outside
-abbrev pub Part : Option (Bor (List ℕ)) → Option (List ℕ) → Type 0
-Part (Some part) is = is ≡ Some part.now
-Part None is = is ≡ None
 
 -- A form is written where there is room for it, or refused for want of room; what has none is
 -- refused with its status.

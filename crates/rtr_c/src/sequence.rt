@@ -1,7 +1,7 @@
 //! Calls over whole sequences.
 
 ghost use Rattle.std.specs.Prelude.{◌≡◌, ◌≢◌, ◌+◌, ◌≤◌, ◌<◌, Result, length};
-ghost use Rattle.rtr_wire.specs.Into.{FillsInto, refuses_version};
+ghost use Rattle.rtr_wire.specs.Into.{FillsInto, RefusesVersion};
 ghost use Rattle.rtr_wire.specs.Sequences.{everything, for_version};
 ghost use Rattle.rtr_wire.specs.declared.into.IntoFault.{IntoFault};
 ghost use Rattle.rtr_wire.specs.declared.into.Progress.{Progress};
@@ -50,7 +50,7 @@ pub extern "C" fn rtr_normalise_for_slice(
     ensures succeeds_only { SucceedsOnly (for_version version) limit input.now output.old output.new
         answer.new result }
     ensures unknown { 2 < version → (p : Progress) × (r : Result Unit IntoFault)
-        × refuses_version version p r output.old output.new
+        × RefusesVersion version p r output.old output.new
         × Tells p r answer.new result }
 {
     let (progress, end) = normalise_for_into(input, output, limit, version);

@@ -1,9 +1,10 @@
 //! Units written from what they say.
 
 ghost use Rattle.std.specs.Prelude.{◌≡◌, ◌∷◌, ◌++◌, Ok, IfSome};
+ghost use Rattle.std.specs.Option.{option_copied};
 ghost use Rattle.rtr_base.specs.Addresses.{v4, v6};
 ghost use Rattle.rtr_base.specs.Bytes.{be, IsBytes};
-ghost use Rattle.rtr_c.specs.Said.{Writes, TellsWritten, Part, said, part_said};
+ghost use Rattle.rtr_c.specs.Said.{Writes, TellsWritten, said, part_said};
 ghost use Rattle.rtr_c.specs.Said.{prefix_said, key_said, aspa_said, end_said};
 
 use crate::answer::{
@@ -12,7 +13,7 @@ use crate::answer::{
 };
 use crate::unit::RtrUnit;
 use rtr_payload::pdu::PrefixUnit;
-use rtr_payload::prefix_rule::{ipv4_prefix, ipv6_prefix};
+use rtr_payload::pdu::prefix_rule::{ipv4_prefix, ipv6_prefix};
 use rtr_units::numbers::{u32_at, u128_at};
 use rtr_views::placing::{flagged_header, place};
 use rtr_wire::base::Asn;
@@ -30,9 +31,10 @@ const MAX_PROVIDERS: usize = 65520;
 ///
 /// Statuses, in this order: `UNIT_TYPE` for no kind of unit; `NO_FORM` for an action that is none,
 /// a family that isn't that of the kind, or key info or providers outside the input; then
-/// `PREFIX`; `TOO_LONG` for more than 65503 bytes of key info or 65520 of providers; `UNIT_LENGTH`
-/// for providers that aren't four bytes each; `EMPTY_PROVIDERS`; `UNIT_VERSION` for an end of
-/// data; at last `NO_ROOM`. Nothing is written then.
+/// `PREFIX`; `TOO_LONG` for more than 65503 bytes of key info or, announced, 65520 of providers;
+/// `UNIT_LENGTH` for announced providers that aren't four bytes each, and `EMPTY_PROVIDERS` where
+/// there are none; `UNIT_VERSION` for an end of data of a version above 2; at last `NO_ROOM`.
+/// Nothing is written then.
 #[unsafe(no_mangle)]
 pub extern "C" fn rtr_write_unit(
     unit: &RtrUnit,
@@ -188,7 +190,7 @@ fn aspa_front(unit: &RtrUnit, size: u32) -> [u8; 12]
 
 /// The key info or the providers, where they lie in the input.
 fn part_of<'a>(unit: &RtrUnit, input: &'a [u8]) -> Option<&'a [u8]>
-    ensures part { Part result (part_said unit.now input.now) }
+    ensures part { option_copied result ≡ part_said unit.now input.now }
     ensures bytes { IfSome result (λ part. IsBytes part.now) }
 {
     if unit.part_start > input.len() || unit.part_length > input.len() - unit.part_start {

@@ -26,10 +26,12 @@ use Rattle.rtr_list.proofs.Printing.{all_append, concat_push}
 -- the counts of failures after this answer
 abbrev Counted : Result Bool Cause → (old new : ReaderState) (before after : WriterState) → Type 0
 Counted answer old new before after =
-    (new.failed ≡ reader_count answer old.failed) × (after.failed ≡ writer_count answer before.failed)
+    (new.failed ≡ reader_count answer old.failed)
+    × (after.failed ≡ writer_count answer before.failed)
 
 -- n units were read and printed
-pub record SoFar (what : Wanted) (found : Bool) (n : ℕ) (old new held holds : Option (List ℕ)) : Type 0 where
+pub record SoFar (what : Wanted) (found : Bool) (n : ℕ)
+    (old new held holds : Option (List ℕ)) : Type 0 where
   pub units : List (List ℕ)
   pub are_units : AreUnits units
   pub took : Consumes old new (concat units)
@@ -104,7 +106,8 @@ goes_on what found more n u a b c h i j p took is (new, are, wrote, shows) = rec
 
 -- ---- how a run ends
 
-pub ends : (what : Wanted) (found : Bool) (n : ℕ) (old new : ReaderState) (before after : WriterState) (b : Option (List ℕ)) →
+pub ends : (what : Wanted) (found : Bool) (n : ℕ) (old new : ReaderState)
+    (before after : WriterState) (b : Option (List ℕ)) →
     SoFar what found n old.left b before.held after.held → HasEnded b new.left →
     new.failed ≡ old.failed → after.failed ≡ before.failed →
     Lists what (Ok found) old new before after
@@ -151,9 +154,11 @@ ends_stopped too_many units t left stops = absurd stops
 ends_stopped no_memory units t left stops = (inr stops, refl)
 ends_stopped (wrong f) units t left stops = (stops, refl)
 
-pub stops_reading : (what : Wanted) (found : Bool) (n : ℕ) (e : Fault) (old new : ReaderState) (before after : WriterState) →
+pub stops_reading : (what : Wanted) (found : Bool) (n : ℕ) (e : Fault) (old new : ReaderState)
+    (before after : WriterState) →
     (b : Option (List ℕ)) → SoFar what found n old.left b before.held after.held →
-    Takes b new.left (λ t. StopsInAny (cause_of e) t new.left) → Counted (Err (cause_of e)) old new before after →
+    Takes b new.left (λ t. StopsInAny (cause_of e) t new.left) →
+    Counted (Err (cause_of e)) old new before after →
     Lists what (Err e) old new before after
 stops_reading what found n e old new before after b p (t, took, stops) counted = record {
   units = p.units;
@@ -201,7 +206,8 @@ ends_broken no_memory units left part stops = (inl refl, stops)
 ends_broken (wrong f) units left part stops = absurd stops
 
 pub stops_printing : (what : Wanted) (found : Bool) (n : ℕ) (e : Fault) (u : List ℕ) →
-    (old new : ReaderState) (before after : WriterState) (b i : Option (List ℕ)) → SoFar what found n old.left b before.held i →
+    (old new : ReaderState) (before after : WriterState) (b i : Option (List ℕ)) →
+    SoFar what found n old.left b before.held i →
     Consumes b new.left u → IsUnit u → PrintsBytes what (Err e) i after.held →
     Counted (Err (cause_of e)) old new before after → Lists what (Err e) old new before after
 stops_printing what found n e u old new before after b i p took is
@@ -218,7 +224,8 @@ stops_printing what found n e u old new before after b i p took is
       writes = subst (Appends before.held after.held)
           (sym (ap (λ l. l ++ part) (concat-append p.lines more) ∙
           append_assoc (concat p.lines) (concat more) part))
-          (Appends-trans before.held i after.held (concat p.lines) (concat more ++ part) p.wrote wrote);
+          (Appends-trans before.held i after.held (concat p.lines) (concat more ++ part)
+          p.wrote wrote);
       counts = counts_broken what (cause_of e) found p.units p.lines more u part p.shows stops none;
       ends = ends_broken (cause_of e) (p.units ++ u ∷ []) new.left part stops;
       reader_failures = counted.0;
@@ -231,7 +238,8 @@ counts_full Text found units lines h = h.0
 counts_full Json found units lines h = h.0
 counts_full Findings found units lines h = tt
 
-pub reaches_limit : (what : Wanted) (found : Bool) (n : ℕ) (old new : ReaderState) (before after : WriterState) →
+pub reaches_limit : (what : Wanted) (found : Bool) (n : ℕ) (old new : ReaderState)
+    (before after : WriterState) →
     n ≡ 2 ^ 64 - 1 → SoFar what found n old.left new.left before.held after.held →
     new.failed ≡ old.failed → after.failed ≡ before.failed →
     Lists what (Err TooMany) old new before after

@@ -2,7 +2,7 @@
 use Rattle.std.specs.Prelude.{◌≡◌, ℕ, ◌<◌, ◌≤◌, List, [], ◌∷◌, ◌++◌, length}
 use Rattle.std.specs.List.{All}
 
--- a text without control characters, and one line feed at its end
+-- a text of bytes from 32 on, and one line feed at its end
 abbrev pub IsLine : List ℕ → Type 0
 IsLine line = (text : List ℕ) × All (λ byte. 32 ≤ byte) text × (line ≡ text ++ 10 ∷ [])
 

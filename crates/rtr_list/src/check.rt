@@ -2,13 +2,13 @@
 
 use crate::finding::Finding;
 use rtr_base::addr::MaxLenPrefix;
+use rtr_base::asn::Asn;
 use rtr_base::payload::Action;
 use rtr_payload::payload;
+use rtr_payload::pdu::prefix_rule::{PrefixRule, ipv4_prefix, ipv6_prefix};
 use rtr_payload::pdu::{Aspa, Payload, ProviderAsns, RouterKey};
-use rtr_payload::prefix_rule::{PrefixRule, ipv4_prefix, ipv6_prefix};
 use rtr_session::{AnyUnit, Report};
 use rtr_units::end::EndOfData;
-use rtr_units::fixed::{Ipv4Prefix, Ipv6Prefix};
 use rtr_units::session::CacheResponse;
 use rtr_units::unit::Unit;
 use std::alloc::{AllocError, Global};
@@ -121,9 +121,16 @@ impl Checker {
                 self.reserved(bytes, 3, 4)?;
             }
         }
+        let action = unit.action();
         match unit {
-            Payload::V4(unit) => self.ipv4(unit),
-            Payload::V6(unit) => self.ipv6(unit),
+            Payload::V4(unit) => {
+                let made = ipv4_prefix(unit.prefix_bits(), unit.prefix_len(), unit.max_len());
+                self.prefix(made, IpAddr::V4(unit.prefix()), action, unit.asn())
+            }
+            Payload::V6(unit) => {
+                let made = ipv6_prefix(unit.prefix_bits(), unit.prefix_len(), unit.max_len());
+                self.prefix(made, IpAddr::V6(unit.prefix()), action, unit.asn())
+            }
             Payload::RouterKey(unit) => self.router_key(unit),
             Payload::Aspa(unit) => self.aspa(unit),
         }
@@ -136,23 +143,18 @@ impl Checker {
         Ok(())
     }
 
-    fn ipv4(&mut self, unit: &Ipv4Prefix) -> Result<(), AllocError> {
-        match ipv4_prefix(unit.prefix_bits(), unit.prefix_len(), unit.max_len()) {
+    /// Looks at the prefix that was made of a unit's lengths and address.
+    fn prefix(
+        &mut self,
+        made: Result<MaxLenPrefix, PrefixRule>,
+        address: IpAddr,
+        action: Action,
+        asn: Asn,
+    ) -> Result<(), AllocError> {
+        match made {
             Ok(prefix) => {
-                self.host_bits(prefix, IpAddr::V4(unit.prefix()))?;
-                let origin = payload::Payload::origin(prefix, unit.asn());
-                self.count(Action::from_flags(unit.flags()), origin)
-            }
-            Err(rule) => self.prefix_rule(rule),
-        }
-    }
-
-    fn ipv6(&mut self, unit: &Ipv6Prefix) -> Result<(), AllocError> {
-        match ipv6_prefix(unit.prefix_bits(), unit.prefix_len(), unit.max_len()) {
-            Ok(prefix) => {
-                self.host_bits(prefix, IpAddr::V6(unit.prefix()))?;
-                let origin = payload::Payload::origin(prefix, unit.asn());
-                self.count(Action::from_flags(unit.flags()), origin)
+                self.host_bits(prefix, address)?;
+                self.count(action, payload::Payload::origin(prefix, asn))
             }
             Err(rule) => self.prefix_rule(rule),
         }

@@ -7,9 +7,9 @@ use rtr_base::payload::Action;
 use rtr_payload::pdu::{Aspa, Payload, RouterKey};
 use rtr_session::{AnyUnit, Report};
 use rtr_units::end::EndOfData;
-use rtr_units::fixed::{Ipv4Prefix, Ipv6Prefix};
 use rtr_units::unit::Unit;
 use std::alloc::{AllocError, Global};
+use std::fmt::Display;
 
 /// Writes what the unit says.
 pub fn describe(
@@ -57,27 +57,30 @@ fn describe_payload(alloc: Global, line: &mut Line, unit: &Payload) -> Result<()
         Action::Withdraw => " withdraw",
     })?;
     match unit {
-        Payload::V4(unit) => describe_ipv4(line, unit),
-        Payload::V6(unit) => describe_ipv6(line, unit),
+        Payload::V4(unit) => {
+            let lengths = (unit.prefix_len(), unit.max_len());
+            describe_prefix(line, unit.prefix(), lengths, unit.asn())
+        }
+        Payload::V6(unit) => {
+            let lengths = (unit.prefix_len(), unit.max_len());
+            describe_prefix(line, unit.prefix(), lengths, unit.asn())
+        }
         Payload::RouterKey(unit) => describe_key(alloc, line, unit),
         Payload::Aspa(unit) => describe_aspa(line, unit),
     }
 }
 
-fn describe_ipv4(line: &mut Line, unit: &Ipv4Prefix) -> Result<(), AllocError> {
+fn describe_prefix<A: Display + Drop>(
+    line: &mut Line,
+    address: A,
+    lengths: (u8, u8),
+    system: Asn,
+) -> Result<(), AllocError> {
     line.text(" ")?;
-    line.show(unit.prefix())?;
-    line.labelled("/", u64::from(unit.prefix_len()))?;
-    line.labelled("-", u64::from(unit.max_len()))?;
-    asn(line, unit.asn())
-}
-
-fn describe_ipv6(line: &mut Line, unit: &Ipv6Prefix) -> Result<(), AllocError> {
-    line.text(" ")?;
-    line.show(unit.prefix())?;
-    line.labelled("/", u64::from(unit.prefix_len()))?;
-    line.labelled("-", u64::from(unit.max_len()))?;
-    asn(line, unit.asn())
+    line.show(address)?;
+    line.labelled("/", u64::from(lengths.0))?;
+    line.labelled("-", u64::from(lengths.1))?;
+    asn(line, system)
 }
 
 fn describe_key(alloc: Global, line: &mut Line, unit: &RouterKey) -> Result<(), AllocError> {

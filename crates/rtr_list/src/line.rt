@@ -16,7 +16,7 @@ use std::fmt;
 use std::fmt::Display;
 use std::marker::Model;
 
-/// The first character that is no control character.
+/// The lowest byte that a line has before its line feed.
 const SPACE: u8 = b' ';
 
 /// A line that is made of pieces, in memory that it uses again.
@@ -97,8 +97,8 @@ impl Line {
         }
     }
 
-    /// Ends the line. Control characters in it, of which its texts have none, are made spaces, so
-    /// that it is one line, and shows on a terminal as it is.
+    /// Ends the line. Bytes below 32 in it, of which its texts have none, are made spaces, so that
+    /// it is one line.
     fn end(&mut self) -> Result<(), AllocError>
         ensures { OnOk result (IsLine self.new) }
     {
@@ -131,7 +131,7 @@ impl fmt::Write for Line {
     }
 }
 
-/// Makes control characters spaces.
+/// Makes bytes below 32 spaces.
 fn clear_controls(text: &mut [u8])
     ensures { All (λ byte. 32 ≤ byte) text.new }
 {

@@ -39,8 +39,8 @@ pub fn program<R: Source, W: Sink, F: Write>(
         (exit_status result ≡ 2) × (input.new ≡ input.old) × (output.new ≡ output.old)) }
     // Where it succeeds no line is printed on `faults`.
     ensures quiet { exit_status result ≡ 0 → faults.new ≡ faults.old }
-    // Otherwise what they ask for is printed of the input. Then the output is flushed, which no
-    // clause can see.
+    // Otherwise what they ask for is printed of the input, and then the output flushed once, of
+    // which a clause sees a failure alone.
     ensures lists { IfSome words (λ all. IfSome (asked (drop 1 all.items)) (λ what.
         Runs what (exit_status result)
         (R.state input.old) (R.state input.new) (W.state output.old) (W.state output.new))) }
@@ -109,8 +109,8 @@ pub fn run<R: Source, W: Sink, F: Write>(
         (result ≡ 2) × (input.new ≡ input.old) × (output.new ≡ output.old) }
     // Where it succeeds no line is printed on `faults`.
     ensures quiet { result ≡ 0 → faults.new ≡ faults.old }
-    // Otherwise what they ask for is printed of the input. Then the output is flushed, which no
-    // clause can see.
+    // Otherwise what they ask for is printed of the input, and then the output flushed once, of
+    // which a clause sees a failure alone.
     ensures lists { IfSome (asked args.now) (λ what. Runs what result
         (R.state input.old) (R.state input.new) (W.state output.old) (W.state output.new)) }
 {

@@ -1,5 +1,6 @@
 -- No payload unit begins as an end of data does.
-use Rattle.std.proofs.Common.{◌≡◌, ◌≢◌, ℕ, List, ◌++◌, Option, Some, None, refl, sym, ap, ◌∙◌, arith}
+use Rattle.std.proofs.Common.{◌≡◌, ◌≢◌, ℕ, List, ◌++◌, Option}
+use Rattle.std.proofs.Common.{Some, None, refl, sym, ap, ◌∙◌, arith}
 use Rattle.rtr_base.specs.declared.payload.Timing.{Timing}
 use Rattle.rtr_base.specs.Actions.{flags_of}
 use Rattle.rtr_base.specs.Addresses.{Family, v4, v6}
@@ -7,7 +8,8 @@ use Rattle.rtr_units.specs.End.{EndMeaning, End, end_list, timed_list}
 use Rattle.rtr_units.specs.Header.{type_field}
 use Rattle.rtr_units.specs.PrefixUnits.{prefix_type}
 use Rattle.rtr_payload.specs.Payloads.{Meaning}
-use Rattle.rtr_payload.specs.Units.{Fields, prefix_unit, key_unit, aspa_unit, unit_list, written, IsUnit, form_of}
+use Rattle.rtr_payload.specs.Units.{Fields, prefix_unit, key_unit, aspa_unit}
+use Rattle.rtr_payload.specs.Units.{unit_list, written, IsUnit, form_of}
 use Rattle.rtr_payload.specs.Steps.{BeginsUnit, BeginsEnd}
 
 fields_type : (u : Fields) (r : List ℕ) → type_field (unit_list u ++ r) ≢ 7
@@ -24,16 +26,26 @@ timed_type v s q None r = refl
 timed_type v s q (Some t) r = refl
 
 pub unit_type : (r : List ℕ) → BeginsUnit r → type_field r ≢ 7
-unit_type r h e = fields_type h.unit.fields h.rest (ap (λ b. type_field (b ++ h.rest)) (sym h.unit.bytes) ∙ ap type_field (sym h.parts) ∙ e)
+unit_type r h e =
+    fields_type h.unit.fields h.rest
+    (ap (λ b. type_field (b ++ h.rest)) (sym h.unit.bytes) ∙ ap type_field (sym h.parts) ∙ e)
 
 pub end_type : (r : List ℕ) → BeginsEnd r → type_field r ≡ 7
-end_type r h = ap type_field h.parts ∙ ap (λ b. type_field (b ++ h.rest)) h.end.bytes ∙ timed_type h.means.version h.means.session h.means.serial h.means.timing h.rest
+end_type r h =
+    ap type_field h.parts ∙ ap (λ b. type_field (b ++ h.rest)) h.end.bytes
+    ∙ timed_type h.means.version h.means.session h.means.serial h.means.timing h.rest
 
 pub begins_apart : (r : List ℕ) → BeginsUnit r → BeginsEnd r → ⊥
 begins_apart r h j = unit_type r h (end_type r j)
 
-pub unit_or_end : (a b r s : List ℕ) (m : Meaning) (e : EndMeaning) → IsUnit a m → End b e → a ++ r ≡ b ++ s → ⊥
-unit_or_end a b r s m e h j eq = begins_apart (a ++ r) (record { bytes = a; means = m; rest = r; unit = h; parts = refl }) (record { bytes = b; means = e; rest = s; end = j; parts = eq })
+pub unit_or_end : (a b r s : List ℕ) (m : Meaning) (e : EndMeaning) → IsUnit a m → End b e →
+    a ++ r ≡ b ++ s → ⊥
+unit_or_end a b r s m e h j eq =
+    begins_apart (a ++ r) (record { bytes = a; means = m; rest = r; unit = h; parts = refl })
+    (record { bytes = b; means = e; rest = s; end = j; parts = eq })
 
-pub form_or_end : (m : Meaning) (e : EndMeaning) (r s : List ℕ) → form_of m ++ r ≡ end_list e ++ s → ⊥
-form_or_end m e r s eq = fields_type (written m.version (flags_of m.action) m.payload) r (ap type_field eq ∙ timed_type e.version e.session e.serial e.timing s)
+pub form_or_end : (m : Meaning) (e : EndMeaning) (r s : List ℕ) →
+    form_of m ++ r ≡ end_list e ++ s → ⊥
+form_or_end m e r s eq =
+    fields_type (written m.version (flags_of m.action) m.payload) r
+    (ap type_field eq ∙ timed_type e.version e.session e.serial e.timing s)

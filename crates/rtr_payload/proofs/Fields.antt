@@ -1,19 +1,26 @@
 -- The fields of a unit can be read off its list.
-use Rattle.std.proofs.Common.{◌≡◌, ℕ, ◌+◌, ◌-◌, ◌*◌, ◌/◌, ◌%◌, ◌^◌, ◌<◌, List, [], ◌∷◌, ◌++◌, length, take, drop, subst, refl, sym, ap, ◌∙◌, append_assoc, arith, get_or, inl, inr, ◌⊎◌}
+use Rattle.std.proofs.Common.{◌≡◌, ℕ, ◌+◌, ◌-◌, ◌*◌, ◌/◌, ◌%◌, ◌^◌, ◌<◌, List, [], ◌∷◌, ◌++◌}
+use Rattle.std.proofs.Common.{length, take, drop, subst, refl, sym, ap, ◌∙◌, append_assoc, arith}
+use Rattle.std.proofs.Common.{get_or, inl, inr, ◌⊎◌}
 use Rattle.std.specs.List.{AllByRecursion}
 use Rattle.rtr_base.specs.declared.payload.Action.{Action}
 use Rattle.rtr_base.specs.declared.payload.Action.TheVariants.{Announce, Withdraw}
 use Rattle.std.proofs.lemmas.Nat.{mod-mul-add, div-add-mod', pow_pos}
 use Rattle.rtr_base.specs.Bytes.{be, words, IsBytes}
 use Rattle.rtr_base.specs.Addresses.{Family, cleared}
-use Rattle.rtr_base.proofs.Numbers.{be-injective, length-be, IsBytes-cons, IsBytes-append, IsBytes-be, IsBytes-words, IsBytes-drop}
-use Rattle.rtr_units.specs.PrefixUnits.{PrefixFields, prefix_type, prefix_size, address_bytes, prefix_list}
+use Rattle.rtr_base.proofs.Numbers.{be-injective, length-be, IsBytes-cons, IsBytes-append}
+use Rattle.rtr_base.proofs.Numbers.{IsBytes-be, IsBytes-words, IsBytes-drop}
+use Rattle.rtr_units.specs.PrefixUnits.{PrefixFields, prefix_type, prefix_size, address_bytes}
+use Rattle.rtr_units.specs.PrefixUnits.{prefix_list}
 use Rattle.rtr_units.proofs.Headers.{header_bytes}
 use Rattle.rtr_base.specs.Addresses.{v4, v6, width}
 use Rattle.rtr_payload.specs.Payloads.{Payload, origin, key, aspa, Meaning, IsPayload}
 use Rattle.rtr_base.specs.Actions.{act}
-use Rattle.rtr_payload.specs.Units.{Fields, prefix_unit, key_unit, aspa_unit, unit_list, Fit, WithinLimits, LengthsAgree, IsUnit, meaning, written, form, form_of, stripped}
-use Rattle.rtr_payload.specs.AspaUnits.{AspaParts, IsAspa, AspaFields, aspa_list, named, HasProviders, meant_aspa}
+use Rattle.rtr_payload.specs.Units.{Fields, prefix_unit, key_unit, aspa_unit, unit_list, Fit}
+use Rattle.rtr_payload.specs.Units.{WithinLimits, LengthsAgree, IsUnit}
+use Rattle.rtr_payload.specs.Units.{meaning, written, form, form_of, stripped}
+use Rattle.rtr_payload.specs.AspaUnits.{AspaParts, IsAspa, AspaFields, aspa_list}
+use Rattle.rtr_payload.specs.AspaUnits.{named, HasProviders, meant_aspa}
 use Rattle.rtr_payload.specs.KeyUnits.{IsKey, KeyFields, key_list}
 use Rattle.rtr_payload.specs.RouteOrigins.{PrefixFits}
 use Rattle.rtr_base.specs.Actions.{flags_of}
@@ -28,7 +35,9 @@ append_same (x ∷ a) (y ∷ b) r s l e =
     let t = append_same a b r s (omega arith) cc in
     (λ i. h i ∷ t.0 i, t.1)
 
-pub words_same : (ps qs r s : List ℕ) → AllByRecursion (λ p. p < 2 ^ 32) ps → AllByRecursion (λ p. p < 2 ^ 32) qs → length ps ≡ length qs → words ps ++ r ≡ words qs ++ s → (ps ≡ qs) × (r ≡ s)
+pub words_same : (ps qs r s : List ℕ) → AllByRecursion (λ p. p < 2 ^ 32) ps →
+    AllByRecursion (λ p. p < 2 ^ 32) qs → length ps ≡ length qs → words ps ++ r ≡ words qs ++ s →
+    (ps ≡ qs) × (r ≡ s)
 words_same [] [] r s hp hq l e = (refl, e)
 words_same [] (q ∷ qs) r s hp hq l e = absurd (omega arith)
 words_same (p ∷ ps) [] r s hp hq l e = absurd (omega arith)
@@ -60,11 +69,15 @@ other_type : (f : Family) → (prefix_type f ≡ 9) ⊎ (prefix_type f ≡ 11) �
 other_type v4 h = elim h [ inl e ↦ absurd (omega arith) | inr e ↦ absurd (omega arith) ]
 other_type v6 h = elim h [ inl e ↦ absurd (omega arith) | inr e ↦ absurd (omega arith) ]
 
--- behind the first twelve bytes of a prefix unit
-prefix_tail : (u : PrefixFields) (r : List ℕ) → drop 12 (prefix_list u ++ r) ≡ be u.origin.address (address_bytes u.origin.family) ++ (be u.origin.asn 4 ++ r)
-prefix_tail u r = append_assoc (be u.origin.address (address_bytes u.origin.family)) (be u.origin.asn 4) r
+-- after the first twelve bytes of a prefix unit
+prefix_tail : (u : PrefixFields) (r : List ℕ) →
+    drop 12 (prefix_list u ++ r) ≡
+    be u.origin.address (address_bytes u.origin.family) ++ (be u.origin.asn 4 ++ r)
+prefix_tail u r =
+    append_assoc (be u.origin.address (address_bytes u.origin.family)) (be u.origin.asn 4) r
 
-prefix_same : (u w : PrefixFields) (r t : List ℕ) → PrefixFits u → PrefixFits w → prefix_list u ++ r ≡ prefix_list w ++ t → Same (prefix_unit u) (prefix_unit w) r t
+prefix_same : (u w : PrefixFields) (r t : List ℕ) → PrefixFits u → PrefixFits w →
+    prefix_list u ++ r ≡ prefix_list w ++ t → Same (prefix_unit u) (prefix_unit w) r t
 prefix_same u w r t h j e =
     let f = u.origin.family in
     let a = u.origin.address in
@@ -73,24 +86,38 @@ prefix_same u w r t h j e =
     let a' = w.origin.address in
     let n' = w.origin.asn in
     let ef : f ≡ f' = family_same f f' (byte 1 e) in
-    let es : u.session ≡ w.session = be-injective u.session w.session 2 h.0 j.0 (ap (λ b. take 2 (drop 2 b)) e) in
-    let e12 : be a (address_bytes f) ++ (be n 4 ++ r) ≡ be a' (address_bytes f') ++ (be n' 4 ++ t) = sym (prefix_tail u r) ∙ ap (drop 12) e ∙ prefix_tail w t in
-    let k = length-be a (address_bytes f) ∙ ap address_bytes ef ∙ sym (length-be a' (address_bytes f')) in
-    let p = append_same (be a (address_bytes f)) (be a' (address_bytes f')) (be n 4 ++ r) (be n' 4 ++ t) k e12 in
-    let below : a' < 256 ^ address_bytes f = subst (λ (f : Family). a' < 256 ^ address_bytes f) (sym ef) (address_below f' a' j.1) in
-    let ea : a ≡ a' = be-injective a a' (address_bytes f) (address_below f a h.1) below (p.0 ∙ ap (λ f. be a' (address_bytes f)) (sym ef)) in
+    let es : u.session ≡ w.session =
+    be-injective u.session w.session 2 h.0 j.0 (ap (λ b. take 2 (drop 2 b)) e) in
+    let e12 : be a (address_bytes f) ++ (be n 4 ++ r) ≡ be a' (address_bytes f') ++ (be n' 4 ++ t) =
+    sym (prefix_tail u r) ∙ ap (drop 12) e ∙ prefix_tail w t in
+    let k =
+    length-be a (address_bytes f) ∙ ap address_bytes ef ∙ sym (length-be a' (address_bytes f')) in
+    let p = append_same (be a (address_bytes f)) (be a' (address_bytes f')) (be n 4 ++ r)
+    (be n' 4 ++ t) k e12 in
+    let below : a' < 256 ^ address_bytes f =
+    subst (λ (f : Family). a' < 256 ^ address_bytes f) (sym ef) (address_below f' a' j.1) in
+    let ea : a ≡ a' =
+    be-injective a a' (address_bytes f) (address_below f a h.1) below
+    (p.0 ∙ ap (λ f. be a' (address_bytes f)) (sym ef)) in
     let en : n ≡ n' = be-injective n n' 4 h.2 j.2 (ap (take 4) p.1) in (
       λ i. prefix_unit (record {
         version = byte 0 e i;
         session = es i;
         flags = byte 8 e i;
         free = byte 11 e i;
-        origin = record { family = ef i; address = ea i; prefix_len = byte 9 e i; max_len = byte 10 e i; asn = en i };
+        origin = record {
+          family = ef i;
+          address = ea i;
+          prefix_len = byte 9 e i;
+          max_len = byte 10 e i;
+          asn = en i;
+        };
       }),
       ap (drop 4) p.1,
     )
 
-key_same : (u w : KeyFields) (r t : List ℕ) → IsKey u.key → IsKey w.key → key_list u ++ r ≡ key_list w ++ t → Same (key_unit u) (key_unit w) r t
+key_same : (u w : KeyFields) (r t : List ℕ) → IsKey u.key → IsKey w.key →
+    key_list u ++ r ≡ key_list w ++ t → Same (key_unit u) (key_unit w) r t
 key_same u w r t h j e =
     let i = u.key.identifier in
     let n = u.key.asn in
@@ -98,10 +125,14 @@ key_same u w r t h j e =
     let i' = w.key.identifier in
     let n' = w.key.asn in
     let k' = w.key.info in
-    let el : 32 + length k ≡ 32 + length k' = be-injective (32 + length k) (32 + length k') 4 (omega (arith, h.info)) (omega (arith, j.info)) (ap (λ l. take 4 (drop 4 l)) e) in
+    let el : 32 + length k ≡ 32 + length k' =
+    be-injective (32 + length k) (32 + length k') 4 (omega (arith, h.info)) (omega (arith, j.info))
+    (ap (λ l. take 4 (drop 4 l)) e) in
     let e8 : i ++ be n 4 ++ k ++ r ≡ i' ++ be n' 4 ++ k' ++ t = ap (drop 8) e in
-    let e9 : i ++ (be n 4 ++ (k ++ r)) ≡ i' ++ (be n' 4 ++ (k' ++ t)) = sym (simp append_assoc) ∙ e8 ∙ simp append_assoc in
-    let p = append_same i i' (be n 4 ++ (k ++ r)) (be n' 4 ++ (k' ++ t)) (h.identifier ∙ sym j.identifier) e9 in
+    let e9 : i ++ (be n 4 ++ (k ++ r)) ≡ i' ++ (be n' 4 ++ (k' ++ t)) =
+    sym (simp append_assoc) ∙ e8 ∙ simp append_assoc in
+    let p = append_same i i' (be n 4 ++ (k ++ r)) (be n' 4 ++ (k' ++ t))
+    (h.identifier ∙ sym j.identifier) e9 in
     let en : n ≡ n' = be-injective n n' 4 h.asn j.asn (ap (take 4) p.1) in
     let q = append_same k k' r t (omega arith) (ap (drop 4) p.1) in (
       λ m. key_unit (record {
@@ -113,15 +144,19 @@ key_same u w r t h j e =
       q.1,
     )
 
-aspa_same : (u w : AspaFields) (r t : List ℕ) → IsAspa u.aspa → IsAspa w.aspa → aspa_list u ++ r ≡ aspa_list w ++ t → Same (aspa_unit u) (aspa_unit w) r t
+aspa_same : (u w : AspaFields) (r t : List ℕ) → IsAspa u.aspa → IsAspa w.aspa →
+    aspa_list u ++ r ≡ aspa_list w ++ t → Same (aspa_unit u) (aspa_unit w) r t
 aspa_same u w r t h j e =
     let c = u.aspa.customer in
     let ps = u.aspa.providers in
     let c' = w.aspa.customer in
     let ps' = w.aspa.providers in
-    let el : 12 + 4 * length ps ≡ 12 + 4 * length ps' = be-injective (12 + 4 * length ps) (12 + 4 * length ps') 4 (omega (arith, h.providers.count)) (omega (arith, j.providers.count)) (ap (λ l. take 4 (drop 4 l)) e) in
+    let el : 12 + 4 * length ps ≡ 12 + 4 * length ps' =
+    be-injective (12 + 4 * length ps) (12 + 4 * length ps') 4 (omega (arith, h.providers.count))
+    (omega (arith, j.providers.count)) (ap (λ l. take 4 (drop 4 l)) e) in
     let ec : c ≡ c' = be-injective c c' 4 h.customer j.customer (ap (λ l. take 4 (drop 8 l)) e) in
-    let q = words_same ps ps' r t h.providers.each j.providers.each (omega arith) (ap (drop 12) e) in (
+    let q =
+    words_same ps ps' r t h.providers.each j.providers.each (omega arith) (ap (drop 12) e) in (
       λ m. aspa_unit (record {
         version = byte 0 e m;
         flags = byte 2 e m;
@@ -131,14 +166,19 @@ aspa_same u w r t h j e =
       q.1,
     )
 
-pub fields_same : (u w : Fields) (r s : List ℕ) → Fit u → Fit w → unit_list u ++ r ≡ unit_list w ++ s → Same u w r s
+pub fields_same : (u w : Fields) (r s : List ℕ) → Fit u → Fit w →
+    unit_list u ++ r ≡ unit_list w ++ s → Same u w r s
 fields_same (prefix_unit u) (prefix_unit w) r t h j e = prefix_same u w r t h j e
 fields_same (key_unit u) (key_unit w) r t h j e = key_same u w r t h j e
 fields_same (aspa_unit u) (aspa_unit w) r t h j e = aspa_same u w r t h j e
-fields_same (prefix_unit u) (key_unit w) r t h j e = absurd (other_type u.origin.family (inl (byte 1 e)))
-fields_same (prefix_unit u) (aspa_unit w) r t h j e = absurd (other_type u.origin.family (inr (byte 1 e)))
-fields_same (key_unit u) (prefix_unit w) r t h j e = absurd (other_type w.origin.family (inl (sym (byte 1 e))))
-fields_same (aspa_unit u) (prefix_unit w) r t h j e = absurd (other_type w.origin.family (inr (sym (byte 1 e))))
+fields_same (prefix_unit u) (key_unit w) r t h j e =
+    absurd (other_type u.origin.family (inl (byte 1 e)))
+fields_same (prefix_unit u) (aspa_unit w) r t h j e =
+    absurd (other_type u.origin.family (inr (byte 1 e)))
+fields_same (key_unit u) (prefix_unit w) r t h j e =
+    absurd (other_type w.origin.family (inl (sym (byte 1 e))))
+fields_same (aspa_unit u) (prefix_unit w) r t h j e =
+    absurd (other_type w.origin.family (inr (sym (byte 1 e))))
 fields_same (key_unit u) (aspa_unit w) r t h j e = absurd (let d : _ ≡ _ = byte 1 e in omega arith)
 fields_same (aspa_unit u) (key_unit w) r t h j e = absurd (let d : _ ≡ _ = byte 1 e in omega arith)
 
@@ -166,33 +206,47 @@ flags_of_fields (prefix_unit u) = u.flags
 flags_of_fields (key_unit u) = u.flags
 flags_of_fields (aspa_unit u) = u.flags
 
-written_parts : (v f : ℕ) (p : Payload) → (version_of (written v f p) ≡ v) × (flags_of_fields (written v f p) ≡ f) × (parts_of (written v f p) ≡ p)
+written_parts : (v f : ℕ) (p : Payload) →
+    (version_of (written v f p) ≡ v) × (flags_of_fields (written v f p) ≡ f)
+    × (parts_of (written v f p) ≡ p)
 written_parts v f (origin o) = (refl, refl, refl)
 written_parts v f (key k) = (refl, refl, refl)
 written_parts v f (aspa a) = (refl, refl, refl)
 
-pub written_same : (v f w g : ℕ) (p q : Payload) → written v f p ≡ written w g q → (v ≡ w) × (f ≡ g) × (p ≡ q)
+pub written_same : (v f w g : ℕ) (p q : Payload) → written v f p ≡ written w g q →
+    (v ≡ w) × (f ≡ g) × (p ≡ q)
 written_same v f w g p q e =
     let h = written_parts v f p in
-    let j = written_parts w g q in
-    (sym h.0 ∙ ap version_of e ∙ j.0, sym h.1 ∙ ap flags_of_fields e ∙ j.1, sym h.2 ∙ ap parts_of e ∙ j.2)
+    let j = written_parts w g q in (
+      sym h.0 ∙ ap version_of e ∙ j.0,
+      sym h.1 ∙ ap flags_of_fields e ∙ j.1,
+      sym h.2 ∙ ap parts_of e ∙ j.2,
+    )
 
-pub form_same : (v f : ℕ) (p q : Payload) → IsPayload p → IsPayload q → form v f p ≡ form v f q → p ≡ q
-form_same v f p q hp hq e = (written_same v f v f p q (lists_same (written v f p) (written v f q) (Fit-written v f p hp) (Fit-written v f q hq) e)).2
+pub form_same : (v f : ℕ) (p q : Payload) → IsPayload p → IsPayload q → form v f p ≡ form v f q →
+    p ≡ q
+form_same v f p q hp hq e =
+    (written_same v f v f p q
+    (lists_same (written v f p) (written v f q) (Fit-written v f p hp) (Fit-written v f q hq) e)).2
 
 flags_same : (a b : Action) → flags_of a ≡ flags_of b → a ≡ b
 flags_same Announce Announce e = refl
 flags_same Withdraw Withdraw e = refl
 flags_same a b e = absurd (omega arith)
 
-pub forms_same : (m n : Meaning) (r s : List ℕ) → IsPayload m.payload → IsPayload n.payload → form_of m ++ r ≡ form_of n ++ s → (m ≡ n) × (r ≡ s)
+pub forms_same : (m n : Meaning) (r s : List ℕ) → IsPayload m.payload → IsPayload n.payload →
+    form_of m ++ r ≡ form_of n ++ s → (m ≡ n) × (r ≡ s)
 forms_same m n r s hm hn e =
-    let t = fields_same (written m.version (flags_of m.action) m.payload) (written n.version (flags_of n.action) n.payload) r s (Fit-written _ _ m.payload hm) (Fit-written _ _ n.payload hn) e in
-    let w = written_same m.version (flags_of m.action) n.version (flags_of n.action) m.payload n.payload t.0 in
+    let t = fields_same (written m.version (flags_of m.action) m.payload)
+    (written n.version (flags_of n.action) n.payload) r s (Fit-written _ _ m.payload hm)
+    (Fit-written _ _ n.payload hn) e in
+    let w = written_same m.version (flags_of m.action) n.version (flags_of n.action) m.payload
+    n.payload t.0 in
     let a = flags_same m.action n.action w.1 in
     (λ i. record { version = w.0 i; action = a i; payload = w.2 i }, t.1)
 
-pub units_same : (a b r s : List ℕ) (m n : Meaning) → IsUnit a m → IsUnit b n → a ++ r ≡ b ++ s → (a ≡ b) × (m ≡ n) × (r ≡ s)
+pub units_same : (a b r s : List ℕ) (m n : Meaning) → IsUnit a m → IsUnit b n → a ++ r ≡ b ++ s →
+    (a ≡ b) × (m ≡ n) × (r ≡ s)
 units_same a b r s m n h j e =
     let t = fields_same h.fields j.fields r s h.fits j.fits cc in
     (h.bytes ∙ ap unit_list t.0 ∙ sym j.bytes, h.means ∙ ap meaning t.0 ∙ sym j.means, t.1)
@@ -202,26 +256,35 @@ units_same a b r s m n h j e =
 cleared_none : (w l a : ℕ) → a % 2 ^ (w - l) ≡ 0 → cleared w l a ≡ a
 cleared_none w l a h = omega arith
 
-pub meaning-written : (v f : ℕ) (p : Payload) → IsPayload p → meaning (written v f p) ≡ record { version = v; action = act f; payload = stripped (act f) p }
-meaning-written v f (origin o) h = ap (λ (b : ℕ). record { version = v; action = act f; payload = origin (record o { address = b }) }) (cleared_none (width o.family) o.prefix_len o.address h.host_bits)
+pub meaning-written : (v f : ℕ) (p : Payload) → IsPayload p →
+    meaning (written v f p) ≡ record { version = v; action = act f; payload = stripped (act f) p }
+meaning-written v f (origin o) h =
+    ap
+    (λ (b : ℕ). record { version = v; action = act f; payload = origin (record o { address = b }) })
+    (cleared_none (width o.family) o.prefix_len o.address h.host_bits)
 meaning-written v f (key k) h = refl
 meaning-written v f (aspa a) h = refl
 
 -- ---- the form of a unit's meaning is a unit with that meaning
 
 cleared_again : (p a : ℕ) → 0 < p → (a - a % p) % p ≡ 0
-cleared_again p a h = let e : a - a % p ≡ a / p * p + 0 = omega (arith, div-add-mod' a p) in rw e (mod-mul-add (a / p) p 0 h)
+cleared_again p a h =
+    let e : a - a % p ≡ a / p * p + 0 = omega (arith, div-add-mod' a p) in
+    rw e (mod-mul-add (a / p) p 0 h)
 
 IsAspa-named : (action : Action) (a : AspaParts) → IsAspa a → IsAspa (meant_aspa action a)
 IsAspa-named Announce a h = h
-IsAspa-named Withdraw a h = record { customer = h.customer; providers = record { count = omega arith; each = tt } }
+IsAspa-named Withdraw a h =
+    record { customer = h.customer; providers = record { count = omega arith; each = tt } }
 
 -- what a unit means is a payload
 pub meaning_fits : (u : Fields) → Fit u → LengthsAgree u → IsPayload (meaning u).payload
 meaning_fits (prefix_unit u) h j = record {
   lengths = j;
   address = let less : u.origin.address < 2 ^ width u.origin.family = h.1 in omega arith;
-  host_bits = cleared_again (2 ^ (width u.origin.family - u.origin.prefix_len)) u.origin.address (pow_pos (width u.origin.family - u.origin.prefix_len));
+  host_bits =
+      cleared_again (2 ^ (width u.origin.family - u.origin.prefix_len)) u.origin.address
+      (pow_pos (width u.origin.family - u.origin.prefix_len));
   asn = h.2;
 }
 meaning_fits (key_unit u) h j = h
@@ -239,26 +302,33 @@ named_again Announce ps = refl
 named_again Withdraw ps = refl
 
 -- what a unit means has nothing to strip
-stripped_again : (u : Fields) → stripped (meaning u).action (meaning u).payload ≡ (meaning u).payload
+stripped_again : (u : Fields) →
+    stripped (meaning u).action (meaning u).payload ≡ (meaning u).payload
 stripped_again (prefix_unit u) = refl
 stripped_again (key_unit u) = refl
-stripped_again (aspa_unit u) = ap (λ ps. aspa (record { customer = u.aspa.customer; providers = ps })) (named_again (act u.flags) u.aspa.providers)
+stripped_again (aspa_unit u) =
+    ap (λ ps. aspa (record { customer = u.aspa.customer; providers = ps }))
+    (named_again (act u.flags) u.aspa.providers)
 
-HasProviders-named : (a : Action) (ps : List ℕ) → HasProviders a ps → HasProviders (act (flags_of a)) (named a ps)
+HasProviders-named : (a : Action) (ps : List ℕ) → HasProviders a ps →
+    HasProviders (act (flags_of a)) (named a ps)
 HasProviders-named Announce ps h = h
 HasProviders-named Withdraw ps h = tt
 
-limits_again : (u : Fields) → WithinLimits u → WithinLimits (written (meaning u).version (flags_of (meaning u).action) (meaning u).payload)
+limits_again : (u : Fields) → WithinLimits u →
+    WithinLimits (written (meaning u).version (flags_of (meaning u).action) (meaning u).payload)
 limits_again (prefix_unit u) h = tt
 limits_again (key_unit u) h = h
 limits_again (aspa_unit u) h = HasProviders-named (act u.flags) u.aspa.providers h
 
-lengths_again : (u : Fields) → LengthsAgree u → LengthsAgree (written (meaning u).version (flags_of (meaning u).action) (meaning u).payload)
+lengths_again : (u : Fields) → LengthsAgree u →
+    LengthsAgree (written (meaning u).version (flags_of (meaning u).action) (meaning u).payload)
 lengths_again (prefix_unit u) h = h
 lengths_again (key_unit u) h = tt
 lengths_again (aspa_unit u) h = tt
 
-form_means : (m : Meaning) → IsPayload m.payload → stripped m.action m.payload ≡ m.payload → meaning (written m.version (flags_of m.action) m.payload) ≡ m
+form_means : (m : Meaning) → IsPayload m.payload → stripped m.action m.payload ≡ m.payload →
+    meaning (written m.version (flags_of m.action) m.payload) ≡ m
 form_means m h e =
     let a = act_again m.action in
     meaning-written m.version (flags_of m.action) m.payload h
@@ -272,8 +342,11 @@ flags_byte Announce = omega arith
 flags_byte Withdraw = omega arith
 
 -- four bytes in front of others
-cells_bytes : (a b c d : ℕ) (r : List ℕ) → a < 256 → b < 256 → c < 256 → d < 256 → IsBytes r → IsBytes (a ∷ b ∷ c ∷ d ∷ r)
-cells_bytes a b c d r ha hb hc hd h = IsBytes-cons a (b ∷ c ∷ d ∷ r) ha (IsBytes-cons b (c ∷ d ∷ r) hb (IsBytes-cons c (d ∷ r) hc (IsBytes-cons d r hd h)))
+cells_bytes : (a b c d : ℕ) (r : List ℕ) → a < 256 → b < 256 → c < 256 → d < 256 → IsBytes r →
+    IsBytes (a ∷ b ∷ c ∷ d ∷ r)
+cells_bytes a b c d r ha hb hc hd h =
+    IsBytes-cons a (b ∷ c ∷ d ∷ r) ha
+    (IsBytes-cons b (c ∷ d ∷ r) hb (IsBytes-cons c (d ∷ r) hc (IsBytes-cons d r hd h)))
 
 form_bytes : (u : Fields) → IsBytes (unit_list u) → IsBytes (form_of (meaning u))
 form_bytes (prefix_unit u) h =
@@ -281,24 +354,40 @@ form_bytes (prefix_unit u) h =
     let n = u.origin.asn in
     let cut = cleared (width f) u.origin.prefix_len u.origin.address in
     let address = be cut (address_bytes f) in
-    let tail = IsBytes-append address (be n 4) (IsBytes-be cut (address_bytes f)) (IsBytes-be n 4) in
-    header_bytes u.version (prefix_type f) 0 (prefix_size f) (flags_of (act u.flags) ∷ u.origin.prefix_len ∷ u.origin.max_len ∷ 0 ∷ address ++ be n 4) (h 0) (h 1)
-    (cells_bytes (flags_of (act u.flags)) u.origin.prefix_len u.origin.max_len 0 (address ++ be n 4) (flags_byte (act u.flags)) (h 9) (h 10) (omega arith) tail)
+    let tail =
+    IsBytes-append address (be n 4) (IsBytes-be cut (address_bytes f)) (IsBytes-be n 4) in
+    header_bytes u.version (prefix_type f) 0 (prefix_size f)
+    (flags_of (act u.flags) ∷ u.origin.prefix_len ∷ u.origin.max_len ∷ 0 ∷ address ++ be n 4) (h 0)
+    (h 1)
+    (cells_bytes (flags_of (act u.flags)) u.origin.prefix_len u.origin.max_len 0 (address ++ be n 4)
+    (flags_byte (act u.flags)) (h 9) (h 10) (omega arith) tail)
 form_bytes (key_unit u) h =
-    cells_bytes u.version 9 (flags_of (act u.flags)) 0 (be (32 + length u.key.info) 4 ++ u.key.identifier ++ be u.key.asn 4 ++ u.key.info) (h 0) (omega arith) (flags_byte (act u.flags)) (omega arith)
+    cells_bytes u.version 9 (flags_of (act u.flags)) 0
+    (be (32 + length u.key.info) 4 ++ u.key.identifier ++ be u.key.asn 4 ++ u.key.info) (h 0)
+    (omega arith) (flags_byte (act u.flags)) (omega arith)
     (IsBytes-drop 4 (key_list u) h)
 form_bytes (aspa_unit u) h =
     let c = u.aspa.customer in
     let qs = named (act u.flags) u.aspa.providers in
     let size = be (12 + 4 * length qs) 4 in
     let tail = IsBytes-append (be c 4) (words qs) (IsBytes-be c 4) (IsBytes-words qs) in
-    cells_bytes u.version 11 (flags_of (act u.flags)) 0 (size ++ be c 4 ++ words qs) (h 0) (omega arith) (flags_byte (act u.flags)) (omega arith)
+    cells_bytes u.version 11 (flags_of (act u.flags)) 0 (size ++ be c 4 ++ words qs) (h 0)
+    (omega arith) (flags_byte (act u.flags)) (omega arith)
     (IsBytes-append size (be c 4 ++ words qs) (IsBytes-be (12 + 4 * length qs) 4) tail)
 
 pub form_is_unit : (b : List ℕ) (m : Meaning) → IsUnit b m → IsUnit (form_of m) m
 form_is_unit b m h = rw h.means (record {
-  fields = written (meaning h.fields).version (flags_of (meaning h.fields).action) (meaning h.fields).payload;
-  shape = record { fits = Fit-written _ _ _ (meaning_fits h.fields h.fits h.lengths); limits = limits_again h.fields h.limits; bytes = refl; are_bytes = form_bytes h.fields (subst IsBytes h.bytes h.are_bytes) };
+  fields =
+      written (meaning h.fields).version (flags_of (meaning h.fields).action)
+      (meaning h.fields).payload;
+  shape = record {
+    fits = Fit-written _ _ _ (meaning_fits h.fields h.fits h.lengths);
+    limits = limits_again h.fields h.limits;
+    bytes = refl;
+    are_bytes = form_bytes h.fields (subst IsBytes h.bytes h.are_bytes);
+  };
   lengths = lengths_again h.fields h.lengths;
-  means = sym (form_means (meaning h.fields) (meaning_fits h.fields h.fits h.lengths) (stripped_again h.fields));
+  means =
+      sym (form_means (meaning h.fields) (meaning_fits h.fields h.fits h.lengths)
+      (stripped_again h.fields));
 })

@@ -10,27 +10,34 @@ use Rattle.rtr_units.specs.PrefixUnits.{OriginParts}
 use Rattle.rtr_payload.specs.AspaUnits.{AspaParts}
 use Rattle.rtr_payload.specs.KeyUnits.{KeyParts}
 use Rattle.rtr_payload.specs.Payloads.{Payload, origin, key, aspa}
-use Rattle.rtr_payload.specs.OrderLaws.{payload_exact}
-use Rattle.rtr_payload.specs.Orders.{list_cmp, payload_cmp, payload_total}
+use Rattle.rtr_payload.specs.OrderLaws.{payload_exact, payload_total}
+use Rattle.rtr_payload.specs.Orders.{list_cmp, payload_cmp}
 
 then_equal : (o : Ordering) → ordering_then o Equal ≡ o
 then_equal Less = refl
 then_equal Equal = refl
 then_equal Greater = refl
 
-pub origin_chain : (o p : OriginParts) → payload_cmp (origin o) (origin p)
-    ≡ ordering_then (nat_cmp (ip_version o.family) (ip_version p.family)) (ordering_then (nat_cmp o.address p.address) (ordering_then (nat_cmp o.prefix_len p.prefix_len) (ordering_then (nat_cmp o.max_len p.max_len) (nat_cmp o.asn p.asn))))
+pub origin_chain : (o p : OriginParts) → payload_cmp (origin o) (origin p) ≡
+    ordering_then (nat_cmp (ip_version o.family) (ip_version p.family))
+    (ordering_then (nat_cmp o.address p.address)
+    (ordering_then (nat_cmp o.prefix_len p.prefix_len)
+    (ordering_then (nat_cmp o.max_len p.max_len) (nat_cmp o.asn p.asn))))
 origin_chain o p = simp then_equal
 
-pub key_chain : (k j : KeyParts) → payload_cmp (key k) (key j)
-    ≡ ordering_then (list_cmp k.identifier j.identifier) (ordering_then (nat_cmp k.asn j.asn) (list_cmp k.info j.info))
+pub key_chain : (k j : KeyParts) → payload_cmp (key k) (key j) ≡
+    ordering_then (list_cmp k.identifier j.identifier)
+    (ordering_then (nat_cmp k.asn j.asn) (list_cmp k.info j.info))
 key_chain k j = simp then_equal
 
-pub aspa_chain : (a b : AspaParts) → payload_cmp (aspa a) (aspa b) ≡ ordering_then (nat_cmp a.customer b.customer) (list_cmp a.providers b.providers)
+pub aspa_chain : (a b : AspaParts) →
+    payload_cmp (aspa a) (aspa b) ≡
+    ordering_then (nat_cmp a.customer b.customer) (list_cmp a.providers b.providers)
 aspa_chain a b = simp then_equal
 
 pub payload_same : (p q : Payload) → (payload_cmp p q ≡ Equal) ↔ (p ≡ q)
-payload_same p q = (payload_exact p q, λ e. ap (payload_cmp p) (sym e) ∙ tied_itself payload_total p)
+payload_same p q =
+    (payload_exact p q, λ e. ap (payload_cmp p) (sym e) ∙ tied_itself payload_total p)
 
 -- the test by the order finds out whether payloads are one
 pub payload_decides : (p q : Payload) → Decides (eq_by_cmp payload_cmp p q) (p ≡ q)

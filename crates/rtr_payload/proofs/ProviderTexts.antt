@@ -13,9 +13,11 @@ pub one_more : (t providers : List ℕ) (p : ℕ) →
     (t ++ each_text providers) ++ (codes " " ++ asn_text p) ≡ t ++ each_text (providers ++ p ∷ [])
 one_more t providers p = flat_map_more (λ q. codes " " ++ asn_text q) t providers p
 
-some_providers : (providers : List ℕ) → false ≡ (length providers == 0) → each_text providers ≡ providers_text providers
+some_providers : (providers : List ℕ) → false ≡ (length providers == 0) →
+    each_text providers ≡ providers_text providers
 some_providers [] e = absurd cc
 some_providers (p ∷ providers) e = refl
 
-pub whole_text : (a : Aspa) → false ≡ (length a.providers == 0) → front_text a.customer ++ each_text a.providers ≡ aspa_text a
+pub whole_text : (a : Aspa) → false ≡ (length a.providers == 0) →
+    front_text a.customer ++ each_text a.providers ≡ aspa_text a
 whole_text a e = ap (λ l. front_text a.customer ++ l) (some_providers a.providers e)

@@ -1,14 +1,19 @@
--- Where reading a unit stops: lists that end too early, headers and prefix lengths that are refused.
-use Rattle.std.proofs.Common.{◌≡◌, ℕ, ◌+◌, ◌<◌, ◌≤◌, Bool, cond, List, ◌++◌, length, take, drop, inl, inr, Some, None, refl, sym, ap, ◌∙◌, arith, get_or}
+-- Where reading a unit stops: lists that end too early, headers and prefix
+-- lengths that are refused.
+use Rattle.std.proofs.Common.{◌≡◌, ℕ, ◌<◌, ◌≤◌, Bool, cond, List, ◌++◌, length, take, drop, inl}
+use Rattle.std.proofs.Common.{inr, Some, None, refl, sym, ap, ◌∙◌, arith, get_or}
 use Rattle.std.proofs.lemmas.Bool.{cases_lt, lt-ltb}
 use Rattle.std.proofs.lemmas.Bool.Decides.{nat_tests}
 use Rattle.std.proofs.lemmas.List.{length-append, length-take-le, take-append-drop, take_at}
-use Rattle.rtr_units.specs.Causes.{Refusal, short, unit_type, unit_version, too_long, unit_length, empty_providers, refused}
+use Rattle.rtr_units.specs.Causes.{Refusal, short, unit_type, unit_version}
+use Rattle.rtr_units.specs.Causes.{too_long, unit_length, empty_providers, refused}
 use Rattle.rtr_units.specs.Header.{version_field, type_field, length_field}
 use Rattle.rtr_units.proofs.Headers.{same_header}
-use Rattle.rtr_payload.specs.declared.prefix_rule.PrefixRule.{PrefixRule}
+use Rattle.rtr_payload.specs.declared.pdu.prefix_rule.PrefixRule.{PrefixRule}
 use Rattle.rtr_payload.specs.Refusals.{IsPartial, IsRefused}
-use Rattle.rtr_payload.specs.Steps.{header_fault, header_step, length_step, lengths_fault, frame_fault, first_of, first_unit, taken, rule_of, refuse, refusal_report}
+use Rattle.rtr_payload.specs.Steps.{header_fault, header_step, length_step, lengths_fault}
+use Rattle.rtr_payload.specs.Steps.{frame_fault, first_of, first_unit}
+use Rattle.rtr_payload.specs.Steps.{taken, rule_of, refuse, refusal_report}
 use Rattle.rtr_payload.specs.Units.{Fields, HasFields}
 use Rattle.rtr_payload.proofs.Frames.{Whole, behind_header, same_step, shape_fault, shape_cut}
 
@@ -17,18 +22,14 @@ use Rattle.rtr_payload.proofs.Frames.{Whole, behind_header, same_step, shape_fau
 pub header_short : (h : List ℕ) → length h < 8 → IsPartial h
 header_short h l = grind (arith, nat_tests)
 
-pub unit_short : (h : List ℕ) → 8 ≤ length h → header_step h ≡ None → length h < length_field h → IsPartial h
+pub unit_short : (h : List ℕ) → 8 ≤ length h → header_step h ≡ None → length h < length_field h →
+    IsPartial h
 unit_short h l e less =
     let tail = first_unit h in
-    let frame : frame_fault h ≡ Some short = behind_header h l ∙ ap (λ o. first_of o (length_step h)) e ∙ ap (λ (b : Bool). cond b (Some short) None) (lt-ltb (length h) (length_field h) less) in
+    let frame : frame_fault h ≡ Some short =
+    behind_header h l ∙ ap (λ o. first_of o (length_step h)) e
+    ∙ ap (λ (b : Bool). cond b (Some short) None) (lt-ltb (length h) (length_field h) less) in
     ap (λ o. first_of o (lengths_fault (type_field h) tail)) frame
-
--- eight bytes of a header in order, and less behind them than they say
-pub body_short : (h t : List ℕ) → length h ≡ 8 → header_step h ≡ None → 8 + length t < length_field h → IsPartial (h ++ t)
-body_short h t l e less =
-    let s = same_header h t (omega arith) in
-    let len = length-append h t in
-    unit_short (h ++ t) (omega arith) (same_step h t (omega arith) ∙ e) (omega (arith, s.size))
 
 -- a whole unit or end of data, cut anywhere
 pub cut_short : (b : List ℕ) (n : ℕ) → Whole b → n < length b → IsPartial (take n b)
@@ -41,12 +42,15 @@ cut_short b n w less =
           let all : front ++ drop n b ≡ b = take-append-drop n b in
           let s = same_header front (drop n b) (omega arith) in
           let same : length_field b ≡ length_field front = ap length_field (sym all) ∙ s.size in
-          unit_short front (omega arith) (sym (same_step front (drop n b) (omega arith)) ∙ ap header_step all ∙ w.in_order) (omega (arith, w.size))
+          unit_short front (omega arith)
+          (sym (same_step front (drop n b) (omega arith)) ∙ ap header_step all ∙ w.in_order)
+          (omega (arith, w.size))
     ]
 
 -- ---- a header that is refused
 
-header_takes : (v t g n : ℕ) (f : Refusal) (r : List ℕ) → header_fault v t g n ≡ Some f → taken f r ≡ take 8 r
+header_takes : (v t g n : ℕ) (f : Refusal) (r : List ℕ) → header_fault v t g n ≡ Some f →
+    taken f r ≡ take 8 r
 unfolding header_fault
 header_takes v t g n short r e = absurd (grind (arith, nat_tests))
 header_takes v t g n (unit_type x) r e = refl
@@ -56,17 +60,22 @@ header_takes v t g n unit_length r e = refl
 header_takes v t g n empty_providers r e = refl
 header_takes v t g n (refused x) r e = absurd (grind (arith, nat_tests))
 
-pub header_refused : (h : List ℕ) (f : Refusal) → length h ≡ 8 → header_step h ≡ Some f → IsRefused h f
+pub header_refused : (h : List ℕ) (f : Refusal) → length h ≡ 8 → header_step h ≡ Some f →
+    IsRefused h f
 header_refused h f l e = λ r.
     let all = h ++ r in
     let long : 8 ≤ length all = omega (arith, length-append h r) in
     let step : header_step all ≡ Some f = same_step h r (omega arith) ∙ e in
-    let frame : frame_fault all ≡ Some f = behind_header all long ∙ ap (λ o. first_of o (length_step all)) step in (
+    let frame : frame_fault all ≡ Some f =
+    behind_header all long ∙ ap (λ o. first_of o (length_step all)) step in (
       ap (λ o. first_of o (lengths_fault (type_field all) (first_unit all))) frame,
-      header_takes (version_field all) (type_field all) (get_or all 2 0) (length_field all) f all step ∙ take_at h r 8 l,
+      header_takes (version_field all) (type_field all) (get_or all 2 0) (length_field all) f
+          all step
+          ∙ take_at h r 8 l,
     )
 
 -- ---- prefix lengths that are refused
 
-pub prefix_refused : (b : List ℕ) (u : Fields) (f : PrefixRule) → HasFields b u → rule_of u ≡ Some f → IsRefused b (refused (refusal_report b f))
+pub prefix_refused : (b : List ℕ) (u : Fields) (f : PrefixRule) → HasFields b u →
+    rule_of u ≡ Some f → IsRefused b (refused (refusal_report b f))
 prefix_refused b u f h e = λ r. (shape_fault b r u h ∙ ap (refuse b) e, (shape_cut b r u h).1)

@@ -1,6 +1,6 @@
 -- Why key info could not be made (want of memory beside the Rust crate's limit).
-use Rattle.rtr_payload.specs.declared.key_info.KeyInfoVecError.{KeyInfoVecError}
-use Rattle.rtr_payload.specs.declared.key_info.KeyInfoVecError.TheVariants.{Size, Memory}
+use Rattle.rtr_payload.specs.declared.pdu.key_info.KeyInfoVecError.{KeyInfoVecError}
+use Rattle.rtr_payload.specs.declared.pdu.key_info.KeyInfoVecError.TheVariants.{Size, Memory}
 
 -- there were too many bytes
 abbrev pub IsSize : KeyInfoVecError → Type 0

@@ -1,23 +1,23 @@
--- Payloads that compare as equal are one, so that they are fed alike to a hasher. The impls of Hash
--- take what they cite from `specs` alone; nothing here has to be read to believe a contract.
+-- Payloads are totally ordered, and those that compare as equal are one, so that they are fed alike
+-- to a hasher. Impls take what they cite from `specs` alone; nothing here has to be read to believe
+-- a contract.
 use Rattle.std.proofs.Common.{◌≡◌, ap}
-use Rattle.std.specs.Cmp.{Equal-is}
+use Rattle.std.specs.Cmp.{Equal-is, IsTotalOrder, on_total}
+use Rattle.std.specs.Cmp.Lexicographic.{nat_list_cmp_total, lists_total}
 use Rattle.std.specs.FinMap.{IsAntisymmetric, nat_cmp-IsAntisymmetric, slice_cmp-IsAntisymmetric}
 use Rattle.std.specs.Hash.{Alike, HashWrites}
 use Rattle.std.specs.Ordering.{eq_by_cmp}
-use Rattle.rtr_base.specs.Addresses.{Family, v4, v6, ip_version}
+use Rattle.rtr_base.specs.PrivateLaws.{same_version}
 use Rattle.rtr_payload.specs.Payloads.{Payload, origin, key, aspa}
 use Rattle.rtr_payload.specs.Orders.{parts, payload_cmp}
 
-same_family : (f g : Family) → ip_version f ≡ ip_version g → f ≡ g
-same_family v4 v4 e = λ i. v4
-same_family v4 v6 e = absurd cc
-same_family v6 v4 e = absurd cc
-same_family v6 v6 e = λ i. v6
+-- an instance of std's law on lists
+pub payload_total : IsTotalOrder payload_cmp
+payload_total = on_total parts (lists_total nat_list_cmp_total)
 
 same_parts : (p q : Payload) → parts p ≡ parts q → p ≡ q
 same_parts (origin o) (origin p) e =
-    let family = same_family o.family p.family cc in
+    let family = same_version o.family p.family cc in
     let address : o.address ≡ p.address = cc in
     let prefix_len : o.prefix_len ≡ p.prefix_len = cc in
     let max_len : o.max_len ≡ p.max_len = cc in

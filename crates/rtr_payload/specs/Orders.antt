@@ -3,8 +3,7 @@
 use Rattle.std.specs.Prelude.{ℕ, List, [], ◌∷◌}
 use Rattle.std.specs.declared.cmp.Ordering.{Ordering}
 use Rattle.std.specs.Ordering.{nat_cmp}
-use Rattle.std.specs.Cmp.{IsTotalOrder, on_total}
-use Rattle.std.specs.Cmp.Lexicographic.{slice_cmp, nat_list_cmp_total, lists_total}
+use Rattle.std.specs.Cmp.Lexicographic.{slice_cmp}
 use Rattle.rtr_base.specs.Addresses.{ip_version}
 use Rattle.rtr_payload.specs.Payloads.{Payload, origin, key, aspa, kind_number}
 
@@ -24,7 +23,3 @@ parts (aspa a) = (kind_number (aspa a) ∷ []) ∷ (a.customer ∷ []) ∷ a.pro
 -- the first differing part decides
 abbrev pub payload_cmp : Payload → Payload → Ordering
 payload_cmp p q = slice_cmp list_cmp (parts p) (parts q)
-
--- an instance of std's law on lists
-pub payload_total : IsTotalOrder payload_cmp
-payload_total = on_total parts (lists_total nat_list_cmp_total)

@@ -3,8 +3,8 @@ use Rattle.std.specs.Prelude.{◌≡◌, ℕ, ◌^◌, ◌<◌, ◌≤◌, List,
 use Rattle.std.specs.Iterator.{Yields}
 use Rattle.std.specs.List.{AllByRecursion}
 use Rattle.rtr_base.specs.Bytes.{value, words}
-use Rattle.rtr_payload.specs.declared.providers.ProviderIterError.{ProviderIterError}
-use Rattle.rtr_payload.specs.declared.providers.ProviderIterError.TheVariants.{Count, Memory}
+use Rattle.rtr_payload.specs.declared.pdu.providers.ProviderIterError.{ProviderIterError}
+use Rattle.rtr_payload.specs.declared.pdu.providers.ProviderIterError.TheVariants.{Count, Memory}
 
 -- the numbers that bytes are, four bytes each
 abbrev pub words_of : List ℕ → List ℕ

@@ -5,7 +5,7 @@ use Rattle.rtr_base.specs.Addresses.{width, cleared}
 use Rattle.rtr_units.specs.PrefixUnits.{OriginParts, PrefixFields}
 
 -- the rule on the lengths of a prefix: the max length is not below the prefix length, nor above the
--- number of bits of an address (RFC 8210 section 5.6)
+-- number of bits of an address (RFC 8210 sections 5.1, 5.6 and 5.7)
 abbrev pub LengthsInOrder : OriginParts → Type 0
 LengthsInOrder o = (o.prefix_len ≤ o.max_len) × (o.max_len ≤ width o.family)
 

@@ -18,9 +18,10 @@ use Rattle.rtr_units.specs.Causes.{Refusal, short, unit_type, unit_version, too_
 use Rattle.rtr_units.specs.Causes.{empty_providers, refused}
 use Rattle.rtr_payload.specs.Payloads.{Meaning}
 use Rattle.rtr_payload.specs.Units.{Fields, prefix_unit, key_unit, aspa_unit, IsUnit, Shape}
-use Rattle.rtr_payload.specs.declared.prefix_rule.PrefixRule.{PrefixRule}
-use Rattle.rtr_payload.specs.declared.prefix_rule.PrefixRule.TheVariants.{LenOverflow, MaxOverflow}
-use Rattle.rtr_payload.specs.declared.prefix_rule.PrefixRule.TheVariants.{MaxUnderflow}
+use Rattle.rtr_payload.specs.declared.pdu.prefix_rule.PrefixRule.{PrefixRule}
+use Rattle.rtr_payload.specs.declared.pdu.prefix_rule.PrefixRule.TheVariants.{LenOverflow}
+use Rattle.rtr_payload.specs.declared.pdu.prefix_rule.PrefixRule.TheVariants.{MaxOverflow}
+use Rattle.rtr_payload.specs.declared.pdu.prefix_rule.PrefixRule.TheVariants.{MaxUnderflow}
 
 -- prefixes, ends of data, router keys (RFC 8210 sections 5.6 to 5.8 and 5.10) and ASPA units
 abbrev pub is_known : ℕ → Bool
@@ -72,7 +73,8 @@ abbrev pub refuse : List ℕ → Option PrefixRule → Option Refusal
 refuse u None = None
 refuse u (Some f) = Some (refused (refusal_report u f))
 
--- how the fields of a unit break the rule on the lengths of a prefix (RFC 8210 section 5.6)
+-- how the fields of a unit break the rule on the lengths of a prefix (RFC 8210 sections 5.1, 5.6
+-- and 5.7)
 abbrev pub rule_of : Fields → Option PrefixRule
 rule_of (prefix_unit u) = broken_rule (width u.origin.family) u.origin.prefix_len u.origin.max_len
 rule_of (key_unit u) = None

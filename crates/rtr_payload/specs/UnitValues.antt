@@ -17,14 +17,14 @@ use Rattle.rtr_payload.specs.Steps.{rule_of, refusal_report}
 use Rattle.rtr_payload.specs.Units.{Fields, prefix_unit, key_unit, aspa_unit, HasFields}
 use Rattle.rtr_payload.specs.Units.{LengthsAgree, form, meaning, written}
 use Rattle.rtr_payload.specs.Values.{payload_of}
-use Rattle.rtr_payload.specs.declared.prefix_rule.PrefixRule.{PrefixRule}
+use Rattle.rtr_payload.specs.declared.pdu.prefix_rule.PrefixRule.{PrefixRule}
 use Rattle.rtr_payload.specs.declared.payload.Payload.{Payload as Value}
 use Rattle.rtr_payload.specs.declared.payload.Payload.TheVariants as values
 use Rattle.rtr_payload.specs.declared.payload.PayloadRef.{PayloadRef}
 use Rattle.rtr_payload.specs.declared.payload.PayloadRef.TheVariants as lent
 use Rattle.rtr_payload.specs.Payloads.{Payload as Meant, smallest_version}
-use Rattle.rtr_payload.specs.declared.pdu_payload.Payload.{Payload}
-use Rattle.rtr_payload.specs.declared.pdu_payload.Payload.TheVariants as units
+use Rattle.rtr_payload.specs.declared.pdu.payload.Payload.{Payload}
+use Rattle.rtr_payload.specs.declared.pdu.payload.Payload.TheVariants as units
 
 abbrev pub unit_bytes : Payload → List ℕ
 unit_bytes (units.V4 u) = ipv4_bytes u
@@ -81,8 +81,8 @@ NeedsMemory (units.V6 u) = IsSome (rule_of (prefix_unit (prefix_at v6 (ipv6_byte
 NeedsMemory (units.RouterKey u) = Unit {0}
 NeedsMemory (units.Aspa u) = Unit {0}
 
--- Why the unit has no payload: its prefix breaks a rule (RFC 8210 section 5.6), of which the report
--- tells, or memory was refused (this library's own).
+-- Why the unit has no payload: its prefix breaks a rule (RFC 8210 sections 5.1, 5.6 and 5.7), of
+-- which the report tells, or memory was refused (this library's own).
 abbrev pub HasNoPayload : Payload → Cause → Type 0
 HasNoPayload u (wrong (refused report)) = (rule : PrefixRule) ×
     (rule_of (unit_fields u) ≡ Some rule) × (report ≡ refusal_report (unit_bytes u) rule)

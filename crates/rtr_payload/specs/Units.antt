@@ -44,7 +44,7 @@ WithinLimits (prefix_unit u) = Unit {0}
 WithinLimits (key_unit u) = length u.key.info ≤ 65503
 WithinLimits (aspa_unit u) = HasProviders (act u.flags) u.aspa.providers
 
--- the lengths of a prefix are in order (RFC 8210 section 5.6)
+-- the lengths of a prefix are in order (RFC 8210 sections 5.1, 5.6 and 5.7)
 abbrev pub LengthsAgree : Fields → Type 0
 LengthsAgree (prefix_unit u) = LengthsInOrder u.origin
 LengthsAgree (key_unit u) = Unit {0}

@@ -17,13 +17,11 @@ ghost use Rattle.rtr_payload.specs.UnitValues.{IsWritten, unit_bytes, flags_in, 
 ghost use Rattle.rtr_payload.specs.UnitValues.{HasNoPayload, IsPrefixUnit};
 ghost use Rattle.rtr_payload.specs.Values.{payload_of};
 ghost use Rattle.rtr_payload.specs.declared.payload.Payload.{Payload as Value};
-ghost use Rattle.rtr_payload.specs.declared.pdu_payload.Payload.{Payload as Unit};
+ghost use Rattle.rtr_payload.specs.declared.pdu.payload.Payload.{Payload as Unit};
 ghost use Rattle.rtr_payload.specs.Units.{Fields, fields_like, LengthsAgree, IsUnit, meaning};
 ghost use Rattle.rtr_payload.specs.Units.{form, form_of, written, stripped};
 
-use crate::aspa::Aspa;
-use crate::providers::ProviderAsns;
-use crate::router_key::RouterKey;
+use crate::pdu::{Aspa, ProviderAsns, RouterKey};
 use rtr_units::header::MAX_SIZE;
 
 /// The types of the units, and the limits on their sizes: the bytes of a unit that is read, and the

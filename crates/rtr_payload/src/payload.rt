@@ -12,8 +12,7 @@ mod compare_origins;
 pub mod laws;
 mod texts;
 
-use crate::key_info::RouterKeyInfo;
-use crate::providers::ProviderAsns;
+use crate::pdu::{ProviderAsns, RouterKeyInfo};
 use rtr_base::addr::MaxLenPrefix;
 use rtr_base::asn::Asn;
 use rtr_base::keys::KeyIdentifier;
@@ -135,8 +134,11 @@ impl Aspa {
 /// The kinds of payload.
 #[derive(Clone, Copy, Debug, PartialEq, Eq)]
 pub enum PayloadType {
+    /// A route origin.
     Origin,
+    /// A router key.
     RouterKey,
+    /// An ASPA.
     Aspa,
 }
 

@@ -1,26 +1,22 @@
 //! Key info of router keys.
 
-use crate::expect_equal;
+use crate::made::key_info;
+use crate::{expect_at, expect_equal, expect_same};
 use bytes::Bytes;
 use rtr_payload::pdu::{KeyInfoError, KeyInfoVecError, RouterKeyInfo};
-use rtr_support::hash_of;
-use std::alloc::Global;
 use std::cmp::Ordering;
 use std::test::Fail;
 
 /// The key info of `KEY`.
 pub const INFO: &[u8] = &[0x15, 0x16, 0x17, 0x18];
 
-/// Key info of these bytes.
-pub fn key_info(alloc: Global, info: &[u8]) -> Result<RouterKeyInfo, Fail> {
-    let info = Vec::from_slice(alloc, info)?;
-    Ok(RouterKeyInfo::from_vec(alloc, info)?)
-}
+/// The same, in hex.
+pub const INFO_TEXT: &str = "15 16 17 18";
 
 #[test]
 fn key_info_debug(rt: HostRuntime) -> Result<(), Fail> {
     let alloc = rt.alloc();
-    let info = key_info(alloc, INFO)?;
+    let info = key_info(alloc, INFO_TEXT)?;
     let shown = format!(in alloc; "{info:?}")?;
     expect_equal(&rt, shown.as_str(), "RouterKeyInfo(FRYXGA)");
     Ok(())
@@ -41,31 +37,33 @@ fn key_info_errors(rt: HostRuntime) -> Result<(), Fail> {
 
 #[test]
 fn key_info_bytes(rt: HostRuntime) -> Result<(), Fail> {
-    let alloc = rt.alloc();
-    let info = key_info(alloc, INFO)?;
+    let info = key_info(rt.alloc(), INFO_TEXT)?;
     expect_equal(&rt, info.len(), 4);
     expect_equal(&rt, info.as_slice(), INFO);
-    let same = RouterKeyInfo::new(Bytes::from_static(&[0x15, 0x16, 0x17, 0x18]))?;
-    assert!(rt; same == info);
-    expect_equal(&rt, hash_of(&same), hash_of(&info));
-    let copy = info.clone()?;
-    assert!(rt; copy == info);
     expect_equal(&rt, info.into_bytes().as_slice(), INFO);
     Ok(())
 }
 
 #[test]
+fn equal_key_infos(rt: HostRuntime) -> Result<(), Fail> {
+    let info = key_info(rt.alloc(), INFO_TEXT)?;
+    let shared = Bytes::from_static(&[0x15, 0x16, 0x17, 0x18]);
+    expect_same(&rt, &RouterKeyInfo::new(shared)?, &info);
+    expect_same(&rt, &info.clone()?, &info);
+    Ok(())
+}
+
+#[test]
 fn key_infos_ascend(rt: HostRuntime) -> Result<(), Fail> {
-    let alloc = rt.alloc();
-    let rows: &[(&[u8], &[u8], Ordering)] = &[
-        (&[1], &[1, 0], Ordering::Less),
-        (&[2], &[1, 0], Ordering::Greater),
-        (&[7, 8], &[7, 8], Ordering::Equal),
+    let rows = [
+        ("01", "01 00", Ordering::Less),
+        ("02", "01 00", Ordering::Greater),
+        ("07 08", "07 08", Ordering::Equal),
     ];
     for (left, right, order) in rows {
-        let left = key_info(alloc, left)?;
-        let right = key_info(alloc, right)?;
-        expect_equal(&rt, left.cmp(&right), *order);
+        let info = key_info(rt.alloc(), left)?;
+        let other = key_info(rt.alloc(), right)?;
+        expect_at(&rt, left, info.cmp(&other) == order);
     }
     Ok(())
 }

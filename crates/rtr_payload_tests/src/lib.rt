@@ -22,12 +22,30 @@ mod units;
 mod values;
 
 #[cfg(test)]
+use rtr_support::hash_of;
+#[cfg(test)]
 use std::fmt::Debug;
+#[cfg(test)]
+use std::hash::Hash;
 #[cfg(test)]
 use std::process::Abort;
 
-/// Asserts that the two are equal. A test that calls it is proved sooner than one in which the macro stands.
+/// Asserts that the two are equal. A test that calls it is proved sooner than one in which the
+/// macro stands.
 #[cfg(test)]
 fn expect_equal<T: PartialEq + Debug + Drop>(rt: &impl Abort, left: T, right: T) {
     assert_eq!(rt; left, right);
+}
+
+/// Asserts that the two are equal, and so their hashes.
+#[cfg(test)]
+fn expect_same<T: Eq + Hash>(rt: &impl Abort, left: &T, right: &T) {
+    assert!(rt; left == right);
+    expect_equal(rt, hash_of(left), hash_of(right));
+}
+
+/// Asserts that this holds at a row of a table.
+#[cfg(test)]
+fn expect_at(rt: &impl Abort, row: &str, holds: bool) {
+    assert!(rt; holds, "at {row}");
 }

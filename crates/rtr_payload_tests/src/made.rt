@@ -1,54 +1,111 @@
-//! Meanings for these tests.
+//! Meanings for these tests, written as words between spaces.
 
 use rtr_base::addr::{MaxLenPrefix, Prefix};
 use rtr_base::asn::Asn;
 use rtr_base::keys::KeyIdentifier;
 use rtr_payload::payload::{Aspa, Payload, RouteOrigin, RouterKey};
 use rtr_payload::pdu::{ProviderAsns, RouterKeyInfo};
+use rtr_support::bytes;
+use std::alloc::Global;
+use std::fmt::Debug;
 use std::net::IpAddr;
+use std::str::{FromStr, SplitAsciiWhitespace};
 use std::test::Fail;
 
-/// An origin of this prefix.
-pub fn origin(address: &str, len: u8, max_len: Option<u8>, asn: u32) -> Result<RouteOrigin, Fail> {
-    let prefix = match address.parse::<IpAddr>()? {
-        IpAddr::V4(address) => Prefix::new_v4(address, len)?,
-        IpAddr::V6(address) => Prefix::new_v6(address, len)?,
-    };
-    let prefix = MaxLenPrefix::new(prefix, max_len)?;
-    Ok(RouteOrigin::new(prefix, Asn::from_u32(asn)))
-}
-
-/// A key whose identifier begins with this byte.
-pub fn key(rt: &HostRuntime, first: u8, asn: u32, info: &[u8]) -> Result<RouterKey, Fail> {
-    let mut identifier = [7; 20];
-    identifier[0] = first;
-    let mut bytes = Vec::new(rt.alloc());
-    bytes.extend_from_slice(info)?;
-    let info = RouterKeyInfo::from_vec(rt.alloc(), bytes)?;
-    Ok(RouterKey::new(KeyIdentifier::from(identifier), Asn::from_u32(asn), info))
-}
-
-/// An ASPA of these providers.
-pub fn aspa(rt: &HostRuntime, customer: u32, providers: &[u32]) -> Result<Aspa, Fail> {
-    let asns = providers.iter().copied().map(Asn::from_u32);
-    let providers = ProviderAsns::try_from_iter(rt.alloc(), asns)?;
-    Ok(Aspa::new(Asn::from_u32(customer), providers))
-}
-
 /// Payloads, each less than the next.
-pub fn ascending(rt: &HostRuntime) -> Result<Vec<Payload>, Fail> {
-    let mut payloads = Vec::new(rt.alloc());
-    payloads.push(Payload::from(origin("10.0.0.0", 8, Some(8), 5)?))?;
-    payloads.push(Payload::from(origin("10.0.0.0", 8, Some(24), 1)?))?;
-    payloads.push(Payload::from(origin("10.0.0.0", 16, None, 0)?))?;
-    payloads.push(Payload::from(origin("::", 0, None, 0)?))?;
-    payloads.push(Payload::from(key(rt, 1, 9, &[255])?))?;
-    payloads.push(Payload::from(key(rt, 1, 9, &[255, 0])?))?;
-    payloads.push(Payload::from(key(rt, 1, 256, &[])?))?;
-    payloads.push(Payload::from(key(rt, 2, 0, &[])?))?;
-    payloads.push(Payload::from(aspa(rt, 0, &[1])?))?;
-    payloads.push(Payload::from(aspa(rt, 0, &[1, 0])?))?;
-    payloads.push(Payload::from(aspa(rt, 0, &[256])?))?;
-    payloads.push(Payload::from(aspa(rt, 1, &[])?))?;
+pub const ASCENDING: &str = "\
+origin 5 10.0.0.0 8 8
+origin 1 10.0.0.0 8 24
+origin 0 10.0.0.0 16
+origin 0 :: 0
+key 9 1 ff
+key 9 1 ff00
+key 256 1
+key 0 2
+aspa 0 1
+aspa 0 1 0
+aspa 0 256
+aspa 1";
+
+/// The next word, as a value of its type.
+fn next<T: FromStr>(words: &mut SplitAsciiWhitespace<'_>) -> Result<T, Fail>
+where
+    T::Err: Debug + Drop,
+{
+    let word = words.next().ok_or("a word is missing")?;
+    Ok(word.parse()?)
+}
+
+/// A prefix of an address and a length.
+fn prefix(words: &mut SplitAsciiWhitespace<'_>) -> Result<Prefix, Fail> {
+    let address: IpAddr = next(words)?;
+    let len = next(words)?;
+    match address {
+        IpAddr::V4(address) => Ok(Prefix::new_v4(address, len)?),
+        IpAddr::V6(address) => Ok(Prefix::new_v6(address, len)?),
+    }
+}
+
+/// An origin of an ASN, a prefix, and the max length where one is given.
+pub fn origin(text: &str) -> Result<RouteOrigin, Fail> {
+    let words = &mut text.split_ascii_whitespace();
+    let asn = Asn::from_u32(next(words)?);
+    let prefix = prefix(words)?;
+    let max_len = match words.next() {
+        Some(word) => Some(word.parse()?),
+        None => None,
+    };
+    Ok(RouteOrigin::new(MaxLenPrefix::new(prefix, max_len)?, asn))
+}
+
+/// Key info written as hex.
+pub fn key_info(alloc: Global, text: &str) -> Result<RouterKeyInfo, Fail> {
+    let info = bytes(alloc, &[text])?;
+    Ok(RouterKeyInfo::from_vec(alloc, info)?)
+}
+
+/// A key of an ASN, the first byte of its identifier, and the key info where it isn't empty.
+pub fn key(alloc: Global, text: &str) -> Result<RouterKey, Fail> {
+    let words = &mut text.split_ascii_whitespace();
+    let asn = Asn::from_u32(next(words)?);
+    let mut identifier = [7; 20];
+    identifier[0] = next(words)?;
+    let info = key_info(alloc, words.next().unwrap_or(""))?;
+    Ok(RouterKey::new(KeyIdentifier::from(identifier), asn, info))
+}
+
+/// Providers of these numbers.
+pub fn providers(alloc: Global, text: &str) -> Result<ProviderAsns, Fail> {
+    let mut asns = Vec::new(alloc);
+    for word in text.split_ascii_whitespace() {
+        asns.push(Asn::from_u32(word.parse()?))?;
+    }
+    Ok(ProviderAsns::try_from_iter(alloc, asns.iter().copied())?)
+}
+
+/// An ASPA of a customer and its providers.
+pub fn aspa(alloc: Global, text: &str) -> Result<Aspa, Fail> {
+    let (customer, named) = text.split_once(' ').unwrap_or((text, ""));
+    let customer = Asn::from_u32(customer.parse()?);
+    Ok(Aspa::new(customer, providers(alloc, named)?))
+}
+
+/// A payload of its type and its part.
+pub fn payload(alloc: Global, text: &str) -> Result<Payload, Fail> {
+    let (kind, part) = text.split_once(' ').ok_or("a payload of one word")?;
+    match kind {
+        "origin" => Ok(Payload::from(origin(part)?)),
+        "key" => Ok(Payload::from(key(alloc, part)?)),
+        "aspa" => Ok(Payload::from(aspa(alloc, part)?)),
+        _ => Err(Fail::new("a payload of no type")),
+    }
+}
+
+/// The payloads of these lines.
+pub fn payloads(alloc: Global, lines: &str) -> Result<Vec<Payload>, Fail> {
+    let mut payloads = Vec::new(alloc);
+    for line in lines.lines() {
+        payloads.push(payload(alloc, line)?)?;
+    }
     Ok(payloads)
 }

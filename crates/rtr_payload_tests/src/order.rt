@@ -1,7 +1,7 @@
 //! The order of meanings.
 
 use crate::expect_equal;
-use crate::made::ascending;
+use crate::made::{ASCENDING, payloads};
 use rtr_payload::payload::Payload;
 use rtr_support::hash_of;
 use std::cmp::Ordering;
@@ -25,7 +25,7 @@ fn expect_place(rt: &impl Abort, payloads: &[Payload], i: usize, left: &Payload)
 
 #[test]
 fn payloads_ascend(rt: HostRuntime) -> Result<(), Fail> {
-    let payloads = ascending(&rt)?;
+    let payloads = payloads(rt.alloc(), ASCENDING)?;
     for (i, left) in payloads.iter().enumerate() {
         expect_place(&rt, &payloads, i, left);
         assert_eq!(rt; hash_of(left), hash_of(&left.as_ref()), "at {i}");

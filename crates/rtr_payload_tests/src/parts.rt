@@ -1,88 +1,102 @@
 //! Parts of payloads, lent and cloned.
 
-use crate::expect_equal;
-use crate::made::{ascending, aspa, key, origin};
-use rtr_payload::payload::{Payload, PayloadRef, PayloadType};
-use rtr_support::hash_of;
+use crate::made::{ASCENDING, aspa, key, origin, payload, payloads};
+use crate::{expect_at, expect_equal, expect_same};
+use rtr_payload::payload::{Aspa, Payload, PayloadRef, PayloadType, RouteOrigin, RouterKey};
+use std::process::Abort;
 use std::test::Fail;
+
+/// The payload's part, lent.
+fn lent(payload: &Payload) -> PayloadRef<'_> {
+    match payload {
+        Payload::Origin(origin) => PayloadRef::from(origin),
+        Payload::RouterKey(key) => PayloadRef::from(key),
+        Payload::Aspa(aspa) => PayloadRef::from(aspa),
+    }
+}
+
+#[test]
+fn parts_are_lent(rt: HostRuntime) -> Result<(), Fail> {
+    for text in "origin 65551 192.0.2.0 23 26\nkey 9 1 15\naspa 1 2 3".lines() {
+        let one = payload(rt.alloc(), text)?;
+        let same = payload(rt.alloc(), text)?;
+        expect_at(&rt, text, lent(&one) == same.as_ref());
+    }
+    Ok(())
+}
 
 #[test]
 fn origins_are_lent(rt: HostRuntime) -> Result<(), Fail> {
-    let origin = origin("192.0.2.0", 23, Some(26), 65551)?;
+    let origin = origin("65551 192.0.2.0 23 26")?;
     let payload = Payload::from(origin);
     assert!(rt; PayloadRef::from(origin) == payload.as_ref());
     assert!(rt; PayloadRef::from(&origin) == payload.as_ref());
     Ok(())
 }
 
-#[test]
-fn keys_are_lent(rt: HostRuntime) -> Result<(), Fail> {
-    let (one, same) = (key(&rt, 1, 9, &[21])?, key(&rt, 1, 9, &[21])?);
-    let payload = Payload::from(same);
-    assert!(rt; PayloadRef::from(&one) == payload.as_ref());
-    Ok(())
-}
-
-#[test]
-fn aspas_are_lent(rt: HostRuntime) -> Result<(), Fail> {
-    let (one, same) = (aspa(&rt, 1, &[2, 3])?, aspa(&rt, 1, &[2, 3])?);
-    let payload = Payload::from(same);
-    assert!(rt; PayloadRef::from(&one) == payload.as_ref());
-    Ok(())
+/// Asserts what a payload is made of: its type, and the one part that it has.
+fn expect_parts(
+    rt: &impl Abort,
+    payload: &Payload,
+    kind: PayloadType,
+    origin: Option<RouteOrigin>,
+    key: Option<&RouterKey>,
+    aspa: Option<&Aspa>,
+) {
+    expect_equal(rt, payload.payload_type(), kind);
+    assert!(rt; payload.to_origin() == origin);
+    assert!(rt; payload.as_router_key() == key);
+    assert!(rt; payload.as_aspa() == aspa);
 }
 
 #[test]
 fn parts_of_an_origin(rt: HostRuntime) -> Result<(), Fail> {
-    let origin = origin("192.0.2.0", 23, Some(26), 65551)?;
+    let origin = origin("65551 192.0.2.0 23 26")?;
     let payload = Payload::origin(origin.prefix, origin.asn);
-    expect_equal(&rt, payload.payload_type(), PayloadType::Origin);
-    assert!(rt; payload.to_origin() == Some(origin));
-    assert!(rt; payload.as_router_key().is_none());
-    assert!(rt; payload.as_aspa().is_none());
+    expect_parts(&rt, &payload, PayloadType::Origin, Some(origin), None, None);
     Ok(())
 }
 
 #[test]
 fn parts_of_a_key(rt: HostRuntime) -> Result<(), Fail> {
-    let key = key(&rt, 1, 65551, &[21, 22, 23, 24])?;
+    let key = key(rt.alloc(), "65551 1 15161718")?;
     let same = key.clone()?;
     let payload = Payload::router_key(same.key_identifier, same.asn, same.key_info);
-    expect_equal(&rt, payload.payload_type(), PayloadType::RouterKey);
-    assert!(rt; payload.to_origin().is_none());
-    assert!(rt; payload.as_router_key() == Some(&key));
-    assert!(rt; payload.as_aspa().is_none());
+    expect_parts(
+        &rt,
+        &payload,
+        PayloadType::RouterKey,
+        None,
+        Some(&key),
+        None,
+    );
     Ok(())
 }
 
 #[test]
 fn parts_of_an_aspa(rt: HostRuntime) -> Result<(), Fail> {
-    let aspa = aspa(&rt, 65551, &[65549, 65550])?;
+    let aspa = aspa(rt.alloc(), "65551 65549 65550")?;
     let same = aspa.clone()?;
     let payload = Payload::aspa(same.customer, same.providers);
-    expect_equal(&rt, payload.payload_type(), PayloadType::Aspa);
-    assert!(rt; payload.to_origin().is_none());
-    assert!(rt; payload.as_router_key().is_none());
-    assert!(rt; payload.as_aspa() == Some(&aspa));
+    expect_parts(&rt, &payload, PayloadType::Aspa, None, None, Some(&aspa));
     Ok(())
 }
 
 #[test]
 fn clones_are_equal(rt: HostRuntime) -> Result<(), Fail> {
-    for payload in &ascending(&rt)? {
-        let clone = payload.clone()?;
-        assert!(rt; clone == *payload);
-        expect_equal(&rt, hash_of(&clone), hash_of(payload));
+    for payload in &payloads(rt.alloc(), ASCENDING)? {
+        expect_same(&rt, &payload.clone()?, payload);
     }
     Ok(())
 }
 
 #[test]
 fn withdrawals(rt: HostRuntime) -> Result<(), Fail> {
-    let aspa = aspa(&rt, 65551, &[65549, 65550])?;
+    let aspa = aspa(rt.alloc(), "65551 65549 65550")?;
     let withdrawn = aspa.withdraw(rt.alloc())?;
     expect_equal(&rt, withdrawn.key(), aspa.key());
     expect_equal(&rt, withdrawn.customer.into_u32(), 65551);
-    assert!(rt; withdrawn.providers.is_empty());
+    expect_equal(&rt, withdrawn.providers.is_empty(), true);
     expect_equal(&rt, aspa.providers.asn_count(), 2);
     Ok(())
 }

@@ -1,18 +1,13 @@
 //! Providers of ASPA units.
 
-use crate::expect_equal;
+use crate::made::providers;
+use crate::{expect_at, expect_equal};
 use rtr_base::asn::Asn;
 use rtr_payload::pdu::{ProviderAsns, ProviderIterError};
 use std::alloc::Global;
 use std::cell::Cell;
 use std::cmp::Ordering;
 use std::test::Fail;
-
-/// Providers of these numbers.
-pub fn providers(alloc: Global, asns: &[u32]) -> Result<ProviderAsns, Fail> {
-    let asns = asns.iter().map(|asn| Asn::from_u32(*asn));
-    Ok(ProviderAsns::try_from_iter(alloc, asns)?)
-}
 
 /// So many ASNs, and how many were asked for. Its hint is the whole number.
 #[derive(Drop)]
@@ -79,7 +74,7 @@ fn provider_count(rt: HostRuntime) -> Result<(), Fail> {
 
 #[test]
 fn providers_in_their_order(rt: HostRuntime) -> Result<(), Fail> {
-    let named = providers(rt.alloc(), &[7, 5, 7])?;
+    let named = providers(rt.alloc(), "7 5 7")?;
     let mut each = named.iter();
     for asn in [7, 5, 7] {
         expect_equal(&rt, each.next(), Some(Asn::from_u32(asn)));
@@ -93,7 +88,7 @@ fn providers_in_their_order(rt: HostRuntime) -> Result<(), Fail> {
 #[test]
 fn providers_debug(rt: HostRuntime) -> Result<(), Fail> {
     let alloc = rt.alloc();
-    let named = providers(alloc, &[7, 5, 7])?;
+    let named = providers(alloc, "7 5 7")?;
     let items = [Asn::from_u32(7), Asn::from_u32(5), Asn::from_u32(7)];
     let shown = format!(in alloc; "{named:?}")?;
     let wanted = format!(in alloc; "{:?}", items.as_slice())?;
@@ -103,19 +98,23 @@ fn providers_debug(rt: HostRuntime) -> Result<(), Fail> {
 
 #[test]
 fn provider_lists_ascend(rt: HostRuntime) -> Result<(), Fail> {
-    let alloc = rt.alloc();
-    let rows: &[(&[u32], &[u32], Ordering)] = &[
-        (&[1], &[1, 0], Ordering::Less),
-        (&[1, 0], &[256], Ordering::Less),
-        (&[256], &[1], Ordering::Greater),
-        (&[7, 5], &[7, 5], Ordering::Equal),
+    let rows = [
+        ("1", "1 0", Ordering::Less),
+        ("1 0", "256", Ordering::Less),
+        ("256", "1", Ordering::Greater),
+        ("7 5", "7 5", Ordering::Equal),
     ];
     for (left, right, order) in rows {
-        let left = providers(alloc, left)?;
-        let right = providers(alloc, right)?;
-        expect_equal(&rt, left.cmp(&right), *order);
+        let named = providers(rt.alloc(), left)?;
+        let other = providers(rt.alloc(), right)?;
+        expect_at(&rt, left, named.cmp(&other) == order);
     }
-    let text = ProviderIterError::Memory.to_string(alloc)?;
+    Ok(())
+}
+
+#[test]
+fn providers_without_memory(rt: HostRuntime) -> Result<(), Fail> {
+    let text = ProviderIterError::Memory.to_string(rt.alloc())?;
     expect_equal(&rt, text.as_str(), "out of memory");
     Ok(())
 }

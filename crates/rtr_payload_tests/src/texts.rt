@@ -1,7 +1,7 @@
 //! Texts of payloads.
 
 use crate::expect_equal;
-use crate::made::{aspa, key, origin};
+use crate::made::payload;
 use rtr_payload::payload::Payload;
 use std::alloc::Global;
 use std::fmt::Display;
@@ -22,55 +22,38 @@ fn expect_text<T: Display>(
     Ok(())
 }
 
+/// The same of what is written of the payload's part.
+fn expect_part_text(
+    rt: &impl Abort,
+    alloc: Global,
+    payload: &Payload,
+    want: &str,
+) -> Result<(), Fail> {
+    match payload {
+        Payload::Origin(origin) => expect_text(rt, alloc, origin, want),
+        Payload::RouterKey(key) => expect_text(rt, alloc, key, want),
+        Payload::Aspa(aspa) => expect_text(rt, alloc, aspa, want),
+    }
+}
+
+/// Payloads, and their texts.
+const TEXTS: &str = "\
+origin 65551 192.0.2.0 23 26 = 192.0.2.0/23-26 AS65551
+origin 65551 192.0.2.0 23 23 = 192.0.2.0/23-23 AS65551
+origin 0 192.0.2.0 23 = 192.0.2.0/23 AS0
+origin 4294967295 2001:db8:: 32 48 = 2001:db8::/32-48 AS4294967295
+key 64496 90 fbff = router key 5a07070707070707070707070707070707070707 AS64496 -_8
+aspa 64496 = ASPA AS64496: no providers
+aspa 64496 64497 = ASPA AS64496: AS64497
+aspa 64496 64498 64497 = ASPA AS64496: AS64498 AS64497";
+
 #[test]
-fn texts_of_origins(rt: HostRuntime) -> Result<(), Fail> {
-    #[rattlefmt::skip]
-    let origins = [
-        ("192.0.2.0", 23, Some(26), 65551, "192.0.2.0/23-26 AS65551"),
-        ("192.0.2.0", 23, Some(23), 65551, "192.0.2.0/23-23 AS65551"),
-        ("192.0.2.0", 23, None, 0, "192.0.2.0/23 AS0"),
-        ("2001:db8::", 32, Some(48), 4294967295, "2001:db8::/32-48 AS4294967295"),
-    ];
-    for (address, len, max_len, asn, text) in origins {
-        let origin = origin(address, len, max_len, asn)?;
-        expect_text(&rt, rt.alloc(), &origin, text)?;
-        expect_text(&rt, rt.alloc(), &Payload::from(origin), text)?;
+fn texts_of_payloads(rt: HostRuntime) -> Result<(), Fail> {
+    for row in TEXTS.lines() {
+        let (text, want) = row.split_once(" = ").ok_or("no text")?;
+        let payload = payload(rt.alloc(), text)?;
+        expect_text(&rt, rt.alloc(), &payload, want)?;
+        expect_part_text(&rt, rt.alloc(), &payload, want)?;
     }
     Ok(())
-}
-
-#[test]
-fn texts_of_keys(rt: HostRuntime) -> Result<(), Fail> {
-    let text = "router key 5a07070707070707070707070707070707070707 AS64496 -_8";
-    expect_text(
-        &rt,
-        rt.alloc(),
-        &key(&rt, 0x5a, 64496, &[0xfb, 0xff])?,
-        text,
-    )?;
-    expect_text(
-        &rt,
-        rt.alloc(),
-        &Payload::from(key(&rt, 0x5a, 64496, &[0xfb, 0xff])?),
-        text,
-    )
-}
-
-#[test]
-fn texts_of_aspas(rt: HostRuntime) -> Result<(), Fail> {
-    let none = "ASPA AS64496: no providers";
-    expect_text(&rt, rt.alloc(), &aspa(&rt, 64496, &[])?, none)?;
-    expect_text(
-        &rt,
-        rt.alloc(),
-        &aspa(&rt, 64496, &[64497])?,
-        "ASPA AS64496: AS64497",
-    )?;
-    let two = "ASPA AS64496: AS64498 AS64497";
-    expect_text(
-        &rt,
-        rt.alloc(),
-        &Payload::from(aspa(&rt, 64496, &[64498, 64497])?),
-        two,
-    )
 }

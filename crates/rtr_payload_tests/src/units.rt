@@ -1,28 +1,29 @@
 //! Router keys and ASPA units.
 
-use crate::expect_equal;
-use crate::keys::{INFO, key_info};
-use crate::providers::providers;
+use crate::keys::{INFO, INFO_TEXT};
+use crate::made::{key_info, providers};
 use crate::values::IDENTIFIER;
+use crate::{expect_equal, expect_same};
 use rtr_base::asn::Asn;
 use rtr_payload::pdu::{Aspa, ProviderAsns, RouterKey, RouterKeyInfo};
-use rtr_support::{ASPA_BARE, KEY, Recorder, bytes, filler, hash_of};
+use rtr_support::{ASPA_BARE, KEY, Recorder, bytes, filler};
 use rtr_units::fault::Fault;
 use rtr_units::source::{Counted, SliceSource};
 use std::alloc::Global;
+use std::process::Abort;
 use std::test::Fail;
 
 /// The announcement that `ASPA_NAMED` would be.
 const ASPA: &str = "02 0b 01 00 00 00 00 14 00 01 00 0f 00 01 00 0d 00 01 00 0e";
 
 fn key(alloc: Global, flags: u8) -> Result<RouterKey, Fail> {
-    let info = key_info(alloc, INFO)?;
+    let info = key_info(alloc, INFO_TEXT)?;
     let asn = Asn::from_u32(65551);
     Ok(RouterKey::new(1, flags, IDENTIFIER, asn, info))
 }
 
 fn aspa(alloc: Global, flags: u8) -> Result<Aspa, Fail> {
-    let named = providers(alloc, &[65549, 65550])?;
+    let named = providers(alloc, "65549 65550")?;
     Ok(Aspa::new(2, flags, Asn::from_u32(65551), named))
 }
 
@@ -32,36 +33,41 @@ fn written_key(alloc: Global, unit: &RouterKey) -> Result<Vec<u8>, Fail> {
     Ok(writer.into_inner().into_held())
 }
 
-fn written_aspa(alloc: Global, unit: &Aspa) -> Result<Vec<u8>, Fail> {
+/// Asserts that the key is written as these bytes, and read back of them.
+fn expect_key(rt: &impl Abort, alloc: Global, unit: &RouterKey, text: &str) -> Result<(), Fail> {
+    let want = bytes(alloc, &[text])?;
+    expect_equal(rt, written_key(alloc, unit)?.as_slice(), want.as_slice());
+    let read = RouterKey::read(alloc, &mut SliceSource::new(&want))?;
+    expect_same(rt, &read, unit);
+    Ok(())
+}
+
+/// The same of an ASPA.
+fn expect_aspa(rt: &impl Abort, alloc: Global, unit: &Aspa, text: &str) -> Result<(), Fail> {
+    let want = bytes(alloc, &[text])?;
     let mut writer = Counted::new(Recorder::new(alloc, usize::MAX));
     unit.write(&mut writer)?;
-    Ok(writer.into_inner().into_held())
+    expect_equal(rt, writer.into_inner().held(), want.as_slice());
+    let read = Aspa::read(alloc, &mut SliceSource::new(&want))?;
+    expect_same(rt, &read, unit);
+    Ok(())
 }
 
 #[test]
 fn read_write_router_key(rt: HostRuntime) -> Result<(), Fail> {
-    let alloc = rt.alloc();
-    let vector = bytes(alloc, &[KEY])?;
-    let made = key(alloc, 1)?;
-    let written = written_key(alloc, &made)?;
-    expect_equal(&rt, written.as_slice(), vector.as_slice());
-    let read = RouterKey::read(alloc, &mut SliceSource::new(&vector))?;
-    assert!(rt; read == made);
-    expect_equal(&rt, hash_of(&read), hash_of(&made));
-    Ok(())
+    expect_key(&rt, rt.alloc(), &key(rt.alloc(), 1)?, KEY)
 }
 
 #[test]
 fn read_write_aspa(rt: HostRuntime) -> Result<(), Fail> {
-    let alloc = rt.alloc();
-    let vector = bytes(alloc, &[ASPA])?;
-    let made = aspa(alloc, 1)?;
-    let written = written_aspa(alloc, &made)?;
-    expect_equal(&rt, written.as_slice(), vector.as_slice());
-    let read = Aspa::read(alloc, &mut SliceSource::new(&vector))?;
-    assert!(rt; read == made);
-    expect_equal(&rt, hash_of(&read), hash_of(&made));
-    Ok(())
+    expect_aspa(&rt, rt.alloc(), &aspa(rt.alloc(), 1)?, ASPA)
+}
+
+#[test]
+fn withdrawal_without_providers(rt: HostRuntime) -> Result<(), Fail> {
+    let none = ProviderAsns::empty(rt.alloc())?;
+    let unit = Aspa::new(2, 0, Asn::from_u32(65551), none);
+    expect_aspa(&rt, rt.alloc(), &unit, ASPA_BARE)
 }
 
 #[test]
@@ -89,46 +95,29 @@ fn aspa_fields(rt: HostRuntime) -> Result<(), Fail> {
 }
 
 #[test]
-fn router_key_flags(rt: HostRuntime) -> Result<(), Fail> {
+fn flags_are_kept(rt: HostRuntime) -> Result<(), Fail> {
     for flags in [0, 1, 128, 255] {
-        let unit = key(rt.alloc(), flags)?;
-        expect_equal(&rt, unit.flags(), flags);
+        expect_equal(&rt, key(rt.alloc(), flags)?.flags(), flags);
+        expect_equal(&rt, aspa(rt.alloc(), flags)?.flags(), flags);
     }
     Ok(())
 }
 
-#[test]
-fn aspa_flags(rt: HostRuntime) -> Result<(), Fail> {
-    for flags in [0, 1, 128, 255] {
-        let unit = aspa(rt.alloc(), flags)?;
-        expect_equal(&rt, unit.flags(), flags);
-    }
-    Ok(())
+/// A router key unit that is longer than what is read.
+fn long_key(alloc: Global) -> Result<RouterKey, Fail> {
+    let info = RouterKeyInfo::from_vec(alloc, filler(alloc, 65504)?)?;
+    Ok(RouterKey::new(1, 1, IDENTIFIER, Asn::from_u32(65551), info))
 }
 
 #[test]
 fn made_and_not_read_back(rt: HostRuntime) -> Result<(), Fail> {
-    let alloc = rt.alloc();
-    let info = RouterKeyInfo::from_vec(alloc, filler(alloc, 65504)?)?;
-    let unit = RouterKey::new(1, 1, IDENTIFIER, Asn::from_u32(65551), info);
+    let unit = long_key(rt.alloc())?;
     expect_equal(&rt, unit.size(), 65536);
-    let written = written_key(alloc, &unit)?;
+    let written = written_key(rt.alloc(), &unit)?;
     let mut reader = SliceSource::new(&written);
-    let answer = RouterKey::read(alloc, &mut reader);
+    let answer = RouterKey::read(rt.alloc(), &mut reader);
     assert!(rt; matches!(answer, Err(Fault::TooLong)));
     expect_equal(&rt, reader.rest().len(), 65528);
-    Ok(())
-}
-
-#[test]
-fn withdrawal_without_providers(rt: HostRuntime) -> Result<(), Fail> {
-    let alloc = rt.alloc();
-    let unit = Aspa::new(2, 0, Asn::from_u32(65551), ProviderAsns::empty(alloc)?);
-    let written = written_aspa(alloc, &unit)?;
-    let bare = bytes(alloc, &[ASPA_BARE])?;
-    expect_equal(&rt, written.as_slice(), bare.as_slice());
-    let read = Aspa::read(alloc, &mut SliceSource::new(&written))?;
-    assert!(rt; read == unit);
     Ok(())
 }
 

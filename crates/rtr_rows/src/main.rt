@@ -10,19 +10,7 @@
 //! `refused` and which of its answers that is.
 #![tactic(auto)]
 
-mod answer;
-mod call;
-mod fixed;
-mod into;
-mod meanings;
-mod parts;
-mod payloads;
-mod row;
-mod sequences;
-mod session;
 mod table;
-mod variable;
-mod views;
 
 use crate::table::Table;
 use std::env;

@@ -1,13 +1,18 @@
 -- Where reading a unit of any type stops, by what reading one of its type says.
-use Rattle.std.proofs.Common.{◌≡◌, ℕ, ◌<◌, ◌≤◌, ◌⊎◌, List, [], ◌++◌, length, get_or, Option, Some, Err, refl, sym, ap, ◌∙◌, arith, inl, inr, length-append}
-use Rattle.std.specs.Prelude.{IsTrue, ◌==◌, ◌||◌}
+use Rattle.std.proofs.Common.{◌≡◌, ℕ, ◌<◌, ◌≤◌, ◌⊎◌, List, [], ◌++◌, length, get_or, Option, Some}
+use Rattle.std.proofs.Common.{Err, refl, sym, ap, ◌∙◌, arith, inl, inr, length-append}
+use Rattle.std.specs.Prelude.{IsTrue, ◌==◌, ◌&&◌, ◌||◌}
+use Rattle.std.specs.Io.KnownBytes.{Consumes}
 use Rattle.std.proofs.lemmas.Bool.Decides.{nat_tests}
 use Rattle.rtr_base.specs.Addresses.{v4, v6}
-use Rattle.rtr_units.specs.Causes.{short, unit_type, unit_version, too_long, unit_length, empty_providers, refused, Cause, by_reader, by_writer, too_many, no_memory, wrong, cause_of}
+use Rattle.rtr_units.specs.Causes.{short, unit_type, unit_version, too_long, unit_length}
+use Rattle.rtr_units.specs.Causes.{empty_providers, refused, Cause, by_reader, by_writer, too_many}
+use Rattle.rtr_units.specs.Causes.{no_memory, wrong, cause_of}
 use Rattle.rtr_units.specs.declared.fault.Fault.{Fault}
 use Rattle.rtr_units.specs.Ends.{end_unit}
 use Rattle.rtr_units.specs.Header.{version_field, type_field, length_field}
-use Rattle.rtr_units.specs.Reading.{Kind, exact_length, least_length, of_size, ReadsAfter, Stops, Takes}
+use Rattle.rtr_units.specs.Reading.{Kind, exact_length, least_length}
+use Rattle.rtr_units.specs.Reading.{of_size, ReadsAfter, Stops, Takes}
 use Rattle.rtr_units.specs.Stream.{FallsShort, ReaderState}
 use Rattle.rtr_units.proofs.Headers.{same_header}
 use Rattle.rtr_units.proofs.UnitsRead.{AlikeAfter, alike_stops, header_stops, at_header, typed_is}
@@ -16,7 +21,7 @@ use Rattle.rtr_payload.specs.UnitKinds.{variable_unit, payload_unit}
 use Rattle.rtr_payload.proofs.Reading.{prefix_alike, end_alike, key_alike, aspa_alike}
 use Rattle.rtr_session.specs.Headers.{any_header_fault, session_unit, report_unit, report_sized}
 use Rattle.rtr_session.specs.Reads.{ReadsAnyAfter, StopsInAny}
-use Rattle.rtr_session.specs.Reports.{StopsInReport}
+use Rattle.rtr_session.proofs.Headers.{report_by}
 
 -- ---- what is wrong with a header, by its type
 
@@ -36,7 +41,8 @@ module _ (v g n : ℕ) where
   unfolding any_header_fault
   of_ten = refl
 
-  of_payload : (t : ℕ) → (t ≡ 4) ⊎ ((t ≡ 6) ⊎ ((t ≡ 7) ⊎ ((t ≡ 9) ⊎ (t ≡ 11)))) → any_header_fault v t g n ≡ header_fault v t g n
+  of_payload : (t : ℕ) → (t ≡ 4) ⊎ ((t ≡ 6) ⊎ ((t ≡ 7) ⊎ ((t ≡ 9) ⊎ (t ≡ 11)))) →
+      any_header_fault v t g n ≡ header_fault v t g n
   unfolding any_header_fault
   of_payload t (inl e) = rw e refl
   of_payload t (inr (inl e)) = rw e refl
@@ -44,16 +50,23 @@ module _ (v g n : ℕ) where
   of_payload t (inr (inr (inr (inl e)))) = rw e refl
   of_payload t (inr (inr (inr (inr e)))) = rw e refl
 
-named : (u : List ℕ) (k : ℕ) → type_field u ≡ k → session_unit.fault u ≡ any_header_fault (version_field u) k (get_or u 2 0) (length_field u)
+named : (u : List ℕ) (k : ℕ) → type_field u ≡ k →
+    session_unit.fault u ≡ any_header_fault (version_field u) k (get_or u 2 0) (length_field u)
 named u k kind = ap (λ t. any_header_fault (version_field u) t (get_or u 2 0) (length_field u)) kind
 
 -- ---- a kind is read as any is, after a header of its type
 
 alike_trans : (a b c : Kind) (h : List ℕ) → AlikeAfter a b h → AlikeAfter b c h → AlikeAfter a c h
-alike_trans a b c h x y = record { fault = λ t. x.fault t ∙ y.fault t; asks = λ t asks. y.asks t (x.asks t asks) }
+alike_trans a b c h x y =
+    record { fault = λ t. x.fault t ∙ y.fault t; asks = λ t asks. y.asks t (x.asks t asks) }
 
-more_ask : (t : ℕ) → IsTrue ((t == 9) || (t == 11)) → IsTrue ((t == 9) || (t == 10) || (t == 11))
-more_ask t e = grind (arith, nat_tests)
+more_ask : (t n : ℕ) → IsTrue ((t == 9) || (t == 11)) →
+    IsTrue ((t == 9) || (t == 11) || ((t == 10) && (n == 8)))
+more_ask t n e = grind (arith, nat_tests)
+
+report_asks : (t n : ℕ) → t ≡ 10 → IsTrue (n == 8) →
+    IsTrue ((t == 9) || (t == 11) || ((t == 10) && (n == 8)))
+report_asks t n ten e = grind (arith, nat_tests)
 
 module _ (h : List ℕ) (long : 8 ≤ length h) (k : ℕ) (kind : type_field h ≡ k) where
   kind_after : (t : List ℕ) → type_field (h ++ t) ≡ k
@@ -61,102 +74,134 @@ module _ (h : List ℕ) (long : 8 ≤ length h) (k : ℕ) (kind : type_field h �
 
   pub twelve_alike : (k ≡ 0) ⊎ (k ≡ 1) → AlikeAfter (of_size 12) session_unit h
   twelve_alike e = record {
-    fault = λ t. let u = h ++ t in sym (named u k (kind_after t) ∙ of_twelve (version_field u) (get_or u 2 0) (length_field u) k e);
+    fault = λ t.
+        let u = h ++ t in
+        sym (named u k (kind_after t)
+        ∙ of_twelve (version_field u) (get_or u 2 0) (length_field u) k e);
     asks = λ t asks. absurd cc;
   }
 
   pub eight_alike : (k ≡ 2) ⊎ ((k ≡ 3) ⊎ (k ≡ 8)) → AlikeAfter (of_size 8) session_unit h
   eight_alike e = record {
-    fault = λ t. let u = h ++ t in sym (named u k (kind_after t) ∙ of_eight (version_field u) (get_or u 2 0) (length_field u) k e);
+    fault = λ t.
+        let u = h ++ t in
+        sym (named u k (kind_after t)
+        ∙ of_eight (version_field u) (get_or u 2 0) (length_field u) k e);
     asks = λ t asks. absurd cc;
   }
 
-  payload_alike : (k ≡ 4) ⊎ ((k ≡ 6) ⊎ ((k ≡ 7) ⊎ ((k ≡ 9) ⊎ (k ≡ 11)))) → AlikeAfter payload_unit session_unit h
+  payload_alike : (k ≡ 4) ⊎ ((k ≡ 6) ⊎ ((k ≡ 7) ⊎ ((k ≡ 9) ⊎ (k ≡ 11)))) →
+      AlikeAfter payload_unit session_unit h
   payload_alike e = record {
     fault = λ t.
         let u = h ++ t in
         let v = version_field u in
         let g = get_or u 2 0 in
         let n = length_field u in
-        ap (λ t. header_fault v t g n) (kind_after t) ∙ sym (named u k (kind_after t) ∙ of_payload v g n k e);
-    asks = λ t asks. more_ask (type_field (h ++ t)) asks;
+        ap (λ t. header_fault v t g n) (kind_after t)
+        ∙ sym (named u k (kind_after t) ∙ of_payload v g n k e);
+    asks = λ t asks. more_ask (type_field (h ++ t)) (length (h ++ t)) asks;
   }
 
 module _ (h : List ℕ) (long : 8 ≤ length h) where
+  pub report_any : type_field h ≡ 10 → AlikeAfter report_unit session_unit h
+  report_any kind = record {
+    fault = λ t.
+        let u = h ++ t in
+        let is : type_field u ≡ 10 = kind_after h long 10 kind t in
+        typed_is 10 report_sized u is
+        ∙ sym (named u 10 is ∙ of_ten (version_field u) (get_or u 2 0) (length_field u));
+    asks = λ t eight. report_asks _ _ (kind_after h long 10 kind t) eight;
+  }
+
   pub ipv4_any : type_field h ≡ 4 → AlikeAfter (of_size 20) session_unit h
-  ipv4_any kind = alike_trans (of_size 20) payload_unit session_unit h (prefix_alike h long v4 kind) (payload_alike h long 4 kind (inl refl))
+  ipv4_any kind =
+      alike_trans (of_size 20) payload_unit session_unit h (prefix_alike h long v4 kind)
+      (payload_alike h long 4 kind (inl refl))
 
   pub ipv6_any : type_field h ≡ 6 → AlikeAfter (of_size 32) session_unit h
-  ipv6_any kind = alike_trans (of_size 32) payload_unit session_unit h (prefix_alike h long v6 kind) (payload_alike h long 6 kind (inr (inl refl)))
+  ipv6_any kind =
+      alike_trans (of_size 32) payload_unit session_unit h (prefix_alike h long v6 kind)
+      (payload_alike h long 6 kind (inr (inl refl)))
 
   pub end_any : type_field h ≡ 7 → AlikeAfter end_unit session_unit h
-  end_any kind = alike_trans end_unit payload_unit session_unit h (end_alike h long kind) (payload_alike h long 7 kind (inr (inr (inl refl))))
+  end_any kind =
+      alike_trans end_unit payload_unit session_unit h (end_alike h long kind)
+      (payload_alike h long 7 kind (inr (inr (inl refl))))
 
   pub key_any : type_field h ≡ 9 → AlikeAfter (variable_unit 9) session_unit h
-  key_any kind = alike_trans (variable_unit 9) payload_unit session_unit h (key_alike h long kind) (payload_alike h long 9 kind (inr (inr (inr (inl refl)))))
+  key_any kind =
+      alike_trans (variable_unit 9) payload_unit session_unit h (key_alike h long kind)
+      (payload_alike h long 9 kind (inr (inr (inr (inl refl)))))
 
   pub aspa_any : type_field h ≡ 11 → AlikeAfter (variable_unit 11) session_unit h
-  aspa_any kind = alike_trans (variable_unit 11) payload_unit session_unit h (aspa_alike h long kind) (payload_alike h long 11 kind (inr (inr (inr (inr refl)))))
+  aspa_any kind =
+      alike_trans (variable_unit 11) payload_unit session_unit h (aspa_alike h long kind)
+      (payload_alike h long 11 kind (inr (inr (inr (inr refl)))))
 
 -- ---- reading stopped
 
-module _ (kind : Kind) (u : List ℕ) (some : 0 < length u) (same : kind.fault u ≡ session_unit.fault u) (asks : IsTrue (kind.asks u) → IsTrue (session_unit.asks u)) where
-  stops_any : (c : Cause) (left : Option (List ℕ)) → (c ≡ no_memory → type_field u ≡ 10 → length u ≡ 8) → Stops kind c u left → StopsInAny c u left
-  stops_any by_reader left ten s = alike_stops kind session_unit u same asks by_reader left s
-  stops_any by_writer left ten s = s
-  stops_any too_many left ten s = s
-  stops_any no_memory left ten s = (alike_stops kind session_unit u same asks no_memory left s, ten refl)
-  stops_any (wrong short) left ten s = (alike_stops kind session_unit u same asks (wrong short) left s, some)
-  stops_any (wrong (unit_type x)) left ten s = alike_stops kind session_unit u same asks (wrong (unit_type x)) left s
-  stops_any (wrong (unit_version x)) left ten s = alike_stops kind session_unit u same asks (wrong (unit_version x)) left s
-  stops_any (wrong too_long) left ten s = alike_stops kind session_unit u same asks (wrong too_long) left s
-  stops_any (wrong unit_length) left ten s = alike_stops kind session_unit u same asks (wrong unit_length) left s
-  stops_any (wrong empty_providers) left ten s = alike_stops kind session_unit u same asks (wrong empty_providers) left s
-  stops_any (wrong (refused x)) left ten s = alike_stops kind session_unit u same asks (wrong (refused x)) left s
+module _ (kind : Kind) (u : List ℕ) (some : 0 < length u)
+    (same : kind.fault u ≡ session_unit.fault u)
+    (asks : IsTrue (kind.asks u) → IsTrue (session_unit.asks u)) where
+  stops_any : (c : Cause) (left : Option (List ℕ)) → Stops kind c u left → StopsInAny c u left
+  stops_any by_reader left s = alike_stops kind session_unit u same asks by_reader left s
+  stops_any by_writer left s = s
+  stops_any too_many left s = s
+  stops_any no_memory left s = alike_stops kind session_unit u same asks no_memory left s
+  stops_any (wrong short) left s =
+      (alike_stops kind session_unit u same asks (wrong short) left s, some)
+  stops_any (wrong (unit_type x)) left s =
+      alike_stops kind session_unit u same asks (wrong (unit_type x)) left s
+  stops_any (wrong (unit_version x)) left s =
+      alike_stops kind session_unit u same asks (wrong (unit_version x)) left s
+  stops_any (wrong too_long) left s =
+      alike_stops kind session_unit u same asks (wrong too_long) left s
+  stops_any (wrong unit_length) left s =
+      alike_stops kind session_unit u same asks (wrong unit_length) left s
+  stops_any (wrong empty_providers) left s =
+      alike_stops kind session_unit u same asks (wrong empty_providers) left s
+  stops_any (wrong (refused x)) left s =
+      alike_stops kind session_unit u same asks (wrong (refused x)) left s
 
--- after a header h that is not of a report
-any_takes : (kind : Kind) (h : List ℕ) → length h ≡ 8 → ¬ (type_field h ≡ 10) → AlikeAfter kind session_unit h → (c : Cause) (old left : Option (List ℕ))
-    → Takes old left (λ t. Stops kind c (h ++ t) left) → Takes old left (λ t. StopsInAny c (h ++ t) left)
-any_takes kind h l other alike c old left (t, took, s) =
-    let is = (same_header h t (omega (arith, l))).kind in
-    (t, took, stops_any kind (h ++ t) (omega (arith, l, length-append h t)) (alike.fault t) (alike.asks t) c left (λ _ ten. absurd (other (sym is ∙ ten))) s)
-
--- the same, said by the answer: a fault f stopped reading a unit of this kind
-pub stopped : (h : List ℕ) (k : ℕ) (kind : Kind) → length h ≡ 8 → type_field h ≡ k → ¬ (k ≡ 10) → (8 ≤ length h → type_field h ≡ k → AlikeAfter kind session_unit h) → (f : Fault) (old new : ReaderState)
-    → ReadsAfter kind h (Err (cause_of f)) old new → ReadsAnyAfter h (Err f) old new
-stopped h k kind l is other alike f old new (bytes, (takes, counts)) =
-    (any_takes kind h l (λ ten. other (sym is ∙ ten)) (alike (omega (arith, l)) is) (cause_of f) old.left new.left takes, counts)
-
--- after the header h of a report
-report_extra : (c : Cause) (u : List ℕ) (left : Option (List ℕ)) → StopsInReport c u left → Stops report_unit c u left × (c ≡ no_memory → length u ≡ 8)
-report_extra no_memory u left (s, eight) = (s, λ _. eight)
-report_extra by_reader u left s = (s, λ e. absurd cc)
-report_extra by_writer u left s = (s, λ e. absurd cc)
-report_extra too_many u left s = (s, λ e. absurd cc)
-report_extra (wrong f) u left s = (s, λ e. absurd cc)
-
-pub report_takes : (h : List ℕ) → length h ≡ 8 → type_field h ≡ 10 → (c : Cause) (old left : Option (List ℕ)) → Takes old left (λ t. StopsInReport c (h ++ t) left) → Takes old left (λ t. StopsInAny c (h ++ t) left)
-report_takes h l kind c old left (t, took, s) =
-    let u = h ++ t in
-    let is : type_field u ≡ 10 = (same_header h t (omega (arith, l))).kind ∙ kind in
-    let same : report_unit.fault u ≡ session_unit.fault u = typed_is 10 report_sized u is ∙ sym (named u 10 is ∙ of_ten (version_field u) (get_or u 2 0) (length_field u)) in
-    let p = report_extra c u left s in
-    (t, took, stops_any report_unit u (omega (arith, l, length-append h t)) same (λ _. rw is refl) c left (λ none _. p.1 none) p.0)
+-- after a header h of type k a fault f stopped reading a unit of this kind
+pub stopped : (h : List ℕ) (k : ℕ) (kind : Kind) → length h ≡ 8 → type_field h ≡ k →
+    (8 ≤ length h → type_field h ≡ k → AlikeAfter kind session_unit h) → (f : Fault)
+    (old new : ReaderState) →
+    ReadsAfter kind h (Err (cause_of f)) old new → ReadsAnyAfter h (Err f) old new
+stopped h k kind l is alike f old new (bytes, ((t, took, s), counts)) =
+    let after = alike (omega (arith, l)) is in (
+      (
+        t,
+        took,
+        stops_any kind (h ++ t) (omega (arith, l, length-append h t)) (after.fault t) (after.asks t)
+            (cause_of f) new.left s,
+      ),
+      counts,
+    )
 
 -- ---- a header of no unit
 
-unknown_header : (v t g n : ℕ) → ¬ (t ≡ 0) → ¬ (t ≡ 1) → ¬ (t ≡ 2) → ¬ (t ≡ 3) → ¬ (t ≡ 4) → ¬ (t ≡ 6) → ¬ (t ≡ 7) → ¬ (t ≡ 8) → ¬ (t ≡ 9) → ¬ (t ≡ 10) → ¬ (t ≡ 11) → any_header_fault v t g n ≡ Some (unit_type t)
+unknown_header : (v t g n : ℕ) → ¬ (t ≡ 0) → ¬ (t ≡ 1) → ¬ (t ≡ 2) → ¬ (t ≡ 3) → ¬ (t ≡ 4) →
+    ¬ (t ≡ 6) → ¬ (t ≡ 7) → ¬ (t ≡ 8) → ¬ (t ≡ 9) → ¬ (t ≡ 10) → ¬ (t ≡ 11) →
+    any_header_fault v t g n ≡ Some (unit_type t)
 unfolding any_header_fault header_fault
 unknown_header v t g n n0 n1 n2 n3 n4 n6 n7 n8 n9 n10 n11 = grind (arith, nat_tests)
 
-pub unknown_type : (h : List ℕ) (t : ℕ) → length h ≡ 8 → type_field h ≡ t → ¬ (t ≡ 0) → ¬ (t ≡ 1) → ¬ (t ≡ 2) → ¬ (t ≡ 3) → ¬ (t ≡ 4) → ¬ (t ≡ 6) → ¬ (t ≡ 7) → ¬ (t ≡ 8) → ¬ (t ≡ 9) → ¬ (t ≡ 10) → ¬ (t ≡ 11)
-    → (length (h ++ []) ≡ 8) × (session_unit.fault (h ++ []) ≡ Some (unit_type t))
+pub unknown_type : (h : List ℕ) (t : ℕ) → length h ≡ 8 → type_field h ≡ t → ¬ (t ≡ 0) → ¬ (t ≡ 1) →
+    ¬ (t ≡ 2) → ¬ (t ≡ 3) → ¬ (t ≡ 4) → ¬ (t ≡ 6) → ¬ (t ≡ 7) → ¬ (t ≡ 8) → ¬ (t ≡ 9) → ¬ (t ≡ 10) →
+    ¬ (t ≡ 11) →
+    (length (h ++ []) ≡ 8) × (session_unit.fault (h ++ []) ≡ Some (unit_type t))
 unknown_type h t l kind n0 n1 n2 n3 n4 n6 n7 n8 n9 n10 n11 =
-    at_header session_unit (unit_type t) h l (named h t kind ∙ unknown_header (version_field h) t (get_or h 2 0) (length_field h) n0 n1 n2 n3 n4 n6 n7 n8 n9 n10 n11)
+    at_header session_unit (unit_type t) h l
+    (named h t kind
+    ∙ unknown_header (version_field h) t (get_or h 2 0) (length_field h) n0 n1 n2 n3 n4 n6 n7 n8 n9
+    n10 n11)
 
 -- ---- inside a header
 
-pub header_any : (c : Cause) (t : List ℕ) (left : Option (List ℕ)) → 0 < length t → FallsShort 8 c t left → StopsInAny c t left
+pub header_any : (c : Cause) (t : List ℕ) (left : Option (List ℕ)) → 0 < length t →
+    FallsShort 8 c t left → StopsInAny c t left
 header_any by_reader t left some s = header_stops session_unit by_reader t left s
 header_any by_writer t left some s = s
 header_any too_many t left some s = s

@@ -1,6 +1,6 @@
 -- The kinds of units of a session: any, and error reports alone. The order of the faults, and that
 -- an error report is read into memory, are this library's own.
-use Rattle.std.specs.Prelude.{ℕ, true, slice_index, Option, ◌||◌, ◌==◌, if◌then◌else◌}
+use Rattle.std.specs.Prelude.{ℕ, slice_index, length, Option, ◌&&◌, ◌||◌, ◌==◌, if◌then◌else◌}
 use Rattle.rtr_units.specs.Causes.{Refusal}
 use Rattle.rtr_units.specs.Header.{version_field, type_field, length_field}
 use Rattle.rtr_units.specs.Reading.{Kind, exact_length, least_length, of_type}
@@ -18,17 +18,20 @@ any_header_fault v t g n =
     else if t == 10 then least_length 16 n
     else header_fault v t g n
 
--- units of any type
+-- Units of any type. For an error report memory is asked for once, right after its header.
 abbrev pub session_unit : Kind
 session_unit = record {
   fault = λ u.
       any_header_fault (version_field u) (type_field u) (slice_index u 2) (length_field u);
-  asks = λ u. (type_field u == 9) || (type_field u == 10) || (type_field u == 11);
+  asks = λ u.
+      (type_field u == 9) || (type_field u == 11) || ((type_field u == 10) && (length u == 8));
 }
 
--- units that are as long as an error report may be, whatever type they name
+-- units that are as long as an error report may be, whatever type they name; memory is asked for
+-- once, right after the header
 abbrev pub report_sized : Kind
-report_sized = record { fault = λ u. least_length 16 (length_field u); asks = λ u. true }
+report_sized =
+    record { fault = λ u. least_length 16 (length_field u); asks = λ u. length u == 8 }
 
 -- error reports, whose type is checked first
 abbrev pub report_unit : Kind

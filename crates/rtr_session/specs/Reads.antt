@@ -4,8 +4,7 @@ use Rattle.std.specs.Prelude.{◌≡◌, ℕ, ◌<◌, List, [], ◌++◌, lengt
 use Rattle.std.specs.Prelude.{Result, Ok, Err}
 use Rattle.std.specs.Io.KnownBytes.{Consumes, IsAtEnd}
 use Rattle.rtr_units.specs.declared.fault.Fault.{Fault}
-use Rattle.rtr_units.specs.Causes.{short, Cause, no_memory, wrong, cause_of, by_cause}
-use Rattle.rtr_units.specs.Header.{type_field}
+use Rattle.rtr_units.specs.Causes.{short, Cause, wrong, cause_of, by_cause}
 use Rattle.rtr_units.specs.Reading.{Stops, Takes}
 use Rattle.rtr_units.specs.Stream.{ReaderState, reader_count}
 use Rattle.rtr_session.specs.Fields.{HasAnyFields}
@@ -14,11 +13,8 @@ use Rattle.rtr_session.specs.Values.{any_bytes, any_fields}
 use Rattle.rtr_session.specs.declared.any_unit.AnyUnit.{AnyUnit}
 
 -- Why reading a unit of any type stopped where the bytes t of it were there; `left` is what the
--- reader then has. At the end of input it stopped inside the unit, of which a byte was there; and
--- memory is asked for once where an error report is read, right after its header.
+-- reader then has. At the end of input it stopped inside the unit, of which a byte was there.
 abbrev pub StopsInAny : Cause → List ℕ → Option (List ℕ) → Type 0
-StopsInAny no_memory t left =
-    Stops session_unit no_memory t left × (type_field t ≡ 10 → length t ≡ 8)
 StopsInAny (wrong short) t left = Stops session_unit (wrong short) t left × (0 < length t)
 StopsInAny cause t left = Stops session_unit cause t left
 

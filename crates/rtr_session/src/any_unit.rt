@@ -53,15 +53,10 @@ impl AnyUnit {
     pub fn read<R: Source>(alloc: Global, reader: &mut R) -> Result<Option<Self>, Fault>
         ensures { ReadsAny result (R.state reader.old) (R.state reader.new) }
     {
-        let header = match next_header(reader) {
-            Ok(Some(header)) => header,
-            Ok(None) => return Ok(None),
-            Err(e) => return Err(e),
+        let Some(header) = next_header(reader)? else {
+            return Ok(None);
         };
-        match AnyUnit::read_payload(alloc, header, reader) {
-            Ok(unit) => Ok(Some(unit)),
-            Err(e) => Err(e),
-        }
+        Ok(Some(AnyUnit::read_payload(alloc, header, reader)?))
     }
 
     /// Reads what follows the header, which is kept as it is.
@@ -192,10 +187,10 @@ fn next_header<R: Source>(reader: &mut R) -> Result<Option<Header>, Fault>
     let bytes = header.as_mut();
     match reader.read(bytes) {
         Ok(0) => Ok(None),
-        Ok(n) => match fill(reader, &mut bytes[n..]) {
-            Ok(()) => Ok(Some(header)),
-            Err(e) => Err(e),
-        },
+        Ok(n) => {
+            fill(reader, &mut bytes[n..])?;
+            Ok(Some(header))
+        }
         Err(e) => Err(Fault::Reader(e)),
     }
 }

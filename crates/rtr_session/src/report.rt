@@ -1,6 +1,6 @@
 //! Error reports that are read (RFC 8210 section 5.11, RFC 6810 section 5.10).
 
-ghost use Rattle.std.specs.Prelude.{◌≡◌, ◌≤◌, ◌++◌, ℕ, List, length, take, nat_eq};
+ghost use Rattle.std.specs.Prelude.{◌≡◌, ◌≤◌, ◌++◌, ℕ, List, [], Err, length, take, nat_eq};
 ghost use Rattle.std.specs.Prelude.{MatchOption};
 ghost use Rattle.std.proofs.Common.{rules};
 ghost use Rattle.std.specs.Cmp.{partial_equiv_from_equiv};
@@ -8,10 +8,14 @@ ghost use Rattle.std.specs.Cmp.Lexicographic.{nat_list_eq_equiv, pointwise};
 ghost use Rattle.std.specs.Cmp.Rules.{hashing};
 ghost use Rattle.std.specs.Hash as fed;
 ghost use Rattle.rtr_base.specs.Bytes.{value};
+ghost use Rattle.std.specs.Io.KnownBytes.{Consumes};
+ghost use Rattle.rtr_units.specs.Causes.{by_cause, no_memory};
 ghost use Rattle.rtr_units.specs.Header.{version_field, session_field};
+ghost use Rattle.rtr_units.specs.Reading.{Reads, ReadsAfter, Takes, by_bytes};
 ghost use Rattle.rtr_units.specs.Stream.{PutsForm};
 ghost use Rattle.rtr_units.specs.Views.{header_bytes};
-ghost use Rattle.rtr_session.specs.Reports.{IsReport, HasParts, ReadsReport, ReadsReportAfter};
+ghost use Rattle.rtr_session.specs.Headers.{report_unit};
+ghost use Rattle.rtr_session.specs.Reports.{IsReport, HasParts};
 ghost use Rattle.rtr_session.specs.PrivateCalls.{IsCounted, IsCutShort};
 
 use rtr_base::pdu::ErrorCode;
@@ -54,12 +58,11 @@ impl Report {
     /// Faults, in this order: `Short` or `Reader` inside the header; those of `read_payload`, of
     /// which `UnitType` and the two after it take the header alone.
     pub fn read<R: Source>(alloc: Global, reader: &mut R) -> Result<Self, Fault>
-        ensures { ReadsReport result (R.state reader.old) (R.state reader.new) }
+        ensures { Reads report_unit [] (by_bytes (λ report. report) result)
+            (R.state reader.old) (R.state reader.new) }
     {
-        match Header::read(reader) {
-            Ok(header) => Report::read_payload(alloc, header, reader),
-            Err(e) => Err(e),
-        }
+        let header = Header::read(reader)?;
+        Report::read_payload(alloc, header, reader)
     }
 
     /// Reads what follows the header, which is kept as it is.
@@ -72,8 +75,8 @@ impl Report {
         header: Header,
         reader: &mut R,
     ) -> Result<Self, Fault>
-        ensures { ReadsReportAfter (header_bytes header) result (R.state reader.old)
-            (R.state reader.new) }
+        ensures { ReadsAfter report_unit (header_bytes header)
+            (by_bytes (λ report. report) result) (R.state reader.old) (R.state reader.new) }
     {
         if header.pdu() != Report::PDU {
             return Err(Fault::UnitType(header.pdu()));
@@ -91,10 +94,8 @@ impl Report {
         }
         let (front, rest) = bytes.as_mut_slice().split_at_mut(8);
         front.copy_from_slice(header.as_ref());
-        match fill(reader, rest) {
-            Ok(()) => Ok(Report { bytes }),
-            Err(e) => Err(e),
-        }
+        fill(reader, rest)?;
+        Ok(Report { bytes })
     }
 
     /// The version of the protocol.

@@ -1,9 +1,11 @@
 //! Headers that are refused, and readers that fail.
 
-use crate::{expect_equal, said};
+use crate::{expect_equal, outcome};
 use rtr_session::AnyUnit;
 use rtr_support::{KEY, ONES, Pieces, bytes, filler};
 use rtr_units::source::{Counted, Source};
+use std::alloc::Global;
+use std::process::Abort;
 use std::test::Fail;
 
 /// Headers that are refused, and why: types that no unit has, then each type's lengths.
@@ -31,17 +33,32 @@ const REFUSED: &[(&str, &str)] = &[
     ("02 0b 01 00 00 00 00 0c", "ASPA unit has no providers"),
 ];
 
+/// Asserts that the next unit is refused with this text. `at` says which it is.
+fn expect_refusal(
+    rt: &impl Abort,
+    alloc: Global,
+    reader: &mut Counted<Pieces<'_>>,
+    at: &str,
+    want: &str,
+) -> Result<(), Fail> {
+    let answer = outcome(alloc, AnyUnit::read(alloc, reader))?;
+    assert_eq!(rt; answer.as_str(), want, "at {at}");
+    Ok(())
+}
+
+/// The header and bytes that could follow it.
+fn with_rest(alloc: Global, header: &str) -> Result<Vec<u8>, Fail> {
+    let mut input = bytes(alloc, &[header])?;
+    input.extend_from_slice(&filler(alloc, 40)?)?;
+    Ok(input)
+}
+
 #[test]
 fn refused_headers(rt: HostRuntime) -> Result<(), Fail> {
-    let alloc = rt.alloc();
     for (header, want) in REFUSED {
-        let mut input = bytes(alloc, &[*header])?;
-        input.extend_from_slice(&filler(alloc, 40)?)?;
+        let input = with_rest(rt.alloc(), header)?;
         let mut reader = Counted::new(Pieces::new(&input, ONES));
-        match AnyUnit::read(alloc, &mut reader) {
-            Ok(_) => panic!(rt; "{header} is read"),
-            Err(fault) => expect_equal(&rt, said(alloc, &fault)?.as_str(), *want),
-        }
+        expect_refusal(&rt, rt.alloc(), &mut reader, header, want)?;
         expect_equal(&rt, reader.failures(), 0);
         expect_equal(&rt, reader.into_inner().taken(), 8);
     }
@@ -50,14 +67,10 @@ fn refused_headers(rt: HostRuntime) -> Result<(), Fail> {
 
 #[test]
 fn readers_that_fail(rt: HostRuntime) -> Result<(), Fail> {
-    let alloc = rt.alloc();
-    let input = bytes(alloc, &[KEY])?;
+    let input = bytes(rt.alloc(), &[KEY])?;
     for call in 1..=input.len() {
         let mut reader = Counted::new(Pieces::failing(&input, ONES, call));
-        match AnyUnit::read(alloc, &mut reader) {
-            Ok(_) => panic!(rt; "a unit is read"),
-            Err(fault) => expect_equal(&rt, said(alloc, &fault)?.as_str(), "read failed"),
-        }
+        expect_refusal(&rt, rt.alloc(), &mut reader, "a key", "read failed")?;
         expect_equal(&rt, reader.failures(), 1);
         expect_equal(&rt, reader.into_inner().taken(), call.saturating_sub(1));
     }

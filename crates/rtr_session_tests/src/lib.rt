@@ -10,6 +10,8 @@ mod reports;
 mod units;
 
 #[cfg(test)]
+use rtr_session::AnyUnit;
+#[cfg(test)]
 use rtr_units::fault::Fault;
 #[cfg(test)]
 use std::alloc::Global;
@@ -20,7 +22,8 @@ use std::process::Abort;
 #[cfg(test)]
 use std::test::Fail;
 
-/// Asserts that the two are equal. A test that calls it is proved sooner than one in which the macro stands.
+/// Asserts that the two are equal. A test that calls it is proved sooner than one in which the
+/// macro stands.
 #[cfg(test)]
 fn expect_equal<T: PartialEq + Debug + Drop>(rt: &impl Abort, left: T, right: T) {
     assert_eq!(rt; left, right);
@@ -30,4 +33,14 @@ fn expect_equal<T: PartialEq + Debug + Drop>(rt: &impl Abort, left: T, right: T)
 #[cfg(test)]
 fn said(alloc: Global, fault: &Fault) -> Result<String, Fail> {
     Ok(format!(in alloc; "{fault}")?)
+}
+
+/// What a call that reads a unit answers: by a name, or the text of the fault.
+#[cfg(test)]
+fn outcome(alloc: Global, answer: Result<Option<AnyUnit>, Fault>) -> Result<String, Fail> {
+    match answer {
+        Ok(Some(_)) => Ok(String::from_str(alloc, "a unit")?),
+        Ok(None) => Ok(String::from_str(alloc, "an end")?),
+        Err(fault) => said(alloc, &fault),
+    }
 }

@@ -13,13 +13,17 @@ use std::test::Fail;
 /// A report, the unit that it speaks of, and its text.
 type Row = (&'static str, Option<&'static str>, Option<&'static str>);
 
+/// A report of version 0 that speaks of a unit of type 5, with a text of two bytes.
+const ON_TYPE_5: &str =
+    "00 0a 00 03 00 00 00 1a 00 00 00 08 01 05 00 00 00 00 00 08 00 00 00 02 6e ff";
+
 /// Reports whose lengths fill them, then such whose first or second length is too great, is cut, or
 /// leaves bytes over.
 #[rattlefmt::skip]
 const ROWS: &[Row] = &[
     ("00 0a 00 03 00 00 00 10 00 00 00 00 00 00 00 00", Some(""), Some("")),
     ("00 0a 00 03 00 00 00 12 00 00 00 00 00 00 00 02 6e 6f", Some(""), Some("6e 6f")),
-    ("00 0a 00 03 00 00 00 1a 00 00 00 08 01 05 00 00 00 00 00 08 00 00 00 02 6e ff", Some("01 05 00 00 00 00 00 08"), Some("6e ff")),
+    (ON_TYPE_5, Some("01 05 00 00 00 00 00 08"), Some("6e ff")),
     ("00 0a 00 03 00 00 00 10 00 00 00 01 00 00 00 00", None, None),
     ("00 0a 00 03 00 00 00 10 ff ff ff ff 00 00 00 00", None, None),
     ("00 0a 00 03 00 00 00 10 00 00 00 04 00 00 00 00", None, None),
@@ -46,19 +50,24 @@ fn expect_part(
     Ok(())
 }
 
+/// Asserts that the report is read again of its own bytes.
+fn expect_again(rt: &impl Abort, alloc: Global, report: &Report) -> Result<(), Fail> {
+    let again = Report::read(alloc, &mut SliceSource::new(report.as_ref()))?;
+    assert!(rt; *report == again);
+    expect_equal(rt, hash_of(report), hash_of(&again));
+    Ok(())
+}
+
 #[test]
 fn parts_of_reports(rt: HostRuntime) -> Result<(), Fail> {
-    let alloc = rt.alloc();
     for (text, pdu, words) in ROWS {
-        let input = bytes(alloc, &[*text])?;
-        let report = Report::read(alloc, &mut SliceSource::new(&input))?;
+        let input = bytes(rt.alloc(), &[*text])?;
+        let report = Report::read(rt.alloc(), &mut SliceSource::new(&input))?;
         expect_equal(&rt, report.version(), 0);
         expect_equal(&rt, report.code(), ErrorCode::INVALID_REQUEST);
-        expect_part(&rt, alloc, report.pdu(), *pdu)?;
-        expect_part(&rt, alloc, report.text(), *words)?;
-        let again = Report::read(alloc, &mut SliceSource::new(report.as_ref()))?;
-        assert!(rt; report == again);
-        expect_equal(&rt, hash_of(&report), hash_of(&again));
+        expect_part(&rt, rt.alloc(), report.pdu(), *pdu)?;
+        expect_part(&rt, rt.alloc(), report.text(), *words)?;
+        expect_again(&rt, rt.alloc(), &report)?;
     }
     Ok(())
 }

@@ -1,6 +1,6 @@
 //! Units of each kind, alone and in one session, whole and cut.
 
-use crate::{expect_equal, said};
+use crate::{expect_equal, outcome};
 use rtr_payload::pdu::Payload;
 use rtr_session::AnyUnit;
 use rtr_support::{
@@ -20,22 +20,36 @@ struct Row {
     unit: &'static str,
 }
 
+const NOTIFY: &str = "01 00 12 34 00 00 00 0c de ad be ef";
+
+const QUERY: &str = "01 01 12 34 00 00 00 0c de ad be ef";
+
+const RESPONSE: &str = "01 03 12 34 00 00 00 08";
+
+const IPV4_HOST: &str = "01 04 00 00 00 00 00 14 01 17 1a 00 c0 00 02 0a 00 01 00 0f";
+
+const END_2: &str = "02 07 8e ef 00 00 00 18 00 00 00 00 00 00 01 8f 00 00 02 58 00 00 1c 20";
+
+const REPORT: &str = "01 0a 00 03 00 00 00 12 00 00 00 00 00 00 00 02 6e 6f";
+
+const ASPA: &str = "02 0b 01 00 00 00 00 14 00 01 00 0f 00 01 00 0d 00 01 00 0e";
+
 /// A unit of each kind, and an end of data of each version.
 #[rattlefmt::skip]
 const ROWS: &[Row] = &[
-    Row { kind: "serial notify", version: 1, session: Some(0x1234), unit: "01 00 12 34 00 00 00 0c de ad be ef" },
-    Row { kind: "serial query", version: 1, session: Some(0x1234), unit: "01 01 12 34 00 00 00 0c de ad be ef" },
+    Row { kind: "serial notify", version: 1, session: Some(0x1234), unit: NOTIFY },
+    Row { kind: "serial query", version: 1, session: Some(0x1234), unit: QUERY },
     Row { kind: "reset query", version: 1, session: None, unit: "01 02 00 00 00 00 00 08" },
-    Row { kind: "cache response", version: 1, session: Some(0x1234), unit: "01 03 12 34 00 00 00 08" },
-    Row { kind: "ipv4", version: 1, session: None, unit: "01 04 00 00 00 00 00 14 01 17 1a 00 c0 00 02 0a 00 01 00 0f" },
+    Row { kind: "cache response", version: 1, session: Some(0x1234), unit: RESPONSE },
+    Row { kind: "ipv4", version: 1, session: None, unit: IPV4_HOST },
     Row { kind: "ipv6", version: 1, session: None, unit: IPV6_STRAY },
     Row { kind: "end of data", version: 0, session: Some(0x1234), unit: END_0 },
     Row { kind: "end of data", version: 1, session: Some(0x1234), unit: END_1 },
-    Row { kind: "end of data", version: 2, session: Some(0x8eef), unit: "02 07 8e ef 00 00 00 18 00 00 00 00 00 00 01 8f 00 00 02 58 00 00 1c 20" },
+    Row { kind: "end of data", version: 2, session: Some(0x8eef), unit: END_2 },
     Row { kind: "cache reset", version: 1, session: None, unit: "01 08 00 00 00 00 00 08" },
     Row { kind: "router key", version: 1, session: None, unit: KEY },
-    Row { kind: "error report", version: 1, session: None, unit: "01 0a 00 03 00 00 00 12 00 00 00 00 00 00 00 02 6e 6f" },
-    Row { kind: "aspa", version: 2, session: None, unit: "02 0b 01 00 00 00 00 14 00 01 00 0f 00 01 00 0d 00 01 00 0e" },
+    Row { kind: "error report", version: 1, session: None, unit: REPORT },
+    Row { kind: "aspa", version: 2, session: None, unit: ASPA },
 ];
 
 /// The name of the unit's kind.
@@ -73,15 +87,30 @@ fn expect_row(
     Ok(())
 }
 
+/// Reads a row's unit, which has these bytes.
+fn read_unit(
+    rt: &impl Abort,
+    alloc: Global,
+    row: &Row,
+    input: &[u8],
+    reader: &mut Counted<Pieces<'_>>,
+) -> Result<(), Fail> {
+    match AnyUnit::read(alloc, reader)? {
+        Some(unit) => expect_row(rt, alloc, row, &unit, input),
+        None => panic!(rt; "no unit"),
+    }
+}
+
 /// Reads a row's unit, and after it a clean end.
 fn read_row(rt: &impl Abort, alloc: Global, row: &Row, sizes: &[usize]) -> Result<(), Fail> {
     let input = bytes(alloc, &[row.unit])?;
     let mut reader = Counted::new(Pieces::new(&input, sizes));
-    match AnyUnit::read(alloc, &mut reader)? {
-        Some(unit) => expect_row(rt, alloc, row, &unit, &input)?,
-        None => panic!(rt; "no unit"),
-    }
-    assert!(rt; AnyUnit::read(alloc, &mut reader)?.is_none());
+    read_unit(rt, alloc, row, &input, &mut reader)?;
+    expect_equal(
+        rt,
+        outcome(alloc, AnyUnit::read(alloc, &mut reader))?.as_str(),
+        "an end",
+    );
     let reader = reader.into_inner();
     expect_equal(rt, reader.taken(), input.len());
     expect_equal(rt, reader.ends(), 1);
@@ -98,16 +127,20 @@ fn units_of_each_kind(rt: HostRuntime) -> Result<(), Fail> {
     Ok(())
 }
 
+/// Reads a row's unit, the header first.
+fn read_after_header(rt: &impl Abort, alloc: Global, row: &Row) -> Result<(), Fail> {
+    let input = bytes(alloc, &[row.unit])?;
+    let mut reader = SliceSource::new(&input);
+    let header = Header::read(&mut reader)?;
+    let unit = AnyUnit::read_payload(alloc, header, &mut reader)?;
+    expect_equal(rt, reader.rest().len(), 0);
+    expect_row(rt, alloc, row, &unit, &input)
+}
+
 #[test]
 fn units_after_their_headers(rt: HostRuntime) -> Result<(), Fail> {
-    let alloc = rt.alloc();
     for row in ROWS {
-        let input = bytes(alloc, &[row.unit])?;
-        let mut reader = SliceSource::new(&input);
-        let header = Header::read(&mut reader)?;
-        let unit = AnyUnit::read_payload(alloc, header, &mut reader)?;
-        expect_row(&rt, alloc, row, &unit, &input)?;
-        expect_equal(&rt, reader.rest().len(), 0);
+        read_after_header(&rt, rt.alloc(), row)?;
     }
     Ok(())
 }
@@ -123,27 +156,33 @@ fn session(alloc: Global) -> Result<(Vec<u8>, Vec<usize>), Fail> {
     Ok((all, ends))
 }
 
+/// What is to be answered to the call that reads the unit which ends there, where so many bytes are
+/// left of the session's bytes up to a cut.
+fn wanted(left: usize, cut: usize, end: usize) -> &'static str {
+    if cut >= end {
+        "a unit"
+    } else if left == 0 {
+        "an end"
+    } else {
+        "unexpected end of input"
+    }
+}
+
 /// Reads all units of a session that is cut: those that are whole, and then a clean end where the
 /// cut lies between two units.
 fn read_cut(rt: &impl Abort, alloc: Global, cut: &[u8], ends: &[usize]) -> Result<(), Fail> {
     let mut reader = SliceSource::new(cut);
     for end in ends {
-        let left = reader.rest().len();
-        match AnyUnit::read(alloc, &mut reader) {
-            Ok(Some(_)) => expect_equal(rt, reader.rest().len(), cut.len().saturating_sub(*end)),
-            Ok(None) => {
-                expect_equal(rt, left, 0);
-                return Ok(());
-            }
-            Err(fault) => {
-                assert!(rt; left > 0 && cut.len() < *end);
-                expect_equal(rt, said(alloc, &fault)?.as_str(), "unexpected end of input");
-                expect_equal(rt, reader.rest().len(), 0);
-                return Ok(());
-            }
+        let want = wanted(reader.rest().len(), cut.len(), *end);
+        let answer = outcome(alloc, AnyUnit::read(alloc, &mut reader))?;
+        expect_equal(rt, answer.as_str(), want);
+        expect_equal(rt, reader.rest().len(), cut.len().saturating_sub(*end));
+        if cut.len() < *end {
+            return Ok(());
         }
     }
-    assert!(rt; AnyUnit::read(alloc, &mut reader)?.is_none());
+    let answer = outcome(alloc, AnyUnit::read(alloc, &mut reader))?;
+    expect_equal(rt, answer.as_str(), "an end");
     Ok(())
 }
 

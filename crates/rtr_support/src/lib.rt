@@ -1,5 +1,5 @@
-//! What tests share: bytes written as hex, and readers and writers that give and take them in
-//! pieces and fail.
+//! What tests share: bytes written as hex, tables of rows, and readers and writers that give and
+//! take bytes in pieces and fail.
 #![tactic(auto)]
 
 use std::alloc::Global;
@@ -16,15 +16,18 @@ pub const IPV4: &str = "01 04 00 00 00 00 00 14 01 17 1a 00 c0 00 02 00 00 01 00
 
 /// An IPv6 prefix unit with host bits.
 pub const IPV6_STRAY: &str =
-    "01 06 00 00 00 00 00 20 01 17 1a 00 20 01 0d b8 00 00 00 02 00 0a 00 00 de ad be ef 00 01 00 0f";
+    "01 06 00 00 00 00 00 20 01 17 1a 00 20 01 0d b8 00 00 00 02 00 0a 00 00 de ad be ef \
+     00 01 00 0f";
 
 /// The form of `IPV6_STRAY`: 2001:c00::/23 up to 26 of ASN 65551.
 pub const IPV6: &str =
-    "01 06 00 00 00 00 00 20 01 17 1a 00 20 01 0c 00 00 00 00 00 00 00 00 00 00 00 00 00 00 01 00 0f";
+    "01 06 00 00 00 00 00 20 01 17 1a 00 20 01 0c 00 00 00 00 00 00 00 00 00 00 00 00 00 \
+     00 01 00 0f";
 
 /// A router key unit that announces.
 pub const KEY: &str =
-    "01 09 01 00 00 00 00 24 01 02 03 04 05 06 07 08 09 0a 0b 0c 0d 0e 0f 10 11 12 13 14 00 01 00 0f 15 16 17 18";
+    "01 09 01 00 00 00 00 24 01 02 03 04 05 06 07 08 09 0a 0b 0c 0d 0e 0f 10 11 12 13 14 \
+     00 01 00 0f 15 16 17 18";
 
 /// What follows the header of `KEY`.
 pub const KEY_REST: &str =
@@ -87,6 +90,31 @@ pub fn hash_of<T: Hash>(x: &T) -> u64 {
     let mut state = DefaultHasher::new();
     x.hash(&mut state);
     state.finish()
+}
+
+/// Fails at the first row of a table, `INPUT -> ANSWER`, to whose input another answer is given, or
+/// none.
+pub fn check_rows(
+    alloc: Global,
+    rows: &str,
+    answer: fn(Global, &str) -> Option<String>,
+) -> Result<(), Fail>
+    requires { IsAlwaysCallable answer }
+{
+    for row in rows.lines() {
+        let (input, want) = row.split_once(" -> ").unwrap_or((row, ""));
+        check_row(row, answer(alloc, input), want)?;
+    }
+    Ok(())
+}
+
+/// Fails if the answer to the input of a row is another, or none.
+fn check_row(row: &str, answer: Option<String>, want: &str) -> Result<(), Fail> {
+    match answer {
+        Some(text) if text.as_str() == want => Ok(()),
+        Some(text) => Err(Fail::new(format_args!("at {row}: {text}"))),
+        None => Err(Fail::new(format_args!("at {row}: no answer"))),
+    }
 }
 
 /// The sizes of a reader of one byte at a time.

@@ -15,7 +15,7 @@ use Rattle.rtr_units.specs.Views.{AreBytes}
 use Rattle.rtr_units.specs.declared.fault.Fault.{Fault}
 
 -- A kind of unit: what is wrong with the header that a list begins with, none where it is in order,
--- and whether what follows the header is read into memory that is asked for.
+-- and whether memory may be asked for where these bytes of a unit were read.
 pub record Kind : Type 0 where
   pub fault : List ℕ → Option Refusal
   pub asks : List ℕ → Bool

@@ -73,15 +73,9 @@ impl EndOfData {
             return Err(Fault::UnitVersion(version));
         }
         if version == 0 {
-            match EndOfDataV0::read_payload(header, reader) {
-                Ok(unit) => Ok(EndOfData::V0(unit)),
-                Err(e) => Err(e),
-            }
+            Ok(EndOfData::V0(EndOfDataV0::read_payload(header, reader)?))
         } else {
-            match EndOfDataV1::read_payload(header, reader) {
-                Ok(unit) => Ok(EndOfData::V1(unit)),
-                Err(e) => Err(e),
-            }
+            Ok(EndOfData::V1(EndOfDataV1::read_payload(header, reader)?))
         }
     }
 

@@ -87,10 +87,7 @@ impl Error {
         if length < 8 {
             return Err(Fault::UnitLength);
         }
-        match skip(reader, (length - 8) as usize) {
-            Ok(()) => Ok(()),
-            Err(e) => Err(e),
-        }
+        skip(reader, (length - 8) as usize)
     }
 
     /// Writes the bytes.
@@ -133,10 +130,8 @@ fn skip<R: Source>(reader: &mut R, size: usize) -> Result<(), Fault>
     let mut left = size;
     while left > 0 {
         let step = left.min(buffer.len());
-        match fill(reader, &mut buffer[..step]) {
-            Ok(()) => left -= step,
-            Err(e) => return Err(e),
-        }
+        fill(reader, &mut buffer[..step])?;
+        left -= step;
     }
     Ok(())
 }

@@ -59,10 +59,8 @@ impl Header {
             (R.state reader.old) (R.state reader.new) }
     {
         let mut header = Header::default();
-        match fill(reader, header.as_mut()) {
-            Ok(()) => Ok(header),
-            Err(e) => Err(e),
-        }
+        fill(reader, header.as_mut())?;
+        Ok(header)
     }
 
     /// Writes the eight bytes.
@@ -109,7 +107,8 @@ impl Header {
         u32_at(self.as_ref(), 4)
     }
 
-    /// The length field as a size in memory, or `UnitLength` where it does not fit one.
+    /// The length field as a size in memory. Each fits one here, so that the `UnitLength` of the
+    /// Rust crate never comes.
     pub fn pdu_len(&self) -> Result<usize, Fault>
         ensures ok { IsOk result }
         ensures length { IfOk result (λ n. n ≡ length_field (header_bytes self.now)) }

@@ -218,10 +218,8 @@ impl SerialQueryPayload {
             (R.state reader.old) (R.state reader.new) }
     {
         let mut payload = SerialQueryPayload::default();
-        match fill(reader, payload.as_mut()) {
-            Ok(()) => Ok(payload),
-            Err(e) => Err(e),
-        }
+        fill(reader, payload.as_mut())?;
+        Ok(payload)
     }
 
     /// The serial number.

@@ -99,10 +99,7 @@ pub trait Unit: Drop + Copy {
         if header.pdu() != Self::PDU {
             return Err(Fault::UnitType(header.pdu()));
         }
-        match Self::read_payload(header, reader) {
-            Ok(unit) => Ok(unit),
-            Err(e) => Err(e),
-        }
+        Self::read_payload(header, reader)
     }
 
     /// Reads a unit as `read` does. An error report in its place gives back its header, and is not
@@ -128,10 +125,7 @@ pub trait Unit: Drop + Copy {
         if header.pdu() != Self::PDU {
             return Err(Fault::UnitType(header.pdu()));
         }
-        match Self::read_payload(header, reader) {
-            Ok(unit) => Ok(Ok(unit)),
-            Err(e) => Err(e),
-        }
+        Ok(Ok(Self::read_payload(header, reader)?))
     }
 
     /// Reads what follows the header, which is kept as it is. Its type is not checked.
@@ -143,10 +137,8 @@ pub trait Unit: Drop + Copy {
             (R.state reader.old) (R.state reader.new) }
     {
         let mut unit = Self::zero();
-        match unit.read_rest(header, reader) {
-            Ok(()) => Ok(unit),
-            Err(e) => Err(e),
-        }
+        unit.read_rest(header, reader)?;
+        Ok(unit)
     }
 
     /// Reads what follows the header as `read_payload` does, into this unit.

@@ -28,7 +28,8 @@ const NOTIFY: &str = "01 00 12 34 00 00 00 0c de ad be ef";
 const IPV4_HOST: &str = "01 04 00 00 00 00 00 14 01 17 1a 00 c0 00 02 0a 00 01 00 0f";
 
 const IPV6_HOST: &str =
-    "01 06 00 00 00 00 00 20 01 17 1a 00 20 01 0d b8 00 00 00 02 00 0a 00 00 de ad be ef 00 01 00 0f";
+    "01 06 00 00 00 00 00 20 01 17 1a 00 20 01 0d b8 00 00 00 02 00 0a 00 00 de ad be ef \
+     00 01 00 0f";
 
 /// The unit has these bytes, is written as them, and read back of them, equal with its hash.
 fn passes<U: Unit + Eq + Hash>(

@@ -1,5 +1,7 @@
 -- The written forms of what views show, by the bytes of the units.
-use Rattle.std.proofs.Common.{◌≡◌, ◌≢◌, ℕ, ◌+◌, ◌*◌, ◌%◌, ◌≤◌, cond, eqb, Option, Some, None, List, ◌∷◌, ◌++◌, length, take, drop, get_or, sym, ap, ◌∙◌, append-nil, arith}
+use Rattle.std.proofs.Common.{◌≡◌, ◌≢◌, ℕ, ◌+◌, ◌*◌, ◌%◌, ◌≤◌, cond, eqb, Option, Some, None, List}
+use Rattle.std.proofs.Common.{◌∷◌, ◌++◌, length, take, drop, get_or}
+use Rattle.std.proofs.Common.{sym, ap, ◌∙◌, append-nil, arith}
 use Rattle.std.proofs.lemmas.Bool.Decides.{nat_tests}
 use Rattle.std.proofs.lemmas.List.{length-take-le, length-drop}
 use Rattle.rtr_base.specs.declared.payload.Action.{Action}
@@ -46,7 +48,8 @@ pub record AspaSays (u : List ℕ) : Type 0 where
   pub fours : length u % 4 ≡ 0
   pub named : length u ≡ 12 → get_or u 2 0 % 2 ≢ 1
 
-of_one_type : (t p : ℕ) (o : Option Refusal) (f : Refusal) → cond (eqb t p) o (Some f) ≡ None → (t ≡ p) × (o ≡ None)
+of_one_type : (t p : ℕ) (o : Option Refusal) (f : Refusal) → cond (eqb t p) o (Some f) ≡ None →
+    (t ≡ p) × (o ≡ None)
 of_one_type t p o f e = grind (arith, nat_tests)
 
 key_limits : (v g n : ℕ) → header_fault v 9 g n ≡ None → (32 ≤ n) × (n ≤ 65535)
@@ -66,7 +69,13 @@ key_says u h =
     let size = h.size in
     let p = of_one_type (type_field u) 9 _ _ h.in_order in
     let q = key_limits (version_field u) (get_or u 2 0) (length_field u) p.1 in
-    record { are_bytes = h.are_bytes; kind = p.0; field = sym size; least = omega (arith, q.0); most = omega (arith, q.1) }
+    record {
+      are_bytes = h.are_bytes;
+      kind = p.0;
+      field = sym size;
+      least = omega (arith, q.0);
+      most = omega (arith, q.1);
+    }
 
 pub aspa_says : (u : List ℕ) → IsWholeAspa u → AspaSays u
 aspa_says u h =
@@ -80,23 +89,29 @@ aspa_says u h =
       least = omega (arith, q.0);
       most = omega (arith, q.1);
       fours = ap (λ (n : ℕ). n % 4) size ∙ q.2;
-      named = λ twelve. aspa_named (version_field u) (get_or u 2 0) (length_field u) p.1 (sym size ∙ twelve);
+      named = λ twelve.
+          aspa_named (version_field u) (get_or u 2 0) (length_field u) p.1 (sym size ∙ twelve);
     }
 
 pub whole_key : (u : List ℕ) → IsWholeKey u → HasFields u (key_unit (key_at u))
 whole_key u whole = let h = key_says u whole in key_has u h.are_bytes h.least h.most h.kind h.field
 
 pub whole_aspa : (u : List ℕ) → IsWholeAspa u → HasFields u (aspa_unit (aspa_at u))
-whole_aspa u whole = let h = aspa_says u whole in aspa_has u h.are_bytes h.least h.most h.fours h.named h.kind h.field
+whole_aspa u whole =
+    let h = aspa_says u whole in
+    aspa_has u h.are_bytes h.least h.most h.fours h.named h.kind h.field
 
 -- the form of a key, by its header and what follows it
-pub key_form : (u rest : List ℕ) (v : ℕ) (a : Action) → IsWholeKey u → v ≡ version_field u → a ≡ act (get_or u 2 0) → rest ≡ drop 8 u
-    → (v ∷ 9 ∷ flags_of a ∷ 0 ∷ be (8 + length rest) 4) ++ rest ≡ form_of (meaning (key_unit (key_at u)))
+pub key_form : (u rest : List ℕ) (v : ℕ) (a : Action) → IsWholeKey u → v ≡ version_field u →
+    a ≡ act (get_or u 2 0) → rest ≡ drop 8 u →
+    (v ∷ 9 ∷ flags_of a ∷ 0 ∷ be (8 + length rest) 4) ++ rest ≡
+    form_of (meaning (key_unit (key_at u)))
 key_form u rest v a h ev ea er =
     let has = whole_key u h in
     let h = key_says u h in
     let front = λ (n : ℕ). version_field u ∷ 9 ∷ flags_of (act (get_or u 2 0)) ∷ 0 ∷ be n 4 in
-    let size : 8 + length (drop 8 u) ≡ 32 + length (drop 32 u) = omega (arith, length-drop 8 u, length-drop 32 u, h.least) in
+    let size : 8 + length (drop 8 u) ≡ 32 + length (drop 32 u) =
+    omega (arith, length-drop 8 u, length-drop 32 u, h.least) in
     (λ i. (ev i ∷ 9 ∷ flags_of (ea i) ∷ 0 ∷ be (8 + length (er i)) 4) ++ er i)
     ∙ ap (λ (n : ℕ). front n ++ drop 8 u) size
     ∙ ap (λ (l : List ℕ). front (32 + length (drop 32 u)) ++ l) (ap (drop 8) has.bytes)
@@ -104,10 +119,29 @@ key_form u rest v a h ev ea er =
 -- ---- ASPA units
 
 -- the providers count by the action
-by_action : (u : List ℕ) (a : Action) → act (get_or u 2 0) ≡ a → form_of (meaning (aspa_unit (aspa_at u))) ≡ aspa_list (record { version = version_field u; flags = flags_of a; free = 0; aspa = meant_aspa a (aspa_at u).aspa })
-by_action u a e = ap (λ b. let written : AspaFields = record { version = version_field u; flags = flags_of b; free = 0; aspa = meant_aspa b (aspa_at u).aspa } in aspa_list written) e
+by_action : (u : List ℕ) (a : Action) → act (get_or u 2 0) ≡ a →
+    form_of (meaning (aspa_unit (aspa_at u))) ≡
+    aspa_list (record {
+      version = version_field u;
+      flags = flags_of a;
+      free = 0;
+      aspa = meant_aspa a (aspa_at u).aspa;
+    })
+by_action u a e =
+    ap
+    (λ b.
+    let written : AspaFields = record {
+      version = version_field u;
+      flags = flags_of b;
+      free = 0;
+      aspa = meant_aspa b (aspa_at u).aspa;
+    } in
+    aspa_list written)
+    e
 
-announced_form : (u : List ℕ) → IsWholeAspa u → act (get_or u 2 0) ≡ Announce → (version_field u ∷ 11 ∷ 1 ∷ 0 ∷ be (8 + length (drop 8 u)) 4) ++ drop 8 u ≡ form_of (meaning (aspa_unit (aspa_at u)))
+announced_form : (u : List ℕ) → IsWholeAspa u → act (get_or u 2 0) ≡ Announce →
+    (version_field u ∷ 11 ∷ 1 ∷ 0 ∷ be (8 + length (drop 8 u)) 4) ++ drop 8 u ≡
+    form_of (meaning (aspa_unit (aspa_at u)))
 announced_form u h e =
     let has = whole_aspa u h in
     let h = aspa_says u h in
@@ -119,14 +153,20 @@ announced_form u h e =
     ∙ ap (λ (l : List ℕ). front (12 + 4 * length ps) ++ l) (ap (drop 8) has.bytes)
     ∙ sym (by_action u Announce e)
 
-withdrawn_form : (u : List ℕ) → IsWholeAspa u → act (get_or u 2 0) ≡ Withdraw → (version_field u ∷ 11 ∷ 0 ∷ 0 ∷ be (8 + length (take 4 (drop 8 u))) 4) ++ take 4 (drop 8 u) ≡ form_of (meaning (aspa_unit (aspa_at u)))
+withdrawn_form : (u : List ℕ) → IsWholeAspa u → act (get_or u 2 0) ≡ Withdraw →
+    (version_field u ∷ 11 ∷ 0 ∷ 0 ∷ be (8 + length (take 4 (drop 8 u))) 4) ++ take 4 (drop 8 u) ≡
+    form_of (meaning (aspa_unit (aspa_at u)))
 withdrawn_form u h e =
     let h = aspa_says u h in
-    let whole : length (take 4 (drop 8 u)) ≡ 4 = length-take-le 4 (drop 8 u) (omega (arith, length-drop 8 u, h.least)) in
-    let customer : be (value (take 4 (drop 8 u))) 4 ≡ take 4 (drop 8 u) = be-value (take 4 (drop 8 u)) 4 (IsBytes-take 4 (drop 8 u) (IsBytes-drop 8 u h.are_bytes)) whole in
+    let whole : length (take 4 (drop 8 u)) ≡ 4 =
+    length-take-le 4 (drop 8 u) (omega (arith, length-drop 8 u, h.least)) in
+    let customer : be (value (take 4 (drop 8 u))) 4 ≡ take 4 (drop 8 u) =
+    be-value (take 4 (drop 8 u)) 4
+    (IsBytes-take 4 (drop 8 u) (IsBytes-drop 8 u h.are_bytes)) whole in
     ap (λ (n : ℕ). (version_field u ∷ 11 ∷ 0 ∷ 0 ∷ be (8 + n) 4) ++ take 4 (drop 8 u)) whole
     ∙ ap (λ (l : List ℕ). version_field u ∷ 11 ∷ 0 ∷ 0 ∷ 0 ∷ 0 ∷ 0 ∷ 12 ∷ l) (sym customer)
-    ∙ sym (by_action u Withdraw e ∙ append-nil (version_field u ∷ 11 ∷ 0 ∷ 0 ∷ 0 ∷ 0 ∷ 0 ∷ 12 ∷ be (value (take 4 (drop 8 u))) 4))
+    ∙ sym (by_action u Withdraw e
+    ∙ append-nil (version_field u ∷ 11 ∷ 0 ∷ 0 ∷ 0 ∷ 0 ∷ 0 ∷ 12 ∷ be (value (take 4 (drop 8 u))) 4))
 
 -- what follows the header in the form of an ASPA unit
 abbrev pub kept_rest : Action → List ℕ → List ℕ
@@ -134,13 +174,20 @@ kept_rest Announce u = drop 8 u
 kept_rest Withdraw u = take 4 (drop 8 u)
 
 -- the form of an ASPA unit, by its header and what follows it
-pub aspa_form : (u rest : List ℕ) (v : ℕ) (a : Action) → IsWholeAspa u → v ≡ version_field u → a ≡ act (get_or u 2 0) → rest ≡ kept_rest a u
-    → (v ∷ 11 ∷ flags_of a ∷ 0 ∷ be (8 + length rest) 4) ++ rest ≡ form_of (meaning (aspa_unit (aspa_at u)))
-aspa_form u rest v Announce h ev ea er = (λ i. (ev i ∷ 11 ∷ 1 ∷ 0 ∷ be (8 + length (er i)) 4) ++ er i) ∙ announced_form u h (sym ea)
-aspa_form u rest v Withdraw h ev ea er = (λ i. (ev i ∷ 11 ∷ 0 ∷ 0 ∷ be (8 + length (er i)) 4) ++ er i) ∙ withdrawn_form u h (sym ea)
+pub aspa_form : (u rest : List ℕ) (v : ℕ) (a : Action) → IsWholeAspa u → v ≡ version_field u →
+    a ≡ act (get_or u 2 0) → rest ≡ kept_rest a u →
+    (v ∷ 11 ∷ flags_of a ∷ 0 ∷ be (8 + length rest) 4) ++ rest ≡
+    form_of (meaning (aspa_unit (aspa_at u)))
+aspa_form u rest v Announce h ev ea er =
+    (λ i. (ev i ∷ 11 ∷ 1 ∷ 0 ∷ be (8 + length (er i)) 4) ++ er i) ∙ announced_form u h (sym ea)
+aspa_form u rest v Withdraw h ev ea er =
+    (λ i. (ev i ∷ 11 ∷ 0 ∷ 0 ∷ be (8 + length (er i)) 4) ++ er i) ∙ withdrawn_form u h (sym ea)
 
 -- ---- origins
 
 -- the bytes of the unit that is made of a view's fields
-pub origin_form : (v : OriginView) (a : Action) (f : ℕ) (bytes piece : List ℕ) → a ≡ act v.flags → f ≡ flags_of a → bytes ≡ form v.version f (origin_of v.origin) → piece ≡ bytes → piece ≡ form_of (origin_meaning v)
-origin_form v a f bytes piece ea ef is whole = whole ∙ is ∙ ap (λ (n : ℕ). form v.version n (origin_of v.origin)) (ef ∙ ap flags_of ea)
+pub origin_form : (v : OriginView) (a : Action) (f : ℕ) (bytes piece : List ℕ) → a ≡ act v.flags →
+    f ≡ flags_of a → bytes ≡ form v.version f (origin_of v.origin) → piece ≡ bytes →
+    piece ≡ form_of (origin_meaning v)
+origin_form v a f bytes piece ea ef is whole =
+    whole ∙ is ∙ ap (λ (n : ℕ). form v.version n (origin_of v.origin)) (ef ∙ ap flags_of ea)

@@ -61,7 +61,7 @@ impl<'a> AspaView<'a> {
     pub fn providers(&self) -> &'a [u8]
         ensures { result.now ≡ drop 12 self.now.unit.now }
     {
-        let (_, providers) = self.unit.split_at(12);
+        let (_, providers) = self.unit.split_at(FIXED);
         providers
     }
 

@@ -29,18 +29,18 @@ pub fn first_end(input: &[u8]) -> Result<EndOfData, ViewFault>
         return Err(ViewFault::UnitVersion(version));
     }
     if version == 0 {
-        if size != 12 {
+        if size != EndOfDataV0::size() {
             return Err(ViewFault::UnitLength);
         }
-        match first_unit(input, 12) {
+        match first_unit(input, EndOfDataV0::LENGTH) {
             Ok(unit) => Ok(EndOfData::V0(unit_of::<EndOfDataV0>(unit))),
             Err(e) => Err(e),
         }
     } else {
-        if size != 24 {
+        if size != EndOfDataV1::size() {
             return Err(ViewFault::UnitLength);
         }
-        match first_unit(input, 24) {
+        match first_unit(input, EndOfDataV1::LENGTH) {
             Ok(unit) => Ok(EndOfData::V1(unit_of::<EndOfDataV1>(unit))),
             Err(e) => Err(e),
         }

@@ -1,6 +1,6 @@
 //! Why a call on views failed.
 
-use rtr_payload::prefix_rule::PrefixRule;
+use rtr_payload::pdu::prefix_rule::PrefixRule;
 use std::io;
 
 /// Why a call on views failed. It holds no memory of its own.

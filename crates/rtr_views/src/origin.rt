@@ -16,7 +16,7 @@ use rtr_base::asn::Asn;
 use rtr_base::payload::Action;
 use rtr_payload::payload::RouteOrigin;
 use rtr_payload::pdu::PrefixUnit;
-use rtr_payload::prefix_rule::{PrefixRule, ipv4_prefix, ipv6_prefix};
+use rtr_payload::pdu::prefix_rule::{PrefixRule, ipv4_prefix, ipv6_prefix};
 use rtr_units::fixed::{Ipv4Prefix, Ipv6Prefix};
 use rtr_units::numbers::{u32_at, u128_at};
 use rtr_units::source::Sink;
@@ -65,10 +65,10 @@ impl OriginView {
         ensures view { IfOk result (λ v. IsOriginOf v4 v (first_unit input.now)) }
         ensures fault { IfErr result (λ e. IsFirstFault input.now e) }
     {
-        if u32_at(input, 4) != 20 {
+        if u32_at(input, 4) != Ipv4Prefix::size() {
             return Err(ViewFault::UnitLength);
         }
-        match first_unit(input, 20) {
+        match first_unit(input, Ipv4Prefix::LENGTH) {
             Ok(unit) => match OriginView::of_ipv4(unit) {
                 Ok(view) => Ok(view),
                 Err(rule) => Err(ViewFault::Prefix(rule)),
@@ -87,10 +87,10 @@ impl OriginView {
         ensures view { IfOk result (λ v. IsOriginOf v6 v (first_unit input.now)) }
         ensures fault { IfErr result (λ e. IsFirstFault input.now e) }
     {
-        if u32_at(input, 4) != 32 {
+        if u32_at(input, 4) != Ipv6Prefix::size() {
             return Err(ViewFault::UnitLength);
         }
-        match first_unit(input, 32) {
+        match first_unit(input, Ipv6Prefix::LENGTH) {
             Ok(unit) => match OriginView::of_ipv6(unit) {
                 Ok(view) => Ok(view),
                 Err(rule) => Err(ViewFault::Prefix(rule)),

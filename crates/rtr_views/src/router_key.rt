@@ -71,7 +71,7 @@ impl<'a> RouterKeyView<'a> {
     pub fn key_info(&self) -> &'a [u8]
         ensures { result.now ≡ (key_at self.now.unit.now).key.info }
     {
-        let (_, key_info) = self.unit.split_at(32);
+        let (_, key_info) = self.unit.split_at(FIXED);
         key_info
     }
 

@@ -48,11 +48,11 @@ impl<'a> UnitView<'a> {
         }
         match input[1] {
             Ipv4Prefix::PDU => match OriginView::first_ipv4(input) {
-                Ok(view) => Ok((UnitView::Origin(view), 20)),
+                Ok(view) => Ok((UnitView::Origin(view), Ipv4Prefix::LENGTH)),
                 Err(e) => Err(e),
             },
             Ipv6Prefix::PDU => match OriginView::first_ipv6(input) {
-                Ok(view) => Ok((UnitView::Origin(view), 32)),
+                Ok(view) => Ok((UnitView::Origin(view), Ipv6Prefix::LENGTH)),
                 Err(e) => Err(e),
             },
             EndOfData::PDU => match first_end(input) {

@@ -1,5 +1,7 @@
 -- What is written is never longer than what it is written for, but for an end of data.
-use Rattle.std.proofs.Common.{◌≡◌, ◌≢◌, ℕ, ◌+◌, ◌<◌, ◌≤◌, leb, List, [], ◌∷◌, length, map, Option, Some, None, Result, Ok, Err, refl, sym, ap, append-nil, arith, inl, inr}
+use Rattle.std.proofs.Common.{◌≡◌, ◌≢◌, ℕ, ◌+◌, ◌<◌, ◌≤◌, leb, List, [], ◌∷◌, length, map, Option}
+use Rattle.std.proofs.Common.{Some, None, Result, Ok, Err, refl}
+use Rattle.std.proofs.Common.{sym, ap, append-nil, arith, inl, inr}
 use Rattle.std.specs.List.{filter}
 use Rattle.std.proofs.lemmas.Bool.{cond_both}
 use Rattle.std.proofs.lemmas.List.{length-append}
@@ -12,36 +14,52 @@ use Rattle.rtr_units.specs.End.{EndMeaning, End, end_list, timed_list}
 use Rattle.rtr_payload.specs.Payloads.{Meaning, Payload, origin, key, aspa, smallest_version}
 use Rattle.rtr_units.specs.PrefixUnits.{PrefixFields, prefix_list}
 use Rattle.rtr_payload.specs.AspaUnits.{aspa_list, meant_aspa}
-use Rattle.rtr_payload.specs.Units.{Fields, prefix_unit, key_unit, aspa_unit, IsUnit, unit_list, meaning, form_of}
+use Rattle.rtr_payload.specs.Units.{Fields, prefix_unit, key_unit, aspa_unit}
+use Rattle.rtr_payload.specs.Units.{IsUnit, unit_list, meaning, form_of}
 use Rattle.rtr_base.specs.declared.payload.Timing.{Timing}
 use Rattle.rtr_wire.specs.Into.{LacksRoom, FillsInto}
-use Rattle.rtr_wire.specs.Sequences.{AreUnits, Written, everything, for_version, forms, in_version, units_for, end_for}
+use Rattle.rtr_wire.specs.Sequences.{AreUnits, Written, everything, for_version}
+use Rattle.rtr_wire.specs.Sequences.{forms, in_version, units_for, end_for}
 use Rattle.rtr_wire.specs.declared.into.IntoFault.{IntoFault}
 use Rattle.rtr_wire.specs.declared.into.IntoFault.TheVariants.{NoRoom}
 use Rattle.rtr_wire.specs.declared.into.Progress.{Progress}
 
 -- a withdrawal names no providers
-fewer : (v f g z c : ℕ) (a : Action) (ps : List ℕ) → length (aspa_list (record { version = v; flags = f; free = 0; aspa = meant_aspa a (record { customer = c; providers = ps }) })) ≤ length (aspa_list (record { version = v; flags = g; free = z; aspa = record { customer = c; providers = ps } }))
+fewer : (v f g z c : ℕ) (a : Action) (ps : List ℕ) →
+    length (aspa_list (record {
+      version = v;
+      flags = f;
+      free = 0;
+      aspa = meant_aspa a (record { customer = c; providers = ps });
+    })) ≤
+    length (aspa_list
+    (record { version = v; flags = g; free = z; aspa = record { customer = c; providers = ps } }))
 fewer v f g z c Announce ps = omega arith
-fewer v f g z c Withdraw ps = omega (arith, length-append (be c 4) (words ps), length-append (be c 4) (words []))
+fewer v f g z c Withdraw ps =
+    omega (arith, length-append (be c 4) (words ps), length-append (be c 4) (words []))
 
-prefix_fits : (u : PrefixFields) (f : Family) → u.origin.family ≡ f → length (form_of (meaning (prefix_unit u))) ≤ length (prefix_list u)
+prefix_fits : (u : PrefixFields) (f : Family) → u.origin.family ≡ f →
+    length (form_of (meaning (prefix_unit u))) ≤ length (prefix_list u)
 prefix_fits u v4 e = rw e (omega arith)
 prefix_fits u v6 e = rw e (omega arith)
 
 form_fits : (u : Fields) → length (form_of (meaning u)) ≤ length (unit_list u)
 form_fits (prefix_unit u) = prefix_fits u u.origin.family refl
 form_fits (key_unit u) = omega arith
-form_fits (aspa_unit u) = fewer u.version (flags_of (act u.flags)) u.flags u.free u.aspa.customer (act u.flags) u.aspa.providers
+form_fits (aspa_unit u) =
+    fewer u.version (flags_of (act u.flags)) u.flags u.free u.aspa.customer (act u.flags)
+    u.aspa.providers
 
 unit_fits : (b : List ℕ) (m : Meaning) → IsUnit b m → length (form_of m) ≤ length b
-unit_fits b m h = omega (arith, form_fits h.fields, ap length h.bytes, ap (λ m. length (form_of m)) h.means)
+unit_fits b m h =
+    omega (arith, form_fits h.fields, ap length h.bytes, ap (λ m. length (form_of m)) h.means)
 
 -- a version has one byte
 same_size : (v : ℕ) (m : Meaning) → length (form_of (in_version v m)) ≡ length (form_of m)
 same_size v m = by_payload m.payload refl
   where
-    by_payload : (p : Payload) → m.payload ≡ p → length (form_of (in_version v m)) ≡ length (form_of m)
+    by_payload : (p : Payload) → m.payload ≡ p →
+        length (form_of (in_version v m)) ≡ length (form_of m)
     by_payload (origin o) e = rw e refl
     by_payload (key k) e = rw e refl
     by_payload (aspa a) e = rw e refl
@@ -49,46 +67,95 @@ same_size v m = by_payload m.payload refl
 units_fit : (us : List ℕ) (ms : List Meaning) → AreUnits us ms → length (forms ms) ≤ length us
 units_fit us [] h = omega (arith, ap length h)
 units_fit us (m ∷ ms) (first, rest, parts, unit, others) =
-    omega (arith, unit_fits first m unit, units_fit rest ms others, ap length parts, length-append first rest, length-append (form_of m) (forms ms))
+    omega (
+      arith,
+      unit_fits first m unit,
+      units_fit rest ms others,
+      ap length parts,
+      length-append first rest,
+      length-append (form_of m) (forms ms),
+    )
 
-version_fits : (v : ℕ) (us : List ℕ) (ms : List Meaning) → AreUnits us ms → length (forms (units_for v ms)) ≤ length us
+version_fits : (v : ℕ) (us : List ℕ) (ms : List Meaning) → AreUnits us ms →
+    length (forms (units_for v ms)) ≤ length us
 version_fits v us [] h = omega (arith, ap length h)
 version_fits v us (m ∷ ms) (first, rest, parts, unit, others) =
     let fits = version_fits v rest ms others in
     let one = unit_fits first m unit in
     let kept = filter (λ m. leb (smallest_version m.payload) v) ms in
-    cond_both (leb (smallest_version m.payload) v) (m ∷ kept) kept (λ kept. length (forms (map (in_version v) kept)) ≤ length us)
-    (λ _. omega (arith, one, fits, same_size v m, ap length parts, length-append first rest, length-append (form_of (in_version v m)) (forms (units_for v ms))))
+    cond_both (leb (smallest_version m.payload) v) (m ∷ kept) kept
+    (λ kept. length (forms (map (in_version v) kept)) ≤ length us)
+    (λ _.
+    omega (
+      arith,
+      one,
+      fits,
+      same_size v m,
+      ap length parts,
+      length-append first rest,
+      length-append (form_of (in_version v m)) (forms (units_for v ms)),
+    ))
     (λ _. omega (arith, fits, ap length parts, length-append first rest))
 
 -- an end of data has at least 12 bytes, and at most 24
-end_size : (v s q : ℕ) (t : Option Timing) → (12 ≤ length (timed_list v s q t)) × (length (timed_list v s q t) ≤ 24)
+end_size : (v s q : ℕ) (t : Option Timing) →
+    (12 ≤ length (timed_list v s q t)) × (length (timed_list v s q t) ≤ 24)
 end_size v s q None = (omega arith, omega arith)
 end_size v s q (Some t) = (omega arith, omega arith)
 
 -- the next is written in no more bytes than it has, and these more
-module _ (what : Written) (more : ℕ) (units_fits : (us : List ℕ) (ms : List Meaning) → AreUnits us ms → length (forms (what.units ms)) ≤ length us)
-    (end_fits : (next : List ℕ) (e : EndMeaning) → End next e → length (end_list (what.end e)) ≤ length next + more) where
+module _ (what : Written) (more : ℕ)
+    (units_fits : (us : List ℕ) (ms : List Meaning) → AreUnits us ms →
+    length (forms (what.units ms)) ≤ length us)
+    (end_fits : (next : List ℕ) (e : EndMeaning) → End next e →
+    length (end_list (what.end e)) ≤ length next + more) where
   next_fits : (rest : List ℕ) (room : ℕ) → LacksRoom what rest room → room < length rest + more
   next_fits rest room (next, left, parts, inl (m, unit, less)) =
       let alone : AreUnits next (m ∷ []) = (next, [], sym (append-nil next), unit, refl) in
       omega (arith, less, units_fits next (m ∷ []) alone, ap length parts, length-append next left)
-  next_fits rest room (next, left, parts, inr (e, end, less)) = omega (arith, less, end_fits next e end, ap length parts, length-append next left)
+  next_fits rest room (next, left, parts, inr (e, end, less)) =
+      omega (arith, less, end_fits next e end, ap length parts, length-append next left)
 
-  pub always_room : (limit : ℕ) (result : Result Unit IntoFault) (input before after : List ℕ) (p : Progress) → FillsInto what limit result input before after p → length input + more ≤ length before → result ≢ Err NoRoom
+  pub always_room : (limit : ℕ) (result : Result Unit IntoFault) (input before after : List ℕ)
+      (p : Progress) → FillsInto what limit result input before after p →
+      length input + more ≤ length before → result ≢ Err NoRoom
   always_room limit (Ok done) input before after p f enough e = absurd cc
   always_room limit (Err g) input before after p f enough e = at_fault g f cc
     where
-      at_fault : (g : IntoFault) → FillsInto what limit (Err g) input before after p → g ≡ NoRoom → ⊥
+      at_fault : (g : IntoFault) → FillsInto what limit (Err g) input before after p →
+          g ≡ NoRoom → ⊥
       at_fault NoRoom f e =
           let less = next_fits f.rest f.room f.ends.2.1 in
-          omega (arith, less, units_fits f.us f.ms f.are_units, f.room_is, f.written, ap length f.ends.1, ap length f.parts, length-append f.us f.rest, enough)
+          omega (
+            arith,
+            less,
+            units_fits f.us f.ms f.are_units,
+            f.room_is,
+            f.written,
+            ap length f.ends.1,
+            ap length f.parts,
+            length-append f.us f.rest,
+            enough,
+          )
       at_fault g f e = absurd cc
 
-pub room_for_all : (limit : ℕ) (result : Result Unit IntoFault) (input before after : List ℕ) (p : Progress) → FillsInto everything limit result input before after p → length input ≤ length before → result ≢ Err NoRoom
+pub room_for_all : (limit : ℕ) (result : Result Unit IntoFault) (input before after : List ℕ)
+    (p : Progress) → FillsInto everything limit result input before after p →
+    length input ≤ length before → result ≢ Err NoRoom
 room_for_all limit result input before after p f enough =
-    always_room everything 0 units_fit (λ next e end. omega (arith, ap length end.bytes)) limit result input before after p f (omega (arith, enough))
+    always_room everything 0 units_fit (λ next e end. omega (arith, ap length end.bytes)) limit
+    result input before after p f (omega (arith, enough))
 
-pub room_for_version : (v limit : ℕ) (result : Result Unit IntoFault) (input before after : List ℕ) (p : Progress) → FillsInto (for_version v) limit result input before after p → length input + 12 ≤ length before → result ≢ Err NoRoom
+pub room_for_version : (v limit : ℕ) (result : Result Unit IntoFault) (input before after : List ℕ)
+    (p : Progress) → FillsInto (for_version v) limit result input before after p →
+    length input + 12 ≤ length before → result ≢ Err NoRoom
 room_for_version v limit result input before after p f enough =
-    always_room (for_version v) 12 (version_fits v) (λ next e end. omega (arith, ap length end.bytes, (end_size e.version e.session e.serial e.timing).0, (end_size v e.session e.serial (end_for v e).timing).1)) limit result input before after p f enough
+    always_room (for_version v) 12 (version_fits v)
+    (λ next e end.
+    omega (
+      arith,
+      ap length end.bytes,
+      (end_size e.version e.session e.serial e.timing).0,
+      (end_size v e.session e.serial (end_for v e).timing).1,
+    ))
+    limit result input before after p f enough

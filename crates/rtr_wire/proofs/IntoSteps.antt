@@ -1,6 +1,9 @@
 -- Steps from a slice into another, one after the other.
-use Rattle.std.proofs.Common.{◌≡◌, ℕ, ◌+◌, ◌-◌, ◌<◌, ◌≤◌, Bool, true, false, cond, List, [], ◌∷◌, ◌++◌, length, take, drop, Some, None, Ok, Err, refl, sym, ap, subst, ◌∙◌, append_assoc, append-nil, arith, inl, inr}
-use Rattle.std.proofs.lemmas.List.{length-append, take-append-drop, length-take-le, length-drop, drop-drop, take_all, drop_all}
+use Rattle.std.proofs.Common.{◌≡◌, ℕ, ◌+◌, ◌-◌, ◌<◌, ◌≤◌, Bool, true, false, cond, List, [], ◌∷◌}
+use Rattle.std.proofs.Common.{◌++◌, length, take, drop, Some, None, Ok, Err, refl, sym, ap, subst}
+use Rattle.std.proofs.Common.{◌∙◌, append_assoc, append-nil, arith, inl, inr}
+use Rattle.std.proofs.lemmas.List.{length-append, take-append-drop, length-take-le, length-drop}
+use Rattle.std.proofs.lemmas.List.{drop-drop, take_all, drop_all}
 use Rattle.std.proofs.Math.Seq.{drop-append_seam, take-append_seam}
 use Rattle.rtr_units.specs.End.{End, end_list}
 use Rattle.rtr_units.specs.Ends.{end_bytes, end_meaning}
@@ -35,23 +38,34 @@ pub record Viewed (v : UnitView) (b : List ℕ) : Type 0 where
   pub means : ViewMeans v m
   pub unit : IsUnit b m
 
-pub viewed : (v : UnitView) (b : List ℕ) → ((e : EndOfData) → v ≡ views.End e → ⊥) → IsViewOf v b → Viewed v b
-viewed (views.Origin v) b not is = let m = origin_meaning v in record { m = m; means = refl; unit = view_means (views.Origin v) b m is refl }
-viewed (views.RouterKey v) b not is = let m = meaning (key_unit (key_at v.unit.now)) in record { m = m; means = refl; unit = view_means (views.RouterKey v) b m is refl }
-viewed (views.Aspa v) b not is = let m = meaning (aspa_unit (aspa_at v.unit.now)) in record { m = m; means = refl; unit = view_means (views.Aspa v) b m is refl }
+pub viewed : (v : UnitView) (b : List ℕ) → ((e : EndOfData) → v ≡ views.End e → ⊥) → IsViewOf v b →
+    Viewed v b
+viewed (views.Origin v) b not is =
+    let m = origin_meaning v in
+    record { m = m; means = refl; unit = view_means (views.Origin v) b m is refl }
+viewed (views.RouterKey v) b not is =
+    let m = meaning (key_unit (key_at v.unit.now)) in
+    record { m = m; means = refl; unit = view_means (views.RouterKey v) b m is refl }
+viewed (views.Aspa v) b not is =
+    let m = meaning (aspa_unit (aspa_at v.unit.now)) in
+    record { m = m; means = refl; unit = view_means (views.Aspa v) b m is refl }
 viewed (views.End e) b not is = absurd (not e refl)
 
-module _ (what : Written) (has : ℕ → Bool) (to : ℕ → ℕ) (one : OneByOne what has to) (rest : List ℕ) (k : ℕ) (le : k ≤ length rest) (before : List ℕ) where
+module _ (what : Written) (has : ℕ → Bool) (to : ℕ → ℕ) (one : OneByOne what has to) (rest : List ℕ)
+    (k : ℕ) (le : k ≤ length rest) (before : List ℕ) where
   parts : rest ≡ take k rest ++ drop k rest
   parts = sym (take-append-drop k rest)
 
   size : k ≡ length (take k rest)
   size = sym (length-take-le k rest le)
 
-  of_unit : (m : Meaning) (b : Bool) → has (smallest_version m.payload) ≡ b → what.units (m ∷ []) ≡ cond b (in_version (to m.version) m ∷ []) []
+  of_unit : (m : Meaning) (b : Bool) → has (smallest_version m.payload) ≡ b →
+      what.units (m ∷ []) ≡ cond b (in_version (to m.version) m ∷ []) []
   of_unit m b is = one m ∙ ap (λ b. cond b (in_version (to m.version) m ∷ []) []) is
 
-  pub step_left_out : (m : Meaning) → IsUnit (take k rest) m → has (smallest_version m.payload) ≡ false → Stepped what (record { passed = passes.LeftOut; taken = k; written = 0 }) rest before before
+  pub step_left_out : (m : Meaning) → IsUnit (take k rest) m →
+      has (smallest_version m.payload) ≡ false →
+      Stepped what (record { passed = passes.LeftOut; taken = k; written = 0 }) rest before before
   step_left_out m unit not = record {
     took = take k rest;
     wrote = [];
@@ -60,13 +74,22 @@ module _ (what : Written) (has : ℕ → Bool) (to : ℕ → ℕ) (one : OneByOn
     written = refl;
     fits = omega arith;
     output = refl;
-    tells = (m, unit, (ap forms (sym (of_unit m false not)), ap (λ l. Some (length l)) (of_unit m false not)));
+    tells = (
+      m,
+      unit,
+      (ap forms (sym (of_unit m false not)), ap (λ l. Some (length l)) (of_unit m false not)),
+    );
   }
 
-  whole : (m : Meaning) → has (smallest_version m.payload) ≡ true → form_of (in_version (to m.version) m) ≡ forms (what.units (m ∷ []))
-  whole m does = sym (append-nil (form_of (in_version (to m.version) m))) ∙ ap forms (sym (of_unit m true does))
+  whole : (m : Meaning) → has (smallest_version m.payload) ≡ true →
+      form_of (in_version (to m.version) m) ≡ forms (what.units (m ∷ []))
+  whole m does =
+      sym (append-nil (form_of (in_version (to m.version) m)))
+      ∙ ap forms (sym (of_unit m true does))
 
-  pub step_written : (m : Meaning) (n : ℕ) (after : List ℕ) → IsUnit (take k rest) m → has (smallest_version m.payload) ≡ true → PlacesUnit (to m.version) m (Some n) before after → Stepped what (record { passed = passes.Written; taken = k; written = n }) rest before after
+  pub step_written : (m : Meaning) (n : ℕ) (after : List ℕ) → IsUnit (take k rest) m →
+      has (smallest_version m.payload) ≡ true → PlacesUnit (to m.version) m (Some n) before after →
+      Stepped what (record { passed = passes.Written; taken = k; written = n }) rest before after
   step_written m n after unit does (is, fits, output) = record {
     took = take k rest;
     wrote = form_of (in_version (to m.version) m);
@@ -78,38 +101,50 @@ module _ (what : Written) (has : ℕ → Bool) (to : ℕ → ℕ) (one : OneByOn
     tells = (m, unit, (whole m does, ap (λ l. Some (length l)) (of_unit m true does)));
   }
 
-  pub unit_lacks_room : (m : Meaning) (after : List ℕ) → IsUnit (take k rest) m → has (smallest_version m.payload) ≡ true → PlacesUnit (to m.version) m None before after → (after ≡ before) × LacksRoom what rest (length before)
-  unit_lacks_room m after unit does (less, same) = (same, (take k rest, drop k rest, parts, inl (m, unit, omega (arith, less, ap length (whole m does)))))
+  pub unit_lacks_room : (m : Meaning) (after : List ℕ) → IsUnit (take k rest) m →
+      has (smallest_version m.payload) ≡ true → PlacesUnit (to m.version) m None before after →
+      (after ≡ before) × LacksRoom what rest (length before)
+  unit_lacks_room m after unit does (less, same) = (
+    same,
+    (
+      take k rest,
+      drop k rest,
+      parts,
+      inl (m, unit, omega (arith, less, ap length (whole m does))),
+    ),
+  )
 
   -- at an end of data, for which x is written
-  module _ (d : EndOfData) (is : end_bytes d ≡ take k rest) (end : End (take k rest) (end_meaning d)) (x : List ℕ) (for_it : x ≡ end_list (what.end (end_meaning d))) where
-    pub step_ended : (n : ℕ) (after : List ℕ) → Places (Some n) x before after → Stepped what (record { passed = passes.End; taken = k; written = n }) rest before after
-    step_ended n after (size_is, fits, output) = record {
-      took = take k rest;
-      wrote = x;
-      parts = parts;
-      taken = size;
-      written = size_is;
-      fits = fits;
-      output = output;
-      tells = (end_meaning d, end, for_it);
-    }
-
-    pub end_lacks_room : (after : List ℕ) → Places None x before after → (after ≡ before) × LacksRoom what rest (length before)
-    end_lacks_room after (less, same) = (same, (take k rest, drop k rest, parts, inr (end_meaning d, end, omega (arith, less, ap length for_it))))
+  module _ (d : EndOfData) (is : end_bytes d ≡ take k rest)
+      (end : End (take k rest) (end_meaning d)) (x : List ℕ)
+      (for_it : x ≡ end_list (what.end (end_meaning d))) where
+    pub end_lacks_room : (after : List ℕ) → Places None x before after →
+        (after ≡ before) × LacksRoom what rest (length before)
+    end_lacks_room after (less, same) = (
+      same,
+      (
+        take k rest,
+        drop k rest,
+        parts,
+        inr (end_meaning d, end, omega (arith, less, ap length for_it)),
+      ),
+    )
 
 -- ---- one after the other
 
 -- how far a run has come
-pub record Along (what : Written) (units left_out : ℕ) (input : List ℕ) (taken : ℕ) (before now : List ℕ) (written : ℕ) : Type 0 where
+pub record Along (what : Written) (units left_out : ℕ) (input : List ℕ) (taken : ℕ)
+    (before now : List ℕ) (written : ℕ) : Type 0 where
   pub within : taken ≤ length input
   pub fits : written ≤ length before
   pub form : List ℕ
   pub size : written ≡ length form
   pub output : now ≡ form ++ drop written before
-  pub so_far : SoFar what units left_out (Some input) (Some (drop taken input)) (Some []) (Some form)
+  pub so_far :
+      SoFar what units left_out (Some input) (Some (drop taken input)) (Some []) (Some form)
 
-pub along_starts : (what : Written) (input before : List ℕ) → Joins what → Along what 0 0 input 0 before before 0
+pub along_starts : (what : Written) (input before : List ℕ) → Joins what →
+    Along what 0 0 input 0 before before 0
 along_starts what input before joins = record {
   within = omega arith;
   fits = omega arith;
@@ -120,28 +155,58 @@ along_starts what input before joins = record {
 }
 
 -- one step further: what the step leaves of the run
-pub record Further (what : Written) (units left_out : ℕ) (input : List ℕ) (taken : ℕ) (before now after : List ℕ) (written : ℕ) (s : Step) (a : Along what units left_out input taken before now written) : Type 0 where
+pub record Further (what : Written) (units left_out : ℕ) (input : List ℕ) (taken : ℕ)
+    (before now after : List ℕ) (written : ℕ) (s : Step)
+    (a : Along what units left_out input taken before now written) : Type 0 where
   pub within : taken + s.taken ≤ length input
   pub fits : written + s.written ≤ length before
   pub form : List ℕ
   pub size : written + s.written ≡ length form
   pub output : after ≡ form ++ drop (written + s.written) before
-  pub steps : Steps what (Ok s.passed) (Some (drop taken input)) (Some (drop (taken + s.taken) input)) (Some a.form) (Some form)
+  pub steps : Steps what (Ok s.passed) (Some (drop taken input))
+      (Some (drop (taken + s.taken) input)) (Some a.form) (Some form)
 
-pub further : (what : Written) (units left_out : ℕ) (input : List ℕ) (taken : ℕ) (before now after : List ℕ) (written : ℕ) (s : Step) (a : Along what units left_out input taken before now written) (part : List ℕ)
-    → Stepped what s (drop taken input) (drop written now) part → after ≡ take written now ++ part → Further what units left_out input taken before now after written s a
+pub further : (what : Written) (units left_out : ℕ) (input : List ℕ) (taken : ℕ)
+    (before now after : List ℕ) (written : ℕ) (s : Step)
+    (a : Along what units left_out input taken before now written) (part : List ℕ) →
+    Stepped what s (drop taken input) (drop written now) part → after ≡ take written now ++ part →
+    Further what units left_out input taken before now after written s a
 further what units left_out input taken before now after written s a part did is =
-    let behind : drop written now ≡ drop written before = ap (drop written) a.output ∙ ap (λ (n : ℕ). drop n (a.form ++ drop written before)) a.size ∙ drop-append_seam a.form (drop written before) in
-    let front : take written now ≡ a.form = ap (take written) a.output ∙ ap (λ (n : ℕ). take n (a.form ++ drop written before)) a.size ∙ take-append_seam a.form (drop written before) in
-    let left : drop s.taken (drop taken input) ≡ drop (taken + s.taken) input = drop-drop s.taken taken input in
-    let room : s.written ≤ length before - written = omega (arith, did.fits, ap length behind, length-drop written before) in
+    let behind : drop written now ≡ drop written before =
+    ap (drop written) a.output ∙ ap (λ (n : ℕ). drop n (a.form ++ drop written before)) a.size
+    ∙ drop-append_seam a.form (drop written before) in
+    let front : take written now ≡ a.form =
+    ap (take written) a.output ∙ ap (λ (n : ℕ). take n (a.form ++ drop written before)) a.size
+    ∙ take-append_seam a.form (drop written before) in
+    let left : drop s.taken (drop taken input) ≡ drop (taken + s.taken) input =
+    drop-drop s.taken taken input in
+    let room : s.written ≤ length before - written =
+    omega (arith, did.fits, ap length behind, length-drop written before) in
     record {
-      within = omega (arith, a.within, length-drop taken input, ap length did.parts, length-append did.took (drop s.taken (drop taken input)), did.taken);
+      within =
+          omega (
+            arith,
+            a.within,
+            length-drop taken input,
+            ap length did.parts,
+            length-append did.took (drop s.taken (drop taken input)),
+            did.taken,
+          );
       fits = omega (arith, room, a.fits);
       form = a.form ++ did.wrote;
       size = omega (arith, length-append a.form did.wrote, a.size, did.written);
-      output = is ∙ (λ i. front i ++ did.output i) ∙ ap (λ l. a.form ++ (did.wrote ++ l)) (ap (drop s.written) behind ∙ drop-drop s.written written before) ∙ sym (append_assoc a.form did.wrote (drop (written + s.written) before));
-      steps = (did.took, did.wrote, did.parts ∙ ap (λ l. did.took ++ l) left, refl, subst (λ l. StepTells what (Ok s.passed) did.took did.wrote (Some l)) left did.tells);
+      output =
+          is ∙ (λ i. front i ++ did.output i)
+          ∙ ap (λ l. a.form ++ (did.wrote ++ l))
+          (ap (drop s.written) behind ∙ drop-drop s.written written before)
+          ∙ sym (append_assoc a.form did.wrote (drop (written + s.written) before));
+      steps = (
+        did.took,
+        did.wrote,
+        did.parts ∙ ap (λ l. did.took ++ l) left,
+        refl,
+        subst (λ l. StepTells what (Ok s.passed) did.took did.wrote (Some l)) left did.tells,
+      );
     }
 
 -- the rest of a slice, as a call is lent it
@@ -152,45 +217,88 @@ rest_is : (n : ℕ) (xs : List ℕ) → rest_of n xs ≡ drop n xs
 rest_is n xs = take_all (length xs - n) (drop n xs) (omega (arith, length-drop n xs))
 
 put_is : (n : ℕ) (xs ys : List ℕ) → put_mid n (length xs - n) xs ys ≡ take n xs ++ ys
-put_is n xs ys = ap (λ l. take n xs ++ l) (ap (λ l. ys ++ l) (drop_all (length xs - n) (drop n xs) (omega (arith, length-drop n xs))) ∙ append-nil ys)
+put_is n xs ys =
+    ap (λ l. take n xs ++ l)
+    (ap (λ l. ys ++ l) (drop_all (length xs - n) (drop n xs) (omega (arith, length-drop n xs)))
+    ∙ append-nil ys)
 
-module _ (what : Written) (joins : Joins what) (units left_out : ℕ) (input : List ℕ) (taken : ℕ) (before now : List ℕ) (written : ℕ) (a : Along what units left_out input taken before now written) where
-  module _ (s : Step) (part : List ℕ) (did : Stepped what s (rest_of taken input) (rest_of written now) part) where
+module _ (what : Written) (joins : Joins what) (units left_out : ℕ) (input : List ℕ) (taken : ℕ)
+    (before now : List ℕ) (written : ℕ)
+    (a : Along what units left_out input taken before now written) where
+  module _ (s : Step) (part : List ℕ)
+      (did : Stepped what s (rest_of taken input) (rest_of written now) part) where
     abbrev after : List ℕ
     after = put_mid written (length now - written) now part
 
     on : Further what units left_out input taken before now after written s a
-    on = further what units left_out input taken before now after written s a part (subst (λ l. Stepped what s l (drop written now) part) (rest_is taken input) (subst (λ l. Stepped what s (rest_of taken input) l part) (rest_is written now) did)) (put_is written now part)
+    on =
+        further what units left_out input taken before now after written s a part
+        (subst (λ l. Stepped what s l (drop written now) part) (rest_is taken input)
+        (subst (λ l. Stepped what s (rest_of taken input) l part) (rest_is written now) did))
+        (put_is written now part)
 
-    pub into_written : s.passed ≡ passes.Written → Along what (units + 1) left_out input (taken + s.taken) before after (written + s.written)
+    pub into_written : s.passed ≡ passes.Written →
+        Along what (units + 1) left_out input (taken + s.taken) before after (written + s.written)
     into_written is = record {
       within = on.within;
       fits = on.fits;
       form = on.form;
       size = on.size;
       output = on.output;
-      so_far = goes_on what units left_out _ _ _ _ _ _ joins a.so_far (subst (λ p. Steps what (Ok p) (Some (drop taken input)) (Some (drop (taken + s.taken) input)) (Some a.form) (Some on.form)) is on.steps);
+      so_far =
+          goes_on what units left_out _ _ _ _ _ _ joins a.so_far
+          (subst
+          (λ p.
+          Steps what (Ok p) (Some (drop taken input)) (Some (drop (taken + s.taken) input))
+          (Some a.form) (Some on.form))
+          is on.steps);
     }
 
-    pub into_left_out : s.passed ≡ passes.LeftOut → Along what (units + 1) (left_out + 1) input (taken + s.taken) before after (written + s.written)
+    pub into_left_out : s.passed ≡ passes.LeftOut →
+        Along what (units + 1) (left_out + 1) input (taken + s.taken) before after
+        (written + s.written)
     into_left_out is = record {
       within = on.within;
       fits = on.fits;
       form = on.form;
       size = on.size;
       output = on.output;
-      so_far = leaves_out what units left_out _ _ _ _ _ _ joins a.so_far (subst (λ p. Steps what (Ok p) (Some (drop taken input)) (Some (drop (taken + s.taken) input)) (Some a.form) (Some on.form)) is on.steps);
+      so_far =
+          leaves_out what units left_out _ _ _ _ _ _ joins a.so_far
+          (subst
+          (λ p.
+          Steps what (Ok p) (Some (drop taken input)) (Some (drop (taken + s.taken) input))
+          (Some a.form) (Some on.form))
+          is on.steps);
     }
 
   -- the bytes that were taken are those of the units
   front : taken ≡ length a.so_far.us
-  front = omega (arith, a.within, length-drop taken input, ap length a.so_far.taken, length-append a.so_far.us (drop taken input))
+  front =
+      omega (
+        arith,
+        a.within,
+        length-drop taken input,
+        ap length a.so_far.taken,
+        length-append a.so_far.us (drop taken input),
+      )
 
-  pub into_end : (limit : ℕ) (s : Step) (part : List ℕ) → units < limit → s.passed ≡ passes.End → Stepped what s (rest_of taken input) (rest_of written now) part
-      → FillsInto what limit (Ok tt) input before (put_mid written (length now - written) now part) (record { units = units; forms = units - left_out; taken = taken + s.taken; written = written + s.written })
+  pub into_end : (limit : ℕ) (s : Step) (part : List ℕ) → units < limit → s.passed ≡ passes.End →
+      Stepped what s (rest_of taken input) (rest_of written now) part →
+      FillsInto what limit (Ok tt) input before (put_mid written (length now - written) now part)
+      (record {
+        units = units;
+        forms = units - left_out;
+        taken = taken + s.taken;
+        written = written + s.written;
+      })
   into_end limit s part lt is did =
       let f = on s part did in
-      let (t, w, took, wrote, (e, end, form)) = subst (λ p. Steps what (Ok p) (Some (drop taken input)) (Some (drop (taken + s.taken) input)) (Some a.form) (Some f.form)) is f.steps in
+      let (t, w, took, wrote, (e, end, form)) = subst
+      (λ p.
+      Steps what (Ok p) (Some (drop taken input)) (Some (drop (taken + s.taken) input))
+      (Some a.form) (Some f.form))
+      is f.steps in
       record {
         us = a.so_far.us;
         ms = a.so_far.ms;
@@ -205,11 +313,31 @@ module _ (what : Written) (joins : Joins what) (units left_out : ℕ) (input : L
         output = f.output;
         room = length before - (written + s.written);
         room_is = omega (arith, f.fits);
-        ends = (e, t, drop (taken + s.taken) input, took, end, omega (arith, a.so_far.counted, lt), omega (arith, front, f.within, a.within, ap length took, length-drop taken input, length-drop (taken + s.taken) input, length-append t (drop (taken + s.taken) input)), wrote ∙ (λ i. a.so_far.written i ++ form i));
+        ends = (
+          e,
+          t,
+          drop (taken + s.taken) input,
+          took,
+          end,
+          omega (arith, a.so_far.counted, lt),
+          omega (
+            arith,
+            front,
+            f.within,
+            a.within,
+            ap length took,
+            length-drop taken input,
+            length-drop (taken + s.taken) input,
+            length-append t (drop (taken + s.taken) input),
+          ),
+          wrote ∙ (λ i. a.so_far.written i ++ form i),
+        );
       }
 
-  pub into_stop : (limit : ℕ) (f : IntoFault) (now' : List ℕ) → now' ≡ now → WhyStopped what limit f a.so_far.ms (drop taken input) (length before - written)
-      → FillsInto what limit (Err f) input before now' (record { units = units; forms = units - left_out; taken = taken; written = written })
+  pub into_stop : (limit : ℕ) (f : IntoFault) (now' : List ℕ) → now' ≡ now →
+      WhyStopped what limit f a.so_far.ms (drop taken input) (length before - written) →
+      FillsInto what limit (Err f) input before now'
+      (record { units = units; forms = units - left_out; taken = taken; written = written })
   into_stop limit f now' same why = record {
     us = a.so_far.us;
     ms = a.so_far.ms;
@@ -229,17 +357,50 @@ module _ (what : Written) (joins : Joins what) (units left_out : ℕ) (input : L
 
   -- at a fault of a step
   room_left : length (rest_of written now) ≡ length before - written
-  room_left = omega (arith, ap length (rest_is written now), length-drop written now, ap length a.output, length-append a.form (drop written before), a.size, length-drop written before, a.fits)
+  room_left =
+      omega (
+        arith,
+        ap length (rest_is written now),
+        length-drop written now,
+        ap length a.output,
+        length-append a.form (drop written before),
+        a.size,
+        length-drop written before,
+        a.fits,
+      )
 
-  why : (limit : ℕ) (f : IntoFault) → units < limit → StopsStepInto what f (rest_of taken input) (length (rest_of written now)) → WhyStopped what limit f a.so_far.ms (drop taken input) (length before - written)
-  why limit NoRoom lt stop = (omega (arith, a.so_far.counted, lt), subst (λ n. LacksRoom what (drop taken input) n) room_left (subst (λ l. LacksRoom what l (length (rest_of written now))) (rest_is taken input) stop))
+  why : (limit : ℕ) (f : IntoFault) → units < limit →
+      StopsStepInto what f (rest_of taken input) (length (rest_of written now)) →
+      WhyStopped what limit f a.so_far.ms (drop taken input) (length before - written)
+  why limit NoRoom lt stop = (
+    omega (arith, a.so_far.counted, lt),
+    subst (λ n. LacksRoom what (drop taken input) n) room_left
+        (subst (λ l. LacksRoom what l (length (rest_of written now)))
+        (rest_is taken input) stop),
+  )
   why limit TooMany lt stop = absurd stop
-  why limit (Refused e) lt stop = (omega (arith, a.so_far.counted, lt), subst (λ l. IsFirstFault l e) (rest_is taken input) stop)
+  why limit (Refused e) lt stop = (
+    omega (arith, a.so_far.counted, lt),
+    subst (λ l. IsFirstFault l e) (rest_is taken input) stop,
+  )
 
-  pub into_breaks : (limit : ℕ) (f : IntoFault) (part : List ℕ) → units < limit → part ≡ rest_of written now → StopsStepInto what f (rest_of taken input) (length (rest_of written now))
-      → FillsInto what limit (Err f) input before (put_mid written (length now - written) now part) (record { units = units; forms = units - left_out; taken = taken; written = written })
+  pub into_breaks : (limit : ℕ) (f : IntoFault) (part : List ℕ) → units < limit →
+      part ≡ rest_of written now →
+      StopsStepInto what f (rest_of taken input) (length (rest_of written now)) →
+      FillsInto what limit (Err f) input before (put_mid written (length now - written) now part)
+      (record { units = units; forms = units - left_out; taken = taken; written = written })
   into_breaks limit f part lt same stop =
-      into_stop limit f _ (put_is written now part ∙ ap (λ l. take written now ++ l) (same ∙ rest_is written now) ∙ take-append-drop written now) (why limit f lt stop)
+      into_stop limit f _
+      (put_is written now part ∙ ap (λ l. take written now ++ l) (same ∙ rest_is written now)
+      ∙ take-append-drop written now)
+      (why limit f lt stop)
 
-  pub into_full : (limit : ℕ) → units ≡ limit → FillsInto what limit (Err TooMany) input before now (record { units = limit; forms = limit - left_out; taken = taken; written = written })
-  into_full limit full = subst (λ n. FillsInto what limit (Err TooMany) input before now (record { units = n; forms = n - left_out; taken = taken; written = written })) full (into_stop limit TooMany now refl (a.so_far.counted ∙ full))
+  pub into_full : (limit : ℕ) → units ≡ limit →
+      FillsInto what limit (Err TooMany) input before now
+      (record { units = limit; forms = limit - left_out; taken = taken; written = written })
+  into_full limit full =
+      subst
+      (λ n.
+      FillsInto what limit (Err TooMany) input before now
+      (record { units = n; forms = n - left_out; taken = taken; written = written }))
+      full (into_stop limit TooMany now refl (a.so_far.counted ∙ full))

@@ -1,12 +1,16 @@
 -- Views one after the other are a run.
-use Rattle.std.proofs.Common.{◌≡◌, ℕ, ◌-◌, ◌<◌, not, List, ◌++◌, [], length, Option, Some, Result, Ok, Err, refl, sym, ap, subst, ◌∙◌, append_assoc, append-nil, arith, inl, inr}
+use Rattle.std.proofs.Common.{◌≡◌, ℕ, ◌-◌, ◌<◌, not, List, ◌++◌, [], length, Option, Some, Result}
+use Rattle.std.proofs.Common.{Ok, Err, refl, sym, ap, subst, ◌∙◌}
+use Rattle.std.proofs.Common.{append_assoc, append-nil, arith, inl, inr}
 use Rattle.std.specs.Prelude.{IsOk, IfOk}
 use Rattle.std.proofs.lemmas.List.{length-append}
 use Rattle.std.specs.Io.KnownBytes.{Appends}
 use Rattle.std.proofs.KnownBytes.{Appends-trans, Appends-nil}
 use Rattle.rtr_base.specs.Bytes.{IsBytes}
 use Rattle.rtr_units.specs.declared.fault.Fault.{Fault}
-use Rattle.rtr_units.specs.Causes.{Refusal, short, unit_type, unit_version, too_long, unit_length, empty_providers, refused, Cause, by_reader, by_writer, too_many, no_memory, wrong}
+use Rattle.rtr_units.specs.Causes.{Refusal, short, unit_type, unit_version, too_long, unit_length}
+use Rattle.rtr_units.specs.Causes.{empty_providers, refused, Cause, by_reader}
+use Rattle.rtr_units.specs.Causes.{by_writer, too_many, no_memory, wrong}
 use Rattle.rtr_units.specs.Ends.{end_meaning}
 use Rattle.rtr_units.specs.Stream.{ReaderState, WriterState, WritesPart, count_after}
 use Rattle.rtr_payload.specs.Payloads.{Meaning}
@@ -19,7 +23,10 @@ use Rattle.rtr_views.specs.Faults.{IsFirstFault, IsWriterFault, is_view_writer_f
 use Rattle.rtr_views.specs.Origins.{origin_meaning}
 use Rattle.rtr_views.specs.Views.{IsViewOf, ViewMeans, view_form}
 use Rattle.rtr_views.specs.declared.fault.ViewFault.{ViewFault}
-use Rattle.rtr_views.specs.declared.fault.ViewFault.TheVariants.{Writer, Short, UnitType, UnitLength, TooLong, EmptyProviders, UnitVersion, Prefix, TooMany}
+use Rattle.rtr_views.specs.declared.fault.ViewFault.TheVariants.{Writer, Short, UnitType}
+use Rattle.rtr_views.specs.declared.fault.ViewFault.TheVariants.{UnitLength, TooLong}
+use Rattle.rtr_views.specs.declared.fault.ViewFault.TheVariants.{EmptyProviders, UnitVersion}
+use Rattle.rtr_views.specs.declared.fault.ViewFault.TheVariants.{Prefix, TooMany}
 use Rattle.rtr_views.specs.declared.view.UnitView.{UnitView}
 use Rattle.rtr_views.specs.declared.view.UnitView.TheVariants as views
 use Rattle.rtr_views.proofs.Agreement.{view_means, form_meant}
@@ -37,30 +44,59 @@ use Rattle.rtr_wire.proofs.Stepping.{SoFar, Ran, finishes, reaches_limit}
 -- ---- one step
 
 -- the form of a unit was written
-unit_step : (v : UnitView) (m : Meaning) (r b left : List ℕ) (held holds : Option (List ℕ)) → IsViewOf v b → ViewMeans v m → r ≡ b ++ left → Appends held holds (view_form v) → Steps everything (Ok passes.Written) (Some r) (Some left) held holds
-unit_step v m r b left held holds is means parts wrote = (b, view_form v, parts, wrote, (m, view_means v b m is means, (form_meant v m means ∙ sym (append-nil (form_of m)), refl)))
+unit_step : (v : UnitView) (m : Meaning) (r b left : List ℕ) (held holds : Option (List ℕ)) →
+    IsViewOf v b → ViewMeans v m → r ≡ b ++ left → Appends held holds (view_form v) →
+    Steps everything (Ok passes.Written) (Some r) (Some left) held holds
+unit_step v m r b left held holds is means parts wrote = (
+  b,
+  view_form v,
+  parts,
+  wrote,
+  (m, view_means v b m is means, (form_meant v m means ∙ sym (append-nil (form_of m)), refl)),
+)
 
-pub view_step : (v : UnitView) (r b left : List ℕ) (held holds : Option (List ℕ)) → IsViewOf v b → r ≡ b ++ left → Appends held holds (view_form v) → Steps everything (Ok (passed (is_payload_unit v))) (Some r) (Some left) held holds
-view_step (views.Origin v) r b left held holds is parts wrote = unit_step (views.Origin v) (origin_meaning v) r b left held holds is refl parts wrote
-view_step (views.RouterKey v) r b left held holds is parts wrote = unit_step (views.RouterKey v) (meaning (key_unit (key_at v.unit.now))) r b left held holds is refl parts wrote
-view_step (views.Aspa v) r b left held holds is parts wrote = unit_step (views.Aspa v) (meaning (aspa_unit (aspa_at v.unit.now))) r b left held holds is refl parts wrote
-view_step (views.End e) r b left held holds (is, end) parts wrote = (b, view_form (views.End e), parts, wrote, (end_meaning e, end, is ∙ end.bytes))
+pub view_step : (v : UnitView) (r b left : List ℕ) (held holds : Option (List ℕ)) → IsViewOf v b →
+    r ≡ b ++ left → Appends held holds (view_form v) →
+    Steps everything (Ok (passed (is_payload_unit v))) (Some r) (Some left) held holds
+view_step (views.Origin v) r b left held holds is parts wrote =
+    unit_step (views.Origin v) (origin_meaning v) r b left held holds is refl parts wrote
+view_step (views.RouterKey v) r b left held holds is parts wrote =
+    unit_step (views.RouterKey v) (meaning (key_unit (key_at v.unit.now))) r b left held holds is
+    refl parts wrote
+view_step (views.Aspa v) r b left held holds is parts wrote =
+    unit_step (views.Aspa v) (meaning (aspa_unit (aspa_at v.unit.now))) r b left held holds is refl
+    parts wrote
+view_step (views.End e) r b left held holds (is, end) parts wrote =
+    (b, view_form (views.End e), parts, wrote, (end_meaning e, end, is ∙ end.bytes))
 
 -- a part of the form was written
-part_of_view : (v : UnitView) (b t others : List ℕ) → IsViewOf v b → view_form v ≡ t ++ others → 0 < length others → IsPartOfForm everything b t
-part_of_view (views.Origin v) b t others is e some = let m = origin_meaning v in inl (m, view_means (views.Origin v) b m is refl, (others, append-nil (form_of m) ∙ e, some))
-part_of_view (views.RouterKey v) b t others is e some = let m = meaning (key_unit (key_at v.unit.now)) in inl (m, view_means (views.RouterKey v) b m is refl, (others, append-nil (form_of m) ∙ e, some))
-part_of_view (views.Aspa v) b t others is e some = let m = meaning (aspa_unit (aspa_at v.unit.now)) in inl (m, view_means (views.Aspa v) b m is refl, (others, append-nil (form_of m) ∙ e, some))
-part_of_view (views.End d) b t others (is, end) e some = inr (end_meaning d, end, (others, sym end.bytes ∙ sym is ∙ e, some))
+part_of_view : (v : UnitView) (b t others : List ℕ) → IsViewOf v b → view_form v ≡ t ++ others →
+    0 < length others → IsPartOfForm everything b t
+part_of_view (views.Origin v) b t others is e some =
+    let m = origin_meaning v in
+    inl (m, view_means (views.Origin v) b m is refl, (others, append-nil (form_of m) ∙ e, some))
+part_of_view (views.RouterKey v) b t others is e some =
+    let m = meaning (key_unit (key_at v.unit.now)) in
+    inl (m, view_means (views.RouterKey v) b m is refl, (others, append-nil (form_of m) ∙ e, some))
+part_of_view (views.Aspa v) b t others is e some =
+    let m = meaning (aspa_unit (aspa_at v.unit.now)) in
+    inl (m, view_means (views.Aspa v) b m is refl, (others, append-nil (form_of m) ∙ e, some))
+part_of_view (views.End d) b t others (is, end) e some =
+    inr (end_meaning d, end, (others, sym end.bytes ∙ sym is ∙ e, some))
 
-pub not_written : (v : UnitView) (e : ViewFault) (r b left : List ℕ) (held holds : Option (List ℕ)) → IsViewOf v b → r ≡ b ++ left → WritesPart (IsWriterFault e) held holds (view_form v) → StopsStep e r held holds
-not_written v (Writer x) r b left held holds is parts (t, others, wrote, e, some, by) = (b, left, t, parts, wrote, part_of_view v b t others is e some)
+pub not_written : (v : UnitView) (e : ViewFault) (r b left : List ℕ)
+    (held holds : Option (List ℕ)) → IsViewOf v b → r ≡ b ++ left →
+    WritesPart (IsWriterFault e) held holds (view_form v) → StopsStep e r held holds
+not_written v (Writer x) r b left held holds is parts (t, others, wrote, e, some, by) =
+    (b, left, t, parts, wrote, part_of_view v b t others is e some)
 not_written v Short r b left held holds is parts (t, others, wrote, e, some, by) = absurd by
 not_written v (UnitType k) r b left held holds is parts (t, others, wrote, e, some, by) = absurd by
 not_written v UnitLength r b left held holds is parts (t, others, wrote, e, some, by) = absurd by
 not_written v TooLong r b left held holds is parts (t, others, wrote, e, some, by) = absurd by
-not_written v EmptyProviders r b left held holds is parts (t, others, wrote, e, some, by) = absurd by
-not_written v (UnitVersion k) r b left held holds is parts (t, others, wrote, e, some, by) = absurd by
+not_written v EmptyProviders r b left held holds is parts (t, others, wrote, e, some, by) =
+    absurd by
+not_written v (UnitVersion k) r b left held holds is parts (t, others, wrote, e, some, by) =
+    absurd by
 not_written v (Prefix rule) r b left held holds is parts (t, others, wrote, e, some, by) = absurd by
 not_written v TooMany r b left held holds is parts (t, others, wrote, e, some, by) = absurd by
 
@@ -90,17 +126,37 @@ stopped_at r f h e = elim (next r h) [
 ]
 
 -- no unit was viewed
-pub not_viewed : (e : ViewFault) (r : List ℕ) (held : Option (List ℕ)) → IsBytes r → IsFirstFault r e → StopsStep e r held held
+pub not_viewed : (e : ViewFault) (r : List ℕ) (held : Option (List ℕ)) → IsBytes r →
+    IsFirstFault r e → StopsStep e r held held
 not_viewed (Writer x) r held h e = absurd e
-not_viewed Short r held h e = let s = stopped_at r short h e in (s.last, s.left, [], s.parts, Appends-nil held, s.ends)
-not_viewed (UnitType t) r held h e = let s = stopped_at r (unit_type t) h e in (s.last, s.left, [], s.parts, Appends-nil held, s.ends)
-not_viewed UnitLength r held h e = let s = stopped_at r unit_length h e in (s.last, s.left, [], s.parts, Appends-nil held, s.ends)
-not_viewed TooLong r held h e = let s = stopped_at r too_long h e in (s.last, s.left, [], s.parts, Appends-nil held, s.ends)
-not_viewed EmptyProviders r held h e = let s = stopped_at r empty_providers h e in (s.last, s.left, [], s.parts, Appends-nil held, s.ends)
-not_viewed (UnitVersion v) r held h e = let s = stopped_at r (unit_version v) h e in (s.last, s.left, [], s.parts, Appends-nil held, s.ends)
+not_viewed Short r held h e =
+    let s = stopped_at r short h e in
+    (s.last, s.left, [], s.parts, Appends-nil held, s.ends)
+not_viewed (UnitType t) r held h e =
+    let s = stopped_at r (unit_type t) h e in
+    (s.last, s.left, [], s.parts, Appends-nil held, s.ends)
+not_viewed UnitLength r held h e =
+    let s = stopped_at r unit_length h e in
+    (s.last, s.left, [], s.parts, Appends-nil held, s.ends)
+not_viewed TooLong r held h e =
+    let s = stopped_at r too_long h e in
+    (s.last, s.left, [], s.parts, Appends-nil held, s.ends)
+not_viewed EmptyProviders r held h e =
+    let s = stopped_at r empty_providers h e in
+    (s.last, s.left, [], s.parts, Appends-nil held, s.ends)
+not_viewed (UnitVersion v) r held h e =
+    let s = stopped_at r (unit_version v) h e in
+    (s.last, s.left, [], s.parts, Appends-nil held, s.ends)
 not_viewed (Prefix rule) r held h e =
-    let s = stopped_at r (refused (refusal_report (first_unit r) rule)) h e in
-    (s.last, s.left, [], s.parts, Appends-nil held, subst (λ u. Ends everything (Err (wrong (refused (refusal_report u rule)))) s.last s.left []) s.takes s.ends)
+    let s = stopped_at r (refused (refusal_report (first_unit r) rule)) h e in (
+      s.last,
+      s.left,
+      [],
+      s.parts,
+      Appends-nil held,
+      subst (λ u. Ends everything (Err (wrong (refused (refusal_report u rule)))) s.last s.left [])
+          s.takes s.ends,
+    )
 not_viewed TooMany r held h e = absurd e
 
 -- ---- the whole run
@@ -109,74 +165,166 @@ is_ok_of : (u : List ℕ) (r : Result (ℕ × ℕ) ViewFault) (n : ℕ) → slic
 is_ok_of u (Ok (m, k)) n e = refl
 is_ok_of u (Err f) n e = absurd cc
 
-pub normalises_slice : (limit : ℕ) (r : Result (ℕ × ℕ) ViewFault) (input took left wrote last : List ℕ) (old new : WriterState) → input ≡ took ++ left → Appends old.held new.held wrote
-    → (run : Run everything limit (slice_answer last r) took left wrote) → last ≡ run.last → IfOk r (λ p. p.1 ≡ length took) → new.failed ≡ count_after old.failed (not (is_view_writer_fault r)) → NormalisesSlice limit r input old new
-normalises_slice limit r input took left wrote last old new parts writes run is bytes failed = record {
-  taken = took;
-  left = left;
-  written = wrote;
-  parts = parts;
-  writes = writes;
-  last = last;
-  run = run;
-  last_is = is;
-  bytes = bytes;
-  succeeds = λ number some well. is_ok_of last r number (one_run everything limit (slice_answer last r) (Ok number) took left wrote some.taken some.left some.written run some.run (sym parts ∙ some.parts) well tt).0;
-  writer_failures = failed;
-}
+pub normalises_slice : (limit : ℕ) (r : Result (ℕ × ℕ) ViewFault)
+    (input took left wrote last : List ℕ) (old new : WriterState) → input ≡ took ++ left →
+    Appends old.held new.held wrote →
+    (run : Run everything limit (slice_answer last r) took left wrote) → last ≡ run.last →
+    IfOk r (λ p. p.1 ≡ length took) →
+    new.failed ≡ count_after old.failed (not (is_view_writer_fault r)) →
+    NormalisesSlice limit r input old new
+normalises_slice limit r input took left wrote last old new parts writes run is bytes failed =
+    record {
+      taken = took;
+      left = left;
+      written = wrote;
+      parts = parts;
+      writes = writes;
+      last = last;
+      run = run;
+      last_is = is;
+      bytes = bytes;
+      succeeds = λ number some well.
+          is_ok_of last r number
+          (one_run everything limit (slice_answer last r) (Ok number) took left wrote some.taken
+          some.left some.written run some.run (sym parts ∙ some.parts) well tt).0;
+      writer_failures = failed;
+    }
 
 none_less : (n : ℕ) → n - 0 ≡ n
 none_less n = omega arith
 
 -- at an end of data
-pub slice_ends : (limit count : ℕ) (input rest left : List ℕ) (mid : Option (List ℕ)) (old new : WriterState) → count < limit → SoFar everything count 0 (Some input) (Some rest) old.held mid → Steps everything (Ok passes.End) (Some rest) (Some left) mid new.held
-    → new.failed ≡ old.failed → NormalisesSlice limit (Ok (count, length input - length left)) input old new
+pub slice_ends : (limit count : ℕ) (input rest left : List ℕ) (mid : Option (List ℕ))
+    (old new : WriterState) → count < limit →
+    SoFar everything count 0 (Some input) (Some rest) old.held mid →
+    Steps everything (Ok passes.End) (Some rest) (Some left) mid new.held →
+    new.failed ≡ old.failed →
+    NormalisesSlice limit (Ok (count, length input - length left)) input old new
 slice_ends limit count input rest left mid old new lt behind step failed =
-    let ran = subst (λ n. Ran everything limit (Ok n) (Some input) (Some left) old.held new.held) (none_less count) (finishes everything limit count 0 (Some input) (Some rest) (Some left) old.held mid new.held lt behind step) in
-    let size : length input - length left ≡ length ran.taken = omega (arith, ap length ran.takes, length-append ran.taken left) in
-    normalises_slice limit (Ok (count, length input - length left)) input ran.taken left ran.written ran.run.last old new ran.takes ran.appends ran.run refl size failed
+    let ran = subst (λ n. Ran everything limit (Ok n) (Some input) (Some left) old.held new.held)
+    (none_less count)
+    (finishes everything limit count 0 (Some input) (Some rest) (Some left) old.held mid new.held lt
+    behind step) in
+    let size : length input - length left ≡ length ran.taken =
+    omega (arith, ap length ran.takes, length-append ran.taken left) in
+    normalises_slice limit (Ok (count, length input - length left)) input ran.taken left ran.written
+    ran.run.last old new ran.takes ran.appends ran.run refl size failed
 
 -- at the limit
-pub slice_fills : (limit count : ℕ) (input rest : List ℕ) (old new : WriterState) → count ≡ limit → SoFar everything count 0 (Some input) (Some rest) old.held new.held → new.failed ≡ old.failed → NormalisesSlice limit (Err TooMany) input old new
+pub slice_fills : (limit count : ℕ) (input rest : List ℕ) (old new : WriterState) → count ≡ limit →
+    SoFar everything count 0 (Some input) (Some rest) old.held new.held → new.failed ≡ old.failed →
+    NormalisesSlice limit (Err TooMany) input old new
 slice_fills limit count input rest old new full behind failed =
-    let ran = reaches_limit everything limit count 0 (Some input) (Some rest) old.held new.held full behind in
-    normalises_slice limit (Err TooMany) input ran.taken rest ran.written ran.run.last old new ran.takes ran.appends ran.run refl tt failed
+    let ran =
+    reaches_limit everything limit count 0 (Some input) (Some rest) old.held new.held full behind in
+    normalises_slice limit (Err TooMany) input ran.taken rest ran.written ran.run.last old new
+    ran.takes ran.appends ran.run refl tt failed
 
 -- at a fault
 record Broke (limit : ℕ) (c : Cause) (us t w left : List ℕ) (ms : List Meaning) : Type 0 where
   run : Run everything limit (Err c) (us ++ t) left (forms ms ++ w)
   last : t ≡ run.last
 
-broke : (limit : ℕ) (c : Cause) (us t w left : List ℕ) (ms : List Meaning) → AreUnits us ms → length ms < limit → StepTells everything (Err c) t w (Some left) → Broke limit c us t w left ms
-broke limit by_reader us t w left ms units lt told = record { run = record { units = us; last = t; taken_parts = refl; meanings = ms; are_units = units; last_written = w; written_parts = refl; counts = lt; ends = told }; last = refl }
-broke limit by_writer us t w left ms units lt told = record { run = record { units = us; last = t; taken_parts = refl; meanings = ms; are_units = units; last_written = w; written_parts = refl; counts = lt; ends = told }; last = refl }
+broke : (limit : ℕ) (c : Cause) (us t w left : List ℕ) (ms : List Meaning) → AreUnits us ms →
+    length ms < limit → StepTells everything (Err c) t w (Some left) → Broke limit c us t w left ms
+broke limit by_reader us t w left ms units lt told = record {
+  run = record {
+    units = us;
+    last = t;
+    taken_parts = refl;
+    meanings = ms;
+    are_units = units;
+    last_written = w;
+    written_parts = refl;
+    counts = lt;
+    ends = told;
+  };
+  last = refl;
+}
+broke limit by_writer us t w left ms units lt told = record {
+  run = record {
+    units = us;
+    last = t;
+    taken_parts = refl;
+    meanings = ms;
+    are_units = units;
+    last_written = w;
+    written_parts = refl;
+    counts = lt;
+    ends = told;
+  };
+  last = refl;
+}
 broke limit too_many us t w left ms units lt told = absurd told
-broke limit no_memory us t w left ms units lt told = record { run = record { units = us; last = t; taken_parts = refl; meanings = ms; are_units = units; last_written = w; written_parts = refl; counts = lt; ends = told }; last = refl }
-broke limit (wrong f) us t w left ms units lt told = record { run = record { units = us; last = t; taken_parts = refl; meanings = ms; are_units = units; last_written = w; written_parts = refl; counts = lt; ends = told }; last = refl }
+broke limit no_memory us t w left ms units lt told = record {
+  run = record {
+    units = us;
+    last = t;
+    taken_parts = refl;
+    meanings = ms;
+    are_units = units;
+    last_written = w;
+    written_parts = refl;
+    counts = lt;
+    ends = told;
+  };
+  last = refl;
+}
+broke limit (wrong f) us t w left ms units lt told = record {
+  run = record {
+    units = us;
+    last = t;
+    taken_parts = refl;
+    meanings = ms;
+    are_units = units;
+    last_written = w;
+    written_parts = refl;
+    counts = lt;
+    ends = told;
+  };
+  last = refl;
+}
 
-pub slice_breaks : (limit count : ℕ) (e : ViewFault) (input rest : List ℕ) (mid : Option (List ℕ)) (old new : WriterState) → count < limit → SoFar everything count 0 (Some input) (Some rest) old.held mid → StopsStep e rest mid new.held
-    → new.failed ≡ count_after old.failed (not (is_view_writer_fault {T = ℕ × ℕ} (Err e))) → NormalisesSlice limit (Err e) input old new
+pub slice_breaks : (limit count : ℕ) (e : ViewFault) (input rest : List ℕ) (mid : Option (List ℕ))
+    (old new : WriterState) → count < limit →
+    SoFar everything count 0 (Some input) (Some rest) old.held mid → StopsStep e rest mid new.held →
+    new.failed ≡ count_after old.failed (not (is_view_writer_fault {T = ℕ × ℕ} (Err e))) →
+    NormalisesSlice limit (Err e) input old new
 slice_breaks limit count e input rest mid old new lt p (t, left, w, parts, wrote, told) failed =
-    let b = broke limit (view_cause t e) p.us t w left p.ms p.units (omega (arith, p.counted)) told in
-    let all : input ≡ (p.us ++ t) ++ left = p.taken ∙ ap (λ l. p.us ++ l) parts ∙ sym (append_assoc p.us t left) in
-    normalises_slice limit (Err e) input (p.us ++ t) left (forms p.ms ++ w) t old new all (Appends-trans old.held mid new.held (forms p.ms) w p.written wrote) b.run b.last tt failed
+    let b =
+    broke limit (view_cause t e) p.us t w left p.ms p.units (omega (arith, p.counted)) told in
+    let all : input ≡ (p.us ++ t) ++ left =
+    p.taken ∙ ap (λ l. p.us ++ l) parts ∙ sym (append_assoc p.us t left) in
+    normalises_slice limit (Err e) input (p.us ++ t) left (forms p.ms ++ w) t old new all
+    (Appends-trans old.held mid new.held (forms p.ms) w p.written wrote) b.run b.last tt failed
 
 -- ---- whose fault it is doesn't depend on what would have been answered
 
-same_writer : (S T : Type 0) (f : ViewFault) → is_view_writer_fault {T = S} (Err f) ≡ is_view_writer_fault {T = T} (Err f)
+same_writer : (S T : Type 0) (f : ViewFault) →
+    is_view_writer_fault {T = S} (Err f) ≡ is_view_writer_fault {T = T} (Err f)
 same_writer S T (Writer e) = refl
 same_writer S T f = refl
 
-pub view_writer_count : (S T : Type 0) (f : ViewFault) (first before after : ℕ) → after ≡ count_after before (not (is_view_writer_fault {T = S} (Err f))) → before ≡ first → after ≡ count_after first (not (is_view_writer_fault {T = T} (Err f)))
-view_writer_count S T f first before after e same = e ∙ (λ i. count_after (same i) (not (same_writer S T f i)))
+pub view_writer_count : (S T : Type 0) (f : ViewFault) (first before after : ℕ) →
+    after ≡ count_after before (not (is_view_writer_fault {T = S} (Err f))) → before ≡ first →
+    after ≡ count_after first (not (is_view_writer_fault {T = T} (Err f)))
+view_writer_count S T f first before after e same =
+    e ∙ (λ i. count_after (same i) (not (same_writer S T f i)))
 
 -- ---- both ways
 
-pub both_ways : (limit : ℕ) (input : List ℕ) (first : Result ℕ Fault) (second : Result (ℕ × ℕ) ViewFault) (old new : ReaderState) (before after before' after' : WriterState)
-    (p : Normalises everything limit first old new before after) (q : NormalisesSlice limit second input before' after')
-    → old.left ≡ Some input → BlamesNobody (by_cause first) → BlamesNobody (slice_answer q.last second)
-    → (by_cause first ≡ slice_answer q.last second) × (p.taken ≡ q.taken) × (new.left ≡ Some q.left) × (p.written ≡ q.written)
+pub both_ways : (limit : ℕ) (input : List ℕ) (first : Result ℕ Fault)
+    (second : Result (ℕ × ℕ) ViewFault) (old new : ReaderState)
+    (before after before' after' : WriterState)
+    (p : Normalises everything limit first old new before after)
+    (q : NormalisesSlice limit second input before' after') →
+    old.left ≡ Some input → BlamesNobody (by_cause first) →
+    BlamesNobody (slice_answer q.last second) →
+    (by_cause first ≡ slice_answer q.last second) × (p.taken ≡ q.taken) × (new.left ≡ Some q.left)
+    × (p.written ≡ q.written)
 both_ways limit input first second old new before after before' after' p q is well fine =
-    let o = over everything limit (by_cause first) input p.taken p.written old new before after is p.takes p.writes p.run in
-    let one = one_run everything limit (by_cause first) (slice_answer q.last second) p.taken o.left p.written q.taken q.left q.written o.run q.run (sym o.parts ∙ q.parts) well fine in
+    let o = over everything limit (by_cause first) input p.taken p.written old new before after is
+    p.takes p.writes p.run in
+    let one = one_run everything limit (by_cause first) (slice_answer q.last second) p.taken o.left
+    p.written q.taken q.left q.written o.run q.run (sym o.parts ∙ q.parts) well fine in
     (one.0, one.1, o.at ∙ ap Some one.2, one.3)

@@ -57,7 +57,7 @@ pub record FillsInto (what : Written) (limit : ℕ) (result : Result Unit IntoFa
   pub ends : EndsInto what limit result ms (length us) rest room form p.taken
 
 -- the version is refused, with nothing taken or written
-pub record refuses_version (version : ℕ) (p : Progress) (result : Result Unit IntoFault)
+pub record RefusesVersion (version : ℕ) (p : Progress) (result : Result Unit IntoFault)
     (before after : List ℕ) : Type 0 where
   pub progress : p ≡ record { units = 0; forms = 0; taken = 0; written = 0 }
   pub fault : result ≡ Err (Refused (UnitVersion version))

@@ -11,7 +11,7 @@ use Rattle.rtr_units.specs.Views.{AreBytes}
 use Rattle.rtr_payload.specs.Payloads.{Meaning}
 use Rattle.rtr_payload.specs.Units.{IsUnit, LengthsAgree, meaning, form_of}
 use Rattle.rtr_payload.specs.UnitValues.{unit_fields, HasNoPayload}
-use Rattle.rtr_payload.specs.declared.pdu_payload.Payload.{Payload}
+use Rattle.rtr_payload.specs.declared.pdu.payload.Payload.{Payload}
 use Rattle.rtr_views.specs.Faults.{IsFirstFault}
 use Rattle.rtr_views.specs.Placing.{Places}
 use Rattle.rtr_views.specs.declared.fault.ViewFault.{ViewFault}

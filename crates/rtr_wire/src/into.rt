@@ -4,7 +4,7 @@ ghost use Rattle.std.specs.Prelude.{◌≡◌, ◌≢◌, ◌+◌, ◌-◌, ◌�
 ghost use Rattle.rtr_payload.specs.Payloads.{Meaning, smallest_version as smallest};
 ghost use Rattle.rtr_views.specs.Placing.{Places};
 ghost use Rattle.rtr_views.specs.Views.{ViewMeans};
-ghost use Rattle.rtr_wire.specs.Into.{FillsInto, refuses_version};
+ghost use Rattle.rtr_wire.specs.Into.{FillsInto, RefusesVersion};
 ghost use Rattle.rtr_wire.specs.PrivateCalls.{StepsInto, PlacesUnit};
 ghost use Rattle.rtr_wire.specs.Sequences.{everything, for_version};
 
@@ -79,7 +79,7 @@ pub fn normalise_for_into(
     ensures room { version ≤ 2 → length input.now + 12 ≤ length output.old →
         result.1 ≢ Err IntoFault.NoRoom }
     ensures unknown { 2 < version →
-        refuses_version version result.0 result.1 output.old output.new }
+        RefusesVersion version result.0 result.1 output.old output.new }
 {
     if version > LAST_VERSION {
         let fault = ViewFault::UnitVersion(version);

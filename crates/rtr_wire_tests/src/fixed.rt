@@ -27,13 +27,22 @@ fn state_of_a_query(rt: HostRuntime) {
     assert!(rt; query.state() == state());
 }
 
+/// A serial query.
+const QUERY: &str = "01 01 12 34 00 00 00 0c de ad be ef";
+
 #[test]
-fn a_query_in_two_parts(rt: HostRuntime) -> Result<(), Fail> {
-    let query = bytes(rt.alloc(), &["01 01 12 34 00 00 00 0c de ad be ef"])?;
+fn a_query_is_written_in_two_parts(rt: HostRuntime) -> Result<(), Fail> {
+    let query = bytes(rt.alloc(), &[QUERY])?;
     let mut writer = Counted::new(Vec::new(rt.alloc()));
     Header::new(1, SerialQuery::PDU, 0x1234, 12).write(&mut writer)?;
     SerialQueryPayload::new(Serial(0xdeadbeef)).write(&mut writer)?;
     expect_equal(&rt, writer.into_inner().as_slice(), query.as_slice());
+    Ok(())
+}
+
+#[test]
+fn a_query_is_read_in_two_parts(rt: HostRuntime) -> Result<(), Fail> {
+    let query = bytes(rt.alloc(), &[QUERY])?;
     let mut reader = SliceSource::new(&query);
     expect_equal(&rt, Header::read(&mut reader)?.session(), 0x1234);
     let serial = SerialQueryPayload::read(&mut reader)?.serial();

@@ -14,12 +14,27 @@ mod texts;
 mod variable;
 
 #[cfg(test)]
+use rtr_wire::pdu::{EndOfData, Payload};
+#[cfg(test)]
 use std::fmt::Debug;
 #[cfg(test)]
 use std::process::Abort;
+#[cfg(test)]
+use std::test::Fail;
 
-/// Asserts that the two are equal. A test that calls it is proved sooner than one in which the macro stands.
+/// Asserts that the two are equal. A test that calls it is proved sooner than one in which the
+/// macro stands.
 #[cfg(test)]
 fn expect_equal<T: PartialEq + Debug + Drop>(rt: &impl Abort, left: T, right: T) {
     assert_eq!(rt; left, right);
+}
+
+/// The unit that was read.
+#[cfg(test)]
+fn unit(read: Result<Option<Payload>, EndOfData>) -> Result<Payload, Fail> {
+    match read {
+        Ok(Some(unit)) => Ok(unit),
+        Ok(None) => Err(Fail::new("no unit")),
+        Err(_) => Err(Fail::new("an end of data")),
+    }
 }

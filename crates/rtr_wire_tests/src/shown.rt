@@ -7,6 +7,7 @@ use std::process::Abort;
 /// Each law is called once: a call does nothing.
 #[test]
 fn laws_are_shown() {
+    laws::prefix_order();
     laws::serial_reversed();
     laws::serial_half_circle();
     laws::provider_order();

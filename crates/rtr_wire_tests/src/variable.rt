@@ -48,16 +48,11 @@ fn reads(
     payload: &payload::Payload,
     input: &[u8],
 ) -> Result<(), Fail> {
-    match Payload::read(alloc, &mut SliceSource::new(input))? {
-        Ok(Some(read)) => {
-            assert!(rt; read == *unit);
-            expect_equal(rt, read.action(), action);
-            let (_, meaning) = read.to_payload(alloc)?;
-            assert!(rt; meaning == *payload);
-        }
-        Ok(None) => panic!(rt; "no unit"),
-        Err(_) => panic!(rt; "an end of data"),
-    }
+    let read = crate::unit(Payload::read(alloc, &mut SliceSource::new(input))?)?;
+    assert!(rt; read == *unit);
+    expect_equal(rt, read.action(), action);
+    let (_, meaning) = read.to_payload(alloc)?;
+    assert!(rt; meaning == *payload);
     Ok(())
 }
 

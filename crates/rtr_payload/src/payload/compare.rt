@@ -5,9 +5,9 @@ ghost use Rattle.std.specs.Cmp.{eq_by_cmp_equiv, on_equiv, on_po, on_total};
 ghost use Rattle.std.specs.Cmp.{partial_equiv_from_equiv, partial_order_from_total};
 ghost use Rattle.std.specs.Hash.{on_Alike};
 ghost use Rattle.std.specs.Ordering.{as_partial_cmp, eq_by_cmp, on};
-ghost use Rattle.rtr_payload.specs.OrderLaws.{fed_alike};
+ghost use Rattle.rtr_payload.specs.OrderLaws.{fed_alike, payload_total};
 ghost use Rattle.rtr_payload.specs.Hashes.{part_writes, payload_writes};
-ghost use Rattle.rtr_payload.specs.Orders.{payload_cmp, payload_total};
+ghost use Rattle.rtr_payload.specs.Orders.{payload_cmp};
 ghost use Rattle.rtr_payload.specs.Values.{aspa_of, key_of, payload_of, payload_of_ref};
 
 use super::{Aspa, Payload, PayloadRef, RouterKey};

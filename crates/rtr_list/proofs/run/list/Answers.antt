@@ -10,7 +10,8 @@ loop-count-preserved g c =
     let unit = rw c.in-Ok-Some.field-0-is at c.in-Ok-Some.ensures in
     record {
       so_far = goes_on c.args.wanted c.loop-count.found c.in-Ok.more c.loop-count.count
-          _ _ _ _ _ _ _ c.loop-count.invariant.so_far unit.0.0 (_, unit.0.1) c.in-Ok.ensures.bytes.0;
+          _ _ _ _ _ _ _ c.loop-count.invariant.so_far unit.0.0 (_, unit.0.1)
+          c.in-Ok.ensures.bytes.0;
       reads = search rules;
       writes = search rules;
     }
@@ -19,7 +20,8 @@ pub returns-in-Err-print : goal.returns-in-Err-print
 returns-in-Err-print g c =
     let unit = rw c.in-Ok-Some.field-0-is at c.in-Ok-Some.ensures in
     stops_printing c.args.wanted c.loop-count.found c.loop-count.count c.in-Err-print.fault
-    _ _ _ _ _ _ _ c.loop-count.invariant.so_far unit.0.0 (_, unit.0.1) c.in-Err-print.ensures.bytes.0
+    _ _ _ _ _ _ _ c.loop-count.invariant.so_far unit.0.0 (_, unit.0.1)
+    c.in-Err-print.ensures.bytes.0
     (search rules, search rules)
 
 pub returns-in-Err : goal.returns-in-Err

@@ -1,21 +1,33 @@
-use Rattle.std.proofs.Common.{rules, ◌≡◌, ◌-◌, ◌<◌, ◌++◌, ◌∙◌, length, take, drop, sym, arith, length-append, length-drop, length-take-le}
+use Rattle.std.proofs.Common.{rules, ◌≡◌, ◌-◌, ◌<◌, ◌++◌, ◌∙◌, length, take, drop, sym, arith}
+use Rattle.std.proofs.Common.{length-append, length-drop, length-take-le}
+use Rattle.std.proofs.lemmas.Result.{err_from_is_err_and}
 use Rattle.std.proofs.KnownBytes.{Consumes-trans}
 use Rattle.rtr_units.specs.Causes.{cause_of}
 use Rattle.rtr_units.proofs.UnitsRead.{short_more}
 use Rattle.rtr_session.proofs.Stops.{header_any}
 use Rattle.rtr_session.proofs.any_unit.next_header.Goals as goal
 
-pub returns-in-Err-fill : goal.returns-in-Err-fill
-returns-in-Err-fill g c =
+pub returns-in_err-fill-in-Ok : goal.returns-in_err-fill-in-Ok
+returns-in_err-fill-in-Ok g c =
     let n = c.in-Ok.n in
     let p = c.read.new.piece in
-    let ((t, taken, s), counts) = c.in-Err-fill.ensures.bytes in
+    let ((t, taken, s), counts) = c.in_err-fill-in-Ok.ensures.bytes in
     let long : length p ≡ 8 = c.read.auto.piece ∙ c.as_mut-bytes.ensures.size in
     let front : length (take n p) ≡ n = sym c.in-Ok.ensures.bound.1 in
     let some : ¬ (n ≡ 0) = c.in-Ok.n-test.1 in
     let rest = length-take-le (length p - n) (drop n p) (omega (arith, length-drop n p)) in
     let all = length-append (take n p) t in
     let m = length c.fill.new.piece in
-    let more : length t < m → length (take n p ++ t) < 8 = λ less. omega (arith, less, c.fill.auto.piece, rest, long, all, front, c.in-Ok.ensures.bound.0) in
-    let cause = cause_of c.in-Err-fill.e in
-    ((take n p ++ t, Consumes-trans _ _ _ _ _ c.in-Ok.ensures.bytes.0 taken, header_any cause (take n p ++ t) _ (omega (arith, all, front, some)) (short_more m 8 cause (take n p) t _ more s)), search rules)
+    let more : length t < m → length (take n p ++ t) < 8 = λ less.
+    omega (arith, less, c.fill.auto.piece, rest, long, all, front, c.in-Ok.ensures.bound.0) in
+    let cause = cause_of c.in_err-fill-in-Ok.field-0.0 in
+    let q = err_from_is_err_and c.from_residual.result c.from_residual.ensures.1 in
+    rw (q.1, q.2) (
+      (
+        take n p ++ t,
+        Consumes-trans _ _ _ _ _ c.in-Ok.ensures.bytes.0 taken,
+        header_any cause (take n p ++ t) _ (omega (arith, all, front, some))
+            (short_more m 8 cause (take n p) t _ more s),
+      ),
+      search rules,
+    )

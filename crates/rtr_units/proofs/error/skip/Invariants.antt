@@ -5,7 +5,9 @@ use Rattle.rtr_units.proofs.error.skip.Given as goal
 
 abbrev pub invariant-loop-left : goal.invariant-loop-left
 invariant-loop-left g l = record {
-  taken : (t : List ℕ) × Consumes (g.R.Source.state l.initial.reader).left (g.R.Source.state l.reader).left t × IsBytes t × (length t + l.left ≡ l.size);
+  taken : (t : List ℕ)
+      × Consumes (g.R.Source.state l.initial.reader).left (g.R.Source.state l.reader).left t
+      × IsBytes t × (length t + l.left ≡ l.size);
   room : length l.buffer ≡ 1024;
   count : (g.R.Source.state l.reader).failed ≡ (g.R.Source.state l.initial.reader).failed;
 }

@@ -8,5 +8,8 @@ use Rattle.rtr_views.proofs.cut.first_unit.Goals as goal
 pub returns-clause-unit : goal.returns-clause-unit
 returns-clause-unit c =
     let r = c.args.input.now in
-    let is : c.split_at.result.0.now ≡ first_unit r = c.split_at.ensures.front ∙ ap (λ n. take n r) (sym c.requires.size) in
-    subst (IsFirstUnit r) (sym is) (cut_first r c.requires.header (eight_said _ _ _ _ c.requires.in_order) (omega (arith, c.requires.size, c.if-size-input.false)))
+    let is : c.split_at.result.0.now ≡ first_unit r =
+    c.split_at.ensures.front ∙ ap (λ n. take n r) (sym c.requires.size) in
+    subst (IsFirstUnit r) (sym is)
+    (cut_first r c.requires.header (eight_said _ _ _ _ c.requires.in_order)
+    (omega (arith, c.requires.size, c.if-size-input.false)))

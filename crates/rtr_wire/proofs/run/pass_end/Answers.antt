@@ -15,7 +15,9 @@ returns-in_err-end-clause-bytes g c is before took =
     let e = c.in_err-end.field-0.0 in
     let h = header_bytes c.args.header in
     let reads = end_after h (Err (cause_of e)) _ _ c.requires c.in_err-end.ensures.bytes in
-    rw (p.1, p.2) (not_read (g.S.Writing.what c.args.writing) e _ _ _ (read_on payload_unit h (Err (cause_of e)) before _ _ took reads.1.0))
+    rw (p.1, p.2)
+    (not_read (g.S.Writing.what c.args.writing) e _ _ _
+    (read_on payload_unit h (Err (cause_of e)) before _ _ took reads.1.0))
 
 -- the end of data was read, for which another is written
 pub returns-clause-bytes : goal.returns-clause-bytes
@@ -23,12 +25,19 @@ returns-clause-bytes g c is before took =
     let h = header_bytes c.args.header in
     let d = c.in_ok-end.end in
     let reads = end_after h (Ok (end_bytes d)) _ _ c.requires c.in_ok-end.ensures.bytes in
-    end_written (g.S.Writing.what c.args.writing) d c.end.result c.end.ensures _ _ _ _ (read_on payload_unit h (Ok (end_bytes d)) before _ _ took reads.1.0) (c.in_ok-end.ensures.end c.requires) c.in_ok-write.ensures.0
+    end_written (g.S.Writing.what c.args.writing) d c.end.result c.end.ensures _ _ _ _
+    (read_on payload_unit h (Ok (end_bytes d)) before _ _ took reads.1.0)
+    (c.in_ok-end.ensures.end c.requires) c.in_ok-write.ensures.0
 
 pub returns-in_err-write-clause-bytes : goal.returns-in_err-write-clause-bytes
 returns-in_err-write-clause-bytes g c is before took =
-    let p = err_from_is_err_and c.from_residual-in_err-write.result c.from_residual-in_err-write.ensures.1 in
+    let p = err_from_is_err_and c.from_residual-in_err-write.result
+    c.from_residual-in_err-write.ensures.1 in
     let h = header_bytes c.args.header in
     let d = c.in_ok-end.end in
     let reads = end_after h (Ok (end_bytes d)) _ _ c.requires c.in_ok-end.ensures.bytes in
-    rw (p.1, p.2) (end_not_written (g.S.Writing.what c.args.writing) d c.end.result c.end.ensures c.in_err-write.field-0.0 _ _ _ _ (read_on payload_unit h (Ok (end_bytes d)) before _ _ took reads.1.0) (c.in_ok-end.ensures.end c.requires) c.in_err-write.ensures.0)
+    rw (p.1, p.2)
+    (end_not_written (g.S.Writing.what c.args.writing) d c.end.result c.end.ensures
+    c.in_err-write.field-0.0 _ _ _ _
+    (read_on payload_unit h (Ok (end_bytes d)) before _ _ took reads.1.0)
+    (c.in_ok-end.ensures.end c.requires) c.in_err-write.ensures.0)

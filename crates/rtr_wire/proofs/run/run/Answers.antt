@@ -8,7 +8,11 @@ use Rattle.rtr_wire.proofs.run.run.Goals.{in-Written, in-LeftOut}
 use Rattle.rtr_wire.proofs.run.run.Goals as goal
 
 pub loop-count-init : goal.loop-count-init
-loop-count-init g c = record { so_far = starts (g.S.Writing.what c.args.writing) _ _ (g.met.S.Writing.joins c.args.writing); reads = refl; writes = refl }
+loop-count-init g c = record {
+  so_far = starts (g.S.Writing.what c.args.writing) _ _ (g.met.S.Writing.joins c.args.writing);
+  reads = refl;
+  writes = refl;
+}
 
 pub loop-count-preserved : goal.loop-count-preserved
 loop-count-preserved g c =
@@ -17,8 +21,14 @@ loop-count-preserved g c =
     let so_far = c.loop-count.invariant.so_far in
     record {
       so_far = elim c.match-branch-2.branch [
-        | in-Written w ↦ rw w.left_out-is (goes_on what c.loop-count.count c.loop-count.left_out _ _ _ _ _ _ joins so_far (rw w.in-Written.is at c.in_ok-step.ensures.bytes))
-        | in-LeftOut w ↦ rw w.left_out-is (leaves_out what c.loop-count.count c.loop-count.left_out _ _ _ _ _ _ joins so_far (rw w.in-LeftOut.is at c.in_ok-step.ensures.bytes))
+        | in-Written w ↦
+            rw w.left_out-is
+            (goes_on what c.loop-count.count c.loop-count.left_out _ _ _ _ _ _ joins so_far
+            (rw w.in-Written.is at c.in_ok-step.ensures.bytes))
+        | in-LeftOut w ↦
+            rw w.left_out-is
+            (leaves_out what c.loop-count.count c.loop-count.left_out _ _ _ _ _ _ joins so_far
+            (rw w.in-LeftOut.is at c.in_ok-step.ensures.bytes))
       ];
       reads = search rules;
       writes = search rules;
@@ -28,7 +38,9 @@ pub returns-in-End : goal.returns-in-End
 returns-in-End g c =
     let what = g.S.Writing.what c.args.writing in
     normalises what c.args.limit _ _ _ _ _
-    (finishes what c.args.limit c.loop-count.count c.loop-count.left_out _ _ _ _ _ _ c.loop-count-test.true c.loop-count.invariant.so_far (rw c.in-End.is at c.in_ok-step.ensures.bytes))
+    (finishes what c.args.limit c.loop-count.count c.loop-count.left_out _ _ _ _ _ _
+    c.loop-count-test.true c.loop-count.invariant.so_far
+    (rw c.in-End.is at c.in_ok-step.ensures.bytes))
     (search rules) (search rules)
 
 pub returns-in_err-step : goal.returns-in_err-step
@@ -38,7 +50,8 @@ returns-in_err-step g c =
     let fault = c.in_err-step.field-0.0 in
     let old = c.loop-count.invariant in
     rw (p.1, p.2) (normalises what c.args.limit _ _ _ _ _
-    (breaks what c.args.limit c.loop-count.count c.loop-count.left_out fault _ _ _ _ _ _ c.loop-count-test.true old.so_far c.in_err-step.ensures.bytes)
+    (breaks what c.args.limit c.loop-count.count c.loop-count.left_out fault _ _ _ _ _ _
+    c.loop-count-test.true old.so_far c.in_err-step.ensures.bytes)
     (c.in_err-step.ensures.reads ∙ ap (reader_count {T = ℕ} (Err (cause_of fault))) old.reads)
     (c.in_err-step.ensures.writes ∙ ap (writer_count {T = ℕ} (Err (cause_of fault))) old.writes))
 
@@ -46,5 +59,7 @@ pub returns : goal.returns
 returns g c =
     let what = g.S.Writing.what c.args.writing in
     normalises what c.args.limit _ _ _ _ _
-    (reaches_limit what c.args.limit c.loop-count.count c.loop-count.left_out _ _ _ _ (omega (arith, c.loop-count.auto.count-end, c.loop-count-test.false)) c.loop-count.invariant.so_far)
+    (reaches_limit what c.args.limit c.loop-count.count c.loop-count.left_out _ _ _ _
+    (omega (arith, c.loop-count.auto.count-end, c.loop-count-test.false))
+    c.loop-count.invariant.so_far)
     c.loop-count.invariant.reads c.loop-count.invariant.writes

@@ -8,4 +8,5 @@ returns c =
     let s = c.self.inside in
     let o = c.other.inside in
     rw (c.then-2.ensures, c.then.ensures, c.cmp.ensures, c.cmp-2.ensures, c.cmp-3.ensures)
-    (prefix_chain s.is_v4 o.is_v4 s.bits o.bits s.len o.len ∙ (λ i. prefix_cmp (c.self.view_is i) (c.other.view_is i)))
+    (prefix_chain s.is_v4 o.is_v4 s.bits o.bits s.len o.len
+    ∙ (λ i. prefix_cmp (c.self.view_is i) (c.other.view_is i)))

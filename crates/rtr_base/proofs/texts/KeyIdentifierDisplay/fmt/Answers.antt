@@ -11,5 +11,7 @@ loop-byte-init g c = search rules
 pub loop-byte-preserved : goal.loop-byte-preserved
 loop-byte-preserved g c = λ plain.
     let byte = c.type_inv.byte-items c.loop-byte.byte-index in
-    has_written_of_eq _ _ _ _ _ (encode_more c.as_slice-byte-items.result.now c.loop-byte.byte-index (search rules) (omega (arith, byte)))
+    has_written_of_eq _ _ _ _ _
+    (encode_more c.as_slice-byte-items.result.now c.loop-byte.byte-index (search rules)
+    (omega (arith, byte)))
     (has_written_append _ _ _ _ _ _ (c.loop-byte.invariant plain) (search rules))

@@ -5,4 +5,6 @@ use Rattle.rtr_base.proofs.texts.KeyIdentifierDisplay.fmt.Given as goal
 
 abbrev pub invariant-loop-byte : goal.invariant-loop-byte
 invariant-loop-byte g l =
-    IsPlainFormatter l.initial.f → HasWritten g.W.Write.write_str_gives l.initial.f (encode_lower (take l.byte-index l.byte-items)) l.f
+    IsPlainFormatter l.initial.f →
+    HasWritten g.W.Write.write_str_gives l.initial.f
+    (encode_lower (take l.byte-index l.byte-items)) l.f

@@ -1,10 +1,21 @@
-use Rattle.std.proofs.Common.{sym, subst, ◌∙◌}
-use Rattle.std.specs.Io.KnownBytes.{Consumes}
+use Rattle.std.proofs.Common.{◌++◌, ◌∙◌, Err, ap}
+use Rattle.std.proofs.lemmas.Result.{err_from_is_err_and}
 use Rattle.std.proofs.KnownBytes.{Consumes-trans}
+use Rattle.rtr_units.specs.Causes.{cause_of}
+use Rattle.rtr_units.specs.Stream.{reader_count}
+use Rattle.rtr_units.specs.Views.{header_bytes}
+use Rattle.rtr_session.specs.declared.any_unit.AnyUnit.{AnyUnit}
 use Rattle.rtr_session.proofs.any_unit.AnyUnit.read.Goals as goal
 
-pub returns-in-Ok : goal.returns-in-Ok
-returns-in-Ok g c =
-    let (took, same) = rw c.in-Ok-Some.field-0-is at c.in-Ok-Some.ensures in
-    let (((t, taken, parts), fields), counts) = c.in-Ok.ensures in
-    ((subst (Consumes _ _) (sym parts) (Consumes-trans _ _ _ _ t took taken), fields), counts ∙ same)
+pub returns-in_err-read_payload : goal.returns-in_err-read_payload
+returns-in_err-read_payload g c =
+    let p = err_from_is_err_and c.from_residual-in_err-read_payload.result
+    c.from_residual-in_err-read_payload.ensures.1 in
+    let h = header_bytes c.in-Some.header in
+    let (took, same) = rw c.in-Some.is at c.in_ok-header.ensures in
+    let ((t, taken, stops), counts) = c.in_err-read_payload.ensures in
+    rw (p.1, p.2) (
+      (h ++ t, Consumes-trans _ _ _ h t took taken, stops),
+      counts
+          ∙ ap (reader_count {T = AnyUnit} (Err (cause_of c.in_err-read_payload.field-0.0))) same,
+    )

@@ -1,76 +1,119 @@
-use Rattle.std.proofs.Common.{◌≡◌, ◌∙◌, [], length, sym, refl, arith, inl, inr}
+use Rattle.std.proofs.Common.{ap, Err, ◌≡◌, ◌∙◌, [], length, sym, refl, arith, inl, inr}
 use Rattle.std.proofs.KnownBytes.{Consumes-nil}
 use Rattle.std.proofs.lemmas.Result.{err_from_is_err_and}
 use Rattle.rtr_base.specs.Addresses.{v4, v6}
-use Rattle.rtr_units.specs.Causes.{cause_of}
 use Rattle.rtr_units.specs.Ends.{end_unit}
 use Rattle.rtr_units.specs.Header.{type_field}
 use Rattle.rtr_units.specs.Reading.{of_size}
 use Rattle.rtr_units.specs.Views.{header_bytes}
 use Rattle.rtr_payload.specs.UnitKinds.{variable_unit}
-use Rattle.rtr_session.specs.Fields.{serial_notify, serial_query, reset_query, cache_response, cache_reset}
-use Rattle.rtr_session.proofs.Stops.{twelve_alike, eight_alike, ipv4_any, ipv6_any, end_any, key_any, aspa_any, stopped, report_takes, unknown_type}
-use Rattle.rtr_session.proofs.Units.{serial_reads, bare_reads, notify_has, query_has, reset_query_has, response_has, cache_reset_has, prefix_reads, end_reads, variable_reads, report_has}
+use Rattle.rtr_session.specs.Fields.{serial_notify, serial_query, reset_query, cache_response}
+use Rattle.rtr_session.specs.Fields.{cache_reset}
+use Rattle.rtr_session.specs.Headers.{report_unit}
+use Rattle.rtr_session.proofs.Stops.{twelve_alike, eight_alike, ipv4_any, ipv6_any, end_any}
+use Rattle.rtr_session.proofs.Stops.{key_any, aspa_any, report_any, stopped, unknown_type}
+use Rattle.rtr_session.proofs.Units.{serial_reads, bare_reads, notify_has, query_has}
+use Rattle.rtr_session.proofs.Units.{reset_query_has, response_has, cache_reset_has, prefix_reads}
+use Rattle.rtr_session.proofs.Units.{end_reads, variable_reads, report_has}
 use Rattle.rtr_session.proofs.any_unit.AnyUnit.read_payload.Goals as goal
 
 pub returns-in_err-read_payload-in-0 : goal.returns-in_err-read_payload-in-0
 returns-in_err-read_payload-in-0 g c =
     let p = err_from_is_err_and c.from_residual.result c.from_residual.ensures.1 in
-    rw (p.1, p.2) (stopped _ 0 (of_size 12) c.pdu.ensures.header.0 (sym c.pdu.ensures.value ∙ c.in-0.is) (omega arith) (λ long kind. twelve_alike _ long 0 kind (inl refl)) c.in_err-read_payload-in-0.field-0.0 _ _ c.in_err-read_payload-in-0.ensures)
+    rw (p.1, p.2)
+    (stopped _ 0 (of_size 12) c.pdu.ensures.header.0 (sym c.pdu.ensures.value ∙ c.in-0.is)
+    (λ long kind. twelve_alike _ long 0 kind (inl refl))
+    c.in_err-read_payload-in-0.field-0.0 _ _ c.in_err-read_payload-in-0.ensures)
 
 pub returns-in_err-read_payload-in-1 : goal.returns-in_err-read_payload-in-1
 returns-in_err-read_payload-in-1 g c =
-    let p = err_from_is_err_and c.from_residual-in_err-read_payload-in-1.result c.from_residual-in_err-read_payload-in-1.ensures.1 in
-    rw (p.1, p.2) (stopped _ 1 (of_size 12) c.pdu.ensures.header.0 (sym c.pdu.ensures.value ∙ c.in-1.is) (omega arith) (λ long kind. twelve_alike _ long 1 kind (inr refl)) c.in_err-read_payload-in-1.field-0.0 _ _ c.in_err-read_payload-in-1.ensures)
+    let p = err_from_is_err_and c.from_residual-in_err-read_payload-in-1.result
+    c.from_residual-in_err-read_payload-in-1.ensures.1 in
+    rw (p.1, p.2)
+    (stopped _ 1 (of_size 12) c.pdu.ensures.header.0 (sym c.pdu.ensures.value ∙ c.in-1.is)
+    (λ long kind. twelve_alike _ long 1 kind (inr refl))
+    c.in_err-read_payload-in-1.field-0.0 _ _ c.in_err-read_payload-in-1.ensures)
 
 pub returns-in_err-read_payload-in-2 : goal.returns-in_err-read_payload-in-2
 returns-in_err-read_payload-in-2 g c =
-    let p = err_from_is_err_and c.from_residual-in_err-read_payload-in-2.result c.from_residual-in_err-read_payload-in-2.ensures.1 in
-    rw (p.1, p.2) (stopped _ 2 (of_size 8) c.pdu.ensures.header.0 (sym c.pdu.ensures.value ∙ c.in-2.is) (omega arith) (λ long kind. eight_alike _ long 2 kind (inl refl)) c.in_err-read_payload-in-2.field-0.0 _ _ c.in_err-read_payload-in-2.ensures)
+    let p = err_from_is_err_and c.from_residual-in_err-read_payload-in-2.result
+    c.from_residual-in_err-read_payload-in-2.ensures.1 in
+    rw (p.1, p.2)
+    (stopped _ 2 (of_size 8) c.pdu.ensures.header.0 (sym c.pdu.ensures.value ∙ c.in-2.is)
+    (λ long kind. eight_alike _ long 2 kind (inl refl))
+    c.in_err-read_payload-in-2.field-0.0 _ _ c.in_err-read_payload-in-2.ensures)
 
 pub returns-in_err-read_payload-in-3 : goal.returns-in_err-read_payload-in-3
 returns-in_err-read_payload-in-3 g c =
-    let p = err_from_is_err_and c.from_residual-in_err-read_payload-in-3.result c.from_residual-in_err-read_payload-in-3.ensures.1 in
-    rw (p.1, p.2) (stopped _ 3 (of_size 8) c.pdu.ensures.header.0 (sym c.pdu.ensures.value ∙ c.in-3.is) (omega arith) (λ long kind. eight_alike _ long 3 kind (inr (inl refl))) c.in_err-read_payload-in-3.field-0.0 _ _ c.in_err-read_payload-in-3.ensures)
+    let p = err_from_is_err_and c.from_residual-in_err-read_payload-in-3.result
+    c.from_residual-in_err-read_payload-in-3.ensures.1 in
+    rw (p.1, p.2)
+    (stopped _ 3 (of_size 8) c.pdu.ensures.header.0 (sym c.pdu.ensures.value ∙ c.in-3.is)
+    (λ long kind. eight_alike _ long 3 kind (inr (inl refl)))
+    c.in_err-read_payload-in-3.field-0.0 _ _ c.in_err-read_payload-in-3.ensures)
 
 pub returns-in_err-read_payload-in-4 : goal.returns-in_err-read_payload-in-4
 returns-in_err-read_payload-in-4 g c =
-    let p = err_from_is_err_and c.from_residual-in_err-read_payload-in-4.result c.from_residual-in_err-read_payload-in-4.ensures.1 in
-    rw (p.1, p.2) (stopped _ 4 (of_size 20) c.pdu.ensures.header.0 (sym c.pdu.ensures.value ∙ c.in-4.is) (omega arith) (λ long kind. ipv4_any _ long kind) c.in_err-read_payload-in-4.field-0.0 _ _ c.in_err-read_payload-in-4.ensures)
+    let p = err_from_is_err_and c.from_residual-in_err-read_payload-in-4.result
+    c.from_residual-in_err-read_payload-in-4.ensures.1 in
+    rw (p.1, p.2)
+    (stopped _ 4 (of_size 20) c.pdu.ensures.header.0 (sym c.pdu.ensures.value ∙ c.in-4.is)
+    (λ long kind. ipv4_any _ long kind) c.in_err-read_payload-in-4.field-0.0 _ _
+    c.in_err-read_payload-in-4.ensures)
 
 pub returns-in_err-read_payload-in-6 : goal.returns-in_err-read_payload-in-6
 returns-in_err-read_payload-in-6 g c =
-    let p = err_from_is_err_and c.from_residual-in_err-read_payload-in-6.result c.from_residual-in_err-read_payload-in-6.ensures.1 in
-    rw (p.1, p.2) (stopped _ 6 (of_size 32) c.pdu.ensures.header.0 (sym c.pdu.ensures.value ∙ c.in-6.is) (omega arith) (λ long kind. ipv6_any _ long kind) c.in_err-read_payload-in-6.field-0.0 _ _ c.in_err-read_payload-in-6.ensures)
+    let p = err_from_is_err_and c.from_residual-in_err-read_payload-in-6.result
+    c.from_residual-in_err-read_payload-in-6.ensures.1 in
+    rw (p.1, p.2)
+    (stopped _ 6 (of_size 32) c.pdu.ensures.header.0 (sym c.pdu.ensures.value ∙ c.in-6.is)
+    (λ long kind. ipv6_any _ long kind) c.in_err-read_payload-in-6.field-0.0 _ _
+    c.in_err-read_payload-in-6.ensures)
 
 pub returns-in_err-read_payload-in-7 : goal.returns-in_err-read_payload-in-7
 returns-in_err-read_payload-in-7 g c =
-    let p = err_from_is_err_and c.from_residual-in_err-read_payload-in-7.result c.from_residual-in_err-read_payload-in-7.ensures.1 in
-    rw (p.1, p.2) (stopped _ 7 end_unit c.pdu.ensures.header.0 (sym c.pdu.ensures.value ∙ c.in-7.is) (omega arith) (λ long kind. end_any _ long kind) c.in_err-read_payload-in-7.field-0.0 _ _ c.in_err-read_payload-in-7.ensures.bytes)
+    let p = err_from_is_err_and c.from_residual-in_err-read_payload-in-7.result
+    c.from_residual-in_err-read_payload-in-7.ensures.1 in
+    rw (p.1, p.2)
+    (stopped _ 7 end_unit c.pdu.ensures.header.0 (sym c.pdu.ensures.value ∙ c.in-7.is)
+    (λ long kind. end_any _ long kind) c.in_err-read_payload-in-7.field-0.0 _ _
+    c.in_err-read_payload-in-7.ensures.bytes)
 
 pub returns-in_err-read_payload-in-8 : goal.returns-in_err-read_payload-in-8
 returns-in_err-read_payload-in-8 g c =
-    let p = err_from_is_err_and c.from_residual-in_err-read_payload-in-8.result c.from_residual-in_err-read_payload-in-8.ensures.1 in
-    rw (p.1, p.2) (stopped _ 8 (of_size 8) c.pdu.ensures.header.0 (sym c.pdu.ensures.value ∙ c.in-8.is) (omega arith) (λ long kind. eight_alike _ long 8 kind (inr (inr refl))) c.in_err-read_payload-in-8.field-0.0 _ _ c.in_err-read_payload-in-8.ensures)
+    let p = err_from_is_err_and c.from_residual-in_err-read_payload-in-8.result
+    c.from_residual-in_err-read_payload-in-8.ensures.1 in
+    rw (p.1, p.2)
+    (stopped _ 8 (of_size 8) c.pdu.ensures.header.0 (sym c.pdu.ensures.value ∙ c.in-8.is)
+    (λ long kind. eight_alike _ long 8 kind (inr (inr refl)))
+    c.in_err-read_payload-in-8.field-0.0 _ _ c.in_err-read_payload-in-8.ensures)
 
 pub returns-in_err-unit-in-9 : goal.returns-in_err-unit-in-9
 returns-in_err-unit-in-9 g c =
-    let p = err_from_is_err_and c.from_residual-in_err-unit-in-9.result c.from_residual-in_err-unit-in-9.ensures.1 in
-    rw (p.1, p.2) (stopped _ 9 (variable_unit 9) c.pdu.ensures.header.0 (sym c.pdu.ensures.value ∙ c.in-9.is) (omega arith) (λ long kind. key_any _ long kind) c.in_err-unit-in-9.field-0.0 _ _ c.in_err-unit-in-9.ensures.bytes)
+    let p = err_from_is_err_and c.from_residual-in_err-unit-in-9.result
+    c.from_residual-in_err-unit-in-9.ensures.1 in
+    rw (p.1, p.2)
+    (stopped _ 9 (variable_unit 9) c.pdu.ensures.header.0 (sym c.pdu.ensures.value ∙ c.in-9.is)
+    (λ long kind. key_any _ long kind) c.in_err-unit-in-9.field-0.0 _ _
+    c.in_err-unit-in-9.ensures.bytes)
 
 pub returns-in_err-read_payload-in-10 : goal.returns-in_err-read_payload-in-10
 returns-in_err-read_payload-in-10 g c =
-    let p = err_from_is_err_and c.from_residual-in_err-read_payload-in-10.result c.from_residual-in_err-read_payload-in-10.ensures.1 in
-    let h = header_bytes c.args.header in
-    let l : length h ≡ 8 = c.pdu.ensures.header.0 in
-    let kind : type_field h ≡ 10 = sym c.pdu.ensures.value ∙ c.in-10.is in
-    let (takes, counts) = c.in_err-read_payload-in-10.ensures in
-    rw (p.1, p.2) (report_takes h l kind (cause_of c.in_err-read_payload-in-10.field-0.0) _ _ takes, counts)
+    let p = err_from_is_err_and c.from_residual-in_err-read_payload-in-10.result
+    c.from_residual-in_err-read_payload-in-10.ensures.1 in
+    rw (p.1, p.2)
+    (stopped _ 10 report_unit c.pdu.ensures.header.0 (sym c.pdu.ensures.value ∙ c.in-10.is)
+    (λ long kind. report_any _ long kind) c.in_err-read_payload-in-10.field-0.0 _ _
+    c.in_err-read_payload-in-10.ensures)
 
 pub returns-in_err-unit-in-11 : goal.returns-in_err-unit-in-11
 returns-in_err-unit-in-11 g c =
-    let p = err_from_is_err_and c.from_residual-in_err-unit-in-11.result c.from_residual-in_err-unit-in-11.ensures.1 in
-    rw (p.1, p.2) (stopped _ 11 (variable_unit 11) c.pdu.ensures.header.0 (sym c.pdu.ensures.value ∙ c.in-11.is) (omega arith) (λ long kind. aspa_any _ long kind) c.in_err-unit-in-11.field-0.0 _ _ c.in_err-unit-in-11.ensures.bytes)
+    let p = err_from_is_err_and c.from_residual-in_err-unit-in-11.result
+    c.from_residual-in_err-unit-in-11.ensures.1 in
+    rw (p.1, p.2)
+    (stopped _ 11 (variable_unit 11) c.pdu.ensures.header.0 (sym c.pdu.ensures.value ∙ c.in-11.is)
+    (λ long kind. aspa_any _ long kind) c.in_err-unit-in-11.field-0.0 _ _
+    c.in_err-unit-in-11.ensures.bytes)
 
 pub returns-in_ok-read_payload-in-0 : goal.returns-in_ok-read_payload-in-0
 returns-in_ok-read_payload-in-0 g c =
@@ -112,7 +155,8 @@ pub returns-in_ok-read_payload-in-7 : goal.returns-in_ok-read_payload-in-7
 returns-in_ok-read_payload-in-7 g c =
     let h = header_bytes c.args.header in
     let kind : type_field h ≡ 7 = sym c.pdu.ensures.value ∙ c.in-7.is in
-    end_reads h c.in_ok-read_payload-in-7.field-0 _ _ c.in_ok-read_payload-in-7.ensures.bytes (c.in_ok-read_payload-in-7.ensures.end kind)
+    end_reads h c.in_ok-read_payload-in-7.field-0 _ _ c.in_ok-read_payload-in-7.ensures.bytes
+    (c.in_ok-read_payload-in-7.ensures.end kind)
 
 pub returns-in_ok-read_payload-in-8 : goal.returns-in_ok-read_payload-in-8
 returns-in_ok-read_payload-in-8 g c =
@@ -124,18 +168,20 @@ pub returns-in_ok-unit-in-9 : goal.returns-in_ok-unit-in-9
 returns-in_ok-unit-in-9 g c =
     let h = header_bytes c.args.header in
     let kind : type_field h ≡ 9 = sym c.pdu.ensures.value ∙ c.in-9.is in
-    variable_reads 9 h _ _ _ _ c.in_ok-unit-in-9.ensures.bytes (c.in_ok-unit-in-9.ensures.fields kind)
+    variable_reads 9 h _ _ _ _ c.in_ok-unit-in-9.ensures.bytes
+    (c.in_ok-unit-in-9.ensures.fields kind)
 
 pub returns-in_ok-read_payload-in-10 : goal.returns-in_ok-read_payload-in-10
 returns-in_ok-read_payload-in-10 g c =
-    let ((takes, is), counts) = c.in_ok-read_payload-in-10.ensures in
+    let (_, ((takes, is), counts)) = c.in_ok-read_payload-in-10.ensures in
     ((takes, report_has _ is), counts)
 
 pub returns-in_ok-unit-in-11 : goal.returns-in_ok-unit-in-11
 returns-in_ok-unit-in-11 g c =
     let h = header_bytes c.args.header in
     let kind : type_field h ≡ 11 = sym c.pdu.ensures.value ∙ c.in-11.is in
-    variable_reads 11 h _ _ _ _ c.in_ok-unit-in-11.ensures.bytes (c.in_ok-unit-in-11.ensures.fields kind)
+    variable_reads 11 h _ _ _ _ c.in_ok-unit-in-11.ensures.bytes
+    (c.in_ok-unit-in-11.ensures.fields kind)
 
 pub returns-in_default : goal.returns-in_default
 returns-in_default g c =
@@ -144,7 +190,8 @@ returns-in_default g c =
         [],
         Consumes-nil _,
         unknown_type h c.pdu.result c.pdu.ensures.header.0 (sym c.pdu.ensures.value)
-            (omega arith) (omega arith) (omega arith) (omega arith) (omega arith) (omega arith) (omega arith) (omega arith) (omega arith) (omega arith) (omega arith),
+            (omega arith) (omega arith) (omega arith) (omega arith) (omega arith) (omega arith)
+            (omega arith) (omega arith) (omega arith) (omega arith) (omega arith),
       ),
       refl,
     )

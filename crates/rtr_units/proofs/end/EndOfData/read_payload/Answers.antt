@@ -14,27 +14,42 @@ pub returns-then-version-gt2-clause-bytes : goal.returns-then-version-gt2-clause
 returns-then-version-gt2-clause-bytes g c =
     let h = header_bytes c.args.header in
     let is = c.version-version.ensures.header in
-    let v = c.version-version.ensures.value in
-    (is, (([], Consumes-nil _, rw v (at_header end_unit (unit_version (version_field h)) h is.0 (end_version h (omega (arith, v))))), refl))
+    let v = c.version-version.ensures.value in (
+      is,
+      (
+        (
+          [],
+          Consumes-nil _,
+          rw v
+              (at_header end_unit (unit_version (version_field h)) h is.0
+              (end_version h (omega (arith, v)))),
+        ),
+        refl,
+      ),
+    )
 
-pub returns-in-Ok-clause-end : goal.returns-in-Ok-clause-end
-returns-in-Ok-clause-end g c is_type =
+pub returns-in_ok-read_payload-clause-end : goal.returns-in_ok-read_payload-clause-end
+returns-in_ok-read_payload-clause-end g c is_type =
     let h = header_bytes c.args.header in
-    let u = c.in-Ok.unit.cells.bytes in
-    let (is, (((t, taken, parts), whole), count)) = c.in-Ok.ensures in
+    let u = c.in_ok-read_payload.field-0.cells.bytes in
+    let (is, (((t, taken, parts), whole), count)) = c.in_ok-read_payload.ensures in
     let is_version : version_field h ≡ 0 = cc in
     let same = same_header h t (omega (arith, is.0)) in
     let field : length_field u ≡ 12 = sized_from 12 u whole.in_order in
-    untimed_has u whole.are_bytes (ap version_field parts ∙ same.version ∙ is_version) (ap type_field parts ∙ same.kind ∙ is_type) (whole.size ∙ field) field
+    untimed_has u whole.are_bytes (ap version_field parts ∙ same.version ∙ is_version)
+    (ap type_field parts ∙ same.kind ∙ is_type) (whole.size ∙ field) field
 
-pub returns-in-Ok-read_payload-clause-end : goal.returns-in-Ok-read_payload-clause-end
-returns-in-Ok-read_payload-clause-end g c is_type =
+pub returns-in_ok-read_payload-2-clause-end : goal.returns-in_ok-read_payload-2-clause-end
+returns-in_ok-read_payload-2-clause-end g c is_type =
     let h = header_bytes c.args.header in
-    let u = c.in-Ok-read_payload.unit.cells.bytes in
-    let (is, (((t, taken, parts), whole), count)) = c.in-Ok-read_payload.ensures in
-    let small : version_field h ≤ 2 = rw (← c.version-version.ensures.value) c.if-version-gt2.false in
-    let later : ¬ (version_field h ≡ 0) = λ zero. c.if-version-eq0.false (c.version-version.ensures.value ∙ zero) in
+    let u = c.in_ok-read_payload-2.field-0.cells.bytes in
+    let (is, (((t, taken, parts), whole), count)) = c.in_ok-read_payload-2.ensures in
+    let small : version_field h ≤ 2 =
+    rw (← c.version-version.ensures.value) c.if-version-gt2.false in
+    let later : ¬ (version_field h ≡ 0) =
+    λ zero. c.if-version-eq0.false (c.version-version.ensures.value ∙ zero) in
     let same = same_header h t (omega (arith, is.0)) in
     let version : version_field u ≡ version_field h = ap version_field parts ∙ same.version in
     let field : length_field u ≡ 24 = sized_from 24 u whole.in_order in
-    end_with_timing u whole.are_bytes (whole.size ∙ field) (rw version small) (λ zero. later (sym version ∙ zero)) (ap type_field parts ∙ same.kind ∙ is_type) field
+    end_with_timing u whole.are_bytes (whole.size ∙ field) (rw version small)
+    (λ zero. later (sym version ∙ zero)) (ap type_field parts ∙ same.kind ∙ is_type) field

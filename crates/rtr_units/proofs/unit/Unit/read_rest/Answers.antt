@@ -15,6 +15,14 @@ returns-clause-bytes g c =
     let field : length_field h ≡ g.Self.Unit.LENGTH = search rules in
     let order : (of_size g.Self.Unit.LENGTH).fault h ≡ None = sized_is g.Self.Unit.LENGTH h field in
     let size : length_field h ≡ 8 + n = omega (arith, field, (g.met.Self.Unit.sized).0) in
-    let all : length piece ≡ n = omega (arith, c.fill.auto.piece, c.split_at_mut-front.ensures.back_len, c.as_mut.ensures.size) in
-    let whole = g.met.Self.Unit.kept c.args.self.now (c.copy_from_slice.new.self ++ piece) ∙ ap (λ l. l ++ piece) (c.copy_from_slice.ensures.after ∙ c.as_ref.ensures.bytes) in
-    (is, rest_read (of_size g.Self.Unit.LENGTH) (sized_by g.Self.Unit.LENGTH) n h is.0 order size c.fill.result _ piece _ _ (IsBytes-append h piece is.1 c.fill.ensures.range) all whole c.fill.ensures.bytes)
+    let all : length piece ≡ n =
+    omega
+    (arith, c.fill.auto.piece, c.split_at_mut-front.ensures.back_len, c.as_mut.ensures.size) in
+    let whole =
+    g.met.Self.Unit.kept c.args.self.now (c.copy_from_slice.new.self ++ piece)
+    ∙ ap (λ l. l ++ piece) (c.copy_from_slice.ensures.after ∙ c.as_ref.ensures.bytes) in (
+      is,
+      rest_read (of_size g.Self.Unit.LENGTH) (sized_by g.Self.Unit.LENGTH) n h is.0 order size
+          c.fill.result _ piece _ _ (IsBytes-append h piece is.1 c.fill.ensures.range) all whole
+          c.fill.ensures.bytes,
+    )

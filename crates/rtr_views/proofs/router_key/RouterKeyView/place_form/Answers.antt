@@ -7,4 +7,8 @@ use Rattle.rtr_views.proofs.router_key.RouterKeyView.place_form.Goals as goal
 
 pub returns : goal.returns
 returns c =
-    subst (λ l. Places c.place_flagged.result l c.args.output.now c.place_flagged.new.output) (key_form c.args.self.now.unit.now _ _ c.from_flags-action.result c.args.self.now.whole c.version.ensures (c.from_flags-action.ensures ∙ ap act c.flags.ensures) (take_rest c.args.self.now.unit.now 8)) c.place_flagged.ensures.form
+    subst (λ l. Places c.place_flagged.result l c.args.output.now c.place_flagged.new.output)
+    (key_form c.args.self.now.unit.now _ _ c.from_flags-action.result c.args.self.now.whole
+    c.version.ensures (c.from_flags-action.ensures ∙ ap act c.flags.ensures)
+    (take_rest c.args.self.now.unit.now 8))
+    c.place_flagged.ensures.form

@@ -6,4 +6,6 @@ pub returns : goal.returns
 returns c =
     let l = c.args.self.now in
     let r = c.args.other.now in
-    (search rules) ∙ sym (aspa_chain (record { customer = l.customer; providers = l.providers }) (record { customer = r.customer; providers = r.providers }))
+    (search rules)
+    ∙ sym (aspa_chain (record { customer = l.customer; providers = l.providers })
+    (record { customer = r.customer; providers = r.providers }))

@@ -6,4 +6,6 @@ pub returns : goal.returns
 returns c =
     let l = c.args.self.now in
     let r = c.args.other.now in
-    (search rules) ∙ sym (key_chain (record { identifier = l.key_identifier; asn = l.asn; info = l.key_info }) (record { identifier = r.key_identifier; asn = r.asn; info = r.key_info }))
+    (search rules)
+    ∙ sym (key_chain (record { identifier = l.key_identifier; asn = l.asn; info = l.key_info })
+    (record { identifier = r.key_identifier; asn = r.asn; info = r.key_info }))

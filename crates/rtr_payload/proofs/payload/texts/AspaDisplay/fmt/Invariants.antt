@@ -8,4 +8,6 @@ use Rattle.rtr_payload.proofs.payload.texts.AspaDisplay.fmt.Given as goal
 abbrev pub invariant-loop-provider : goal.invariant-loop-provider
 invariant-loop-provider g l =
     (l.yielded ++ l.provider-iterator ≡ l.self.providers)
-    × (IsPlainFormatter l.fn.f → HasWritten g.W.Write.write_str_gives l.fn.f (front_text l.self.customer ++ each_text l.yielded) l.f)
+    × (IsPlainFormatter l.fn.f →
+    HasWritten g.W.Write.write_str_gives l.fn.f
+    (front_text l.self.customer ++ each_text l.yielded) l.f)

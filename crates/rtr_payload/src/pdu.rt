@@ -1,0 +1,20 @@
+//! The payload units, and what the variable ones hold.
+
+mod aspa;
+mod frame;
+mod framed;
+mod key_info;
+mod payload;
+mod payload_unit;
+pub mod prefix_rule;
+mod prefix_unit;
+mod providers;
+mod router_key;
+
+pub use aspa::Aspa;
+pub use key_info::{KeyInfoError, KeyInfoVecError, RouterKeyInfo};
+pub use payload::Payload;
+pub use payload_unit::PayloadUnit;
+pub use prefix_unit::PrefixUnit;
+pub use providers::{ProviderAsns, ProviderAsnsError, ProviderIter, ProviderIterError};
+pub use router_key::RouterKey;

@@ -1,0 +1,33 @@
+//! Frames: what follows the header of a router key or an ASPA unit, in one piece.
+
+ghost use Rattle.std.specs.Prelude.{IfOk};
+ghost use Rattle.rtr_base.specs.Bytes.{IsBytes};
+ghost use Rattle.rtr_units.specs.Reading.{by_bytes};
+ghost use Rattle.rtr_payload.specs.PrivateCalls.{ReadsFrame};
+
+use bytes::Bytes;
+use rtr_units::fault::Fault;
+use rtr_units::piece::fill;
+use rtr_units::source::Source;
+use std::alloc::Global;
+
+/// Reads the next `size` bytes.
+///
+/// Faults, in this order: `Memory`, with nothing read, where there is no room for the frame;
+/// `Short` or `Reader` inside it; `Memory`, with all of it read, where it can't be shared.
+#[inline(always)]
+pub fn read_frame<R: Source>(alloc: Global, size: usize, reader: &mut R) -> Result<Bytes, Fault>
+    ensures bytes { ReadsFrame size (by_bytes (λ frame. frame) result) (R.state reader.old)
+        (R.state reader.new) }
+    ensures range { IfOk result IsBytes }
+{
+    let mut frame = match Vec::from_elem(alloc, 0, size) {
+        Ok(frame) => frame,
+        Err(_) => return Err(Fault::Memory),
+    };
+    fill(reader, frame.as_mut_slice())?;
+    match Bytes::from_vec(frame) {
+        Ok(frame) => Ok(frame),
+        Err(_) => Err(Fault::Memory),
+    }
+}

@@ -1,0 +1,283 @@
+//! Variable units: a part of a fixed size, and a body (RFC 8210 section 5.10; the ASPA unit as in
+//! the Rust crate).
+
+ghost use Rattle.std.specs.Prelude.{◌≡◌, ◌≤◌, ◌<◌, ◌^◌, ◌+◌, ◌++◌, ℕ, List, [], length, take, drop};
+ghost use Rattle.std.specs.Prelude.{slice_index, nat_eq, IfOk, MatchResult, None};
+ghost use Rattle.std.specs.Cmp.{partial_equiv_from_equiv};
+ghost use Rattle.std.specs.Cmp.Lexicographic.{bytes_decides, nat_list_eq_equiv, pointwise};
+ghost use Rattle.std.specs.Hash as fed;
+ghost use Rattle.rtr_units.specs.Causes.{cause_of};
+ghost use Rattle.rtr_units.specs.Header.{version_field, type_field};
+ghost use Rattle.rtr_units.specs.Reading.{IsWhole, Reads, ReadsAfter, by_bytes, of_type};
+ghost use Rattle.rtr_units.specs.Stream.{PutsForm};
+ghost use Rattle.rtr_units.specs.Views.{header_bytes};
+ghost use Rattle.rtr_payload.specs.PrivateCalls.{IsRefusedBy};
+ghost use Rattle.rtr_payload.specs.UnitKinds.{variable_unit};
+ghost use Rattle.rtr_payload.specs.Units.{Fields, HasFields};
+
+use super::frame::read_frame;
+use bytes::Bytes;
+use rtr_units::fault::Fault;
+use rtr_units::header::Header;
+use rtr_units::piece::put;
+use rtr_units::source::{Sink, Source};
+use std::alloc::{AllocError, Global};
+use std::fmt;
+use std::hash::{Hash, Hasher};
+use std::marker::Model;
+
+/// What follows the fixed part of the variable units of one type.
+pub trait Body<const FIXED: usize>: fmt::Debug + Drop {
+    /// The bytes of a body.
+    ghost items: { Self → List ℕ };
+
+    /// What holds of each body.
+    ghost holds: { Self → Type 0 };
+
+    /// What bytes have to be, to be those of a body.
+    ghost fits: { List ℕ → Type 0 };
+
+    /// The fields of a unit, read off its bytes.
+    ghost fields: { List ℕ → Fields };
+
+    /// The type of the unit, as contracts name it.
+    ghost PDU: { ℕ };
+
+    /// The type of the unit.
+    const PDU: u8;
+
+    /// The name that `Debug` prints of the unit.
+    const NAME: &'static str;
+
+    /// Checks a header, which is taken for one of this type whatever type it names. A whole unit
+    /// whose header is in order has a fixed part and a body that fits.
+    fn check(header: Header) -> Result<(), Fault>
+        ensures answer { MatchResult result
+            (λ _. (variable_unit PDU).fault (header_bytes header) ≡ None)
+            (λ e. IsRefusedBy ((variable_unit PDU).fault (header_bytes header)) (cause_of e)) }
+        ensures whole { IfOk result (λ _. (u : List ℕ) → IsWhole (variable_unit PDU) u →
+            (FIXED ≤ length u) × fits (drop FIXED u) ×
+            (type_field u ≡ PDU → HasFields u (fields u))) };
+
+    /// The body of these bytes.
+    fn from_bytes(frame: Bytes) -> Self
+        requires { fits frame }
+        ensures value { items result ≡ frame }
+        ensures valid { holds result };
+
+    /// The bytes.
+    fn as_slice(&self) -> &[u8]
+        ensures value { result.now ≡ items self.now }
+        ensures short { FIXED + length (items self.now) < 2 ^ 32 };
+
+    /// The same body once more.
+    fn clone(&self) -> Result<Self, AllocError>
+        ensures { IfOk result (λ b. b ≡ self.now) };
+
+    /// The fixed part has a header and something more.
+    ghost sized: { (12 ≤ FIXED) × (FIXED < 2 ^ 32) };
+}
+
+/// A variable unit: a fixed part, with its header, and a body. Its value is the list of its bytes.
+#[derive(Drop)]
+pub struct Framed<const FIXED: usize, B: Body<FIXED>> {
+    fixed: [u8; FIXED],
+    body: B,
+}
+
+impl<const FIXED: usize, B: Body<FIXED>> Model for Framed<FIXED, B> {
+    ghost use Rattle.std.specs.Prelude.{◌≡◌, ◌++◌, ℕ, List, length};
+
+    ghost Value = { List ℕ };
+
+    ghost view = { λ a. a.fixed ++ B.items a.body };
+
+    ghost invariant = { λ a. (length a.fixed ≡ FIXED) × B.holds a.body };
+}
+
+impl<const FIXED: usize, B: Body<FIXED>> Framed<FIXED, B> {
+    /// The unit of a fixed part and a body.
+    #[inline(always)]
+    pub(crate) fn from_parts(fixed: [u8; FIXED], body: B) -> Self
+        requires { B.holds body }
+        ensures { result ≡ fixed.entry ++ B.items body }
+    {
+        Framed { fixed, body }
+    }
+
+    /// Reads a unit.
+    ///
+    /// Faults, in this order: `Short` or `Reader` inside the header; `UnitType` where its type
+    /// isn't that of the unit, with the header taken; those of `read_payload`, `Memory` among them.
+    pub fn read<R: Source>(alloc: Global, reader: &mut R) -> Result<Self, Fault>
+        ensures bytes { Reads (of_type B.PDU (variable_unit B.PDU)) [] (by_bytes (λ u. u) result)
+            (R.state reader.old) (R.state reader.new) }
+        ensures fields { IfOk result (λ u. HasFields u (B.fields u)) }
+    {
+        let header = Header::read(reader)?;
+        let pdu = header.pdu();
+        if pdu != B::PDU {
+            return Err(Fault::UnitType(pdu));
+        }
+        Self::read_payload(alloc, header, reader)
+    }
+
+    /// Reads what follows the header, which is kept as it is. Its type is not checked.
+    ///
+    /// Faults, in this order: `TooLong` above length 65535; `UnitLength` below the fixed part, and
+    /// for an ASPA unit where the length is not a multiple of 4; `EmptyProviders` where an ASPA is
+    /// announced at length 12: all these with nothing read and no memory asked for; `Memory`, with
+    /// nothing read, where there is no room for the frame that the rest is read into; `Short` or
+    /// `Reader` inside the unit; `Memory`, with the whole unit read, where the frame can't be
+    /// shared. The body is cut from it.
+    #[inline(always)]
+    pub fn read_payload<R: Source>(
+        alloc: Global,
+        header: Header,
+        reader: &mut R,
+    ) -> Result<Self, Fault>
+        ensures bytes { ReadsAfter (variable_unit B.PDU) (header_bytes header)
+            (by_bytes (λ u. u) result) (R.state reader.old) (R.state reader.new) }
+        ensures fields { IfOk result
+            (λ u. type_field (header_bytes header) ≡ B.PDU → HasFields u (B.fields u)) }
+    {
+        let head = header.as_ref();
+        let size = header.length();
+        B::check(header)?;
+        let frame = read_frame(alloc, size as usize - 8, reader)?;
+        Ok(Self::from_frame(head, frame))
+    }
+
+    /// The unit of a header and the frame that follows it.
+    #[inline(always)]
+    fn from_frame(head: &[u8], mut frame: Bytes) -> Self
+        requires head { length head.now ≡ 8 }
+        requires size { FIXED ≤ 8 + length frame }
+        requires fits { B.fits (drop FIXED (head.now ++ frame)) }
+        ensures { result ≡ head.now ++ frame }
+    {
+        let mut fixed = [0; FIXED];
+        join(&mut fixed[..], head, &frame.as_slice()[..FIXED - 8]);
+        frame.advance(FIXED - 8);
+        Framed {
+            fixed,
+            body: B::from_bytes(frame),
+        }
+    }
+
+    /// The version of the protocol.
+    #[inline(always)]
+    pub fn version(&self) -> u8
+        ensures { result ≡ version_field self.now }
+    {
+        self.fixed[0]
+    }
+
+    /// The number of bytes of the unit.
+    #[inline(always)]
+    pub fn size(&self) -> u32
+        ensures { result ≡ length self.now }
+    {
+        (FIXED + self.body.as_slice().len()) as u32
+    }
+
+    /// The flags, of which the lowest bit says whether the payload is announced.
+    #[inline(always)]
+    pub fn flags(&self) -> u8
+        ensures { result ≡ slice_index self.now 2 }
+    {
+        self.fixed[2]
+    }
+
+    /// The body.
+    #[inline(always)]
+    pub(crate) fn body(&self) -> &B
+        ensures value { B.items result.now ≡ drop FIXED self.now }
+        ensures valid { B.holds result.now }
+    {
+        &self.body
+    }
+
+    /// The body, by value.
+    #[inline(always)]
+    pub(crate) fn into_body(self) -> B
+        ensures value { B.items result ≡ drop FIXED self }
+        ensures valid { B.holds result }
+    {
+        self.body
+    }
+
+    /// The same unit once more. The bytes of its body are shared, which asks for memory.
+    pub fn clone(&self) -> Result<Self, AllocError>
+        ensures { IfOk result (λ u. u ≡ self.now) }
+    {
+        let body = self.body.clone()?;
+        Ok(Framed {
+            fixed: self.fixed,
+            body,
+        })
+    }
+
+    /// The bytes before the body.
+    #[inline(always)]
+    pub(crate) fn as_partial_slice(&self) -> &[u8]
+        ensures value { result.now ≡ take FIXED self.now }
+        ensures size { length result.now ≡ FIXED }
+    {
+        &self.fixed
+    }
+
+    /// Writes the unit.
+    #[inline(always)]
+    pub fn write<W: Sink>(&self, writer: &mut W) -> Result<(), Fault>
+        ensures { PutsForm result (W.state writer.old) (W.state writer.new) self.now }
+    {
+        put(writer, &self.fixed)?;
+        put(writer, self.body.as_slice())
+    }
+}
+
+/// Writes a header and what follows it over the fixed part.
+#[inline(always)]
+fn join(fixed: &mut [u8], head: &[u8], front: &[u8])
+    requires head { length head.now ≡ 8 }
+    requires size { length fixed.old ≡ 8 + length front.now }
+    ensures { fixed.new ≡ head.now ++ front.now }
+{
+    fixed[8..].copy_from_slice(front);
+    fixed[..8].copy_from_slice(head);
+}
+
+impl<const FIXED: usize, B: Body<FIXED>> fmt::Debug for Framed<FIXED, B> {
+    fn fmt<W: fmt::Write>(&self, f: &mut fmt::Formatter<W>) -> fmt::Result {
+        f.debug_struct(B::NAME)
+            .field("fixed", &self.fixed)
+            .field("body", &self.body)
+            .finish()
+    }
+}
+
+impl<const FIXED: usize, B: Body<FIXED>> PartialEq for Framed<FIXED, B> {
+    ghost eq = { pointwise nat_eq };
+
+    ghost laws = { partial_equiv_from_equiv nat_list_eq_equiv };
+
+    fn eq(&self, other: &Self) -> bool {
+        self.fixed == other.fixed && self.body.as_slice() == other.body.as_slice()
+    }
+}
+
+impl<const FIXED: usize, B: Body<FIXED>> Eq for Framed<FIXED, B> {
+    ghost laws = { nat_list_eq_equiv };
+}
+
+impl<const FIXED: usize, B: Body<FIXED>> Hash for Framed<FIXED, B> {
+    ghost hash_input = { λ u. fed.slice fed.u8 (take FIXED u) ++ fed.slice fed.u8 (drop FIXED u) };
+
+    ghost respects_eq = { (fed.same_Alike _ bytes_decides).fed };
+
+    fn hash<H: Hasher>(&self, state: &mut H) {
+        self.fixed.as_slice().hash(state);
+        self.body.as_slice().hash(state);
+    }
+}

@@ -1,0 +1,164 @@
+//! What the units of IPv4 and of IPv6 prefixes have in common.
+
+ghost use Rattle.std.specs.Prelude.{◌≡◌, ◌≢◌, Err, IfOk, IfErr, refl};
+ghost use Rattle.rtr_base.specs.Addresses.{Family, v4, v6};
+ghost use Rattle.rtr_units.specs.Causes.{by_cause, by_writer, cause_of};
+ghost use Rattle.rtr_units.specs.PrefixUnits.{prefix_type, prefix_size};
+ghost use Rattle.rtr_units.specs.Header.{type_field};
+ghost use Rattle.rtr_units.specs.Reading.{LeavesUnit, ReadsAfter, by_bytes};
+ghost use Rattle.rtr_units.specs.Views.{header_bytes};
+ghost use Rattle.rtr_payload.specs.declared.payload.Payload.TheVariants as payloads;
+ghost use Rattle.rtr_payload.specs.declared.pdu.payload.Payload.{Payload};
+ghost use Rattle.rtr_payload.specs.declared.pdu.payload.Payload.TheVariants as units;
+ghost use Rattle.rtr_units.specs.PrefixUnits.{prefix_at};
+ghost use Rattle.rtr_payload.specs.UnitKinds.{payload_unit};
+ghost use Rattle.rtr_payload.specs.Units.{prefix_unit, form, written, HasFields};
+ghost use Rattle.rtr_payload.specs.Values.{origin_of};
+ghost use Rattle.rtr_payload.specs.UnitValues.{unit_bytes, unit_fields, MeansPayload};
+ghost use Rattle.rtr_payload.specs.UnitValues.{HasNoPayload};
+
+use super::payload::{Payload, refused};
+use super::prefix_rule::{ipv4_prefix, ipv6_prefix};
+use crate::payload::RouteOrigin;
+use rtr_base::asn::Asn;
+use rtr_base::payload::Action;
+use rtr_units::fault::Fault;
+use rtr_units::fixed::{Ipv4Prefix, Ipv6Prefix};
+use rtr_units::header::Header;
+use rtr_units::source::Source;
+use rtr_units::unit::Unit;
+use std::alloc::Global;
+
+/// A unit of a prefix of IP addresses (RFC 8210 sections 5.6 and 5.7), which asks for no memory but
+/// for a report.
+pub trait PrefixUnit: Unit {
+    /// The unit as one of any kind.
+    ghost unit: { Self → Payload };
+
+    /// The family of its address.
+    ghost family: { Family };
+
+    /// The unit of this version and these flags that has the origin, whose prefix is of this
+    /// family. Free bytes are zero.
+    fn from_origin(version: u8, flags: u8, origin: RouteOrigin) -> Self
+        requires { origin.prefix.prefix.family ≡ family }
+        ensures form { Self.bytes result ≡ form version flags (origin_of origin) }
+        ensures fields { prefix_unit (prefix_at family (Self.bytes result)) ≡
+            written version flags (origin_of origin) };
+
+    /// The action and the origin that the unit means, whatever its type and length bytes say.
+    ///
+    /// `Refused` with the report on a prefix that breaks the rule on its lengths, or `Memory` where
+    /// there is none for the report.
+    fn to_origin(&self, alloc: Global) -> Result<(Action, RouteOrigin), Fault>
+        ensures ok { IfOk result (λ m. MeansPayload (unit self.now) m.0 (payloads.Origin m.1)) }
+        ensures family { IfOk result (λ m. m.1.prefix.prefix.family ≡ family) }
+        ensures err { IfErr result (λ e. HasNoPayload (unit self.now) (cause_of e)) };
+
+    /// The unit as one of any kind.
+    fn to_unit(self) -> Payload
+        ensures { result ≡ unit self };
+
+    /// As a unit of any kind it has the same bytes and the fields of its family.
+    ghost told: { (u : Self) → (unit_bytes (unit u) ≡ Self.bytes u) ×
+        (unit_fields (unit u) ≡ prefix_unit (prefix_at family (Self.bytes u))) };
+
+    /// It has the type and the size of its family.
+    ghost typed: { (Self.PDU ≡ prefix_type family) × (Self.LENGTH ≡ prefix_size family) };
+
+    /// Reads what follows a header of this type, into this unit. No memory is asked for.
+    ///
+    /// Faults, in this order: `UnitLength`, with nothing read and the unit as it was; `Short` or
+    /// `Reader` inside the unit, which then begins with the header and the bytes that were taken.
+    #[inline(always)]
+    final fn read_after<R: Source>(&mut self, header: Header, reader: &mut R) -> Result<(), Fault>
+        requires { type_field (header_bytes header) ≡ Self.PDU }
+        ensures bytes { ReadsAfter payload_unit (header_bytes header)
+            (by_bytes (λ _. unit_bytes (unit self.new)) result) (R.state reader.old)
+            (R.state reader.new) }
+        ensures fields { IfOk result
+            (λ _. HasFields (unit_bytes (unit self.new)) (unit_fields (unit self.new))) }
+        ensures left { IfErr result
+            (λ e. LeavesUnit Self.bytes (header_bytes header) (cause_of e) self.old self.new
+            (R.state reader.old).left (R.state reader.new).left) }
+        ensures no_writer { by_cause result ≢ Err by_writer }
+    {
+        self.read_rest(header, reader)
+    }
+}
+
+impl PrefixUnit for Ipv4Prefix {
+    ghost unit = { units.V4 };
+
+    ghost family = { v4 };
+
+    #[inline(always)]
+    fn from_origin(version: u8, flags: u8, origin: RouteOrigin) -> Self {
+        let (len, max_len) = (origin.prefix.prefix_len(), origin.prefix.resolved_max_len());
+        let bits = origin.prefix.prefix().bits() as u32;
+        // `into_u32` says that the number fits its four bytes.
+        let asn = origin.asn.into_u32();
+        Ipv4Prefix::from_bits(version, flags, len, max_len, bits, Asn::from_u32(asn))
+    }
+
+    #[inline(always)]
+    fn to_origin(&self, alloc: Global) -> Result<(Action, RouteOrigin), Fault> {
+        match ipv4_prefix(self.prefix_bits(), self.prefix_len(), self.max_len()) {
+            Ok(prefix) => {
+                let origin = RouteOrigin::new(prefix, self.asn());
+                Ok((Action::from_flags(self.flags()), origin))
+            }
+            Err(rule) => {
+                let unit = *self;
+                Err(refused(alloc, unit.version(), unit.as_ref(), rule))
+            }
+        }
+    }
+
+    #[inline(always)]
+    fn to_unit(self) -> Payload {
+        Payload::V4(self)
+    }
+
+    ghost told = { λ u. (refl, refl) };
+
+    ghost typed = { (refl, refl) };
+}
+
+impl PrefixUnit for Ipv6Prefix {
+    ghost unit = { units.V6 };
+
+    ghost family = { v6 };
+
+    #[inline(always)]
+    fn from_origin(version: u8, flags: u8, origin: RouteOrigin) -> Self {
+        let (len, max_len) = (origin.prefix.prefix_len(), origin.prefix.resolved_max_len());
+        let bits = origin.prefix.prefix().bits();
+        // `into_u32` says that the number fits its four bytes.
+        let asn = origin.asn.into_u32();
+        Ipv6Prefix::from_bits(version, flags, len, max_len, bits, Asn::from_u32(asn))
+    }
+
+    #[inline(always)]
+    fn to_origin(&self, alloc: Global) -> Result<(Action, RouteOrigin), Fault> {
+        match ipv6_prefix(self.prefix_bits(), self.prefix_len(), self.max_len()) {
+            Ok(prefix) => {
+                let origin = RouteOrigin::new(prefix, self.asn());
+                Ok((Action::from_flags(self.flags()), origin))
+            }
+            Err(rule) => {
+                let unit = *self;
+                Err(refused(alloc, unit.version(), unit.as_ref(), rule))
+            }
+        }
+    }
+
+    #[inline(always)]
+    fn to_unit(self) -> Payload {
+        Payload::V6(self)
+    }
+
+    ghost told = { λ u. (refl, refl) };
+
+    ghost typed = { (refl, refl) };
+}
