@@ -1,8 +1,8 @@
 //! A unit of any type.
 
-ghost use Rattle.std.specs.Prelude.{◌≡◌, length};
+ghost use Rattle.std.specs.Prelude.{◌≡◌, length, IfErr};
 ghost use Rattle.rtr_units.specs.Header.{version_field};
-ghost use Rattle.rtr_units.specs.Stream.{PutsForm};
+ghost use Rattle.rtr_units.specs.Stream.{PutsForm, HoldsReadError, HoldsWriteError};
 ghost use Rattle.rtr_units.specs.Views.{header_bytes};
 ghost use Rattle.rtr_session.specs.Fields.{any_session};
 ghost use Rattle.rtr_session.specs.PrivateCalls.{ReadsHeader};
@@ -51,7 +51,8 @@ impl AnyUnit {
     /// `Short` has taken a byte at least. `UnitType`, `UnitVersion`, `TooLong`, `UnitLength` and
     /// `EmptyProviders` take the header alone.
     pub fn read<R: Source>(alloc: Global, reader: &mut R) -> Result<Option<Self>, Fault>
-        ensures { ReadsAny result (R.state reader.old) (R.state reader.new) }
+        ensures bytes { ReadsAny result (R.state reader.old) (R.state reader.new) }
+        ensures error { IfErr result (HoldsReadError (R.fails reader.new)) }
     {
         let Some(header) = next_header(reader)? else {
             return Ok(None);
@@ -72,8 +73,9 @@ impl AnyUnit {
         header: Header,
         reader: &mut R,
     ) -> Result<Self, Fault>
-        ensures { ReadsAnyAfter (header_bytes header) result (R.state reader.old)
+        ensures bytes { ReadsAnyAfter (header_bytes header) result (R.state reader.old)
             (R.state reader.new) }
+        ensures error { IfErr result (HoldsReadError (R.fails reader.new)) }
     {
         match header.pdu() {
             SerialNotify::PDU => {
@@ -109,8 +111,9 @@ impl AnyUnit {
 
     /// Writes all bytes of the unit.
     pub fn write<W: Sink>(&self, writer: &mut W) -> Result<(), Fault>
-        ensures { PutsForm result (W.state writer.old) (W.state writer.new)
+        ensures bytes { PutsForm result (W.state writer.old) (W.state writer.new)
             (any_bytes self.now) }
+        ensures error { IfErr result (HoldsWriteError (W.fails writer.new) (W.stalls writer.new)) }
     {
         match self {
             AnyUnit::SerialNotify(unit) => unit.write(writer),
@@ -181,7 +184,8 @@ impl AnyUnit {
 
 /// The next header, or none where not a byte was left.
 fn next_header<R: Source>(reader: &mut R) -> Result<Option<Header>, Fault>
-    ensures { ReadsHeader result (R.state reader.old) (R.state reader.new) }
+    ensures bytes { ReadsHeader result (R.state reader.old) (R.state reader.new) }
+    ensures error { IfErr result (HoldsReadError (R.fails reader.new)) }
 {
     let mut header = Header::default();
     let bytes = header.as_mut();

@@ -1,7 +1,7 @@
 //! Error reports that are read (RFC 8210 section 5.11, RFC 6810 section 5.10).
 
 ghost use Rattle.std.specs.Prelude.{◌≡◌, ◌≤◌, ◌++◌, ℕ, List, [], Err, length, take, nat_eq};
-ghost use Rattle.std.specs.Prelude.{MatchOption};
+ghost use Rattle.std.specs.Prelude.{MatchOption, IfErr};
 ghost use Rattle.std.proofs.Common.{rules};
 ghost use Rattle.std.specs.Cmp.{partial_equiv_from_equiv};
 ghost use Rattle.std.specs.Cmp.Lexicographic.{nat_list_eq_equiv, pointwise};
@@ -12,7 +12,7 @@ ghost use Rattle.std.specs.Io.KnownBytes.{Consumes};
 ghost use Rattle.rtr_units.specs.Causes.{by_cause, no_memory};
 ghost use Rattle.rtr_units.specs.Header.{version_field, session_field};
 ghost use Rattle.rtr_units.specs.Reading.{Reads, ReadsAfter, Takes, by_bytes};
-ghost use Rattle.rtr_units.specs.Stream.{PutsForm};
+ghost use Rattle.rtr_units.specs.Stream.{PutsForm, HoldsReadError, HoldsWriteError};
 ghost use Rattle.rtr_units.specs.Views.{header_bytes};
 ghost use Rattle.rtr_session.specs.Headers.{report_unit};
 ghost use Rattle.rtr_session.specs.Reports.{IsReport, HasParts};
@@ -39,7 +39,7 @@ pub struct Report {
 }
 
 impl Model for Report {
-    ghost use Rattle.std.specs.Prelude.{ℕ, List};
+    ghost use Rattle.std.specs.Prelude.{ℕ, List, IfErr};
     ghost use Rattle.rtr_session.specs.Reports.{IsReport};
 
     ghost Value = { List ℕ };
@@ -58,8 +58,9 @@ impl Report {
     /// Faults, in this order: `Short` or `Reader` inside the header; those of `read_payload`, of
     /// which `UnitType` and the two after it take the header alone.
     pub fn read<R: Source>(alloc: Global, reader: &mut R) -> Result<Self, Fault>
-        ensures { Reads report_unit [] (by_bytes (λ report. report) result)
+        ensures bytes { Reads report_unit [] (by_bytes (λ report. report) result)
             (R.state reader.old) (R.state reader.new) }
+        ensures error { IfErr result (HoldsReadError (R.fails reader.new)) }
     {
         let header = Header::read(reader)?;
         Report::read_payload(alloc, header, reader)
@@ -75,8 +76,9 @@ impl Report {
         header: Header,
         reader: &mut R,
     ) -> Result<Self, Fault>
-        ensures { ReadsAfter report_unit (header_bytes header)
+        ensures bytes { ReadsAfter report_unit (header_bytes header)
             (by_bytes (λ report. report) result) (R.state reader.old) (R.state reader.new) }
+        ensures error { IfErr result (HoldsReadError (R.fails reader.new)) }
     {
         if header.pdu() != Report::PDU {
             return Err(Fault::UnitType(header.pdu()));
@@ -150,7 +152,8 @@ impl Report {
 
     /// Writes the bytes.
     pub fn write<W: Sink>(&self, writer: &mut W) -> Result<(), Fault>
-        ensures { PutsForm result (W.state writer.old) (W.state writer.new) self.now }
+        ensures bytes { PutsForm result (W.state writer.old) (W.state writer.new) self.now }
+        ensures error { IfErr result (HoldsWriteError (W.fails writer.new) (W.stalls writer.new)) }
     {
         put(writer, self.as_ref())
     }

@@ -1,6 +1,7 @@
 //! The end of data (RFC 6810 and RFC 8210 section 5.8; version 2 as in the Rust crate `rpki`).
 
 ghost use Rattle.std.specs.Prelude.{◌≡◌, ℕ, List, length, IfOk, MatchResult, Some, not, ◌==◌};
+ghost use Rattle.std.specs.Prelude.{IfErr};
 ghost use Rattle.std.specs.Borrow.{sem};
 ghost use Rattle.rtr_base.specs.Bytes.{IsBytes};
 ghost use Rattle.rtr_units.specs.End.{End, timed_list};
@@ -8,7 +9,7 @@ ghost use Rattle.rtr_units.specs.Ends.{end_bytes, end_meaning, end_unit, is_time
 ghost use Rattle.rtr_units.specs.Header.{version_field, type_field};
 ghost use Rattle.rtr_units.specs.Queries.{serial_list};
 ghost use Rattle.rtr_units.specs.Reading.{ReadsAfter, by_bytes};
-ghost use Rattle.rtr_units.specs.Stream.{PutsForm};
+ghost use Rattle.rtr_units.specs.Stream.{PutsForm, HoldsReadError, HoldsWriteError};
 ghost use Rattle.rtr_units.specs.Views.{header_bytes};
 
 use crate::fault::Fault;
@@ -67,6 +68,7 @@ impl EndOfData {
             End (end_bytes e) (end_meaning e)) }
         ensures kind { IfOk result (λ e. is_timed e ≡
             not (version_field (header_bytes header) == 0)) }
+        ensures error { IfErr result (HoldsReadError (R.fails reader.new)) }
     {
         let version = header.version();
         if version > 2 {
@@ -135,8 +137,9 @@ impl EndOfData {
     /// Writes all bytes.
     #[inline(always)]
     pub fn write<W: Sink>(&self, writer: &mut W) -> Result<(), Fault>
-        ensures { PutsForm result (W.state writer.old) (W.state writer.new)
+        ensures bytes { PutsForm result (W.state writer.old) (W.state writer.new)
             (end_bytes self.now) }
+        ensures error { IfErr result (HoldsWriteError (W.fails writer.new) (W.stalls writer.new)) }
     {
         match self {
             EndOfData::V0(unit) => unit.write(writer),

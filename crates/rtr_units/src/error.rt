@@ -1,6 +1,6 @@
 //! The error report (RFC 6810 section 5.10, RFC 8210 section 5.11).
 
-ghost use Rattle.std.specs.Prelude.{◌≡◌, ◌+◌, ◌≤◌, ℕ, List, [], length, nat_eq, IfOk};
+ghost use Rattle.std.specs.Prelude.{◌≡◌, ◌+◌, ◌≤◌, ℕ, List, [], length, nat_eq, IfOk, IfErr};
 ghost use Rattle.std.proofs.Common.{rules};
 ghost use Rattle.std.specs.Borrow.{sem};
 ghost use Rattle.std.specs.Cmp.{partial_equiv_from_equiv};
@@ -9,7 +9,7 @@ ghost use Rattle.std.specs.Cmp.Rules.{hashing};
 ghost use Rattle.std.specs.Hash as fed;
 ghost use Rattle.rtr_units.specs.Reading.{FillsPiece, ReadsAfter, any_unit, by_bytes};
 ghost use Rattle.rtr_units.specs.Report.{report};
-ghost use Rattle.rtr_units.specs.Stream.{PutsForm};
+ghost use Rattle.rtr_units.specs.Stream.{PutsForm, HoldsReadError, HoldsWriteError};
 ghost use Rattle.rtr_units.specs.Views.{header_bytes};
 
 use crate::fault::Fault;
@@ -27,7 +27,7 @@ pub struct Error {
 }
 
 impl Model for Error {
-    ghost use Rattle.std.specs.Prelude.{ℕ, List};
+    ghost use Rattle.std.specs.Prelude.{ℕ, List, IfErr};
 
     ghost Value = { List ℕ };
 
@@ -77,8 +77,9 @@ impl Error {
     /// with nothing read; then `Short` or `Reader` inside the unit. This order is this library's
     /// own.
     pub fn skip_payload<R: Source>(header: Header, reader: &mut R) -> Result<(), Fault>
-        ensures { (u : List ℕ) × ReadsAfter any_unit (header_bytes header)
+        ensures bytes { (u : List ℕ) × ReadsAfter any_unit (header_bytes header)
             (by_bytes (λ _. u) result) (R.state reader.old) (R.state reader.new) }
+        ensures error { IfErr result (HoldsReadError (R.fails reader.new)) }
     {
         let length = header.length();
         if length > MAX_SIZE {
@@ -92,7 +93,8 @@ impl Error {
 
     /// Writes the bytes.
     pub fn write<W: Sink>(&self, writer: &mut W) -> Result<(), Fault>
-        ensures { PutsForm result (W.state writer.old) (W.state writer.new) self.now }
+        ensures bytes { PutsForm result (W.state writer.old) (W.state writer.new) self.now }
+        ensures error { IfErr result (HoldsWriteError (W.fails writer.new) (W.stalls writer.new)) }
     {
         put(writer, self.as_ref())
     }
@@ -123,8 +125,9 @@ impl Error {
 
 /// Reads past this many bytes.
 fn skip<R: Source>(reader: &mut R, size: usize) -> Result<(), Fault>
-    ensures { (t : List ℕ) × FillsPiece size (by_bytes (λ _. t) result)
+    ensures bytes { (t : List ℕ) × FillsPiece size (by_bytes (λ _. t) result)
         (R.state reader.old) (R.state reader.new) }
+    ensures error { IfErr result (HoldsReadError (R.fails reader.new)) }
 {
     let mut buffer = [0; 1024];
     let mut left = size;

@@ -7,7 +7,7 @@ ghost use Rattle.rtr_base.specs.Bytes.{IsBytes};
 ghost use Rattle.rtr_units.specs.Header.{header, version_field, type_field, session_field};
 ghost use Rattle.rtr_units.specs.Header.{length_field};
 ghost use Rattle.rtr_units.specs.Reading.{FillsPiece, by_bytes};
-ghost use Rattle.rtr_units.specs.Stream.{PutsForm};
+ghost use Rattle.rtr_units.specs.Stream.{PutsForm, HoldsReadError, HoldsWriteError};
 ghost use Rattle.rtr_units.specs.Views.{header_bytes, AreBytes};
 
 use crate::cells::Cells;
@@ -55,8 +55,9 @@ impl Header {
     /// Reads a header: eight bytes, which are not checked.
     #[inline(always)]
     pub fn read<R: Source>(reader: &mut R) -> Result<Self, Fault>
-        ensures { FillsPiece 8 (by_bytes header_bytes result)
+        ensures bytes { FillsPiece 8 (by_bytes header_bytes result)
             (R.state reader.old) (R.state reader.new) }
+        ensures error { IfErr result (HoldsReadError (R.fails reader.new)) }
     {
         let mut header = Header::default();
         fill(reader, header.as_mut())?;
@@ -66,8 +67,9 @@ impl Header {
     /// Writes the eight bytes.
     #[inline(always)]
     pub fn write<W: Sink>(&self, writer: &mut W) -> Result<(), Fault>
-        ensures { PutsForm result (W.state writer.old) (W.state writer.new)
+        ensures bytes { PutsForm result (W.state writer.old) (W.state writer.new)
             (header_bytes self.now) }
+        ensures error { IfErr result (HoldsWriteError (W.fails writer.new) (W.stalls writer.new)) }
     {
         put(writer, self.as_ref())
     }

@@ -1,14 +1,14 @@
 //! Units by which a router and a cache speak of their states (RFC 6810 and RFC 8210 sections 5.2 to
 //! 5.5 and 5.9).
 
-ghost use Rattle.std.specs.Prelude.{◌≡◌, ◌≤◌, ℕ, List, length, replicate, refl};
+ghost use Rattle.std.specs.Prelude.{◌≡◌, ◌≤◌, ℕ, List, length, replicate, refl, IfErr};
 ghost use Rattle.std.proofs.Common.{rules};
 ghost use Rattle.std.specs.Borrow.{sem};
 ghost use Rattle.rtr_base.specs.Bytes.{be, value, IsBytes};
 ghost use Rattle.rtr_units.specs.Queries.{bare_list, serial_list};
 ghost use Rattle.rtr_units.specs.Header.{session_field};
 ghost use Rattle.rtr_units.specs.Reading.{FillsPiece, by_bytes};
-ghost use Rattle.rtr_units.specs.Stream.{PutsForm};
+ghost use Rattle.rtr_units.specs.Stream.{PutsForm, HoldsReadError, HoldsWriteError};
 ghost use Rattle.rtr_units.specs.Queries.{notify_bytes, query_bytes, reset_query_bytes};
 ghost use Rattle.rtr_units.specs.Queries.{response_bytes, cache_reset_bytes, query_payload_bytes};
 ghost use Rattle.rtr_units.specs.Queries.{serial_field};
@@ -214,8 +214,9 @@ impl SerialQueryPayload {
     /// Reads four bytes.
     #[inline(always)]
     pub fn read<R: Source>(reader: &mut R) -> Result<Self, Fault>
-        ensures { FillsPiece 4 (by_bytes query_payload_bytes result)
+        ensures bytes { FillsPiece 4 (by_bytes query_payload_bytes result)
             (R.state reader.old) (R.state reader.new) }
+        ensures error { IfErr result (HoldsReadError (R.fails reader.new)) }
     {
         let mut payload = SerialQueryPayload::default();
         fill(reader, payload.as_mut())?;
@@ -233,8 +234,9 @@ impl SerialQueryPayload {
     /// Writes the four bytes.
     #[inline(always)]
     pub fn write<W: Sink>(&self, writer: &mut W) -> Result<(), Fault>
-        ensures { PutsForm result (W.state writer.old) (W.state writer.new)
+        ensures bytes { PutsForm result (W.state writer.old) (W.state writer.new)
             (query_payload_bytes self.now) }
+        ensures error { IfErr result (HoldsWriteError (W.fails writer.new) (W.stalls writer.new)) }
     {
         put(writer, self.as_ref())
     }

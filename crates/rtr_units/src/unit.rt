@@ -11,7 +11,7 @@ ghost use Rattle.rtr_units.specs.Causes.{by_cause, cause_of};
 ghost use Rattle.rtr_units.specs.Header.{version_field, type_field, session_field};
 ghost use Rattle.rtr_units.specs.Reading.{LeavesUnit, Reads, ReadsAfter, ReadsBytes, Stops};
 ghost use Rattle.rtr_units.specs.Reading.{Takes, by_bytes, of_size, of_type};
-ghost use Rattle.rtr_units.specs.Stream.{PutsForm, reader_count};
+ghost use Rattle.rtr_units.specs.Stream.{PutsForm, reader_count, HoldsReadError, HoldsWriteError};
 ghost use Rattle.rtr_units.specs.Views.{header_bytes, AreBytes};
 
 use crate::error::Error;
@@ -92,8 +92,9 @@ pub trait Unit: Drop + Copy {
     /// `Reader` inside the unit.
     #[inline(always)]
     final fn read<R: Source>(reader: &mut R) -> Result<Self, Fault>
-        ensures { Reads (of_type PDU (of_size LENGTH)) [] (by_bytes bytes result)
+        ensures bytes { Reads (of_type PDU (of_size LENGTH)) [] (by_bytes bytes result)
             (R.state reader.old) (R.state reader.new) }
+        ensures error { IfErr result (HoldsReadError (R.fails reader.new)) }
     {
         let header = Header::read(reader)?;
         if header.pdu() != Self::PDU {
@@ -117,6 +118,7 @@ pub trait Unit: Drop + Copy {
             (8 ≤ length t → ¬ (type_field t ≡ 10)))) }
         ensures count { (R.state reader.new).failed ≡
             reader_count (by_cause result) (R.state reader.old).failed }
+        ensures error { IfErr result (HoldsReadError (R.fails reader.new)) }
     {
         let header = Header::read(reader)?;
         if header.pdu() == Error::PDU {
@@ -133,8 +135,9 @@ pub trait Unit: Drop + Copy {
     /// `UnitLength` is answered with nothing read, `Short` and `Reader` inside the unit.
     #[inline(always)]
     final fn read_payload<R: Source>(header: Header, reader: &mut R) -> Result<Self, Fault>
-        ensures { ReadsAfter (of_size LENGTH) (header_bytes header) (by_bytes bytes result)
+        ensures bytes { ReadsAfter (of_size LENGTH) (header_bytes header) (by_bytes bytes result)
             (R.state reader.old) (R.state reader.new) }
+        ensures error { IfErr result (HoldsReadError (R.fails reader.new)) }
     {
         let mut unit = Self::zero();
         unit.read_rest(header, reader)?;
@@ -152,6 +155,7 @@ pub trait Unit: Drop + Copy {
         ensures left { IfErr result
             (λ e. LeavesUnit bytes (header_bytes header) (cause_of e) self.old self.new
             (R.state reader.old).left (R.state reader.new).left) }
+        ensures error { IfErr result (HoldsReadError (R.fails reader.new)) }
     {
         if header.length() != Self::LENGTH as u32 {
             return Err(Fault::UnitLength);
@@ -164,8 +168,9 @@ pub trait Unit: Drop + Copy {
     /// Writes all bytes of the unit.
     #[inline(always)]
     final fn write<W: Sink>(&self, writer: &mut W) -> Result<(), Fault>
-        ensures { PutsForm result (W.state writer.old) (W.state writer.new)
+        ensures bytes { PutsForm result (W.state writer.old) (W.state writer.new)
             (bytes self.now) }
+        ensures error { IfErr result (HoldsWriteError (W.fails writer.new) (W.stalls writer.new)) }
     {
         put(writer, self.as_ref())
     }

@@ -2,9 +2,10 @@
 use Rattle.std.specs.Prelude.{◌≡◌, ℕ, Bool, true, false, not, List, Some, Result, Err}
 use Rattle.std.specs.Prelude.{MatchResult, ⊤}
 use Rattle.std.specs.Io.KnownBytes.{Appends}
+use Rattle.std.specs.declared.io.Error.{Error}
 use Rattle.rtr_units.specs.Causes.{short, unit_type, unit_version, too_long, unit_length}
 use Rattle.rtr_units.specs.Causes.{empty_providers, refused}
-use Rattle.rtr_units.specs.Stream.{WriterState, WritesPart, count_after}
+use Rattle.rtr_units.specs.Stream.{WriterState, WritesPart, IsWriteError, count_after}
 use Rattle.rtr_payload.specs.Steps.{first_fault, first_unit, refusal_report}
 use Rattle.rtr_views.specs.declared.fault.ViewFault.{ViewFault}
 use Rattle.rtr_views.specs.declared.fault.ViewFault.TheVariants.{Writer, Short, UnitType}
@@ -34,6 +35,11 @@ is_view_writer_fault _ = false
 abbrev pub IsWriterFault : ViewFault → Type 0
 IsWriterFault (Writer e) = ⊤
 IsWriterFault _ = ⊥
+
+-- the error in a writer's fault is one of the last write
+abbrev pub HoldsViewWriteError : (Error → Type 0) → Type 0 → ViewFault → Type 0
+HoldsViewWriteError fails Stalls (Writer e) = IsWriteError fails Stalls e
+HoldsViewWriteError fails Stalls _ = ⊤
 
 -- what a call that writes this piece leaves
 abbrev pub PutsPiece :

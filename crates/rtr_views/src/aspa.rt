@@ -8,7 +8,7 @@ ghost use Rattle.rtr_payload.specs.AspaUnits.{aspa_at};
 ghost use Rattle.rtr_payload.specs.UnitKinds.{variable_unit};
 ghost use Rattle.rtr_payload.specs.Units.{aspa_unit, meaning, form_of};
 ghost use Rattle.rtr_views.specs.PrivateCalls.{IsFirstUnit};
-ghost use Rattle.rtr_views.specs.Faults.{IsFirstFault, PutsPiece};
+ghost use Rattle.rtr_views.specs.Faults.{IsFirstFault, PutsPiece, HoldsViewWriteError};
 
 use crate::cut::{first_unit, size_at};
 use crate::fault::ViewFault;
@@ -101,8 +101,9 @@ impl<'a> AspaView<'a> {
     /// Writes the form of what the unit means: of a withdrawal without its providers.
     #[inline(always)]
     pub(crate) fn write_form<W: Sink>(&self, writer: &mut W) -> Result<(), ViewFault>
-        ensures { PutsPiece result (W.state writer.old) (W.state writer.new)
+        ensures bytes { PutsPiece result (W.state writer.old) (W.state writer.new)
             (form_of (meaning (aspa_unit (aspa_at self.now.unit.now)))) }
+        ensures error { IfErr result (HoldsViewWriteError (W.fails writer.new) (W.stalls writer.new)) }
     {
         let action = Action::from_flags(self.flags());
         let kept = match action {

@@ -1,10 +1,10 @@
 //! Pieces of forms, as they are written.
 
-ghost use Rattle.std.specs.Prelude.{◌≡◌, ◌+◌, ◌<◌, ◌^◌, ◌∷◌, ◌++◌, length};
+ghost use Rattle.std.specs.Prelude.{◌≡◌, ◌+◌, ◌<◌, ◌^◌, ◌∷◌, ◌++◌, length, IfErr};
 ghost use Rattle.rtr_base.specs.Actions.{flags_of};
 ghost use Rattle.rtr_base.specs.Bytes.{be};
 ghost use Rattle.rtr_units.specs.Ends.{end_bytes};
-ghost use Rattle.rtr_views.specs.Faults.{PutsPiece};
+ghost use Rattle.rtr_views.specs.Faults.{PutsPiece, HoldsViewWriteError};
 
 use crate::fault::ViewFault;
 use crate::placing::flagged_header;
@@ -17,7 +17,8 @@ use rtr_units::source::Sink;
 /// Writes all of the piece, as `rtr_units::piece::put`.
 #[inline(always)]
 pub fn put_piece<W: Sink>(writer: &mut W, piece: &[u8]) -> Result<(), ViewFault>
-    ensures { PutsPiece result (W.state writer.old) (W.state writer.new) piece.now }
+    ensures bytes { PutsPiece result (W.state writer.old) (W.state writer.new) piece.now }
+    ensures error { IfErr result (HoldsViewWriteError (W.fails writer.new) (W.stalls writer.new)) }
 {
     match put(writer, piece) {
         Ok(()) => Ok(()),
@@ -37,8 +38,9 @@ pub fn put_flagged<W: Sink>(
     rest: &[u8],
 ) -> Result<(), ViewFault>
     requires size { 8 + length rest.now < 2 ^ 32 }
-    ensures { PutsPiece result (W.state writer.old) (W.state writer.new)
+    ensures bytes { PutsPiece result (W.state writer.old) (W.state writer.new)
         ((version ∷ pdu ∷ flags_of action ∷ 0 ∷ be (8 + length rest.now) 4) ++ rest.now) }
+    ensures error { IfErr result (HoldsViewWriteError (W.fails writer.new) (W.stalls writer.new)) }
 {
     let size = 8 + rest.len() as u32;
     let header = flagged_header(version, pdu, action.into_flags(), size);
@@ -51,8 +53,9 @@ pub fn put_flagged<W: Sink>(
 /// Writes the bytes of the end of data. It is out of line, so that what writes units stays small
 /// enough to be inlined: only one end comes in a sequence.
 pub fn put_end<W: Sink>(writer: &mut W, end: &EndOfData) -> Result<(), ViewFault>
-    ensures { PutsPiece result (W.state writer.old) (W.state writer.new)
+    ensures bytes { PutsPiece result (W.state writer.old) (W.state writer.new)
         (end_bytes end.now) }
+    ensures error { IfErr result (HoldsViewWriteError (W.fails writer.new) (W.stalls writer.new)) }
 {
     put_piece(writer, end.as_ref())
 }

@@ -6,7 +6,7 @@ ghost use Rattle.rtr_units.specs.Header.{type_field, length_field};
 ghost use Rattle.rtr_units.specs.PrefixUnits.{prefix_at};
 ghost use Rattle.rtr_payload.specs.Steps.{first_unit, rule_of};
 ghost use Rattle.rtr_payload.specs.Units.{prefix_unit, LengthsAgree, form_of};
-ghost use Rattle.rtr_views.specs.Faults.{IsFirstFault, PutsPiece};
+ghost use Rattle.rtr_views.specs.Faults.{IsFirstFault, PutsPiece, HoldsViewWriteError};
 ghost use Rattle.rtr_views.specs.Origins.{IsOriginOf, ShowsOrigin, origin_meaning};
 
 use crate::cut::first_unit;
@@ -138,8 +138,9 @@ impl OriginView {
     /// Writes the form of what the unit means.
     #[inline(always)]
     pub(crate) fn write_form<W: Sink>(&self, writer: &mut W) -> Result<(), ViewFault>
-        ensures { PutsPiece result (W.state writer.old) (W.state writer.new)
+        ensures bytes { PutsPiece result (W.state writer.old) (W.state writer.new)
             (form_of (origin_meaning self.now)) }
+        ensures error { IfErr result (HoldsViewWriteError (W.fails writer.new) (W.stalls writer.new)) }
     {
         let flags = Action::from_flags(self.flags).into_flags();
         let prefix = self.origin.prefix.prefix();

@@ -8,7 +8,7 @@ ghost use Rattle.rtr_payload.specs.KeyUnits.{key_at};
 ghost use Rattle.rtr_payload.specs.UnitKinds.{variable_unit};
 ghost use Rattle.rtr_payload.specs.Units.{key_unit, meaning, form_of};
 ghost use Rattle.rtr_views.specs.PrivateCalls.{IsFirstUnit};
-ghost use Rattle.rtr_views.specs.Faults.{IsFirstFault, PutsPiece};
+ghost use Rattle.rtr_views.specs.Faults.{IsFirstFault, PutsPiece, HoldsViewWriteError};
 
 use crate::cut::{first_unit, size_at};
 use crate::fault::ViewFault;
@@ -108,8 +108,9 @@ impl<'a> RouterKeyView<'a> {
     /// Writes the form of what the unit means.
     #[inline(always)]
     pub(crate) fn write_form<W: Sink>(&self, writer: &mut W) -> Result<(), ViewFault>
-        ensures { PutsPiece result (W.state writer.old) (W.state writer.new)
+        ensures bytes { PutsPiece result (W.state writer.old) (W.state writer.new)
             (form_of (meaning (key_unit (key_at self.now.unit.now)))) }
+        ensures error { IfErr result (HoldsViewWriteError (W.fails writer.new) (W.stalls writer.new)) }
     {
         let action = Action::from_flags(self.flags());
         put_flagged(

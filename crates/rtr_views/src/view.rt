@@ -1,7 +1,7 @@
 //! Views of what a slice begins with.
 
 ghost use Rattle.std.specs.Prelude.{◌≤◌, length, take, IfOk, IfErr};
-ghost use Rattle.rtr_views.specs.Faults.{IsFirstFault, PutsPiece};
+ghost use Rattle.rtr_views.specs.Faults.{IsFirstFault, PutsPiece, HoldsViewWriteError};
 ghost use Rattle.rtr_views.specs.Views.{IsViewOf, view_form};
 
 use crate::aspa::AspaView;
@@ -78,8 +78,9 @@ impl<'a> UnitView<'a> {
     /// `Writer` alone; a part of the form was written then.
     #[inline(always)]
     pub fn write_form<W: Sink>(&self, writer: &mut W) -> Result<(), ViewFault>
-        ensures { PutsPiece result (W.state writer.old) (W.state writer.new)
+        ensures bytes { PutsPiece result (W.state writer.old) (W.state writer.new)
             (view_form self.now) }
+        ensures error { IfErr result (HoldsViewWriteError (W.fails writer.new) (W.stalls writer.new)) }
     {
         match self {
             UnitView::Origin(view) => view.write_form(writer),

@@ -2,7 +2,7 @@
 
 ghost use Rattle.std.specs.Prelude.{◌≡◌, Ok, Some, IfOk, IfErr, not};
 ghost use Rattle.rtr_units.specs.Stream.{count_after};
-ghost use Rattle.rtr_views.specs.Faults.{is_view_writer_fault};
+ghost use Rattle.rtr_views.specs.Faults.{is_view_writer_fault, HoldsViewWriteError};
 ghost use Rattle.rtr_wire.specs.PrivateCalls.{Steps, StopsStep, is_payload_unit, passed};
 ghost use Rattle.rtr_wire.specs.Sequences.{everything};
 ghost use Rattle.rtr_wire.specs.SliceRun.{NormalisesSlice};
@@ -26,8 +26,9 @@ pub fn normalise_slice<W: Sink>(
     writer: &mut W,
     limit: u64,
 ) -> Result<(u64, usize), ViewFault>
-    ensures { NormalisesSlice limit result input.now
+    ensures bytes { NormalisesSlice limit result input.now
         (W.state writer.old) (W.state writer.new) }
+    ensures error { IfErr result (HoldsViewWriteError (W.fails writer.new) (W.stalls writer.new)) }
 {
     let mut rest = input;
     for count in 0..limit {
@@ -58,6 +59,7 @@ fn step<'a, W: Sink>(rest: &'a [u8], writer: &mut W) -> Result<(bool, &'a [u8]),
         (W.state writer.old).held (W.state writer.new).held) }
     ensures count { (W.state writer.new).failed ≡
         count_after (W.state writer.old).failed (not (is_view_writer_fault result)) }
+    ensures error { IfErr result (HoldsViewWriteError (W.fails writer.new) (W.stalls writer.new)) }
 {
     let unit_type = if rest.len() < 8 { 0 } else { rest[1] };
     match unit_type {
@@ -86,6 +88,7 @@ fn view_step<'a, const TYPE: u8, W: Sink>(
         (W.state writer.old).held (W.state writer.new).held) }
     ensures count { (W.state writer.new).failed ≡
         count_after (W.state writer.old).failed (not (is_view_writer_fault result)) }
+    ensures error { IfErr result (HoldsViewWriteError (W.fails writer.new) (W.stalls writer.new)) }
 {
     let (view, size) = match UnitView::first(rest) {
         Ok(first) => first,

@@ -1,9 +1,10 @@
 //! Frames: what follows the header of a router key or an ASPA unit, in one piece.
 
-ghost use Rattle.std.specs.Prelude.{IfOk};
+ghost use Rattle.std.specs.Prelude.{IfOk, IfErr};
 ghost use Rattle.rtr_base.specs.Bytes.{IsBytes};
 ghost use Rattle.rtr_units.specs.Reading.{by_bytes};
 ghost use Rattle.rtr_payload.specs.PrivateCalls.{ReadsFrame};
+ghost use Rattle.rtr_units.specs.Stream.{HoldsReadError};
 
 use bytes::Bytes;
 use rtr_units::fault::Fault;
@@ -20,6 +21,7 @@ pub fn read_frame<R: Source>(alloc: Global, size: usize, reader: &mut R) -> Resu
     ensures bytes { ReadsFrame size (by_bytes (λ frame. frame) result) (R.state reader.old)
         (R.state reader.new) }
     ensures range { IfOk result IsBytes }
+    ensures error { IfErr result (HoldsReadError (R.fails reader.new)) }
 {
     let mut frame = match Vec::from_elem(alloc, 0, size) {
         Ok(frame) => frame,

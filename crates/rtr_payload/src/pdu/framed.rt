@@ -2,14 +2,14 @@
 //! the Rust crate).
 
 ghost use Rattle.std.specs.Prelude.{◌≡◌, ◌≤◌, ◌<◌, ◌^◌, ◌+◌, ◌++◌, ℕ, List, [], length, take, drop};
-ghost use Rattle.std.specs.Prelude.{slice_index, nat_eq, IfOk, MatchResult, None};
+ghost use Rattle.std.specs.Prelude.{slice_index, nat_eq, IfOk, MatchResult, None, IfErr};
 ghost use Rattle.std.specs.Cmp.{partial_equiv_from_equiv};
 ghost use Rattle.std.specs.Cmp.Lexicographic.{bytes_decides, nat_list_eq_equiv, pointwise};
 ghost use Rattle.std.specs.Hash as fed;
 ghost use Rattle.rtr_units.specs.Causes.{cause_of};
 ghost use Rattle.rtr_units.specs.Header.{version_field, type_field};
 ghost use Rattle.rtr_units.specs.Reading.{IsWhole, Reads, ReadsAfter, by_bytes, of_type};
-ghost use Rattle.rtr_units.specs.Stream.{PutsForm};
+ghost use Rattle.rtr_units.specs.Stream.{PutsForm, HoldsReadError, HoldsWriteError};
 ghost use Rattle.rtr_units.specs.Views.{header_bytes};
 ghost use Rattle.rtr_payload.specs.PrivateCalls.{IsRefusedBy};
 ghost use Rattle.rtr_payload.specs.UnitKinds.{variable_unit};
@@ -86,7 +86,7 @@ pub struct Framed<const FIXED: usize, B: Body<FIXED>> {
 }
 
 impl<const FIXED: usize, B: Body<FIXED>> Model for Framed<FIXED, B> {
-    ghost use Rattle.std.specs.Prelude.{◌≡◌, ◌++◌, ℕ, List, length};
+    ghost use Rattle.std.specs.Prelude.{◌≡◌, ◌++◌, ℕ, List, length, IfErr};
 
     ghost Value = { List ℕ };
 
@@ -113,6 +113,7 @@ impl<const FIXED: usize, B: Body<FIXED>> Framed<FIXED, B> {
         ensures bytes { Reads (of_type B.PDU (variable_unit B.PDU)) [] (by_bytes (λ u. u) result)
             (R.state reader.old) (R.state reader.new) }
         ensures fields { IfOk result (λ u. HasFields u (B.fields u)) }
+        ensures error { IfErr result (HoldsReadError (R.fails reader.new)) }
     {
         let header = Header::read(reader)?;
         let pdu = header.pdu();
@@ -140,6 +141,7 @@ impl<const FIXED: usize, B: Body<FIXED>> Framed<FIXED, B> {
             (by_bytes (λ u. u) result) (R.state reader.old) (R.state reader.new) }
         ensures fields { IfOk result
             (λ u. type_field (header_bytes header) ≡ B.PDU → HasFields u (B.fields u)) }
+        ensures error { IfErr result (HoldsReadError (R.fails reader.new)) }
     {
         let head = header.as_ref();
         let size = header.length();
@@ -230,7 +232,8 @@ impl<const FIXED: usize, B: Body<FIXED>> Framed<FIXED, B> {
     /// Writes the unit.
     #[inline(always)]
     pub fn write<W: Sink>(&self, writer: &mut W) -> Result<(), Fault>
-        ensures { PutsForm result (W.state writer.old) (W.state writer.new) self.now }
+        ensures bytes { PutsForm result (W.state writer.old) (W.state writer.new) self.now }
+        ensures error { IfErr result (HoldsWriteError (W.fails writer.new) (W.stalls writer.new)) }
     {
         put(writer, &self.fixed)?;
         put(writer, self.body.as_slice())

@@ -6,7 +6,7 @@ ghost use Rattle.rtr_base.specs.Actions.{act};
 ghost use Rattle.rtr_units.specs.Causes.{by_cause, by_writer, cause_of};
 ghost use Rattle.rtr_units.specs.Header.{type_field, version_field};
 ghost use Rattle.rtr_units.specs.Reading.{Reads, ReadsAfter, by_bytes};
-ghost use Rattle.rtr_units.specs.Stream.{PutsForm};
+ghost use Rattle.rtr_units.specs.Stream.{PutsForm, HoldsReadError, HoldsWriteError};
 ghost use Rattle.rtr_units.specs.Report.{report};
 ghost use Rattle.rtr_units.specs.Views.{header_bytes};
 ghost use Rattle.rtr_payload.specs.Payloads.{smallest_version as smallest};
@@ -141,6 +141,7 @@ impl Payload {
         ensures bytes { Reads payload_unit [] (by_bytes answer_bytes result)
             (R.state reader.old) (R.state reader.new) }
         ensures fields { IfOk result IsAnswer }
+        ensures error { IfErr result (HoldsReadError (R.fails reader.new)) }
     {
         let header = Header::read(reader)?;
         Payload::read_payload(alloc, header, reader)
@@ -160,6 +161,7 @@ impl Payload {
         ensures fields { IfOk result IsAnswer }
         ensures no_writer { by_cause result ≢ Err by_writer }
         ensures some { ¬ (result ≡ Ok (Ok None)) }
+        ensures error { IfErr result (HoldsReadError (R.fails reader.new)) }
     {
         match header.pdu() {
             Ipv4Prefix::PDU => read_unit::<Ipv4Prefix, R>(alloc, header, reader),
@@ -208,8 +210,9 @@ impl Payload {
     /// Writes all bytes of the unit.
     #[inline(always)]
     pub fn write<W: Sink>(&self, writer: &mut W) -> Result<(), Fault>
-        ensures { PutsForm result (W.state writer.old) (W.state writer.new)
+        ensures bytes { PutsForm result (W.state writer.old) (W.state writer.new)
             (unit_bytes self.now) }
+        ensures error { IfErr result (HoldsWriteError (W.fails writer.new) (W.stalls writer.new)) }
     {
         match self {
             Payload::V4(unit) => unit.put(writer),
@@ -289,6 +292,7 @@ fn read_unit<U: PayloadUnit, R: Source>(
     ensures fields { IfOk result IsAnswer }
     ensures no_writer { by_cause result ≢ Err by_writer }
     ensures some { ¬ (result ≡ Ok (Ok None)) }
+    ensures error { IfErr result (HoldsReadError (R.fails reader.new)) }
 {
     let mut unit = U::blank();
     unit.fill_after(alloc, header, reader)?;

@@ -5,7 +5,7 @@ ghost use Rattle.std.specs.Prelude.{refl};
 ghost use Rattle.rtr_units.specs.Causes.{Cause, by_cause, by_writer, cause_of};
 ghost use Rattle.rtr_units.specs.Header.{type_field, version_field};
 ghost use Rattle.rtr_units.specs.Reading.{LeavesUnit, ReadsAfter, by_bytes};
-ghost use Rattle.rtr_units.specs.Stream.{PutsForm};
+ghost use Rattle.rtr_units.specs.Stream.{PutsForm, HoldsReadError, HoldsWriteError};
 ghost use Rattle.rtr_units.specs.Views.{header_bytes};
 ghost use Rattle.rtr_payload.specs.declared.payload.Payload.{Payload as Value};
 ghost use Rattle.rtr_payload.specs.declared.payload.Payload.TheVariants as payloads;
@@ -87,7 +87,8 @@ pub trait PayloadUnit: Drop {
         ensures left { IfErr result
             (λ e. leaves (header_bytes header) (cause_of e) self.old self.new
             (R.state reader.old).left (R.state reader.new).left) }
-        ensures no_writer { by_cause result ≢ Err by_writer };
+        ensures no_writer { by_cause result ≢ Err by_writer }
+        ensures error { IfErr result (HoldsReadError (R.fails reader.new)) };
 
     /// The version of the protocol.
     fn version_of(&self) -> u8
@@ -112,8 +113,9 @@ pub trait PayloadUnit: Drop {
 
     /// Writes all bytes of the unit.
     fn put<W: Sink>(&self, writer: &mut W) -> Result<(), Fault>
-        ensures { PutsForm result (W.state writer.old) (W.state writer.new)
-            (unit_bytes (unit self.now)) };
+        ensures bytes { PutsForm result (W.state writer.old) (W.state writer.new)
+            (unit_bytes (unit self.now)) }
+        ensures error { IfErr result (HoldsWriteError (W.fails writer.new) (W.stalls writer.new)) };
 
     /// The unit as one of any type.
     fn into_unit(self) -> Payload

@@ -6,6 +6,7 @@ ghost use Rattle.rtr_units.specs.Causes.{by_cause, by_writer, cause_of};
 ghost use Rattle.rtr_units.specs.PrefixUnits.{prefix_type, prefix_size};
 ghost use Rattle.rtr_units.specs.Header.{type_field};
 ghost use Rattle.rtr_units.specs.Reading.{LeavesUnit, ReadsAfter, by_bytes};
+ghost use Rattle.rtr_units.specs.Stream.{HoldsReadError};
 ghost use Rattle.rtr_units.specs.Views.{header_bytes};
 ghost use Rattle.rtr_payload.specs.declared.payload.Payload.TheVariants as payloads;
 ghost use Rattle.rtr_payload.specs.declared.pdu.payload.Payload.{Payload};
@@ -82,6 +83,7 @@ pub trait PrefixUnit: Unit {
             (λ e. LeavesUnit Self.bytes (header_bytes header) (cause_of e) self.old self.new
             (R.state reader.old).left (R.state reader.new).left) }
         ensures no_writer { by_cause result ≢ Err by_writer }
+        ensures error { IfErr result (HoldsReadError (R.fails reader.new)) }
     {
         self.read_rest(header, reader)
     }

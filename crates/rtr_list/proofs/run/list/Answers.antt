@@ -7,7 +7,7 @@ loop-count-init g c = record { so_far = starts c.args.wanted _ _; reads = refl; 
 
 pub loop-count-preserved : goal.loop-count-preserved
 loop-count-preserved g c =
-    let unit = rw c.in-Ok-Some.field-0-is at c.in-Ok-Some.ensures in
+    let unit = rw c.in-Ok-Some.field-0-is at c.in-Ok-Some.ensures.bytes in
     record {
       so_far = goes_on c.args.wanted c.loop-count.found c.in-Ok.more c.loop-count.count
           _ _ _ _ _ _ _ c.loop-count.invariant.so_far unit.0.0 (_, unit.0.1)
@@ -18,7 +18,7 @@ loop-count-preserved g c =
 
 pub returns-in-Err-print : goal.returns-in-Err-print
 returns-in-Err-print g c =
-    let unit = rw c.in-Ok-Some.field-0-is at c.in-Ok-Some.ensures in
+    let unit = rw c.in-Ok-Some.field-0-is at c.in-Ok-Some.ensures.bytes in
     stops_printing c.args.wanted c.loop-count.found c.loop-count.count c.in-Err-print.fault
     _ _ _ _ _ _ _ c.loop-count.invariant.so_far unit.0.0 (_, unit.0.1)
     c.in-Err-print.ensures.bytes.0
@@ -27,4 +27,4 @@ returns-in-Err-print g c =
 pub returns-in-Err : goal.returns-in-Err
 returns-in-Err g c =
     stops_reading c.args.wanted c.loop-count.found c.loop-count.count c.in-Err.fault
-    _ _ _ _ _ c.loop-count.invariant.so_far c.in-Err.ensures.0 (search rules, search rules)
+    _ _ _ _ _ c.loop-count.invariant.so_far c.in-Err.ensures.bytes.0 (search rules, search rules)

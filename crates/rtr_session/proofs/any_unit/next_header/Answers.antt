@@ -7,8 +7,8 @@ use Rattle.rtr_units.proofs.UnitsRead.{short_more}
 use Rattle.rtr_session.proofs.Stops.{header_any}
 use Rattle.rtr_session.proofs.any_unit.next_header.Goals as goal
 
-pub returns-in_err-fill-in-Ok : goal.returns-in_err-fill-in-Ok
-returns-in_err-fill-in-Ok g c =
+pub returns-in_err-fill-in-Ok-clause-bytes : goal.returns-in_err-fill-in-Ok-clause-bytes
+returns-in_err-fill-in-Ok-clause-bytes g c =
     let n = c.in-Ok.n in
     let p = c.read.new.piece in
     let ((t, taken, s), counts) = c.in_err-fill-in-Ok.ensures.bytes in

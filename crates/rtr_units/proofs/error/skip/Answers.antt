@@ -31,8 +31,8 @@ loop-left-preserved g c =
       count = search rules;
     }
 
-pub returns-in_err-fill : goal.returns-in_err-fill
-returns-in_err-fill g c =
+pub returns-in_err-fill-clause-bytes : goal.returns-in_err-fill-clause-bytes
+returns-in_err-fill-clause-bytes g c =
     let (t, taken, range, size) = c.loop-left.invariant.taken in
     let room = c.loop-left.invariant.room in
     let ((u, more, stops), count) = c.in_err-fill.ensures.bytes in

@@ -27,7 +27,7 @@ returns-clause-bytes g c is before took =
     let reads = end_after h (Ok (end_bytes d)) _ _ c.requires c.in_ok-end.ensures.bytes in
     end_written (g.S.Writing.what c.args.writing) d c.end.result c.end.ensures _ _ _ _
     (read_on payload_unit h (Ok (end_bytes d)) before _ _ took reads.1.0)
-    (c.in_ok-end.ensures.end c.requires) c.in_ok-write.ensures.0
+    (c.in_ok-end.ensures.end c.requires) c.in_ok-write.ensures.bytes.0
 
 pub returns-in_err-write-clause-bytes : goal.returns-in_err-write-clause-bytes
 returns-in_err-write-clause-bytes g c is before took =
@@ -40,4 +40,4 @@ returns-in_err-write-clause-bytes g c is before took =
     (end_not_written (g.S.Writing.what c.args.writing) d c.end.result c.end.ensures
     c.in_err-write.field-0.0 _ _ _ _
     (read_on payload_unit h (Ok (end_bytes d)) before _ _ took reads.1.0)
-    (c.in_ok-end.ensures.end c.requires) c.in_err-write.ensures.0)
+    (c.in_ok-end.ensures.end c.requires) c.in_err-write.ensures.bytes.0)

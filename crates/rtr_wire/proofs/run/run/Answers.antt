@@ -34,8 +34,8 @@ loop-count-preserved g c =
       writes = search rules;
     }
 
-pub returns-in-End : goal.returns-in-End
-returns-in-End g c =
+pub returns-in-End-clause-bytes : goal.returns-in-End-clause-bytes
+returns-in-End-clause-bytes g c =
     let what = g.S.Writing.what c.args.writing in
     normalises what c.args.limit _ _ _ _ _
     (finishes what c.args.limit c.loop-count.count c.loop-count.left_out _ _ _ _ _ _
@@ -43,8 +43,8 @@ returns-in-End g c =
     (rw c.in-End.is at c.in_ok-step.ensures.bytes))
     (search rules) (search rules)
 
-pub returns-in_err-step : goal.returns-in_err-step
-returns-in_err-step g c =
+pub returns-in_err-step-clause-bytes : goal.returns-in_err-step-clause-bytes
+returns-in_err-step-clause-bytes g c =
     let p = err_from_is_err_and c.from_residual.result c.from_residual.ensures.1 in
     let what = g.S.Writing.what c.args.writing in
     let fault = c.in_err-step.field-0.0 in
@@ -55,8 +55,8 @@ returns-in_err-step g c =
     (c.in_err-step.ensures.reads ∙ ap (reader_count {T = ℕ} (Err (cause_of fault))) old.reads)
     (c.in_err-step.ensures.writes ∙ ap (writer_count {T = ℕ} (Err (cause_of fault))) old.writes))
 
-pub returns : goal.returns
-returns g c =
+pub returns-clause-bytes : goal.returns-clause-bytes
+returns-clause-bytes g c =
     let what = g.S.Writing.what c.args.writing in
     normalises what c.args.limit _ _ _ _ _
     (reaches_limit what c.args.limit c.loop-count.count c.loop-count.left_out _ _ _ _

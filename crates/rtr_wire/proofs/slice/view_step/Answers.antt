@@ -24,11 +24,11 @@ returns-in-Ok-write_form-clause-unit g c =
     (g.W.Sink.state c.write_form.new.writer).held)
     (sym c.is_unit.ensures)
     (view_step c.in-Ok.first.0 r (take n r) left _ _ c.in-Ok.ensures.view parts
-    c.in-Ok-write_form.ensures.0)
+    c.in-Ok-write_form.ensures.bytes.0)
 
 pub returns-in-Err-write_form-clause-fault : goal.returns-in-Err-write_form-clause-fault
 returns-in-Err-write_form-clause-fault g c =
     let r = c.args.rest.now in
     let n = c.in-Ok.first.1 in
     not_written c.in-Ok.first.0 c.in-Err-write_form.e r (take n r) (drop n r) _ _
-    c.in-Ok.ensures.view (sym (take-append-drop n r)) c.in-Err-write_form.ensures.0
+    c.in-Ok.ensures.view (sym (take-append-drop n r)) c.in-Err-write_form.ensures.bytes.0

@@ -7,13 +7,13 @@ use Rattle.rtr_units.specs.Views.{header_bytes}
 use Rattle.rtr_session.specs.declared.any_unit.AnyUnit.{AnyUnit}
 use Rattle.rtr_session.proofs.any_unit.AnyUnit.read.Goals as goal
 
-pub returns-in_err-read_payload : goal.returns-in_err-read_payload
-returns-in_err-read_payload g c =
+pub returns-in_err-read_payload-clause-bytes : goal.returns-in_err-read_payload-clause-bytes
+returns-in_err-read_payload-clause-bytes g c =
     let p = err_from_is_err_and c.from_residual-in_err-read_payload.result
     c.from_residual-in_err-read_payload.ensures.1 in
     let h = header_bytes c.in-Some.header in
-    let (took, same) = rw c.in-Some.is at c.in_ok-header.ensures in
-    let ((t, taken, stops), counts) = c.in_err-read_payload.ensures in
+    let (took, same) = rw c.in-Some.is at c.in_ok-header.ensures.bytes in
+    let ((t, taken, stops), counts) = c.in_err-read_payload.ensures.bytes in
     rw (p.1, p.2) (
       (h ++ t, Consumes-trans _ _ _ h t took taken, stops),
       counts

@@ -6,8 +6,8 @@ use Rattle.rtr_units.proofs.UnitsRead.{reads_on}
 use Rattle.rtr_session.specs.Headers.{report_unit}
 use Rattle.rtr_session.proofs.report.Report.read.Goals as goal
 
-pub returns : goal.returns
-returns g c =
+pub returns-clause-bytes : goal.returns-clause-bytes
+returns-clause-bytes g c =
     reads_on report_unit (header_bytes c.in_ok-header.header)
-    (by_bytes (λ report. report) c.read_payload.result) _ _ _ c.in_ok-header.ensures
-    c.read_payload.ensures.1
+    (by_bytes (λ report. report) c.read_payload.result) _ _ _ c.in_ok-header.ensures.bytes
+    c.read_payload.ensures.bytes.1

@@ -13,8 +13,8 @@ use Rattle.rtr_session.proofs.Reports.{report_in_order, report_too_long, report_
 use Rattle.rtr_session.proofs.Reports.{report_read, frame_is}
 use Rattle.rtr_session.proofs.report.Report.read_payload.Goals as goal
 
-pub returns-then-size-lt-MIN_SIZE : goal.returns-then-size-lt-MIN_SIZE
-returns-then-size-lt-MIN_SIZE g c =
+pub returns-then-size-lt-MIN_SIZE-clause-bytes : goal.returns-then-size-lt-MIN_SIZE-clause-bytes
+returns-then-size-lt-MIN_SIZE-clause-bytes g c =
     let h = header_bytes c.args.header in
     let l : length h ≡ 8 = c.pdu.ensures.header.0 in
     let kind : type_field h ≡ 10 = sym c.pdu.ensures.value ∙ c.if-pdu-ne-PDU.false in (
@@ -54,8 +54,8 @@ invariant_of-result g c =
     (report_read h t bytes c.fill.ensures.range kind (omega (arith, c.length-size.ensures.value))
     (omega (arith, c.length-size.ensures.value)) (size ∙ c.length-size.ensures.value))
 
-pub returns : goal.returns
-returns g c =
+pub returns-clause-bytes : goal.returns-clause-bytes
+returns-clause-bytes g c =
     let h = header_bytes c.args.header in
     let t = c.fill.new.piece in
     let kind : type_field h ≡ 10 = sym c.pdu.ensures.value ∙ c.if-pdu-ne-PDU.false in
@@ -88,8 +88,8 @@ returns g c =
       ),
     )
 
-pub returns-in_err-fill : goal.returns-in_err-fill
-returns-in_err-fill g c =
+pub returns-in_err-fill-clause-bytes : goal.returns-in_err-fill-clause-bytes
+returns-in_err-fill-clause-bytes g c =
     let h = header_bytes c.args.header in
     let ((t, taken, s), counts) = c.in_err-fill.ensures.bytes in
     let kind : type_field h ≡ 10 = sym c.pdu.ensures.value ∙ c.if-pdu-ne-PDU.false in
@@ -121,8 +121,8 @@ returns-in_err-fill g c =
       ),
     )
 
-pub returns-then-pdu-ne-PDU : goal.returns-then-pdu-ne-PDU
-returns-then-pdu-ne-PDU g c =
+pub returns-then-pdu-ne-PDU-clause-bytes : goal.returns-then-pdu-ne-PDU-clause-bytes
+returns-then-pdu-ne-PDU-clause-bytes g c =
     let h = header_bytes c.args.header in
     let other : ¬ (type_field h ≡ 10) = λ ten. c.if-pdu-ne-PDU.true (c.pdu.ensures.value ∙ ten) in
     let fault =
@@ -132,8 +132,8 @@ returns-then-pdu-ne-PDU g c =
       (([], Consumes-nil _, at_header report_unit _ h c.pdu.ensures.header.0 fault), refl),
     )
 
-pub returns-then-size-gt-MAX_SIZE : goal.returns-then-size-gt-MAX_SIZE
-returns-then-size-gt-MAX_SIZE g c =
+pub returns-then-size-gt-MAX_SIZE-clause-bytes : goal.returns-then-size-gt-MAX_SIZE-clause-bytes
+returns-then-size-gt-MAX_SIZE-clause-bytes g c =
     let h = header_bytes c.args.header in
     let kind : type_field h ≡ 10 = sym c.pdu.ensures.value ∙ c.if-pdu-ne-PDU.false in (
       c.pdu.ensures.header,

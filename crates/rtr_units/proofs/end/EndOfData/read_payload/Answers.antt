@@ -32,7 +32,7 @@ pub returns-in_ok-read_payload-clause-end : goal.returns-in_ok-read_payload-clau
 returns-in_ok-read_payload-clause-end g c is_type =
     let h = header_bytes c.args.header in
     let u = c.in_ok-read_payload.field-0.cells.bytes in
-    let (is, (((t, taken, parts), whole), count)) = c.in_ok-read_payload.ensures in
+    let (is, (((t, taken, parts), whole), count)) = c.in_ok-read_payload.ensures.bytes in
     let is_version : version_field h ≡ 0 = cc in
     let same = same_header h t (omega (arith, is.0)) in
     let field : length_field u ≡ 12 = sized_from 12 u whole.in_order in
@@ -43,7 +43,7 @@ pub returns-in_ok-read_payload-2-clause-end : goal.returns-in_ok-read_payload-2-
 returns-in_ok-read_payload-2-clause-end g c is_type =
     let h = header_bytes c.args.header in
     let u = c.in_ok-read_payload-2.field-0.cells.bytes in
-    let (is, (((t, taken, parts), whole), count)) = c.in_ok-read_payload-2.ensures in
+    let (is, (((t, taken, parts), whole), count)) = c.in_ok-read_payload-2.ensures.bytes in
     let small : version_field h ≤ 2 =
     rw (← c.version-version.ensures.value) c.if-version-gt2.false in
     let later : ¬ (version_field h ≡ 0) =

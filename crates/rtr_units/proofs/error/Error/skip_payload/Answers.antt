@@ -7,8 +7,8 @@ use Rattle.rtr_units.specs.Views.{header_bytes}
 use Rattle.rtr_units.proofs.UnitsRead.{any_is, any_long, any_low, any_by, at_header, rest_passed}
 use Rattle.rtr_units.proofs.error.Error.skip_payload.Goals as goal
 
-pub returns-then-length-gt-MAX_SIZE : goal.returns-then-length-gt-MAX_SIZE
-returns-then-length-gt-MAX_SIZE g c =
+pub returns-then-length-gt-MAX_SIZE-clause-bytes : goal.returns-then-length-gt-MAX_SIZE-clause-bytes
+returns-then-length-gt-MAX_SIZE-clause-bytes g c =
     let h = header_bytes c.args.header in
     let is = c.length-length.ensures.header in (
       [],
@@ -26,8 +26,8 @@ returns-then-length-gt-MAX_SIZE g c =
       ),
     )
 
-pub returns-then-length-lt8 : goal.returns-then-length-lt8
-returns-then-length-lt8 g c =
+pub returns-then-length-lt8-clause-bytes : goal.returns-then-length-lt8-clause-bytes
+returns-then-length-lt8-clause-bytes g c =
     let h = header_bytes c.args.header in
     let is = c.length-length.ensures.header in (
       [],
@@ -45,11 +45,11 @@ returns-then-length-lt8 g c =
       ),
     )
 
-pub returns : goal.returns
-returns g c =
+pub returns-clause-bytes : goal.returns-clause-bytes
+returns-clause-bytes g c =
     let h = header_bytes c.args.header in
     let is = c.length-length.ensures.header in
-    let (t, filled) = c.skip.ensures in
+    let (t, filled) = c.skip.ensures.bytes in
     let order : any_unit.fault h ≡ None =
     any_is h (omega (arith, c.length-length.ensures.value))
     (omega (arith, c.length-length.ensures.value)) in

@@ -12,8 +12,8 @@ use Rattle.rtr_units.proofs.unit.Unit.try_read.Goals as goal
 pub returns-in_err-read_payload-clause-bytes : goal.returns-in_err-read_payload-clause-bytes
 returns-in_err-read_payload-clause-bytes g c =
     let h = header_bytes c.in_ok-header.header in
-    let ((read, (size, range)), count) = c.in_ok-header.ensures in
-    let (eight, ((t, taken, stops), counted)) = c.in_err-read_payload.ensures in
+    let ((read, (size, range)), count) = c.in_ok-header.ensures.bytes in
+    let (eight, ((t, taken, stops), counted)) = c.in_err-read_payload.ensures.bytes in
     let is_type : type_field h ≡ g.Self.Unit.PDU = cc in
     let same : type_field (h ++ t) ≡ type_field h = (same_header h t (omega (arith, size))).kind in
     let p = err_from_is_err_and c.from_residual-in_err-read_payload.result

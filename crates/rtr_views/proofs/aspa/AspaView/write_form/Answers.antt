@@ -6,8 +6,8 @@ use Rattle.rtr_views.proofs.Puts.{same_put}
 use Rattle.rtr_views.proofs.aspa.AspaView.write_form.Goals as goal
 use Rattle.rtr_views.proofs.aspa.AspaView.write_form.Goals.{in-Announce, in-Withdraw}
 
-pub returns : goal.returns
-returns g c =
+pub returns-clause-bytes : goal.returns-clause-bytes
+returns-clause-bytes g c =
     let u = c.args.self.now.unit.now in
     let rest : take (c.match-action.kept - 8) (drop 8 u) ≡ kept_rest c.from_flags-action.result u =
     elim c.match-action.branch [
@@ -21,4 +21,4 @@ returns g c =
     same_put c.put_flagged.result _ _ _ _
     (aspa_form u _ _ c.from_flags-action.result c.args.self.now.whole c.version.ensures
     (c.from_flags-action.ensures ∙ ap act c.flags.ensures) rest)
-    c.put_flagged.ensures
+    c.put_flagged.ensures.bytes

@@ -13,4 +13,4 @@ returns-clause-bytes g c =
     let kind : type_field h ≡ p =
     sym c.pdu-pdu.ensures.value ∙ c.if-pdu-PDU.false ∙ c.PDU.ensures in
     read_both p (variable_unit p) h (by_bytes (λ u. u) c.read_payload.result) _ _ _ kind
-    c.in_ok-header.ensures c.read_payload.ensures.bytes
+    c.in_ok-header.ensures.bytes c.read_payload.ensures.bytes

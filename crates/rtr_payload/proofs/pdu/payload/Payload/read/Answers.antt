@@ -8,5 +8,5 @@ use Rattle.rtr_payload.proofs.pdu.payload.Payload.read.Goals as goal
 pub returns-clause-bytes : goal.returns-clause-bytes
 returns-clause-bytes g c =
     reads_on payload_unit (header_bytes c.in_ok-header.header)
-    (by_bytes answer_bytes c.read_payload.result) _ _ _ c.in_ok-header.ensures
+    (by_bytes answer_bytes c.read_payload.result) _ _ _ c.in_ok-header.ensures.bytes
     c.read_payload.ensures.bytes.1
