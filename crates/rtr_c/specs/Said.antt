@@ -3,7 +3,7 @@
 use Rattle.std.specs.Prelude.{◌≡◌, ℕ, ◌+◌, ◌%◌, ◌||◌, not, List, [], length, take, drop}
 use Rattle.std.specs.Prelude.{Option, Some, None, Result, Ok}
 use Rattle.std.specs.Prelude.{Err, nat_lt, nat_le, ◌==◌, if◌then◌else◌}
-use Rattle.rtr_base.specs.Addresses.{Family, v4, v6, width, cleared}
+use Rattle.rtr_base.specs.Addresses.{Family, v4, v6, width, cleared, ip_version}
 use Rattle.rtr_base.specs.Bytes.{value}
 use Rattle.rtr_base.specs.declared.payload.Timing.{Timing}
 use Rattle.rtr_units.specs.End.{timed_list}
@@ -15,7 +15,6 @@ use Rattle.rtr_payload.specs.declared.pdu.prefix_rule.PrefixRule.{PrefixRule}
 use Rattle.rtr_payload.specs.Units.{form}
 use Rattle.rtr_views.specs.Placing.{Places}
 use Rattle.rtr_c.specs.Answers as status
-use Rattle.rtr_c.specs.Shown.{family_number}
 use Rattle.rtr_c.specs.declared.unit.RtrUnit.{RtrUnit}
 
 -- the key info or the providers that the unit says, where they lie in the input
@@ -33,7 +32,7 @@ unless_broken (Some fault) f = Err status.prefix
 -- the form of a prefix with its address cleared, or the status that refuses it
 abbrev pub prefix_said : Family → RtrUnit → Result (List ℕ) ℕ
 prefix_said f u =
-    if nat_lt 1 u.action || not (u.family == family_number f) then Err status.no_form
+    if nat_lt 1 u.action || not (u.family == ip_version f) then Err status.no_form
     else unless_broken (broken_rule (width f) u.prefix_length u.max_length)
     (form u.version u.action (origin (record {
       family = f;

@@ -3,7 +3,7 @@
 use Rattle.std.specs.Prelude.{◌≡◌, ℕ, ◌%◌, ◌≤◌, List}
 use Rattle.std.specs.Prelude.{◌++◌, length, take, drop, Option, Some, None}
 use Rattle.std.specs.Prelude.{Result, Ok, Err, replicate}
-use Rattle.rtr_base.specs.Addresses.{Family, v4, v6, resolved_len}
+use Rattle.rtr_base.specs.Addresses.{Family, v4, v6, ip_version, resolved_len}
 use Rattle.rtr_base.specs.Bytes.{be}
 use Rattle.rtr_base.specs.declared.payload.Timing.{Timing}
 use Rattle.rtr_units.specs.End.{EndMeaning}
@@ -49,11 +49,6 @@ abbrev pub address_shown : Family → ℕ → List ℕ
 address_shown v4 a = be a 4 ++ replicate 12 0
 address_shown v6 a = be a 16
 
--- the number of a family
-abbrev pub family_number : Family → ℕ
-family_number v4 = 4
-family_number v6 = 6
-
 abbrev pub origin_shown : (version flags size : ℕ) → RouteOrigin → RtrUnit
 origin_shown v g n o = record none {
   size = n;
@@ -61,7 +56,7 @@ origin_shown v g n o = record none {
   kind = prefix_type o.prefix.prefix.family;
   version = v;
   action = g % 2;
-  family = family_number o.prefix.prefix.family;
+  family = ip_version o.prefix.prefix.family;
   prefix_length = o.prefix.prefix.len;
   max_length = resolved_len o.prefix;
   address = address_shown o.prefix.prefix.family o.prefix.prefix.address;

@@ -2,7 +2,7 @@
 
 ghost use Rattle.std.specs.Prelude.{◌≡◌, ◌∷◌, ◌++◌, Ok, IfSome};
 ghost use Rattle.std.specs.Option.{option_copied};
-ghost use Rattle.rtr_base.specs.Addresses.{v4, v6};
+ghost use Rattle.rtr_base.specs.Addresses.{ip_version};
 ghost use Rattle.rtr_base.specs.Bytes.{be, IsBytes};
 ghost use Rattle.rtr_c.specs.Said.{Writes, TellsWritten, said, part_said};
 ghost use Rattle.rtr_c.specs.Said.{prefix_said, key_said, aspa_said, end_said};
@@ -13,8 +13,6 @@ use crate::answer::{
 };
 use crate::unit::RtrUnit;
 use rtr_payload::pdu::PrefixUnit;
-use rtr_payload::pdu::prefix_rule::{ipv4_prefix, ipv6_prefix};
-use rtr_units::numbers::{u32_at, u128_at};
 use rtr_views::placing::{flagged_header, place};
 use rtr_wire::base::Asn;
 use rtr_wire::payload::{RouteOrigin, Timing};
@@ -45,8 +43,8 @@ pub extern "C" fn rtr_write_unit(
     ensures { TellsWritten (said unit.now input.now) output.old output.new written.new result }
 {
     let end = match unit.kind {
-        Ipv4Prefix::PDU => write_ipv4(unit, output),
-        Ipv6Prefix::PDU => write_ipv6(unit, output),
+        Ipv4Prefix::PDU => write_prefix::<Ipv4Prefix>(unit, 4, output),
+        Ipv6Prefix::PDU => write_prefix::<Ipv6Prefix>(unit, 6, output),
         EndOfData::PDU => write_end(unit, output),
         RouterKey::PDU => write_key(unit, input, output),
         Aspa::PDU => write_aspa(unit, input, output),
@@ -64,35 +62,23 @@ pub extern "C" fn rtr_write_unit(
     }
 }
 
-/// Writes the form of an IPv4 prefix, and answers its length.
-fn write_ipv4(unit: &RtrUnit, output: &mut [u8]) -> Result<usize, u8>
-    ensures { Writes (prefix_said v4 unit.now) result output.old output.new }
+/// Writes the form of a prefix of the family of this number, and answers its length.
+fn write_prefix<U: PrefixUnit>(
+    unit: &RtrUnit,
+    family: u8,
+    output: &mut [u8],
+) -> Result<usize, u8>
+    requires { family ≡ ip_version U.family }
+    ensures { Writes (prefix_said U.family unit.now) result output.old output.new }
 {
-    if unit.action > 1 || unit.family != 4 {
+    if unit.action > 1 || unit.family != family {
         return Err(NO_FORM);
     }
-    let bits = u32_at(&unit.address, 0);
-    let Ok(prefix) = ipv4_prefix(bits, unit.prefix_length, unit.max_length) else {
+    let Ok(prefix) = U::prefix_of(&unit.address, unit.prefix_length, unit.max_length) else {
         return Err(PREFIX);
     };
     let origin = RouteOrigin::new(prefix, Asn::from_u32(unit.asn));
-    let form = Ipv4Prefix::from_origin(unit.version, unit.action, origin);
-    placed(form.as_ref(), &[], output)
-}
-
-/// Writes the form of an IPv6 prefix, and answers its length.
-fn write_ipv6(unit: &RtrUnit, output: &mut [u8]) -> Result<usize, u8>
-    ensures { Writes (prefix_said v6 unit.now) result output.old output.new }
-{
-    if unit.action > 1 || unit.family != 6 {
-        return Err(NO_FORM);
-    }
-    let bits = u128_at(&unit.address, 0);
-    let Ok(prefix) = ipv6_prefix(bits, unit.prefix_length, unit.max_length) else {
-        return Err(PREFIX);
-    };
-    let origin = RouteOrigin::new(prefix, Asn::from_u32(unit.asn));
-    let form = Ipv6Prefix::from_origin(unit.version, unit.action, origin);
+    let form = U::from_origin(unit.version, unit.action, origin);
     placed(form.as_ref(), &[], output)
 }
 

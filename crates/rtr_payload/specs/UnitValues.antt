@@ -75,18 +75,17 @@ pub record MeansPayload (u : Payload) (action : Action) (p : Value) : Type 0 whe
 
 -- the units whose payload asks for memory: the bytes of keys and providers are shared, and a report
 -- is made of a prefix that breaks its rule (this library's own)
-abbrev pub NeedsMemory : Payload → Type 0
-NeedsMemory (units.V4 u) = IsSome (rule_of (prefix_unit (prefix_at v4 (ipv4_bytes u))))
-NeedsMemory (units.V6 u) = IsSome (rule_of (prefix_unit (prefix_at v6 (ipv6_bytes u))))
-NeedsMemory (units.RouterKey u) = Unit {0}
-NeedsMemory (units.Aspa u) = Unit {0}
+abbrev pub NeedsMemory : Fields → Type 0
+NeedsMemory (prefix_unit u) = IsSome (rule_of (prefix_unit u))
+NeedsMemory (key_unit u) = Unit {0}
+NeedsMemory (aspa_unit u) = Unit {0}
 
 -- Why the unit has no payload: its prefix breaks a rule (RFC 8210 sections 5.1, 5.6 and 5.7), of
 -- which the report tells, or memory was refused (this library's own).
 abbrev pub HasNoPayload : Payload → Cause → Type 0
 HasNoPayload u (wrong (refused report)) = (rule : PrefixRule) ×
     (rule_of (unit_fields u) ≡ Some rule) × (report ≡ refusal_report (unit_bytes u) rule)
-HasNoPayload u no_memory = NeedsMemory u
+HasNoPayload u no_memory = NeedsMemory (unit_fields u)
 HasNoPayload u c = ⊥
 
 -- ---- kinds

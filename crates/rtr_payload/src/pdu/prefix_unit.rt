@@ -1,9 +1,11 @@
 //! What the units of IPv4 and of IPv6 prefixes have in common.
 
-ghost use Rattle.std.specs.Prelude.{◌≡◌, ◌≢◌, Err, IfOk, IfErr, refl};
-ghost use Rattle.rtr_base.specs.Addresses.{Family, v4, v6};
+ghost use Rattle.std.specs.Prelude.{◌≡◌, ◌≢◌, ◌≤◌, Err, IfOk, IfErr, Some, None, refl};
+ghost use Rattle.std.specs.Prelude.{length, take};
+ghost use Rattle.rtr_base.specs.Addresses.{Family, v4, v6, width, cleared};
+ghost use Rattle.rtr_base.specs.Bytes.{value};
 ghost use Rattle.rtr_units.specs.Causes.{by_cause, by_writer, cause_of};
-ghost use Rattle.rtr_units.specs.PrefixUnits.{prefix_type, prefix_size};
+ghost use Rattle.rtr_units.specs.PrefixUnits.{prefix_type, prefix_size, address_bytes};
 ghost use Rattle.rtr_units.specs.Header.{type_field};
 ghost use Rattle.rtr_units.specs.Reading.{LeavesUnit, ReadsAfter, by_bytes};
 ghost use Rattle.rtr_units.specs.Stream.{HoldsReadError};
@@ -12,6 +14,7 @@ ghost use Rattle.rtr_payload.specs.declared.payload.Payload.TheVariants as paylo
 ghost use Rattle.rtr_payload.specs.declared.pdu.payload.Payload.{Payload};
 ghost use Rattle.rtr_payload.specs.declared.pdu.payload.Payload.TheVariants as units;
 ghost use Rattle.rtr_units.specs.PrefixUnits.{prefix_at};
+ghost use Rattle.rtr_payload.specs.Steps.{broken_rule};
 ghost use Rattle.rtr_payload.specs.UnitKinds.{payload_unit};
 ghost use Rattle.rtr_payload.specs.Units.{prefix_unit, form, written, HasFields};
 ghost use Rattle.rtr_payload.specs.Values.{origin_of};
@@ -19,13 +22,15 @@ ghost use Rattle.rtr_payload.specs.UnitValues.{unit_bytes, unit_fields, MeansPay
 ghost use Rattle.rtr_payload.specs.UnitValues.{HasNoPayload};
 
 use super::payload::{Payload, refused};
-use super::prefix_rule::{ipv4_prefix, ipv6_prefix};
+use super::prefix_rule::{PrefixRule, ipv4_prefix, ipv6_prefix};
 use crate::payload::RouteOrigin;
+use rtr_base::addr::MaxLenPrefix;
 use rtr_base::asn::Asn;
 use rtr_base::payload::Action;
 use rtr_units::fault::Fault;
 use rtr_units::fixed::{Ipv4Prefix, Ipv6Prefix};
 use rtr_units::header::Header;
+use rtr_units::numbers::{u32_at, u128_at};
 use rtr_units::source::Source;
 use rtr_units::unit::Unit;
 use std::alloc::Global;
@@ -47,14 +52,22 @@ pub trait PrefixUnit: Unit {
         ensures fields { prefix_unit (prefix_at family (Self.bytes result)) ≡
             written version flags (origin_of origin) };
 
-    /// The action and the origin that the unit means, whatever its type and length bytes say.
-    ///
-    /// `Refused` with the report on a prefix that breaks the rule on its lengths, or `Memory` where
-    /// there is none for the report.
-    fn to_origin(&self, alloc: Global) -> Result<(Action, RouteOrigin), Fault>
-        ensures ok { IfOk result (λ m. MeansPayload (unit self.now) m.0 (payloads.Origin m.1)) }
-        ensures family { IfOk result (λ m. m.1.prefix.prefix.family ≡ family) }
-        ensures err { IfErr result (λ e. HasNoPayload (unit self.now) (cause_of e)) };
+    /// The prefix with these lengths whose address the bytes begin with. Host bits are cleared.
+    fn prefix_of(address: &[u8], prefix_len: u8, max_len: u8) -> Result<MaxLenPrefix, PrefixRule>
+        requires { address_bytes family ≤ length address.now }
+        ensures ok { IfOk result (λ p. p ≡
+            record {
+              prefix = record {
+                family = family;
+                address = cleared (width family) prefix_len
+                    (value (take (address_bytes family) address.now));
+                len = prefix_len;
+              };
+              max_len = Some max_len;
+            }) }
+        ensures kept { IfOk result (λ _. broken_rule (width family) prefix_len max_len ≡ None) }
+        ensures broken { IfErr result
+            (λ r. broken_rule (width family) prefix_len max_len ≡ Some r) };
 
     /// The unit as one of any kind.
     fn to_unit(self) -> Payload
@@ -66,6 +79,29 @@ pub trait PrefixUnit: Unit {
 
     /// It has the type and the size of its family.
     ghost typed: { (Self.PDU ≡ prefix_type family) × (Self.LENGTH ≡ prefix_size family) };
+
+    /// The action and the origin that the unit means, whatever its type and length bytes say.
+    ///
+    /// `Refused` with the report on a prefix that breaks the rule on its lengths, or `Memory` where
+    /// there is none for the report.
+    #[inline(always)]
+    final fn to_origin(&self, alloc: Global) -> Result<(Action, RouteOrigin), Fault>
+        ensures ok { IfOk result (λ m. MeansPayload (unit self.now) m.0 (payloads.Origin m.1)) }
+        ensures family { IfOk result (λ m. m.1.prefix.prefix.family ≡ family) }
+        ensures err { IfErr result (λ e. HasNoPayload (unit self.now) (cause_of e)) }
+    {
+        let bytes = self.as_ref();
+        match Self::prefix_of(&bytes[12..], bytes[9], bytes[10]) {
+            Ok(prefix) => {
+                let asn = Asn::from_u32(u32_at(bytes, Self::LENGTH - 4));
+                Ok((Action::from_flags(bytes[8]), RouteOrigin::new(prefix, asn)))
+            }
+            Err(rule) => {
+                let unit = *self;
+                Err(refused(alloc, unit.version(), unit.as_ref(), rule))
+            }
+        }
+    }
 
     /// Reads what follows a header of this type, into this unit. No memory is asked for.
     ///
@@ -104,17 +140,8 @@ impl PrefixUnit for Ipv4Prefix {
     }
 
     #[inline(always)]
-    fn to_origin(&self, alloc: Global) -> Result<(Action, RouteOrigin), Fault> {
-        match ipv4_prefix(self.prefix_bits(), self.prefix_len(), self.max_len()) {
-            Ok(prefix) => {
-                let origin = RouteOrigin::new(prefix, self.asn());
-                Ok((Action::from_flags(self.flags()), origin))
-            }
-            Err(rule) => {
-                let unit = *self;
-                Err(refused(alloc, unit.version(), unit.as_ref(), rule))
-            }
-        }
+    fn prefix_of(address: &[u8], prefix_len: u8, max_len: u8) -> Result<MaxLenPrefix, PrefixRule> {
+        ipv4_prefix(u32_at(address, 0), prefix_len, max_len)
     }
 
     #[inline(always)]
@@ -142,17 +169,8 @@ impl PrefixUnit for Ipv6Prefix {
     }
 
     #[inline(always)]
-    fn to_origin(&self, alloc: Global) -> Result<(Action, RouteOrigin), Fault> {
-        match ipv6_prefix(self.prefix_bits(), self.prefix_len(), self.max_len()) {
-            Ok(prefix) => {
-                let origin = RouteOrigin::new(prefix, self.asn());
-                Ok((Action::from_flags(self.flags()), origin))
-            }
-            Err(rule) => {
-                let unit = *self;
-                Err(refused(alloc, unit.version(), unit.as_ref(), rule))
-            }
-        }
+    fn prefix_of(address: &[u8], prefix_len: u8, max_len: u8) -> Result<MaxLenPrefix, PrefixRule> {
+        ipv6_prefix(u128_at(address, 0), prefix_len, max_len)
     }
 
     #[inline(always)]

@@ -1,0 +1,41 @@
+-- What a unit of a prefix means, whatever its family.
+use Rattle.std.proofs.Common.{◌≡◌, ℕ, ◌+◌, List, Some, None, length, take, drop, refl}
+use Rattle.std.specs.Prelude.{slice_index}
+use Rattle.rtr_base.specs.Actions.{act}
+use Rattle.rtr_base.specs.Addresses.{Family, v4, v6, width, cleared}
+use Rattle.rtr_base.specs.Bytes.{value}
+use Rattle.rtr_units.specs.PrefixUnits.{prefix_at, prefix_size, address_bytes}
+use Rattle.rtr_payload.specs.Steps.{broken_rule}
+use Rattle.rtr_payload.specs.Units.{prefix_unit}
+use Rattle.rtr_payload.specs.UnitValues.{unit_bytes, unit_fields, MeansPayload}
+use Rattle.rtr_payload.specs.declared.payload.RouteOrigin.{RouteOrigin}
+use Rattle.rtr_payload.specs.declared.payload.Payload.TheVariants.{Origin}
+use Rattle.rtr_payload.specs.declared.pdu.payload.Payload.{Payload}
+use Rattle.rtr_payload.proofs.Rests.{agree_from}
+
+-- the address stands between twelve bytes and four
+pub prefix_parts : (f : Family) → prefix_size f ≡ 12 + address_bytes f + 4
+prefix_parts v4 = refl
+prefix_parts v6 = refl
+
+pub origin_means : (u : Payload) (f : Family) (b : List ℕ) (o : RouteOrigin) →
+    unit_bytes u ≡ b → unit_fields u ≡ prefix_unit (prefix_at f b) →
+    o ≡ record {
+      prefix = record {
+        prefix = record {
+          family = f;
+          address = cleared (width f) (slice_index b 9)
+              (value (take (address_bytes f) (drop 12 b)));
+          len = slice_index b 9;
+        };
+        max_len = Some (slice_index b 10);
+      };
+      asn = value (take 4 (drop (12 + address_bytes f) b));
+    } →
+    broken_rule (width f) (slice_index b 9) (slice_index b 10) ≡ None →
+    MeansPayload u (act (slice_index b 8)) (Origin o)
+origin_means u f b o same fields is rule = record {
+  lengths = rw fields (agree_from (prefix_unit (prefix_at f b)) rule);
+  means = rw (same, fields, is) refl;
+  max_len = rw is refl;
+}
