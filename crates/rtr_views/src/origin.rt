@@ -68,12 +68,10 @@ impl OriginView {
         if u32_at(input, 4) != Ipv4Prefix::size() {
             return Err(ViewFault::UnitLength);
         }
-        match first_unit(input, Ipv4Prefix::LENGTH) {
-            Ok(unit) => match OriginView::of_ipv4(unit) {
-                Ok(view) => Ok(view),
-                Err(rule) => Err(ViewFault::Prefix(rule)),
-            },
-            Err(e) => Err(e),
+        let unit = first_unit(input, Ipv4Prefix::LENGTH)?;
+        match OriginView::of_ipv4(unit) {
+            Ok(view) => Ok(view),
+            Err(rule) => Err(ViewFault::Prefix(rule)),
         }
     }
 
@@ -90,12 +88,10 @@ impl OriginView {
         if u32_at(input, 4) != Ipv6Prefix::size() {
             return Err(ViewFault::UnitLength);
         }
-        match first_unit(input, Ipv6Prefix::LENGTH) {
-            Ok(unit) => match OriginView::of_ipv6(unit) {
-                Ok(view) => Ok(view),
-                Err(rule) => Err(ViewFault::Prefix(rule)),
-            },
-            Err(e) => Err(e),
+        let unit = first_unit(input, Ipv6Prefix::LENGTH)?;
+        match OriginView::of_ipv6(unit) {
+            Ok(view) => Ok(view),
+            Err(rule) => Err(ViewFault::Prefix(rule)),
         }
     }
 
@@ -107,14 +103,12 @@ impl OriginView {
         ensures lengths { IfOk result (λ _. LengthsAgree (prefix_unit (prefix_at v4 unit.now))) }
         ensures rule { IfErr result (λ r. rule_of (prefix_unit (prefix_at v4 unit.now)) ≡ Some r) }
     {
-        match ipv4_prefix(u32_at(unit, 12), unit[9], unit[10]) {
-            Ok(prefix) => Ok(OriginView {
-                version: unit[0],
-                flags: unit[8],
-                origin: RouteOrigin::new(prefix, Asn::from_u32(u32_at(unit, 16))),
-            }),
-            Err(rule) => Err(rule),
-        }
+        let prefix = ipv4_prefix(u32_at(unit, 12), unit[9], unit[10])?;
+        Ok(OriginView {
+            version: unit[0],
+            flags: unit[8],
+            origin: RouteOrigin::new(prefix, Asn::from_u32(u32_at(unit, 16))),
+        })
     }
 
     /// The view of an IPv6 prefix unit.
@@ -125,14 +119,12 @@ impl OriginView {
         ensures lengths { IfOk result (λ _. LengthsAgree (prefix_unit (prefix_at v6 unit.now))) }
         ensures rule { IfErr result (λ r. rule_of (prefix_unit (prefix_at v6 unit.now)) ≡ Some r) }
     {
-        match ipv6_prefix(u128_at(unit, 12), unit[9], unit[10]) {
-            Ok(prefix) => Ok(OriginView {
-                version: unit[0],
-                flags: unit[8],
-                origin: RouteOrigin::new(prefix, Asn::from_u32(u32_at(unit, 28))),
-            }),
-            Err(rule) => Err(rule),
-        }
+        let prefix = ipv6_prefix(u128_at(unit, 12), unit[9], unit[10])?;
+        Ok(OriginView {
+            version: unit[0],
+            flags: unit[8],
+            origin: RouteOrigin::new(prefix, Asn::from_u32(u32_at(unit, 28))),
+        })
     }
 
     /// Writes the form of what the unit means.

@@ -92,17 +92,12 @@ impl<'a> RouterKeyView<'a> {
         ensures within { IfOk result (λ v. length v.unit.now ≤ length input.now) }
         ensures fault { IfErr result (λ e. IsFirstFault input.now e) }
     {
-        let size = match size_at(input) {
-            Ok(size) => size,
-            Err(e) => return Err(e),
-        };
+        let size = size_at(input)?;
         if size < FIXED {
             return Err(ViewFault::UnitLength);
         }
-        match first_unit(input, size) {
-            Ok(unit) => Ok(RouterKeyView { unit }),
-            Err(e) => Err(e),
-        }
+        let unit = first_unit(input, size)?;
+        Ok(RouterKeyView { unit })
     }
 
     /// Writes the form of what the unit means.

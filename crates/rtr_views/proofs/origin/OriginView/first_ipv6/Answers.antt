@@ -17,21 +17,21 @@ first_unit-requires-clause-in_order c =
     typed_in_order c.args.input.now 6 c.requires.kind
     (prefix_in_order v6 _ _ _ (sym c.u32_at.ensures ∙ c.if-u32_at-size.false ∙ c.size.ensures))
 
-pub returns-in-Ok-of_ipv6-clause-view : goal.returns-in-Ok-of_ipv6-clause-view
-returns-in-Ok-of_ipv6-clause-view c =
-    let shape = prefix_front v6 c.args.input.now c.in-Ok.unit.now
+pub returns-in-Ok-clause-view : goal.returns-in-Ok-clause-view
+returns-in-Ok-clause-view c =
+    let shape = prefix_front v6 c.args.input.now c.in_ok-unit.unit.now
     (λ i. omega (arith, c.type_inv.input i)) c.requires.kind
-    (sym c.u32_at.ensures ∙ c.if-u32_at-size.false ∙ c.size.ensures) c.in-Ok.ensures.unit in
-    subst (IsOriginOf v6 c.in-Ok-of_ipv6.view) c.in-Ok.ensures.unit.cut (record {
+    (sym c.u32_at.ensures ∙ c.if-u32_at-size.false ∙ c.size.ensures) c.in_ok-unit.ensures.unit in
+    subst (IsOriginOf v6 c.in-Ok.view) c.in_ok-unit.ensures.unit.cut (record {
       shape = shape;
-      lengths = c.in-Ok-of_ipv6.ensures.lengths;
-      shows = c.in-Ok-of_ipv6.ensures.view;
+      lengths = c.in-Ok.ensures.lengths;
+      shows = c.in-Ok.ensures.view;
     })
 
-pub returns-in-Err-of_ipv6-clause-fault : goal.returns-in-Err-of_ipv6-clause-fault
-returns-in-Err-of_ipv6-clause-fault c =
-    let shape = prefix_front v6 c.args.input.now c.in-Ok.unit.now
+pub returns-in-Err-clause-fault : goal.returns-in-Err-clause-fault
+returns-in-Err-clause-fault c =
+    let shape = prefix_front v6 c.args.input.now c.in_ok-unit.unit.now
     (λ i. omega (arith, c.type_inv.input i)) c.requires.kind
-    (sym c.u32_at.ensures ∙ c.if-u32_at-size.false ∙ c.size.ensures) c.in-Ok.ensures.unit in
-    prefix_broken v6 c.args.input.now c.in-Ok.unit.now _ shape c.in-Ok.ensures.unit
-    c.in-Err-of_ipv6.ensures.rule
+    (sym c.u32_at.ensures ∙ c.if-u32_at-size.false ∙ c.size.ensures) c.in_ok-unit.ensures.unit in
+    prefix_broken v6 c.args.input.now c.in_ok-unit.unit.now _ shape c.in_ok-unit.ensures.unit
+    c.in-Err.ensures.rule
