@@ -1,5 +1,5 @@
 -- What a unit of a prefix means, whatever its family.
-use Rattle.std.proofs.Common.{◌≡◌, ℕ, ◌+◌, List, Some, None, length, take, drop, refl}
+use Rattle.std.proofs.Common.{◌≡◌, ℕ, ◌+◌, ◌-◌, List, Some, None, take, drop, refl, ap}
 use Rattle.std.specs.Prelude.{slice_index}
 use Rattle.rtr_base.specs.Actions.{act}
 use Rattle.rtr_base.specs.Addresses.{Family, v4, v6, width, cleared}
@@ -13,10 +13,10 @@ use Rattle.rtr_payload.specs.declared.payload.Payload.TheVariants.{Origin}
 use Rattle.rtr_payload.specs.declared.pdu.payload.Payload.{Payload}
 use Rattle.rtr_payload.proofs.Rests.{agree_from}
 
--- the address stands between twelve bytes and four
-pub prefix_parts : (f : Family) → prefix_size f ≡ 12 + address_bytes f + 4
-prefix_parts v4 = refl
-prefix_parts v6 = refl
+-- the number of the autonomous system is last, after twelve bytes and the address
+pub asn_place : (f : Family) (n : ℕ) → n ≡ prefix_size f → n - 4 ≡ 12 + address_bytes f
+asn_place v4 n is = ap (λ k. k - 4) is
+asn_place v6 n is = ap (λ k. k - 4) is
 
 pub origin_means : (u : Payload) (f : Family) (b : List ℕ) (o : RouteOrigin) →
     unit_bytes u ≡ b → unit_fields u ≡ prefix_unit (prefix_at f b) →

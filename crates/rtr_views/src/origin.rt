@@ -1,9 +1,8 @@
 //! Views of prefix units (RFC 8210 sections 5.6 and 5.7).
 
 ghost use Rattle.std.specs.Prelude.{◌≡◌, ◌≤◌, Some, length, IfOk, IfErr};
-ghost use Rattle.rtr_base.specs.Addresses.{v4, v6};
 ghost use Rattle.rtr_units.specs.Header.{type_field, length_field};
-ghost use Rattle.rtr_units.specs.PrefixUnits.{prefix_at};
+ghost use Rattle.rtr_units.specs.PrefixUnits.{prefix_at, prefix_type, prefix_size};
 ghost use Rattle.rtr_payload.specs.Steps.{first_unit, rule_of};
 ghost use Rattle.rtr_payload.specs.Units.{prefix_unit, LengthsAgree, form_of};
 ghost use Rattle.rtr_views.specs.Faults.{IsFirstFault, PutsPiece, HoldsViewWriteError};
@@ -16,9 +15,9 @@ use rtr_base::asn::Asn;
 use rtr_base::payload::Action;
 use rtr_payload::payload::RouteOrigin;
 use rtr_payload::pdu::PrefixUnit;
-use rtr_payload::pdu::prefix_rule::{PrefixRule, ipv4_prefix, ipv6_prefix};
+use rtr_payload::pdu::prefix_rule::PrefixRule;
 use rtr_units::fixed::{Ipv4Prefix, Ipv6Prefix};
-use rtr_units::numbers::{u32_at, u128_at};
+use rtr_units::numbers::u32_at;
 use rtr_units::source::Sink;
 use rtr_units::unit::Unit;
 
@@ -55,75 +54,42 @@ impl OriginView {
         self.origin
     }
 
-    /// The view of the IPv4 prefix unit at the front of the input.
+    /// The view of the prefix unit of this family at the front of the input.
     #[inline(always)]
-    pub(crate) fn first_ipv4(input: &[u8]) -> Result<Self, ViewFault>
+    pub(crate) fn first<U: PrefixUnit>(input: &[u8]) -> Result<Self, ViewFault>
         requires header { 8 ≤ length input.now }
-        requires kind { type_field input.now ≡ 4 }
-        ensures size { IfOk result (λ _. length_field input.now ≡ 20) }
-        ensures within { IfOk result (λ _. 20 ≤ length input.now) }
-        ensures view { IfOk result (λ v. IsOriginOf v4 v (first_unit input.now)) }
+        requires kind { type_field input.now ≡ prefix_type U.family }
+        ensures size { IfOk result (λ _. length_field input.now ≡ prefix_size U.family) }
+        ensures within { IfOk result (λ _. prefix_size U.family ≤ length input.now) }
+        ensures view { IfOk result (λ v. IsOriginOf U.family v (first_unit input.now)) }
         ensures fault { IfErr result (λ e. IsFirstFault input.now e) }
     {
-        if u32_at(input, 4) != Ipv4Prefix::size() {
+        if u32_at(input, 4) != U::size() {
             return Err(ViewFault::UnitLength);
         }
-        let unit = first_unit(input, Ipv4Prefix::LENGTH)?;
-        match OriginView::of_ipv4(unit) {
+        let unit = first_unit(input, U::LENGTH)?;
+        match OriginView::of::<U>(unit) {
             Ok(view) => Ok(view),
             Err(rule) => Err(ViewFault::Prefix(rule)),
         }
     }
 
-    /// The view of the IPv6 prefix unit at the front of the input.
+    /// The view of a prefix unit of this family.
     #[inline(always)]
-    pub(crate) fn first_ipv6(input: &[u8]) -> Result<Self, ViewFault>
-        requires header { 8 ≤ length input.now }
-        requires kind { type_field input.now ≡ 6 }
-        ensures size { IfOk result (λ _. length_field input.now ≡ 32) }
-        ensures within { IfOk result (λ _. 32 ≤ length input.now) }
-        ensures view { IfOk result (λ v. IsOriginOf v6 v (first_unit input.now)) }
-        ensures fault { IfErr result (λ e. IsFirstFault input.now e) }
+    fn of<U: PrefixUnit>(unit: &[u8]) -> Result<Self, PrefixRule>
+        requires { length unit.now ≡ prefix_size U.family }
+        ensures view { IfOk result (λ v. ShowsOrigin v (prefix_at U.family unit.now)) }
+        ensures lengths { IfOk result
+            (λ _. LengthsAgree (prefix_unit (prefix_at U.family unit.now))) }
+        ensures rule { IfErr result
+            (λ r. rule_of (prefix_unit (prefix_at U.family unit.now)) ≡ Some r) }
     {
-        if u32_at(input, 4) != Ipv6Prefix::size() {
-            return Err(ViewFault::UnitLength);
-        }
-        let unit = first_unit(input, Ipv6Prefix::LENGTH)?;
-        match OriginView::of_ipv6(unit) {
-            Ok(view) => Ok(view),
-            Err(rule) => Err(ViewFault::Prefix(rule)),
-        }
-    }
-
-    /// The view of an IPv4 prefix unit.
-    #[inline(always)]
-    fn of_ipv4(unit: &[u8]) -> Result<Self, PrefixRule>
-        requires { length unit.now ≡ 20 }
-        ensures view { IfOk result (λ v. ShowsOrigin v (prefix_at v4 unit.now)) }
-        ensures lengths { IfOk result (λ _. LengthsAgree (prefix_unit (prefix_at v4 unit.now))) }
-        ensures rule { IfErr result (λ r. rule_of (prefix_unit (prefix_at v4 unit.now)) ≡ Some r) }
-    {
-        let prefix = ipv4_prefix(u32_at(unit, 12), unit[9], unit[10])?;
+        let prefix = U::prefix_of(&unit[12..], unit[9], unit[10])?;
+        let asn = Asn::from_u32(u32_at(unit, U::LENGTH - 4));
         Ok(OriginView {
             version: unit[0],
             flags: unit[8],
-            origin: RouteOrigin::new(prefix, Asn::from_u32(u32_at(unit, 16))),
-        })
-    }
-
-    /// The view of an IPv6 prefix unit.
-    #[inline(always)]
-    fn of_ipv6(unit: &[u8]) -> Result<Self, PrefixRule>
-        requires { length unit.now ≡ 32 }
-        ensures view { IfOk result (λ v. ShowsOrigin v (prefix_at v6 unit.now)) }
-        ensures lengths { IfOk result (λ _. LengthsAgree (prefix_unit (prefix_at v6 unit.now))) }
-        ensures rule { IfErr result (λ r. rule_of (prefix_unit (prefix_at v6 unit.now)) ≡ Some r) }
-    {
-        let prefix = ipv6_prefix(u128_at(unit, 12), unit[9], unit[10])?;
-        Ok(OriginView {
-            version: unit[0],
-            flags: unit[8],
-            origin: RouteOrigin::new(prefix, Asn::from_u32(u32_at(unit, 28))),
+            origin: RouteOrigin::new(prefix, asn),
         })
     }
 

@@ -48,11 +48,11 @@ impl<'a> UnitView<'a> {
         }
         match input[1] {
             Ipv4Prefix::PDU => {
-                let view = OriginView::first_ipv4(input)?;
+                let view = OriginView::first::<Ipv4Prefix>(input)?;
                 Ok((UnitView::Origin(view), Ipv4Prefix::LENGTH))
             }
             Ipv6Prefix::PDU => {
-                let view = OriginView::first_ipv6(input)?;
+                let view = OriginView::first::<Ipv6Prefix>(input)?;
                 Ok((UnitView::Origin(view), Ipv6Prefix::LENGTH))
             }
             EndOfData::PDU => {

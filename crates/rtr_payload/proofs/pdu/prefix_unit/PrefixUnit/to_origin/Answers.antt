@@ -1,11 +1,11 @@
-use Rattle.std.proofs.Common.{◌≡◌, ◌+◌, ◌-◌, length, take, drop, sym, ap, subst, ◌∙◌, arith}
+use Rattle.std.proofs.Common.{◌≡◌, ◌+◌, take, drop, sym, ap, subst, ◌∙◌}
 use Rattle.std.proofs.lemmas.List.{take_rest}
 use Rattle.rtr_base.specs.Bytes.{value}
 use Rattle.rtr_units.specs.PrefixUnits.{address_bytes, prefix_at}
 use Rattle.rtr_payload.specs.Units.{prefix_unit}
 use Rattle.rtr_payload.specs.UnitValues.{MeansPayload}
 use Rattle.rtr_payload.specs.declared.payload.Payload.TheVariants.{Origin}
-use Rattle.rtr_payload.proofs.Origins.{prefix_parts, origin_means}
+use Rattle.rtr_payload.proofs.Origins.{asn_place, origin_means}
 use Rattle.rtr_payload.proofs.pdu.prefix_unit.PrefixUnit.to_origin.Goals as goal
 
 pub returns-in-Ok-clause-ok : goal.returns-in-Ok-clause-ok
@@ -15,8 +15,7 @@ returns-in-Ok-clause-ok g c =
     let b = c.as_ref-bytes.result.now in
     let (same, fields) = g.met.Self.PrefixUnit.told c.args.self.now in
     let (kind, size) = g.met.Self.PrefixUnit.typed in
-    let place : c.LENGTH.result - 4 ≡ 12 + address_bytes family =
-    omega (arith, c.LENGTH.ensures, size, prefix_parts family) in
+    let place = asn_place family c.LENGTH.result (c.LENGTH.ensures ∙ size) in
     let asn : c.from_u32-asn.result ≡ value (take 4 (drop (12 + address_bytes family) b)) =
     c.from_u32-asn.ensures ∙ c.u32_at.ensures ∙ ap (λ n. value (take 4 (drop n b))) place in
     let prefix = rw (take_rest b 12) at c.in-Ok.ensures.ok in

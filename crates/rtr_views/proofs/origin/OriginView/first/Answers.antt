@@ -1,0 +1,44 @@
+use Rattle.std.proofs.Common.{sym, subst, ◌∙◌, arith}
+use Rattle.rtr_views.specs.Origins.{IsOriginOf}
+use Rattle.rtr_views.proofs.Fronts.{typed_shows, typed_in_order, prefix_length, prefix_in_order}
+use Rattle.rtr_views.proofs.Fronts.{prefix_front, prefix_broken}
+use Rattle.rtr_views.proofs.origin.OriginView.first.Goals as goal
+
+pub returns-then-u32_at-size-clause-fault : goal.returns-then-u32_at-size-clause-fault
+returns-then-u32_at-size-clause-fault g c =
+    let (kind, size) = g.met.U.PrefixUnit.typed in
+    typed_shows c.args.input.now _ _ c.requires.header c.requires.kind
+    (prefix_length g.U.PrefixUnit.family _ _ _
+    (λ e. c.if-u32_at-size.true (c.u32_at.ensures ∙ e ∙ sym (c.size.ensures ∙ size))))
+
+pub first_unit-requires-clause-in_order : goal.first_unit-requires-clause-in_order
+first_unit-requires-clause-in_order g c =
+    let (kind, size) = g.met.U.PrefixUnit.typed in
+    typed_in_order c.args.input.now _ c.requires.kind
+    (prefix_in_order g.U.PrefixUnit.family _ _ _
+    (sym c.u32_at.ensures ∙ c.if-u32_at-size.false ∙ c.size.ensures ∙ size))
+
+pub returns-in-Ok-clause-view : goal.returns-in-Ok-clause-view
+returns-in-Ok-clause-view g c =
+    let (kind, size) = g.met.U.PrefixUnit.typed in
+    let family = g.U.PrefixUnit.family in
+    let shape = prefix_front family c.args.input.now c.in_ok-unit.unit.now
+    (λ i. omega (arith, c.type_inv.input i)) c.requires.kind
+    (sym c.u32_at.ensures ∙ c.if-u32_at-size.false ∙ c.size.ensures ∙ size)
+    c.in_ok-unit.ensures.unit in
+    subst (IsOriginOf family c.in-Ok.view) c.in_ok-unit.ensures.unit.cut (record {
+      shape = shape;
+      lengths = c.in-Ok.ensures.lengths;
+      shows = c.in-Ok.ensures.view;
+    })
+
+pub returns-in-Err-clause-fault : goal.returns-in-Err-clause-fault
+returns-in-Err-clause-fault g c =
+    let (kind, size) = g.met.U.PrefixUnit.typed in
+    let family = g.U.PrefixUnit.family in
+    let shape = prefix_front family c.args.input.now c.in_ok-unit.unit.now
+    (λ i. omega (arith, c.type_inv.input i)) c.requires.kind
+    (sym c.u32_at.ensures ∙ c.if-u32_at-size.false ∙ c.size.ensures ∙ size)
+    c.in_ok-unit.ensures.unit in
+    prefix_broken family c.args.input.now c.in_ok-unit.unit.now _ shape c.in_ok-unit.ensures.unit
+    c.in-Err.ensures.rule
