@@ -1,14 +1,7 @@
 //! Lists the units of a recorded session, one on a line, or what breaks the protocol's rules in it.
 #![tactic(auto)]
 
-mod check;
-mod finding;
-mod human;
-mod json_line;
-mod line;
-mod printer;
-mod run;
-
+use rtr_listing::program;
 use rtr_units::source::Counted;
 use std::env;
 use std::io::{BufReader, BufWriter, Stderr, Stdin, Stdout};
@@ -43,5 +36,5 @@ fn main(rt: HostRuntime) -> ExitCode {
     let mut input = Counted::new(buffered_input(&rt));
     let mut output = Counted::new(buffered_output(&rt));
     let mut faults: Stderr = rt.stderr();
-    run::program(rt.alloc(), words(&rt), &mut input, &mut output, &mut faults)
+    program(rt.alloc(), words(&rt), &mut input, &mut output, &mut faults)
 }

@@ -7,10 +7,10 @@ use Rattle.std.specs.List.{concat}
 use Rattle.rtr_units.specs.declared.fault.Fault.{Fault}
 use Rattle.rtr_units.specs.Causes.{Cause, by_writer, no_memory, by_cause, cause_of}
 use Rattle.rtr_units.specs.Stream.{WriterState, writer_count}
-use Rattle.rtr_list.specs.Lines.{IsLine, IsPartOfLine}
-use Rattle.rtr_list.specs.Listing.{AreLines}
-use Rattle.rtr_list.specs.declared.run.Wanted.{Wanted}
-use Rattle.rtr_list.specs.declared.run.Wanted.TheVariants.{Text, Json, Findings}
+use Rattle.rtr_listing.specs.Lines.{IsLine, IsPartOfLine}
+use Rattle.rtr_listing.specs.Listing.{AreLines}
+use Rattle.rtr_listing.specs.declared.run.Wanted.{Wanted}
+use Rattle.rtr_listing.specs.declared.run.Wanted.TheVariants.{Text, Json, Findings}
 
 -- ---- one line
 

@@ -1,5 +1,5 @@
 use Rattle.std.proofs.Common.{◌≤◌, ◌<◌, ℕ, slice_index_or}
-use Rattle.rtr_list.proofs.line.clear_controls.Given as goal
+use Rattle.rtr_listing.proofs.line.clear_controls.Given as goal
 
 -- no byte before this one is below 32
 abbrev pub invariant-loop-byte : goal.invariant-loop-byte

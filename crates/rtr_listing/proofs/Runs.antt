@@ -16,12 +16,12 @@ use Rattle.rtr_units.specs.Causes.{cause_of}
 use Rattle.rtr_units.specs.Reading.{Takes}
 use Rattle.rtr_units.specs.Stream.{ReaderState, WriterState, reader_count, writer_count}
 use Rattle.rtr_session.specs.Reads.{HasEnded, StopsInAny}
-use Rattle.rtr_list.specs.Lines.{IsLine}
-use Rattle.rtr_list.specs.Listing.{IsUnit, AreUnits, AreLines, Counts, OneEach, Ends, Lists}
-use Rattle.rtr_list.specs.PrivateCalls.{PrintsBytes, Shows, ShowsPart, StopsLine}
-use Rattle.rtr_list.specs.declared.run.Wanted.{Wanted}
-use Rattle.rtr_list.specs.declared.run.Wanted.TheVariants.{Text, Json, Findings}
-use Rattle.rtr_list.proofs.Printing.{all_append, concat_push}
+use Rattle.rtr_listing.specs.Lines.{IsLine}
+use Rattle.rtr_listing.specs.Listing.{IsUnit, AreUnits, AreLines, Counts, OneEach, Ends, Lists}
+use Rattle.rtr_listing.specs.PrivateCalls.{PrintsBytes, Shows, ShowsPart, StopsLine}
+use Rattle.rtr_listing.specs.declared.run.Wanted.{Wanted}
+use Rattle.rtr_listing.specs.declared.run.Wanted.TheVariants.{Text, Json, Findings}
+use Rattle.rtr_listing.proofs.Printing.{all_append, concat_push}
 
 -- the counts of failures after this answer
 abbrev Counted : Result Bool Cause → (old new : ReaderState) (before after : WriterState) → Type 0

@@ -1,6 +1,6 @@
 use Rattle.std.proofs.Common.{◌≡◌}
-use Rattle.rtr_list.proofs.Runs.{SoFar}
-use Rattle.rtr_list.proofs.run.list.Given as goal
+use Rattle.rtr_listing.proofs.Runs.{SoFar}
+use Rattle.rtr_listing.proofs.run.list.Given as goal
 
 abbrev pub invariant-loop-count : goal.invariant-loop-count
 invariant-loop-count g l = record {

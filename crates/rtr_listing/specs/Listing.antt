@@ -13,9 +13,9 @@ use Rattle.rtr_units.specs.Causes.{by_cause}
 use Rattle.rtr_units.specs.Stream.{ReaderState, WriterState, reader_count, writer_count}
 use Rattle.rtr_session.specs.Fields.{AnyFields, HasAnyFields}
 use Rattle.rtr_session.specs.Reads.{StopsInAny}
-use Rattle.rtr_list.specs.Lines.{IsLine, IsPartOfLine}
-use Rattle.rtr_list.specs.declared.run.Wanted.{Wanted}
-use Rattle.rtr_list.specs.declared.run.Wanted.TheVariants.{Text, Json, Findings}
+use Rattle.rtr_listing.specs.Lines.{IsLine, IsPartOfLine}
+use Rattle.rtr_listing.specs.declared.run.Wanted.{Wanted}
+use Rattle.rtr_listing.specs.declared.run.Wanted.TheVariants.{Text, Json, Findings}
 
 -- these are the bytes of a unit of any type
 abbrev pub IsUnit : List ℕ → Type 0

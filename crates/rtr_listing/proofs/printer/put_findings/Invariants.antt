@@ -1,6 +1,6 @@
 use Rattle.std.proofs.Common.{◌≡◌}
-use Rattle.rtr_list.proofs.Printing.{SoFar}
-use Rattle.rtr_list.proofs.printer.put_findings.Given as goal
+use Rattle.rtr_listing.proofs.Printing.{SoFar}
+use Rattle.rtr_listing.proofs.printer.put_findings.Given as goal
 
 abbrev pub invariant-loop-finding : goal.invariant-loop-finding
 invariant-loop-finding g l = record {

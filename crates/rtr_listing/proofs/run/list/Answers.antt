@@ -1,6 +1,6 @@
 use Rattle.std.proofs.Common.{rules, refl}
-use Rattle.rtr_list.proofs.Runs.{starts, goes_on, stops_reading, stops_printing}
-use Rattle.rtr_list.proofs.run.list.Goals as goal
+use Rattle.rtr_listing.proofs.Runs.{starts, goes_on, stops_reading, stops_printing}
+use Rattle.rtr_listing.proofs.run.list.Goals as goal
 
 pub loop-count-init : goal.loop-count-init
 loop-count-init g c = record { so_far = starts c.args.wanted _ _; reads = refl; writes = refl }

@@ -1,6 +1,6 @@
 use Rattle.std.proofs.Common.{rules}
-use Rattle.rtr_list.proofs.Printing.{goes_on}
-use Rattle.rtr_list.proofs.printer.put_findings.Goals as goal
+use Rattle.rtr_listing.proofs.Printing.{goes_on}
+use Rattle.rtr_listing.proofs.printer.put_findings.Goals as goal
 
 pub loop-finding-preserved : goal.loop-finding-preserved
 loop-finding-preserved g c = record {

@@ -3,9 +3,9 @@
 ghost use Rattle.std.specs.Prelude.{◌≡◌, drop, IsNone, IfSome, None};
 ghost use Rattle.std.specs.Process.{exit_status};
 ghost use Rattle.rtr_units.specs.Causes.{by_cause};
-ghost use Rattle.rtr_list.specs.Listing.{Lists};
-ghost use Rattle.rtr_list.specs.Status.{Runs, status_of};
-ghost use Rattle.rtr_list.specs.Words.{asked, asked_word};
+ghost use Rattle.rtr_listing.specs.Listing.{Lists};
+ghost use Rattle.rtr_listing.specs.Status.{Runs, status_of};
+ghost use Rattle.rtr_listing.specs.Words.{asked, asked_word};
 
 use crate::printer::Printer;
 use rtr_session::AnyUnit;

@@ -4,8 +4,8 @@ use Rattle.rtr_units.specs.declared.fault.Fault.{Fault}
 use Rattle.rtr_units.specs.Causes.{Cause, by_reader, by_writer, too_many, no_memory, wrong}
 use Rattle.rtr_units.specs.Causes.{by_cause}
 use Rattle.rtr_units.specs.Stream.{ReaderState, WriterState, Flushes}
-use Rattle.rtr_list.specs.Listing.{Lists}
-use Rattle.rtr_list.specs.declared.run.Wanted.{Wanted}
+use Rattle.rtr_listing.specs.Listing.{Lists}
+use Rattle.rtr_listing.specs.declared.run.Wanted.{Wanted}
 
 -- the status by the answer, where the flush after it succeeded: 0 at the end of the input where no
 -- rule was found broken, 1 where one was and at a fault of the input, 3 otherwise

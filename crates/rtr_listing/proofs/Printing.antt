@@ -7,11 +7,11 @@ use Rattle.std.proofs.lemmas.List.Folds.{concat-append}
 use Rattle.std.specs.Io.KnownBytes.{Appends}
 use Rattle.std.proofs.KnownBytes.{Appends-trans}
 use Rattle.rtr_units.specs.Stream.{WriterState}
-use Rattle.rtr_list.specs.Lines.{IsLine}
-use Rattle.rtr_list.specs.Listing.{AreLines}
-use Rattle.rtr_list.specs.PrivateCalls.{Prints, PutsLine, PutsLineBytes, Shows}
-use Rattle.rtr_list.specs.declared.run.Wanted.{Wanted}
-use Rattle.rtr_list.specs.declared.run.Wanted.TheVariants.{Text, Json}
+use Rattle.rtr_listing.specs.Lines.{IsLine}
+use Rattle.rtr_listing.specs.Listing.{AreLines}
+use Rattle.rtr_listing.specs.PrivateCalls.{Prints, PutsLine, PutsLineBytes, Shows}
+use Rattle.rtr_listing.specs.declared.run.Wanted.{Wanted}
+use Rattle.rtr_listing.specs.declared.run.Wanted.TheVariants.{Text, Json}
 
 pub all_append : {X : Type 0} (P : X → Type 0) (xs ys : List X) → AllByRecursion P xs →
     AllByRecursion P ys → AllByRecursion P (xs ++ ys)

@@ -2,8 +2,8 @@
 use Rattle.std.specs.Prelude.{ℕ, Option, Some, None, List, [], ◌∷◌, map}
 use Rattle.std.specs.Prelude.{codes, bytes_eq, if◌then◌else◌}
 use Rattle.std.specs.Prelude.{String, string_bytes}
-use Rattle.rtr_list.specs.declared.run.Wanted.{Wanted}
-use Rattle.rtr_list.specs.declared.run.Wanted.TheVariants.{Text, Json, Findings}
+use Rattle.rtr_listing.specs.declared.run.Wanted.{Wanted}
+use Rattle.rtr_listing.specs.declared.run.Wanted.TheVariants.{Text, Json, Findings}
 
 -- what one word asks for
 abbrev pub asked_word : List ℕ → Option Wanted

@@ -4,8 +4,8 @@ ghost use Rattle.std.specs.Prelude.{◌≡◌, ◌≢◌, ◌≤◌, ◌++◌, [
 ghost use Rattle.std.specs.List.{All};
 ghost use Rattle.std.specs.Fmt.{AppendsText};
 ghost use Rattle.rtr_units.specs.Causes.{by_cause, by_reader};
-ghost use Rattle.rtr_list.specs.Lines.{IsLine};
-ghost use Rattle.rtr_list.specs.PrivateCalls.{PutsLine};
+ghost use Rattle.rtr_listing.specs.Lines.{IsLine};
+ghost use Rattle.rtr_listing.specs.PrivateCalls.{PutsLine};
 
 use itoa::Buffer;
 use rtr_units::fault::Fault;
