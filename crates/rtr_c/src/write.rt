@@ -63,11 +63,7 @@ pub extern "C" fn rtr_write_unit(
 }
 
 /// Writes the form of a prefix of the family of this number, and answers its length.
-fn write_prefix<U: PrefixUnit>(
-    unit: &RtrUnit,
-    family: u8,
-    output: &mut [u8],
-) -> Result<usize, u8>
+fn write_prefix<U: PrefixUnit>(unit: &RtrUnit, family: u8, output: &mut [u8]) -> Result<usize, u8>
     requires { family ≡ ip_version U.family }
     ensures { Writes (prefix_said U.family unit.now) result output.old output.new }
 {
