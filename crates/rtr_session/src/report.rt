@@ -39,7 +39,7 @@ pub struct Report {
 }
 
 impl Model for Report {
-    ghost use Rattle.std.specs.Prelude.{ℕ, List, IfErr};
+    ghost use Rattle.std.specs.Prelude.{ℕ, List};
     ghost use Rattle.rtr_session.specs.Reports.{IsReport};
 
     ghost Value = { List ℕ };

@@ -27,7 +27,7 @@ pub struct Error {
 }
 
 impl Model for Error {
-    ghost use Rattle.std.specs.Prelude.{ℕ, List, IfErr};
+    ghost use Rattle.std.specs.Prelude.{ℕ, List};
 
     ghost Value = { List ℕ };
 

@@ -86,7 +86,7 @@ pub struct Framed<const FIXED: usize, B: Body<FIXED>> {
 }
 
 impl<const FIXED: usize, B: Body<FIXED>> Model for Framed<FIXED, B> {
-    ghost use Rattle.std.specs.Prelude.{◌≡◌, ◌++◌, ℕ, List, length, IfErr};
+    ghost use Rattle.std.specs.Prelude.{◌≡◌, ◌++◌, ℕ, List, length};
 
     ghost Value = { List ℕ };
 
