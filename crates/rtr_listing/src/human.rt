@@ -58,12 +58,12 @@ fn describe_payload(alloc: Global, line: &mut Line, unit: &Payload) -> Result<()
     })?;
     match unit {
         Payload::V4(unit) => {
-            let lengths = (unit.prefix_len(), unit.max_len());
-            describe_prefix(line, unit.prefix(), lengths, unit.asn())
+            let (prefix_len, max_len) = (unit.prefix_len(), unit.max_len());
+            describe_prefix(line, unit.prefix(), prefix_len, max_len, unit.asn())
         }
         Payload::V6(unit) => {
-            let lengths = (unit.prefix_len(), unit.max_len());
-            describe_prefix(line, unit.prefix(), lengths, unit.asn())
+            let (prefix_len, max_len) = (unit.prefix_len(), unit.max_len());
+            describe_prefix(line, unit.prefix(), prefix_len, max_len, unit.asn())
         }
         Payload::RouterKey(unit) => describe_key(alloc, line, unit),
         Payload::Aspa(unit) => describe_aspa(line, unit),
@@ -73,13 +73,14 @@ fn describe_payload(alloc: Global, line: &mut Line, unit: &Payload) -> Result<()
 fn describe_prefix<A: Display + Drop>(
     line: &mut Line,
     address: A,
-    lengths: (u8, u8),
+    prefix_len: u8,
+    max_len: u8,
     system: Asn,
 ) -> Result<(), AllocError> {
     line.text(" ")?;
     line.show(address)?;
-    line.labelled("/", u64::from(lengths.0))?;
-    line.labelled("-", u64::from(lengths.1))?;
+    line.labelled("/", u64::from(prefix_len))?;
+    line.labelled("-", u64::from(max_len))?;
     asn(line, system)
 }
 
