@@ -1,5 +1,5 @@
 -- Where reading an error report stops, by its header and by what follows it.
-use Rattle.std.proofs.Common.{eqb, cond, Some, refl}
+use Rattle.std.proofs.Common.{eqb, cond, Some}
 use Rattle.rtr_units.specs.Causes.{unit_type}
 use Rattle.rtr_units.specs.Reading.{least_length}
 use Rattle.rtr_units.proofs.Headers.{same_header}

@@ -2,7 +2,6 @@
 use Rattle.std.proofs.Common.{◌≡◌, ℕ, ◌<◌, ◌≤◌, ◌⊎◌, List, [], ◌++◌, length, get_or, Option, Some}
 use Rattle.std.proofs.Common.{Err, refl, sym, ap, ◌∙◌, arith, inl, inr, length-append}
 use Rattle.std.specs.Prelude.{IsTrue, ◌==◌, ◌&&◌, ◌||◌}
-use Rattle.std.specs.Io.KnownBytes.{Consumes}
 use Rattle.std.proofs.lemmas.Bool.Decides.{nat_tests}
 use Rattle.rtr_base.specs.Addresses.{v4, v6}
 use Rattle.rtr_units.specs.Causes.{short, unit_type, unit_version, too_long, unit_length}
@@ -12,7 +11,7 @@ use Rattle.rtr_units.specs.declared.fault.Fault.{Fault}
 use Rattle.rtr_units.specs.Ends.{end_unit}
 use Rattle.rtr_units.specs.Header.{version_field, type_field, length_field}
 use Rattle.rtr_units.specs.Reading.{Kind, exact_length, least_length}
-use Rattle.rtr_units.specs.Reading.{of_size, ReadsAfter, Stops, Takes}
+use Rattle.rtr_units.specs.Reading.{of_size, ReadsAfter, Stops}
 use Rattle.rtr_units.specs.Stream.{FallsShort, ReaderState}
 use Rattle.rtr_units.proofs.Headers.{same_header}
 use Rattle.rtr_units.proofs.UnitsRead.{AlikeAfter, alike_stops, header_stops, at_header, typed_is}
@@ -21,7 +20,6 @@ use Rattle.rtr_payload.specs.UnitKinds.{variable_unit, payload_unit}
 use Rattle.rtr_payload.proofs.Reading.{prefix_alike, end_alike, key_alike, aspa_alike}
 use Rattle.rtr_session.specs.Headers.{any_header_fault, session_unit, report_unit, report_sized}
 use Rattle.rtr_session.specs.Reads.{ReadsAnyAfter, StopsInAny}
-use Rattle.rtr_session.proofs.Headers.{report_by}
 
 -- ---- what is wrong with a header, by its type
 

@@ -1,4 +1,4 @@
-use Rattle.std.proofs.Common.{ap, Err, ◌≡◌, ◌∙◌, [], length, sym, refl, arith, inl, inr}
+use Rattle.std.proofs.Common.{◌≡◌, ◌∙◌, [], sym, refl, arith, inl, inr}
 use Rattle.std.proofs.KnownBytes.{Consumes-nil}
 use Rattle.std.proofs.lemmas.Result.{err_from_is_err_and}
 use Rattle.rtr_base.specs.Addresses.{v4, v6}

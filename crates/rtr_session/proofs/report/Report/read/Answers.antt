@@ -1,5 +1,3 @@
-use Rattle.std.proofs.Common.{[], ◌++◌, length-append, arith}
-use Rattle.std.proofs.KnownBytes.{Consumes-trans}
 use Rattle.rtr_units.specs.Reading.{by_bytes}
 use Rattle.rtr_units.specs.Views.{header_bytes}
 use Rattle.rtr_units.proofs.UnitsRead.{reads_on}
