@@ -65,7 +65,8 @@ not_some : {A : Type 0} (o : Option A) → o ≡ None → IsSome o → ⊥
 not_some None e h = absurd cc
 not_some (Some x) e h = absurd cc
 
-no_report : (u : Unit) → rule_of (unit_fields u) ≡ None → IsPrefixUnit u → NeedsMemory (unit_fields u) → ⊥
+no_report : (u : Unit) → rule_of (unit_fields u) ≡ None → IsPrefixUnit u →
+    NeedsMemory (unit_fields u) → ⊥
 no_report (V4 u) e k h = not_some _ e h
 no_report (V6 u) e k h = not_some _ e h
 no_report (RouterKey u) e k h = k

@@ -98,7 +98,8 @@ impl<'a> AspaView<'a> {
     pub(crate) fn write_form<W: Sink>(&self, writer: &mut W) -> Result<(), ViewFault>
         ensures bytes { PutsPiece result (W.state writer.old) (W.state writer.new)
             (form_of (meaning (aspa_unit (aspa_at self.now.unit.now)))) }
-        ensures error { IfErr result (HoldsViewWriteError (W.fails writer.new) (W.stalls writer.new)) }
+        ensures error { IfErr result
+            (HoldsViewWriteError (W.fails writer.new) (W.stalls writer.new)) }
     {
         let action = Action::from_flags(self.flags());
         let kept = match action {

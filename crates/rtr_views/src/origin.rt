@@ -98,7 +98,8 @@ impl OriginView {
     pub(crate) fn write_form<W: Sink>(&self, writer: &mut W) -> Result<(), ViewFault>
         ensures bytes { PutsPiece result (W.state writer.old) (W.state writer.new)
             (form_of (origin_meaning self.now)) }
-        ensures error { IfErr result (HoldsViewWriteError (W.fails writer.new) (W.stalls writer.new)) }
+        ensures error { IfErr result
+            (HoldsViewWriteError (W.fails writer.new) (W.stalls writer.new)) }
     {
         let flags = Action::from_flags(self.flags).into_flags();
         let prefix = self.origin.prefix.prefix();

@@ -105,7 +105,8 @@ impl<'a> RouterKeyView<'a> {
     pub(crate) fn write_form<W: Sink>(&self, writer: &mut W) -> Result<(), ViewFault>
         ensures bytes { PutsPiece result (W.state writer.old) (W.state writer.new)
             (form_of (meaning (key_unit (key_at self.now.unit.now)))) }
-        ensures error { IfErr result (HoldsViewWriteError (W.fails writer.new) (W.stalls writer.new)) }
+        ensures error { IfErr result
+            (HoldsViewWriteError (W.fails writer.new) (W.stalls writer.new)) }
     {
         let action = Action::from_flags(self.flags());
         put_flagged(

@@ -80,7 +80,8 @@ impl<'a> UnitView<'a> {
     pub fn write_form<W: Sink>(&self, writer: &mut W) -> Result<(), ViewFault>
         ensures bytes { PutsPiece result (W.state writer.old) (W.state writer.new)
             (view_form self.now) }
-        ensures error { IfErr result (HoldsViewWriteError (W.fails writer.new) (W.stalls writer.new)) }
+        ensures error { IfErr result
+            (HoldsViewWriteError (W.fails writer.new) (W.stalls writer.new)) }
     {
         match self {
             UnitView::Origin(view) => view.write_form(writer),

@@ -17,7 +17,8 @@ use Rattle.rtr_session.proofs.Units.{reset_query_has, response_has, cache_reset_
 use Rattle.rtr_session.proofs.Units.{end_reads, variable_reads, report_has}
 use Rattle.rtr_session.proofs.any_unit.AnyUnit.read_payload.Goals as goal
 
-pub returns-in_err-read_payload-in-0-clause-bytes : goal.returns-in_err-read_payload-in-0-clause-bytes
+pub returns-in_err-read_payload-in-0-clause-bytes :
+    goal.returns-in_err-read_payload-in-0-clause-bytes
 returns-in_err-read_payload-in-0-clause-bytes g c =
     let p = err_from_is_err_and c.from_residual.result c.from_residual.ensures.1 in
     rw (p.1, p.2)
@@ -25,7 +26,8 @@ returns-in_err-read_payload-in-0-clause-bytes g c =
     (λ long kind. twelve_alike _ long 0 kind (inl refl))
     c.in_err-read_payload-in-0.field-0.0 _ _ c.in_err-read_payload-in-0.ensures.bytes)
 
-pub returns-in_err-read_payload-in-1-clause-bytes : goal.returns-in_err-read_payload-in-1-clause-bytes
+pub returns-in_err-read_payload-in-1-clause-bytes :
+    goal.returns-in_err-read_payload-in-1-clause-bytes
 returns-in_err-read_payload-in-1-clause-bytes g c =
     let p = err_from_is_err_and c.from_residual-in_err-read_payload-in-1.result
     c.from_residual-in_err-read_payload-in-1.ensures.1 in
@@ -34,7 +36,8 @@ returns-in_err-read_payload-in-1-clause-bytes g c =
     (λ long kind. twelve_alike _ long 1 kind (inr refl))
     c.in_err-read_payload-in-1.field-0.0 _ _ c.in_err-read_payload-in-1.ensures.bytes)
 
-pub returns-in_err-read_payload-in-2-clause-bytes : goal.returns-in_err-read_payload-in-2-clause-bytes
+pub returns-in_err-read_payload-in-2-clause-bytes :
+    goal.returns-in_err-read_payload-in-2-clause-bytes
 returns-in_err-read_payload-in-2-clause-bytes g c =
     let p = err_from_is_err_and c.from_residual-in_err-read_payload-in-2.result
     c.from_residual-in_err-read_payload-in-2.ensures.1 in
@@ -43,7 +46,8 @@ returns-in_err-read_payload-in-2-clause-bytes g c =
     (λ long kind. eight_alike _ long 2 kind (inl refl))
     c.in_err-read_payload-in-2.field-0.0 _ _ c.in_err-read_payload-in-2.ensures.bytes)
 
-pub returns-in_err-read_payload-in-3-clause-bytes : goal.returns-in_err-read_payload-in-3-clause-bytes
+pub returns-in_err-read_payload-in-3-clause-bytes :
+    goal.returns-in_err-read_payload-in-3-clause-bytes
 returns-in_err-read_payload-in-3-clause-bytes g c =
     let p = err_from_is_err_and c.from_residual-in_err-read_payload-in-3.result
     c.from_residual-in_err-read_payload-in-3.ensures.1 in
@@ -52,7 +56,8 @@ returns-in_err-read_payload-in-3-clause-bytes g c =
     (λ long kind. eight_alike _ long 3 kind (inr (inl refl)))
     c.in_err-read_payload-in-3.field-0.0 _ _ c.in_err-read_payload-in-3.ensures.bytes)
 
-pub returns-in_err-read_payload-in-4-clause-bytes : goal.returns-in_err-read_payload-in-4-clause-bytes
+pub returns-in_err-read_payload-in-4-clause-bytes :
+    goal.returns-in_err-read_payload-in-4-clause-bytes
 returns-in_err-read_payload-in-4-clause-bytes g c =
     let p = err_from_is_err_and c.from_residual-in_err-read_payload-in-4.result
     c.from_residual-in_err-read_payload-in-4.ensures.1 in
@@ -61,7 +66,8 @@ returns-in_err-read_payload-in-4-clause-bytes g c =
     (λ long kind. ipv4_any _ long kind) c.in_err-read_payload-in-4.field-0.0 _ _
     c.in_err-read_payload-in-4.ensures.bytes)
 
-pub returns-in_err-read_payload-in-6-clause-bytes : goal.returns-in_err-read_payload-in-6-clause-bytes
+pub returns-in_err-read_payload-in-6-clause-bytes :
+    goal.returns-in_err-read_payload-in-6-clause-bytes
 returns-in_err-read_payload-in-6-clause-bytes g c =
     let p = err_from_is_err_and c.from_residual-in_err-read_payload-in-6.result
     c.from_residual-in_err-read_payload-in-6.ensures.1 in
@@ -70,7 +76,8 @@ returns-in_err-read_payload-in-6-clause-bytes g c =
     (λ long kind. ipv6_any _ long kind) c.in_err-read_payload-in-6.field-0.0 _ _
     c.in_err-read_payload-in-6.ensures.bytes)
 
-pub returns-in_err-read_payload-in-7-clause-bytes : goal.returns-in_err-read_payload-in-7-clause-bytes
+pub returns-in_err-read_payload-in-7-clause-bytes :
+    goal.returns-in_err-read_payload-in-7-clause-bytes
 returns-in_err-read_payload-in-7-clause-bytes g c =
     let p = err_from_is_err_and c.from_residual-in_err-read_payload-in-7.result
     c.from_residual-in_err-read_payload-in-7.ensures.1 in
@@ -79,7 +86,8 @@ returns-in_err-read_payload-in-7-clause-bytes g c =
     (λ long kind. end_any _ long kind) c.in_err-read_payload-in-7.field-0.0 _ _
     c.in_err-read_payload-in-7.ensures.bytes)
 
-pub returns-in_err-read_payload-in-8-clause-bytes : goal.returns-in_err-read_payload-in-8-clause-bytes
+pub returns-in_err-read_payload-in-8-clause-bytes :
+    goal.returns-in_err-read_payload-in-8-clause-bytes
 returns-in_err-read_payload-in-8-clause-bytes g c =
     let p = err_from_is_err_and c.from_residual-in_err-read_payload-in-8.result
     c.from_residual-in_err-read_payload-in-8.ensures.1 in
@@ -97,7 +105,8 @@ returns-in_err-unit-in-9-clause-bytes g c =
     (λ long kind. key_any _ long kind) c.in_err-unit-in-9.field-0.0 _ _
     c.in_err-unit-in-9.ensures.bytes)
 
-pub returns-in_err-read_payload-in-10-clause-bytes : goal.returns-in_err-read_payload-in-10-clause-bytes
+pub returns-in_err-read_payload-in-10-clause-bytes :
+    goal.returns-in_err-read_payload-in-10-clause-bytes
 returns-in_err-read_payload-in-10-clause-bytes g c =
     let p = err_from_is_err_and c.from_residual-in_err-read_payload-in-10.result
     c.from_residual-in_err-read_payload-in-10.ensures.1 in
@@ -131,13 +140,15 @@ pub returns-in_ok-read_payload-in-2-clause-bytes : goal.returns-in_ok-read_paylo
 returns-in_ok-read_payload-in-2-clause-bytes g c =
     let h = header_bytes c.args.header in
     let kind : type_field h ≡ 2 = sym c.pdu.ensures.value ∙ c.in-2.is in
-    bare_reads h _ _ _ 2 kind reset_query c.in_ok-read_payload-in-2.ensures.bytes (reset_query_has _)
+    bare_reads h _ _ _ 2 kind reset_query c.in_ok-read_payload-in-2.ensures.bytes
+    (reset_query_has _)
 
 pub returns-in_ok-read_payload-in-3-clause-bytes : goal.returns-in_ok-read_payload-in-3-clause-bytes
 returns-in_ok-read_payload-in-3-clause-bytes g c =
     let h = header_bytes c.args.header in
     let kind : type_field h ≡ 3 = sym c.pdu.ensures.value ∙ c.in-3.is in
-    bare_reads h _ _ _ 3 kind cache_response c.in_ok-read_payload-in-3.ensures.bytes (response_has _)
+    bare_reads h _ _ _ 3 kind cache_response c.in_ok-read_payload-in-3.ensures.bytes
+    (response_has _)
 
 pub returns-in_ok-read_payload-in-4-clause-bytes : goal.returns-in_ok-read_payload-in-4-clause-bytes
 returns-in_ok-read_payload-in-4-clause-bytes g c =
@@ -162,7 +173,8 @@ pub returns-in_ok-read_payload-in-8-clause-bytes : goal.returns-in_ok-read_paylo
 returns-in_ok-read_payload-in-8-clause-bytes g c =
     let h = header_bytes c.args.header in
     let kind : type_field h ≡ 8 = sym c.pdu.ensures.value ∙ c.in-8.is in
-    bare_reads h _ _ _ 8 kind cache_reset c.in_ok-read_payload-in-8.ensures.bytes (cache_reset_has _)
+    bare_reads h _ _ _ 8 kind cache_reset c.in_ok-read_payload-in-8.ensures.bytes
+    (cache_reset_has _)
 
 pub returns-in_ok-unit-in-9-clause-bytes : goal.returns-in_ok-unit-in-9-clause-bytes
 returns-in_ok-unit-in-9-clause-bytes g c =
@@ -171,7 +183,8 @@ returns-in_ok-unit-in-9-clause-bytes g c =
     variable_reads 9 h _ _ _ _ c.in_ok-unit-in-9.ensures.bytes
     (c.in_ok-unit-in-9.ensures.fields kind)
 
-pub returns-in_ok-read_payload-in-10-clause-bytes : goal.returns-in_ok-read_payload-in-10-clause-bytes
+pub returns-in_ok-read_payload-in-10-clause-bytes :
+    goal.returns-in_ok-read_payload-in-10-clause-bytes
 returns-in_ok-read_payload-in-10-clause-bytes g c =
     let (_, ((takes, is), counts)) = c.in_ok-read_payload-in-10.ensures.bytes in
     ((takes, report_has _ is), counts)
