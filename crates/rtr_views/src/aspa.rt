@@ -82,15 +82,20 @@ impl<'a> AspaView<'a> {
         ensures within { IfOk result (λ v. length v.unit.now ≤ length input.now) }
         ensures fault { IfErr result (λ e. IsFirstFault input.now e) }
     {
-        let size = size_at(input)?;
+        let size = match size_at(input) {
+            Ok(size) => size,
+            Err(e) => return Err(e),
+        };
         if size < FIXED || size % 4 != 0 {
             return Err(ViewFault::UnitLength);
         }
         if size == FIXED && input[2] % 2 == 1 {
             return Err(ViewFault::EmptyProviders);
         }
-        let unit = first_unit(input, size)?;
-        Ok(AspaView { unit })
+        match first_unit(input, size) {
+            Ok(unit) => Ok(AspaView { unit }),
+            Err(e) => Err(e),
+        }
     }
 
     /// Writes the form of what the unit means: of a withdrawal without its providers.

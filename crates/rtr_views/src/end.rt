@@ -32,14 +32,18 @@ pub fn first_end(input: &[u8]) -> Result<EndOfData, ViewFault>
         if size != EndOfDataV0::size() {
             return Err(ViewFault::UnitLength);
         }
-        let unit = first_unit(input, EndOfDataV0::LENGTH)?;
-        Ok(EndOfData::V0(unit_of::<EndOfDataV0>(unit)))
+        match first_unit(input, EndOfDataV0::LENGTH) {
+            Ok(unit) => Ok(EndOfData::V0(unit_of::<EndOfDataV0>(unit))),
+            Err(e) => Err(e),
+        }
     } else {
         if size != EndOfDataV1::size() {
             return Err(ViewFault::UnitLength);
         }
-        let unit = first_unit(input, EndOfDataV1::LENGTH)?;
-        Ok(EndOfData::V1(unit_of::<EndOfDataV1>(unit)))
+        match first_unit(input, EndOfDataV1::LENGTH) {
+            Ok(unit) => Ok(EndOfData::V1(unit_of::<EndOfDataV1>(unit))),
+            Err(e) => Err(e),
+        }
     }
 }
 

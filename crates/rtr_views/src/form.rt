@@ -44,8 +44,10 @@ pub fn put_flagged<W: Sink>(
 {
     let size = 8 + rest.len() as u32;
     let header = flagged_header(version, pdu, action.into_flags(), size);
-    put_piece(writer, &header)?;
-    put_piece(writer, rest)
+    match put_piece(writer, &header) {
+        Ok(()) => put_piece(writer, rest),
+        Err(e) => Err(e),
+    }
 }
 
 /// Writes the bytes of the end of data. It is out of line, so that what writes units stays small

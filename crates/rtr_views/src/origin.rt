@@ -67,10 +67,12 @@ impl OriginView {
         if u32_at(input, 4) != U::size() {
             return Err(ViewFault::UnitLength);
         }
-        let unit = first_unit(input, U::LENGTH)?;
-        match OriginView::of::<U>(unit) {
-            Ok(view) => Ok(view),
-            Err(rule) => Err(ViewFault::Prefix(rule)),
+        match first_unit(input, U::LENGTH) {
+            Ok(unit) => match OriginView::of::<U>(unit) {
+                Ok(view) => Ok(view),
+                Err(rule) => Err(ViewFault::Prefix(rule)),
+            },
+            Err(e) => Err(e),
         }
     }
 
@@ -84,13 +86,17 @@ impl OriginView {
         ensures rule { IfErr result
             (λ r. rule_of (prefix_unit (prefix_at U.family unit.now)) ≡ Some r) }
     {
-        let prefix = U::prefix_of(&unit[12..], unit[9], unit[10])?;
-        let asn = Asn::from_u32(u32_at(unit, U::LENGTH - 4));
-        Ok(OriginView {
-            version: unit[0],
-            flags: unit[8],
-            origin: RouteOrigin::new(prefix, asn),
-        })
+        match U::prefix_of(&unit[12..], unit[9], unit[10]) {
+            Ok(prefix) => {
+                let asn = Asn::from_u32(u32_at(unit, U::LENGTH - 4));
+                Ok(OriginView {
+                    version: unit[0],
+                    flags: unit[8],
+                    origin: RouteOrigin::new(prefix, asn),
+                })
+            }
+            Err(rule) => Err(rule),
+        }
     }
 
     /// Writes the form of what the unit means.

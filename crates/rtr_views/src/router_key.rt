@@ -92,12 +92,17 @@ impl<'a> RouterKeyView<'a> {
         ensures within { IfOk result (λ v. length v.unit.now ≤ length input.now) }
         ensures fault { IfErr result (λ e. IsFirstFault input.now e) }
     {
-        let size = size_at(input)?;
+        let size = match size_at(input) {
+            Ok(size) => size,
+            Err(e) => return Err(e),
+        };
         if size < FIXED {
             return Err(ViewFault::UnitLength);
         }
-        let unit = first_unit(input, size)?;
-        Ok(RouterKeyView { unit })
+        match first_unit(input, size) {
+            Ok(unit) => Ok(RouterKeyView { unit }),
+            Err(e) => Err(e),
+        }
     }
 
     /// Writes the form of what the unit means.

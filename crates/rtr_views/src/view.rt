@@ -47,26 +47,26 @@ impl<'a> UnitView<'a> {
             return Err(ViewFault::Short);
         }
         match input[1] {
-            Ipv4Prefix::PDU => {
-                let view = OriginView::first::<Ipv4Prefix>(input)?;
-                Ok((UnitView::Origin(view), Ipv4Prefix::LENGTH))
-            }
-            Ipv6Prefix::PDU => {
-                let view = OriginView::first::<Ipv6Prefix>(input)?;
-                Ok((UnitView::Origin(view), Ipv6Prefix::LENGTH))
-            }
-            EndOfData::PDU => {
-                let end = first_end(input)?;
-                Ok((UnitView::End(end), end.as_ref().len()))
-            }
-            RouterKey::PDU => {
-                let view = RouterKeyView::first(input)?;
-                Ok((UnitView::RouterKey(view), view.unit().len()))
-            }
-            Aspa::PDU => {
-                let view = AspaView::first(input)?;
-                Ok((UnitView::Aspa(view), view.unit().len()))
-            }
+            Ipv4Prefix::PDU => match OriginView::first::<Ipv4Prefix>(input) {
+                Ok(view) => Ok((UnitView::Origin(view), Ipv4Prefix::LENGTH)),
+                Err(e) => Err(e),
+            },
+            Ipv6Prefix::PDU => match OriginView::first::<Ipv6Prefix>(input) {
+                Ok(view) => Ok((UnitView::Origin(view), Ipv6Prefix::LENGTH)),
+                Err(e) => Err(e),
+            },
+            EndOfData::PDU => match first_end(input) {
+                Ok(end) => Ok((UnitView::End(end), end.as_ref().len())),
+                Err(e) => Err(e),
+            },
+            RouterKey::PDU => match RouterKeyView::first(input) {
+                Ok(view) => Ok((UnitView::RouterKey(view), view.unit().len())),
+                Err(e) => Err(e),
+            },
+            Aspa::PDU => match AspaView::first(input) {
+                Ok(view) => Ok((UnitView::Aspa(view), view.unit().len())),
+                Err(e) => Err(e),
+            },
             pdu => Err(ViewFault::UnitType(pdu)),
         }
     }

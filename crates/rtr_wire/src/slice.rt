@@ -32,10 +32,14 @@ pub fn normalise_slice<W: Sink>(
 {
     let mut rest = input;
     for count in 0..limit {
-        let (is_unit, left) = step(rest, writer)?;
-        rest = left;
-        if !is_unit {
-            return Ok((count, input.len() - rest.len()));
+        match step(rest, writer) {
+            Ok((is_unit, left)) => {
+                rest = left;
+                if !is_unit {
+                    return Ok((count, input.len() - rest.len()));
+                }
+            }
+            Err(e) => return Err(e),
         }
     }
     Err(ViewFault::TooMany)
@@ -86,14 +90,17 @@ fn view_step<'a, const TYPE: u8, W: Sink>(
         count_after (W.state writer.old).failed (not (is_view_writer_fault result)) }
     ensures error { IfErr result (HoldsViewWriteError (W.fails writer.new) (W.stalls writer.new)) }
 {
-    // The borrow checker has no rule for `?` on an answer that holds a view.
     let (view, size) = match UnitView::first(rest) {
         Ok(first) => first,
         Err(e) => return Err(e),
     };
-    view.write_form(writer)?;
-    let (_, left) = rest.split_at(size);
-    Ok((is_unit(&view), left))
+    match view.write_form(writer) {
+        Ok(()) => {
+            let (_, left) = rest.split_at(size);
+            Ok((is_unit(&view), left))
+        }
+        Err(e) => Err(e),
+    }
 }
 
 /// Whether the view is one of a payload unit.

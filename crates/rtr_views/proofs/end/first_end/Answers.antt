@@ -35,18 +35,18 @@ first_unit-requires-else-version-eq0-clause-in_order c =
     (end_in_order_1 _ _ _ c.if-version-gt2.false c.if-version-eq0.false
     (sym c.u32_at-size.ensures ∙ c.if-size-2.false ∙ c.size-else-version-eq0.ensures))
 
-pub returns-in_ok-unit-clause-end : goal.returns-in_ok-unit-clause-end
-returns-in_ok-unit-clause-end c =
+pub returns-in-Ok-clause-end : goal.returns-in-Ok-clause-end
+returns-in-Ok-clause-end c =
     subst (λ l. End l (untimed_meaning l)) (sym c.unit_of.ensures)
-    (end_front_0 c.args.input.now c.in_ok-unit.unit.now (λ i. omega (arith, c.type_inv.input i))
+    (end_front_0 c.args.input.now c.in-Ok.unit.now (λ i. omega (arith, c.type_inv.input i))
     c.requires.kind c.if-version-eq0.true
-    (sym c.u32_at-size.ensures ∙ c.if-size.false ∙ c.size.ensures) c.in_ok-unit.ensures.unit)
+    (sym c.u32_at-size.ensures ∙ c.if-size.false ∙ c.size.ensures) c.in-Ok.ensures.unit)
 
-pub returns-in_ok-unit-2-clause-end : goal.returns-in_ok-unit-2-clause-end
-returns-in_ok-unit-2-clause-end c =
-    subst (λ l. End l (timed_meaning l)) (sym c.unit_of-else-version-eq0.ensures)
-    (end_front_1 c.args.input.now c.in_ok-unit-2.unit.now
+pub returns-in-Ok-first_unit-clause-end : goal.returns-in-Ok-first_unit-clause-end
+returns-in-Ok-first_unit-clause-end c =
+    subst (λ l. End l (timed_meaning l)) (sym c.unit_of-in-Ok-first_unit.ensures)
+    (end_front_1 c.args.input.now c.in-Ok-first_unit.unit.now
     (λ i. omega (arith, c.type_inv.input i)) c.requires.kind c.if-version-gt2.false
     c.if-version-eq0.false
     (sym c.u32_at-size.ensures ∙ c.if-size-2.false ∙ c.size-else-version-eq0.ensures)
-    c.in_ok-unit-2.ensures.unit)
+    c.in-Ok-first_unit.ensures.unit)

@@ -1,4 +1,3 @@
-use Rattle.std.proofs.lemmas.Result.{err_from_is_err_and}
 use Rattle.std.proofs.Common.{ℕ, refl, ◌∙◌, arith}
 use Rattle.rtr_wire.specs.Sequences.{everything}
 use Rattle.rtr_wire.proofs.Slices.{slice_ends, slice_fills, slice_breaks, view_writer_count}
@@ -13,26 +12,23 @@ loop-count-preserved g c =
     record {
       so_far =
           goes_on everything c.loop-count.count 0 _ _ _ _ _ _ (λ ms ns. refl)
-          c.loop-count.invariant.so_far (rw c.if-not-is_unit.false at c.in_ok-is_unit.ensures.unit);
-      writes = c.in_ok-is_unit.ensures.count ∙ c.loop-count.invariant.writes;
+          c.loop-count.invariant.so_far (rw c.if-not-is_unit.false at c.in-Ok.ensures.unit);
+      writes = c.in-Ok.ensures.count ∙ c.loop-count.invariant.writes;
     }
 
 pub returns-then-not-is_unit-clause-bytes : goal.returns-then-not-is_unit-clause-bytes
 returns-then-not-is_unit-clause-bytes g c =
     slice_ends c.args.limit c.loop-count.count c.args.input.now c.loop-count.rest.now
-    c.in_ok-is_unit.left.now _ _ _ c.loop-count-test.true
-    c.loop-count.invariant.so_far (rw c.if-not-is_unit.true at c.in_ok-is_unit.ensures.unit)
-    (c.in_ok-is_unit.ensures.count ∙ c.loop-count.invariant.writes)
+    c.in-Ok.left.now _ _ _ c.loop-count-test.true
+    c.loop-count.invariant.so_far (rw c.if-not-is_unit.true at c.in-Ok.ensures.unit)
+    (c.in-Ok.ensures.count ∙ c.loop-count.invariant.writes)
 
-pub returns-in_err-is_unit-clause-bytes : goal.returns-in_err-is_unit-clause-bytes
-returns-in_err-is_unit-clause-bytes g c =
-    let p = err_from_is_err_and c.from_residual.result c.from_residual.ensures.1 in
-    let fault = c.in_err-is_unit.field-0.0 in
-    rw (p.1, p.2)
-    (slice_breaks c.args.limit c.loop-count.count fault c.args.input.now c.loop-count.rest.now _ _ _
-    c.loop-count-test.true c.loop-count.invariant.so_far c.in_err-is_unit.ensures.fault
-    (view_writer_count ℕ ℕ fault _ _ _ c.in_err-is_unit.ensures.count
-    c.loop-count.invariant.writes))
+pub returns-in-Err-clause-bytes : goal.returns-in-Err-clause-bytes
+returns-in-Err-clause-bytes g c =
+    slice_breaks c.args.limit c.loop-count.count c.in-Err.e c.args.input.now c.loop-count.rest.now _
+    _ _ c.loop-count-test.true
+    c.loop-count.invariant.so_far c.in-Err.ensures.fault
+    (view_writer_count ℕ ℕ c.in-Err.e _ _ _ c.in-Err.ensures.count c.loop-count.invariant.writes)
 
 pub returns-clause-bytes : goal.returns-clause-bytes
 returns-clause-bytes g c =

@@ -1,4 +1,3 @@
-use Rattle.std.proofs.lemmas.Result.{err_from_is_err_and}
 use Rattle.std.proofs.Common.{List, ℕ, Bool, ◌++◌, take, drop, Some, Ok, sym, ap, subst, ◌∙◌, arith}
 use Rattle.std.proofs.lemmas.List.{take-append-drop}
 use Rattle.rtr_wire.specs.PrivateCalls.{Steps}
@@ -12,8 +11,8 @@ returns-in-Err-clause-fault g c =
     not_viewed c.in-Err.e c.args.rest.now _ (λ i. omega (arith, c.type_inv.rest i))
     c.in-Err.ensures.fault
 
-pub returns-clause-unit : goal.returns-clause-unit
-returns-clause-unit g c =
+pub returns-in-Ok-write_form-clause-unit : goal.returns-in-Ok-write_form-clause-unit
+returns-in-Ok-write_form-clause-unit g c =
     let r = c.args.rest.now in
     let n = c.in-Ok.first.1 in
     let left = c.split_at.result.1.now in
@@ -25,13 +24,11 @@ returns-clause-unit g c =
     (g.W.Sink.state c.write_form.new.writer).held)
     (sym c.is_unit.ensures)
     (view_step c.in-Ok.first.0 r (take n r) left _ _ c.in-Ok.ensures.view parts
-    c.in_ok-write_form.ensures.bytes.0)
+    c.in-Ok-write_form.ensures.bytes.0)
 
-pub returns-in_err-write_form-clause-fault : goal.returns-in_err-write_form-clause-fault
-returns-in_err-write_form-clause-fault g c =
+pub returns-in-Err-write_form-clause-fault : goal.returns-in-Err-write_form-clause-fault
+returns-in-Err-write_form-clause-fault g c =
     let r = c.args.rest.now in
     let n = c.in-Ok.first.1 in
-    let p = err_from_is_err_and c.from_residual.result c.from_residual.ensures.1 in
-    rw (p.1, p.2)
-    (not_written c.in-Ok.first.0 c.in_err-write_form.field-0.0 r (take n r) (drop n r) _ _
-    c.in-Ok.ensures.view (sym (take-append-drop n r)) c.in_err-write_form.ensures.bytes.0)
+    not_written c.in-Ok.first.0 c.in-Err-write_form.e r (take n r) (drop n r) _ _
+    c.in-Ok.ensures.view (sym (take-append-drop n r)) c.in-Err-write_form.ensures.bytes.0

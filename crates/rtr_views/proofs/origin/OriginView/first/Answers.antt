@@ -18,27 +18,27 @@ first_unit-requires-clause-in_order g c =
     (prefix_in_order g.U.PrefixUnit.family _ _ _
     (sym c.u32_at.ensures ∙ c.if-u32_at-size.false ∙ c.size.ensures ∙ size))
 
-pub returns-in-Ok-clause-view : goal.returns-in-Ok-clause-view
-returns-in-Ok-clause-view g c =
+pub returns-in-Ok-of-clause-view : goal.returns-in-Ok-of-clause-view
+returns-in-Ok-of-clause-view g c =
     let (kind, size) = g.met.U.PrefixUnit.typed in
     let family = g.U.PrefixUnit.family in
-    let shape = prefix_front family c.args.input.now c.in_ok-unit.unit.now
+    let shape = prefix_front family c.args.input.now c.in-Ok.unit.now
     (λ i. omega (arith, c.type_inv.input i)) c.requires.kind
     (sym c.u32_at.ensures ∙ c.if-u32_at-size.false ∙ c.size.ensures ∙ size)
-    c.in_ok-unit.ensures.unit in
-    subst (IsOriginOf family c.in-Ok.view) c.in_ok-unit.ensures.unit.cut (record {
+    c.in-Ok.ensures.unit in
+    subst (IsOriginOf family c.in-Ok-of.view) c.in-Ok.ensures.unit.cut (record {
       shape = shape;
-      lengths = c.in-Ok.ensures.lengths;
-      shows = c.in-Ok.ensures.view;
+      lengths = c.in-Ok-of.ensures.lengths;
+      shows = c.in-Ok-of.ensures.view;
     })
 
-pub returns-in-Err-clause-fault : goal.returns-in-Err-clause-fault
-returns-in-Err-clause-fault g c =
+pub returns-in-Err-of-clause-fault : goal.returns-in-Err-of-clause-fault
+returns-in-Err-of-clause-fault g c =
     let (kind, size) = g.met.U.PrefixUnit.typed in
     let family = g.U.PrefixUnit.family in
-    let shape = prefix_front family c.args.input.now c.in_ok-unit.unit.now
+    let shape = prefix_front family c.args.input.now c.in-Ok.unit.now
     (λ i. omega (arith, c.type_inv.input i)) c.requires.kind
     (sym c.u32_at.ensures ∙ c.if-u32_at-size.false ∙ c.size.ensures ∙ size)
-    c.in_ok-unit.ensures.unit in
-    prefix_broken family c.args.input.now c.in_ok-unit.unit.now _ shape c.in_ok-unit.ensures.unit
-    c.in-Err.ensures.rule
+    c.in-Ok.ensures.unit in
+    prefix_broken family c.args.input.now c.in-Ok.unit.now _ shape c.in-Ok.ensures.unit
+    c.in-Err-of.ensures.rule

@@ -6,15 +6,15 @@ use Rattle.rtr_payload.proofs.Origins.{asn_place}
 use Rattle.rtr_payload.specs.declared.payload.RouteOrigin.{RouteOrigin}
 use Rattle.rtr_views.proofs.origin.OriginView.of.Goals as goal
 
-pub returns-clause-view : goal.returns-clause-view
-returns-clause-view g c =
+pub returns-in-Ok-clause-view : goal.returns-in-Ok-clause-view
+returns-in-Ok-clause-view g c =
     let family = g.U.PrefixUnit.family in
     let b = c.args.unit.now in
     let (kind, size) = g.met.U.PrefixUnit.typed in
     let place = asn_place family c.LENGTH.result (c.LENGTH.ensures ∙ size) in
     let asn : c.from_u32-asn.result ≡ value (take 4 (drop (12 + address_bytes family) b)) =
     c.from_u32-asn.ensures ∙ c.u32_at.ensures ∙ ap (λ n. value (take 4 (drop n b))) place in
-    let prefix = rw (take_rest b 12) at c.in_ok-prefix.ensures.ok in
+    let prefix = rw (take_rest b 12) at c.in-Ok.ensures.ok in
     let origin = c.new.ensures ∙ (λ i. record { prefix = prefix i; asn = asn i }) in (
       refl,
       refl,
