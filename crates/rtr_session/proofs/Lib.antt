@@ -4,3 +4,4 @@ mod Reports
 mod Stops
 mod Units
 mod Wholes
+mod Earlier
