@@ -4,4 +4,3 @@ mod Reports
 mod Stops
 mod Units
 mod Wholes
-mod Earlier
