@@ -5,8 +5,20 @@ use Rattle.std.specs.declared.cmp.Ordering.TheVariants.{Less, Equal, Greater}
 use Rattle.std.specs.Ordering.{bool_cmp, nat_cmp, ordering_then}
 use Rattle.std.specs.FinMap.{nat_cmp-IsAntisymmetric, slice_cmp-IsAntisymmetric}
 use Rattle.std.proofs.lemmas.Cmp.{tied_itself}
-use Rattle.rtr_base.specs.Addresses.{PrefixParts, compared, family_of, ip_version, prefix_cmp}
-use Rattle.rtr_base.specs.PrivateLaws.{prefix_total, same_version}
+use Rattle.std.specs.Cmp.{IsTotalOrder, on_total}
+use Rattle.std.specs.Cmp.Lexicographic.{nat_list_cmp_total}
+use Rattle.rtr_base.specs.Addresses.{Family, v4, v6, PrefixParts, compared, family_of, ip_version}
+use Rattle.rtr_base.specs.Addresses.{prefix_cmp}
+
+-- an instance of std's law on lists
+pub prefix_total : IsTotalOrder prefix_cmp
+prefix_total = on_total compared nat_list_cmp_total
+
+pub same_version : (f g : Family) → ip_version f ≡ ip_version g → f ≡ g
+same_version v4 v4 e = refl
+same_version v4 v6 e = absurd cc
+same_version v6 v4 e = absurd cc
+same_version v6 v6 e = refl
 
 same_numbers : (p q : PrefixParts) → compared p ≡ compared q → p ≡ q
 same_numbers p q e =

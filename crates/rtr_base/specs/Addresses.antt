@@ -1,11 +1,11 @@
 -- Addresses and prefixes of addresses (RFC 8210 sections 5.6 and 5.7).
 use Rattle.std.specs.Prelude.{◌≡◌, ℕ, ◌-◌, ◌%◌, ◌^◌, ◌<◌, ◌≤◌, Option, unwrap_or, Bool, true, false}
-use Rattle.std.specs.Prelude.{List, [], ◌∷◌}
+use Rattle.std.specs.Prelude.{List, [], ◌∷◌, ◌==◌}
 use Rattle.std.specs.declared.cmp.Ordering.{Ordering}
 use Rattle.std.specs.declared.net.ip_addr.IpAddr.{IpAddr}
 use Rattle.std.specs.declared.net.ip_addr.IpAddr.TheVariants.{V4, V6}
 use Rattle.std.specs.Net.Addr.{ipv4_octets, ipv6_octets, ipv4_bits, ipv6_bits}
-use Rattle.std.specs.Ordering.{nat_cmp}
+use Rattle.std.specs.Ordering.{nat_cmp, on}
 use Rattle.std.specs.Cmp.Lexicographic.{slice_cmp}
 use Rattle.rtr_base.specs.Bytes.{be}
 use Rattle.rtr_base.specs.declared.addr.PrefixError.{PrefixError}
@@ -100,7 +100,7 @@ compared p = ip_version p.family ∷ p.address ∷ p.len ∷ []
 
 -- the first differing number decides
 abbrev pub prefix_cmp : PrefixParts → PrefixParts → Ordering
-prefix_cmp p q = slice_cmp nat_cmp (compared p) (compared q)
+prefix_cmp = on compared (slice_cmp nat_cmp)
 
 -- ---- the family as a bit, as this library keeps it
 
@@ -109,5 +109,4 @@ family_of true = v4
 family_of false = v6
 
 abbrev pub v4_test : Family → Bool
-v4_test v4 = true
-v4_test v6 = false
+v4_test f = ip_version f == 4

@@ -4,7 +4,6 @@ pub mod Bytes
 pub mod Numerals
 pub mod PlainTexts
 pub mod PrivateCalls
-pub mod PrivateLaws
 pub mod ReadTexts
 pub mod Serial
 pub mod States

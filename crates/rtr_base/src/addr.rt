@@ -3,14 +3,13 @@
 ghost use Rattle.std.specs.Prelude.{◌≡◌, ◌≤◌, ◌<◌, ◌↔◌, Option, IfOk, IfErr, IsErrOf, IsOk};
 ghost use Rattle.std.specs.Prelude.{IfSome, None};
 ghost use Rattle.std.specs.Prelude.{IsSomeAnd, refl};
-ghost use Rattle.std.specs.Cmp.{partial_equiv_from_equiv, eq_by_cmp_equiv};
-ghost use Rattle.std.specs.Cmp.{partial_order_from_agreeing_total};
+ghost use Rattle.std.proofs.Common.{rules};
+ghost use Rattle.std.specs.Cmp.Rules.{comparing};
 ghost use Rattle.std.specs.Ordering.{eq_by_cmp, as_partial_cmp};
 ghost use Rattle.std.specs.Net.Addr.{ipv4_bits, ipv6_bits};
 ghost use Rattle.rtr_base.specs.Addresses.{v4, v6, width, cleared, v4_test, IsPrefix};
 ghost use Rattle.rtr_base.specs.Addresses.{IsMaxLenPrefix, IsAddressOf, ip_number, resolved_len};
 ghost use Rattle.rtr_base.specs.Addresses.{prefix_at, prefix_cmp, BreaksPrefix};
-ghost use Rattle.rtr_base.specs.PrivateLaws.{prefix_total};
 
 use std::cmp::Ordering;
 use std::error::Error;
@@ -27,10 +26,9 @@ pub struct Prefix {
 }
 
 impl Model for Prefix {
-    ghost use Rattle.std.specs.Prelude.{Bool};
+    ghost use Rattle.std.specs.Prelude.{◌≡◌, Bool, true, false, refl};
     ghost use Rattle.std.proofs.Common.{ap};
     ghost use Rattle.rtr_base.specs.Addresses.{PrefixParts, family_of, v4_test};
-    ghost use Rattle.rtr_base.specs.PrivateLaws.{v4_test_again};
     ghost use Rattle.rtr_base.specs.Addresses.{IsPrefix};
 
     ghost Value = { PrefixParts };
@@ -42,7 +40,8 @@ impl Model for Prefix {
 
     ghost inverse = { λ p. record { is_v4 = v4_test p.family; bits = p.address; len = p.len } };
 
-    ghost inverse_ok = { λ a h. ap (λ (b : Bool). record a { is_v4 = b }) (v4_test_again a.is_v4) };
+    ghost inverse_ok = { λ a h. ap (λ (b : Bool). record a { is_v4 = b })
+        (elim (a.is_v4) as (λ b. v4_test (family_of b) ≡ b) [ true ↦ refl | false ↦ refl ]) };
 }
 
 /// Why a prefix can't be made.
@@ -222,7 +221,7 @@ impl Prefix {
 impl PartialEq for Prefix {
     ghost eq = { eq_by_cmp prefix_cmp };
 
-    ghost laws = { partial_equiv_from_equiv (eq_by_cmp_equiv prefix_total) };
+    ghost laws = { Prim.search (comparing, rules) };
 
     fn eq(&self, other: &Prefix) -> bool {
         self.cmp(other).is_eq()
@@ -230,14 +229,13 @@ impl PartialEq for Prefix {
 }
 
 impl Eq for Prefix {
-    ghost laws = { eq_by_cmp_equiv prefix_total };
+    ghost laws = { Prim.search (comparing, rules) };
 }
 
 impl PartialOrd for Prefix {
     ghost partial_cmp = { as_partial_cmp prefix_cmp };
 
-    ghost laws = { partial_order_from_agreeing_total prefix_cmp prefix_total (λ _ _. refl)
-        (λ _ _. refl) };
+    ghost laws = { Prim.search (comparing, rules) };
 
     fn partial_cmp(&self, other: &Prefix) -> Option<Ordering> {
         Some(self.cmp(other))
@@ -248,7 +246,7 @@ impl PartialOrd for Prefix {
 impl Ord for Prefix {
     ghost cmp = { prefix_cmp };
 
-    ghost total = { prefix_total };
+    ghost total = { Prim.search (comparing, rules) };
 
     ghost matches_partial_cmp = { λ _ _. refl };
 

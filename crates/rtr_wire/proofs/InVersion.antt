@@ -1,8 +1,10 @@
 -- What is written for one protocol version is a sequence, whose form is itself.
-use Rattle.std.proofs.Common.{◌≡◌, ℕ, suc, ◌<◌, ◌≤◌, leb, List, [], ◌∷◌, length, map, Ok, refl, sym}
-use Rattle.std.proofs.Common.{ap, subst, arith}
+use Rattle.std.proofs.Common.{◌≡◌, ℕ, suc, ◌<◌, ◌≤◌, leb, List, [], ◌∷◌, ◌++◌, length, map, Ok, refl}
+use Rattle.std.proofs.Common.{sym, ap, ◌∙◌, subst, arith}
 use Rattle.std.specs.List.{filter}
 use Rattle.std.proofs.lemmas.Bool.{cond_both}
+use Rattle.std.proofs.lemmas.List.{map-append}
+use Rattle.std.proofs.lemmas.List.Elements.{filter-append}
 use Rattle.rtr_base.specs.Bytes.{IsBytes}
 use Rattle.rtr_base.proofs.Numbers.{IsBytes-cons}
 use Rattle.rtr_units.specs.End.{EndMeaning, end_list}
@@ -16,6 +18,13 @@ use Rattle.rtr_wire.specs.Sequences.{AreUnits, IsSequence, everything, for_versi
 use Rattle.rtr_wire.specs.Sequences.{sequence_form, in_version, units_for, end_for}
 use Rattle.rtr_wire.proofs.OneAnswer.{only_accepted, sequence_run}
 use Rattle.rtr_wire.proofs.Runs.{end_fits_for, again}
+
+-- what is written for a version is written unit by unit
+pub version_joins : (v : ℕ) (ms ns : List Meaning) →
+    units_for v (ms ++ ns) ≡ units_for v ms ++ units_for v ns
+version_joins v ms ns =
+    ap (map (in_version v)) (filter-append (λ m. leb (smallest_version m.payload) v) ms ns)
+    ∙ map-append (in_version v) _ _
 
 -- ---- a unit in another version is a unit
 

@@ -1,12 +1,15 @@
 //! What a run writes for what it reads.
 
-ghost use Rattle.std.specs.Prelude.{◌≡◌, refl, ℕ, Bool, true, List, [], ◌∷◌, ◌++◌, nat_le};
-ghost use Rattle.std.specs.Prelude.{if◌then◌else◌};
+ghost use Rattle.std.specs.Prelude.{◌≡◌, refl, ℕ, Bool, true, false, List, [], ◌∷◌, ◌++◌, nat_le};
+ghost use Rattle.std.specs.Prelude.{if◌then◌else◌, map};
+ghost use Rattle.std.proofs.Common.{ap, ◌∙◌};
+ghost use Rattle.std.proofs.Math.Dec.{leb-zero};
+ghost use Rattle.std.proofs.lemmas.List.{map-append};
+ghost use Rattle.std.proofs.lemmas.List.Elements.{filter-append};
 ghost use Rattle.rtr_payload.specs.Payloads.{Meaning, smallest_version};
 ghost use Rattle.rtr_units.specs.End.{End, end_list};
 ghost use Rattle.rtr_units.specs.Ends.{end_bytes, end_meaning};
 ghost use Rattle.rtr_wire.specs.Sequences.{Written, everything, for_version, in_version};
-ghost use Rattle.rtr_wire.specs.PrivateWriting.{version_joins, version_one, version_origins};
 
 use rtr_units::end::EndOfData;
 
@@ -108,9 +111,13 @@ impl Writing for ForVersion {
         EndOfData::new(self.version, end.state(), end.timing().unwrap_or_default())
     }
 
-    ghost one = { λ s m. version_one s.version m };
+    ghost one = { λ s m. elim (nat_le (smallest_version m.payload) s.version) as
+        (λ b. map (in_version s.version) (if b then m ∷ [] else []) ≡
+        (if b then in_version s.version m ∷ [] else [])) [ true ↦ refl | false ↦ refl ] };
 
-    ghost joins = { λ s ms ns. version_joins s.version ms ns };
+    ghost joins = { λ s ms ns. ap (map (in_version s.version))
+        (filter-append (λ m. nat_le (smallest_version m.payload) s.version) ms ns)
+        ∙ map-append (in_version s.version) _ _ };
 
-    ghost origins = { λ s. version_origins s.version };
+    ghost origins = { λ s. leb-zero s.version };
 }

@@ -1,13 +1,15 @@
 //! Equality, order and hash of router keys, ASPAs and payloads: those of what they mean.
 
-ghost use Rattle.std.specs.Prelude.{refl};
-ghost use Rattle.std.specs.Cmp.{eq_by_cmp_equiv, on_equiv, on_po, on_total};
+ghost use Rattle.std.specs.Prelude.{◌≡◌, refl};
+ghost use Rattle.std.proofs.Common.{arith, rules};
+ghost use Rattle.std.specs.Cmp.{Equal-is, eq_by_cmp_equiv, on_equiv, on_po, on_total};
 ghost use Rattle.std.specs.Cmp.{partial_equiv_from_equiv, partial_order_from_total};
-ghost use Rattle.std.specs.Hash.{on_Alike};
+ghost use Rattle.std.specs.Cmp.Lexicographic.{lists_total, nat_list_cmp_total};
+ghost use Rattle.std.specs.Cmp.Rules.{comparing};
+ghost use Rattle.std.specs.FinMap.{nat_cmp-IsAntisymmetric, slice_cmp-IsAntisymmetric};
 ghost use Rattle.std.specs.Ordering.{as_partial_cmp, eq_by_cmp, on};
-ghost use Rattle.rtr_payload.specs.OrderLaws.{fed_alike, payload_total};
 ghost use Rattle.rtr_payload.specs.Hashes.{part_writes, payload_writes};
-ghost use Rattle.rtr_payload.specs.Orders.{payload_cmp};
+ghost use Rattle.rtr_payload.specs.Orders.{parts, payload_cmp};
 ghost use Rattle.rtr_payload.specs.Values.{aspa_of, key_of, payload_of, payload_of_ref};
 
 use super::{Aspa, Payload, PayloadRef, RouterKey};
@@ -17,7 +19,8 @@ use std::hash::{Hash, Hasher};
 impl PartialEq for RouterKey {
     ghost eq = { on key_of (eq_by_cmp payload_cmp) };
 
-    ghost laws = { partial_equiv_from_equiv (on_equiv key_of (eq_by_cmp_equiv payload_total)) };
+    ghost laws = { partial_equiv_from_equiv (on_equiv key_of (eq_by_cmp_equiv
+        (on_total parts (lists_total nat_list_cmp_total)))) };
 
     fn eq(&self, other: &Self) -> bool {
         self.cmp(other).is_eq()
@@ -25,13 +28,15 @@ impl PartialEq for RouterKey {
 }
 
 impl Eq for RouterKey {
-    ghost laws = { on_equiv key_of (eq_by_cmp_equiv payload_total) };
+    ghost laws = { on_equiv key_of (eq_by_cmp_equiv
+        (on_total parts (lists_total nat_list_cmp_total))) };
 }
 
 impl PartialOrd for RouterKey {
     ghost partial_cmp = { on key_of (as_partial_cmp payload_cmp) };
 
-    ghost laws = { on_po key_of (partial_order_from_total payload_total) };
+    ghost laws = { on_po key_of (partial_order_from_total
+        (on_total parts (lists_total nat_list_cmp_total))) };
 
     fn partial_cmp(&self, other: &Self) -> Option<Ordering> {
         Some(self.cmp(other))
@@ -42,7 +47,7 @@ impl PartialOrd for RouterKey {
 impl Ord for RouterKey {
     ghost cmp = { on key_of payload_cmp };
 
-    ghost total = { on_total key_of payload_total };
+    ghost total = { Prim.search (comparing, rules) };
 
     ghost matches_partial_cmp = { λ _ _. refl };
 
@@ -59,7 +64,11 @@ impl Ord for RouterKey {
 impl Hash for RouterKey {
     ghost hash_input = { λ value. part_writes (key_of value) };
 
-    ghost respects_eq = { (on_Alike key_of (fed_alike part_writes)).fed };
+    ghost respects_eq = { λ a b e.
+        let same : parts (key_of a) ≡ parts (key_of b) =
+            slice_cmp-IsAntisymmetric (slice_cmp-IsAntisymmetric nat_cmp-IsAntisymmetric) _ _
+            ((Equal-is (payload_cmp (key_of a) (key_of b))).0 e)
+        in Prim.cc };
 
     fn hash<H: Hasher>(&self, state: &mut H) {
         self.key_identifier.hash(state);
@@ -71,7 +80,8 @@ impl Hash for RouterKey {
 impl PartialEq for Aspa {
     ghost eq = { on aspa_of (eq_by_cmp payload_cmp) };
 
-    ghost laws = { partial_equiv_from_equiv (on_equiv aspa_of (eq_by_cmp_equiv payload_total)) };
+    ghost laws = { partial_equiv_from_equiv (on_equiv aspa_of (eq_by_cmp_equiv
+        (on_total parts (lists_total nat_list_cmp_total)))) };
 
     fn eq(&self, other: &Self) -> bool {
         self.cmp(other).is_eq()
@@ -79,13 +89,15 @@ impl PartialEq for Aspa {
 }
 
 impl Eq for Aspa {
-    ghost laws = { on_equiv aspa_of (eq_by_cmp_equiv payload_total) };
+    ghost laws = { on_equiv aspa_of (eq_by_cmp_equiv
+        (on_total parts (lists_total nat_list_cmp_total))) };
 }
 
 impl PartialOrd for Aspa {
     ghost partial_cmp = { on aspa_of (as_partial_cmp payload_cmp) };
 
-    ghost laws = { on_po aspa_of (partial_order_from_total payload_total) };
+    ghost laws = { on_po aspa_of (partial_order_from_total
+        (on_total parts (lists_total nat_list_cmp_total))) };
 
     fn partial_cmp(&self, other: &Self) -> Option<Ordering> {
         Some(self.cmp(other))
@@ -96,7 +108,7 @@ impl PartialOrd for Aspa {
 impl Ord for Aspa {
     ghost cmp = { on aspa_of payload_cmp };
 
-    ghost total = { on_total aspa_of payload_total };
+    ghost total = { Prim.search (comparing, rules) };
 
     ghost matches_partial_cmp = { λ _ _. refl };
 
@@ -112,7 +124,11 @@ impl Ord for Aspa {
 impl Hash for Aspa {
     ghost hash_input = { λ value. part_writes (aspa_of value) };
 
-    ghost respects_eq = { (on_Alike aspa_of (fed_alike part_writes)).fed };
+    ghost respects_eq = { λ a b e.
+        let same : parts (aspa_of a) ≡ parts (aspa_of b) =
+            slice_cmp-IsAntisymmetric (slice_cmp-IsAntisymmetric nat_cmp-IsAntisymmetric) _ _
+            ((Equal-is (payload_cmp (aspa_of a) (aspa_of b))).0 e)
+        in Prim.cc };
 
     fn hash<H: Hasher>(&self, state: &mut H) {
         self.customer.hash(state);
@@ -123,7 +139,8 @@ impl Hash for Aspa {
 impl PartialEq for Payload {
     ghost eq = { on payload_of (eq_by_cmp payload_cmp) };
 
-    ghost laws = { partial_equiv_from_equiv (on_equiv payload_of (eq_by_cmp_equiv payload_total)) };
+    ghost laws = { partial_equiv_from_equiv (on_equiv payload_of (eq_by_cmp_equiv
+        (on_total parts (lists_total nat_list_cmp_total)))) };
 
     fn eq(&self, other: &Self) -> bool {
         self.cmp(other).is_eq()
@@ -131,13 +148,15 @@ impl PartialEq for Payload {
 }
 
 impl Eq for Payload {
-    ghost laws = { on_equiv payload_of (eq_by_cmp_equiv payload_total) };
+    ghost laws = { on_equiv payload_of (eq_by_cmp_equiv
+        (on_total parts (lists_total nat_list_cmp_total))) };
 }
 
 impl PartialOrd for Payload {
     ghost partial_cmp = { on payload_of (as_partial_cmp payload_cmp) };
 
-    ghost laws = { on_po payload_of (partial_order_from_total payload_total) };
+    ghost laws = { on_po payload_of (partial_order_from_total
+        (on_total parts (lists_total nat_list_cmp_total))) };
 
     fn partial_cmp(&self, other: &Self) -> Option<Ordering> {
         Some(self.cmp(other))
@@ -148,7 +167,7 @@ impl PartialOrd for Payload {
 impl Ord for Payload {
     ghost cmp = { on payload_of payload_cmp };
 
-    ghost total = { on_total payload_of payload_total };
+    ghost total = { Prim.search (comparing, rules) };
 
     ghost matches_partial_cmp = { λ _ _. refl };
 
@@ -162,7 +181,11 @@ impl Ord for Payload {
 impl Hash for Payload {
     ghost hash_input = { λ value. payload_writes (payload_of value) };
 
-    ghost respects_eq = { (on_Alike payload_of (fed_alike payload_writes)).fed };
+    ghost respects_eq = { λ a b e.
+        let same : parts (payload_of a) ≡ parts (payload_of b) =
+            slice_cmp-IsAntisymmetric (slice_cmp-IsAntisymmetric nat_cmp-IsAntisymmetric) _ _
+            ((Equal-is (payload_cmp (payload_of a) (payload_of b))).0 e)
+        in Prim.grind arith };
 
     fn hash<H: Hasher>(&self, state: &mut H) {
         self.as_ref().hash(state);
@@ -172,8 +195,8 @@ impl Hash for Payload {
 impl<'a> PartialEq for PayloadRef<'a> {
     ghost eq = { on payload_of_ref (eq_by_cmp payload_cmp) };
 
-    ghost laws = { partial_equiv_from_equiv
-        (on_equiv payload_of_ref (eq_by_cmp_equiv payload_total)) };
+    ghost laws = { partial_equiv_from_equiv (on_equiv payload_of_ref (eq_by_cmp_equiv
+        (on_total parts (lists_total nat_list_cmp_total)))) };
 
     fn eq(&self, other: &Self) -> bool {
         self.cmp(other).is_eq()
@@ -181,13 +204,15 @@ impl<'a> PartialEq for PayloadRef<'a> {
 }
 
 impl<'a> Eq for PayloadRef<'a> {
-    ghost laws = { on_equiv payload_of_ref (eq_by_cmp_equiv payload_total) };
+    ghost laws = { on_equiv payload_of_ref (eq_by_cmp_equiv
+        (on_total parts (lists_total nat_list_cmp_total))) };
 }
 
 impl<'a> PartialOrd for PayloadRef<'a> {
     ghost partial_cmp = { on payload_of_ref (as_partial_cmp payload_cmp) };
 
-    ghost laws = { on_po payload_of_ref (partial_order_from_total payload_total) };
+    ghost laws = { on_po payload_of_ref (partial_order_from_total
+        (on_total parts (lists_total nat_list_cmp_total))) };
 
     fn partial_cmp(&self, other: &Self) -> Option<Ordering> {
         Some(self.cmp(other))
@@ -198,7 +223,7 @@ impl<'a> PartialOrd for PayloadRef<'a> {
 impl<'a> Ord for PayloadRef<'a> {
     ghost cmp = { on payload_of_ref payload_cmp };
 
-    ghost total = { on_total payload_of_ref payload_total };
+    ghost total = { Prim.search (comparing, rules) };
 
     ghost matches_partial_cmp = { λ _ _. refl };
 
@@ -220,8 +245,11 @@ impl<'a> Ord for PayloadRef<'a> {
 impl<'a> Hash for PayloadRef<'a> {
     ghost hash_input = { λ value. payload_writes (payload_of_ref value) };
 
-    ghost respects_eq = { (on_Alike payload_of_ref
-        (fed_alike payload_writes)).fed };
+    ghost respects_eq = { λ a b e.
+        let same : parts (payload_of_ref a) ≡ parts (payload_of_ref b) =
+            slice_cmp-IsAntisymmetric (slice_cmp-IsAntisymmetric nat_cmp-IsAntisymmetric) _ _
+            ((Equal-is (payload_cmp (payload_of_ref a) (payload_of_ref b))).0 e)
+        in Prim.grind arith };
 
     fn hash<H: Hasher>(&self, state: &mut H) {
         match self {

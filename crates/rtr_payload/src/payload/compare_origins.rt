@@ -1,14 +1,16 @@
 //! Equality, order and hash of route origins: those of what they mean, so that an origin without a
 //! max length is as one whose max length is its prefix length.
 
-ghost use Rattle.std.specs.Prelude.{refl};
-ghost use Rattle.std.specs.Cmp.{eq_by_cmp_equiv, on_equiv, on_po, on_total};
+ghost use Rattle.std.specs.Prelude.{◌≡◌, refl};
+ghost use Rattle.std.proofs.Common.{rules};
+ghost use Rattle.std.specs.Cmp.{Equal-is, eq_by_cmp_equiv, on_equiv, on_po, on_total};
 ghost use Rattle.std.specs.Cmp.{partial_equiv_from_equiv, partial_order_from_total};
-ghost use Rattle.std.specs.Hash.{on_Alike};
+ghost use Rattle.std.specs.Cmp.Lexicographic.{lists_total, nat_list_cmp_total};
+ghost use Rattle.std.specs.Cmp.Rules.{comparing};
+ghost use Rattle.std.specs.FinMap.{nat_cmp-IsAntisymmetric, slice_cmp-IsAntisymmetric};
 ghost use Rattle.std.specs.Ordering.{as_partial_cmp, eq_by_cmp, on};
-ghost use Rattle.rtr_payload.specs.OrderLaws.{fed_alike, payload_total};
 ghost use Rattle.rtr_payload.specs.Hashes.{part_writes};
-ghost use Rattle.rtr_payload.specs.Orders.{payload_cmp};
+ghost use Rattle.rtr_payload.specs.Orders.{parts, payload_cmp};
 ghost use Rattle.rtr_payload.specs.Values.{origin_of};
 
 use super::RouteOrigin;
@@ -18,7 +20,8 @@ use std::hash::{Hash, Hasher};
 impl PartialEq for RouteOrigin {
     ghost eq = { on origin_of (eq_by_cmp payload_cmp) };
 
-    ghost laws = { partial_equiv_from_equiv (on_equiv origin_of (eq_by_cmp_equiv payload_total)) };
+    ghost laws = { partial_equiv_from_equiv (on_equiv origin_of (eq_by_cmp_equiv
+        (on_total parts (lists_total nat_list_cmp_total)))) };
 
     fn eq(&self, other: &Self) -> bool {
         self.cmp(other).is_eq()
@@ -26,13 +29,15 @@ impl PartialEq for RouteOrigin {
 }
 
 impl Eq for RouteOrigin {
-    ghost laws = { on_equiv origin_of (eq_by_cmp_equiv payload_total) };
+    ghost laws = { on_equiv origin_of (eq_by_cmp_equiv
+        (on_total parts (lists_total nat_list_cmp_total))) };
 }
 
 impl PartialOrd for RouteOrigin {
     ghost partial_cmp = { on origin_of (as_partial_cmp payload_cmp) };
 
-    ghost laws = { on_po origin_of (partial_order_from_total payload_total) };
+    ghost laws = { on_po origin_of (partial_order_from_total
+        (on_total parts (lists_total nat_list_cmp_total))) };
 
     fn partial_cmp(&self, other: &Self) -> Option<Ordering> {
         Some(self.cmp(other))
@@ -43,7 +48,7 @@ impl PartialOrd for RouteOrigin {
 impl Ord for RouteOrigin {
     ghost cmp = { on origin_of payload_cmp };
 
-    ghost total = { on_total origin_of payload_total };
+    ghost total = { Prim.search (comparing, rules) };
 
     ghost matches_partial_cmp = { λ _ _. refl };
 
@@ -61,7 +66,11 @@ impl Ord for RouteOrigin {
 impl Hash for RouteOrigin {
     ghost hash_input = { λ value. part_writes (origin_of value) };
 
-    ghost respects_eq = { (on_Alike origin_of (fed_alike part_writes)).fed };
+    ghost respects_eq = { λ a b e.
+        let same : parts (origin_of a) ≡ parts (origin_of b) =
+            slice_cmp-IsAntisymmetric (slice_cmp-IsAntisymmetric nat_cmp-IsAntisymmetric) _ _
+            ((Equal-is (payload_cmp (origin_of a) (origin_of b))).0 e)
+        in Prim.cc };
 
     fn hash<H: Hasher>(&self, state: &mut H) {
         self.prefix.prefix().hash(state);

@@ -1,5 +1,5 @@
 use Rattle.rtr_base.proofs.Prefixes.{prefix_same}
-use Rattle.rtr_base.specs.PrivateLaws.{prefix_total}
+use Rattle.rtr_base.proofs.Prefixes.{prefix_total}
 use Rattle.rtr_base.proofs.laws.prefix_order.Goals as goal
 
 pub returns-clause-total : goal.returns-clause-total

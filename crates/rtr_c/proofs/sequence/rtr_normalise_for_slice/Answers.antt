@@ -1,7 +1,7 @@
 use Rattle.std.proofs.Common.{inl, inr}
 use Rattle.std.proofs.lemmas.Bool.{cases_lt}
-use Rattle.rtr_wire.specs.PrivateWriting.{version_joins}
 use Rattle.rtr_wire.specs.Sequences.{for_version}
+use Rattle.rtr_wire.proofs.InVersion.{version_joins}
 use Rattle.rtr_c.proofs.Accepted.{accepted, only, unknown}
 use Rattle.rtr_c.proofs.sequence.rtr_normalise_for_slice.Goals as goal
 
