@@ -1,15 +1,16 @@
-//! The calls that the rows of a table name, and their answers as text.
+//! The calls that the rows of a table name, their answers as text, and the table.
 #![tactic(auto)]
 
-pub mod answer;
-pub mod call;
+mod answer;
+mod call;
 mod fixed;
 mod into;
 mod meanings;
 mod parts;
 mod payloads;
-pub mod row;
+mod row;
 mod sequences;
 mod session;
+pub mod table;
 mod variable;
 mod views;

@@ -10,9 +10,7 @@
 //! `refused` and which of its answers that is.
 #![tactic(auto)]
 
-mod table;
-
-use crate::table::Table;
+use rtr_calls::table::Table;
 use std::env;
 use std::io::Read;
 use std::process::ExitCode;

@@ -1,8 +1,8 @@
 //! The lines of a table.
 
-use rtr_calls::answer::Answer;
-use rtr_calls::call::call;
-use rtr_calls::row::{Row, Setting, Way};
+use crate::answer::Answer;
+use crate::call::call;
+use crate::row::{Row, Setting, Way};
 use std::alloc::{AllocError, Global};
 use std::test::Fail;
 
