@@ -66,8 +66,8 @@ impl Hash for RouterKey {
 
     ghost respects_eq = { λ a b e.
         let same : parts (key_of a) ≡ parts (key_of b) =
-            slice_cmp-IsAntisymmetric (slice_cmp-IsAntisymmetric nat_cmp-IsAntisymmetric) _ _
-            ((Equal-is (payload_cmp (key_of a) (key_of b))).0 e)
+        slice_cmp-IsAntisymmetric (slice_cmp-IsAntisymmetric nat_cmp-IsAntisymmetric) _ _
+        ((Equal-is (payload_cmp (key_of a) (key_of b))).0 e)
         in Prim.cc };
 
     fn hash<H: Hasher>(&self, state: &mut H) {
@@ -126,8 +126,8 @@ impl Hash for Aspa {
 
     ghost respects_eq = { λ a b e.
         let same : parts (aspa_of a) ≡ parts (aspa_of b) =
-            slice_cmp-IsAntisymmetric (slice_cmp-IsAntisymmetric nat_cmp-IsAntisymmetric) _ _
-            ((Equal-is (payload_cmp (aspa_of a) (aspa_of b))).0 e)
+        slice_cmp-IsAntisymmetric (slice_cmp-IsAntisymmetric nat_cmp-IsAntisymmetric) _ _
+        ((Equal-is (payload_cmp (aspa_of a) (aspa_of b))).0 e)
         in Prim.cc };
 
     fn hash<H: Hasher>(&self, state: &mut H) {
@@ -183,8 +183,8 @@ impl Hash for Payload {
 
     ghost respects_eq = { λ a b e.
         let same : parts (payload_of a) ≡ parts (payload_of b) =
-            slice_cmp-IsAntisymmetric (slice_cmp-IsAntisymmetric nat_cmp-IsAntisymmetric) _ _
-            ((Equal-is (payload_cmp (payload_of a) (payload_of b))).0 e)
+        slice_cmp-IsAntisymmetric (slice_cmp-IsAntisymmetric nat_cmp-IsAntisymmetric) _ _
+        ((Equal-is (payload_cmp (payload_of a) (payload_of b))).0 e)
         in Prim.grind arith };
 
     fn hash<H: Hasher>(&self, state: &mut H) {
@@ -247,8 +247,8 @@ impl<'a> Hash for PayloadRef<'a> {
 
     ghost respects_eq = { λ a b e.
         let same : parts (payload_of_ref a) ≡ parts (payload_of_ref b) =
-            slice_cmp-IsAntisymmetric (slice_cmp-IsAntisymmetric nat_cmp-IsAntisymmetric) _ _
-            ((Equal-is (payload_cmp (payload_of_ref a) (payload_of_ref b))).0 e)
+        slice_cmp-IsAntisymmetric (slice_cmp-IsAntisymmetric nat_cmp-IsAntisymmetric) _ _
+        ((Equal-is (payload_cmp (payload_of_ref a) (payload_of_ref b))).0 e)
         in Prim.grind arith };
 
     fn hash<H: Hasher>(&self, state: &mut H) {

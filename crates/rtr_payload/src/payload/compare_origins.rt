@@ -68,8 +68,8 @@ impl Hash for RouteOrigin {
 
     ghost respects_eq = { λ a b e.
         let same : parts (origin_of a) ≡ parts (origin_of b) =
-            slice_cmp-IsAntisymmetric (slice_cmp-IsAntisymmetric nat_cmp-IsAntisymmetric) _ _
-            ((Equal-is (payload_cmp (origin_of a) (origin_of b))).0 e)
+        slice_cmp-IsAntisymmetric (slice_cmp-IsAntisymmetric nat_cmp-IsAntisymmetric) _ _
+        ((Equal-is (payload_cmp (origin_of a) (origin_of b))).0 e)
         in Prim.cc };
 
     fn hash<H: Hasher>(&self, state: &mut H) {
