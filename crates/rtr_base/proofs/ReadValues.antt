@@ -13,7 +13,7 @@ use Rattle.rtr_base.specs.Addresses.{prefix_at, width}
 use Rattle.rtr_base.specs.declared.addr.MaxLenError.{MaxLenError}
 use Rattle.rtr_base.specs.declared.addr.MaxLenError.TheVariants.{Overflow, Underflow}
 use Rattle.rtr_base.specs.Numerals.{IsDigit, IsNumeral, IsSerialText}
-use Rattle.rtr_base.specs.PrivateCalls.{IsWithoutAs}
+use Rattle.rtr_base.specs.PrivateAsn.{IsWithoutAs}
 use Rattle.rtr_base.specs.ReadTexts.{IsAsnText, IsLenText, IsAddressAndLen}
 use Rattle.rtr_base.specs.ReadTexts.{SplitsAt, MaxLenTextBy, IsMaxLenText}
 

@@ -3,7 +3,7 @@ pub mod Addresses
 pub mod Bytes
 pub mod Numerals
 pub mod PlainTexts
-pub mod PrivateCalls
+pub mod PrivateAsn
 pub mod ReadTexts
 pub mod Serial
 pub mod States

@@ -1,6 +1,6 @@
 //! Reading the texts of plain values: `FromStr` takes what `Display` writes.
 
-ghost use Rattle.rtr_base.specs.PrivateCalls.{IsWithoutAs};
+ghost use Rattle.rtr_base.specs.PrivateAsn.{IsWithoutAs};
 ghost use Rattle.rtr_base.specs.ReadTexts.{ParsesAsn, ParsesKey, ParsesMaxLen, ParsesPrefix};
 
 use crate::addr::{MaxLenError, MaxLenPrefix, Prefix, PrefixError};

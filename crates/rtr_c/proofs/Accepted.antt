@@ -4,13 +4,13 @@ use Rattle.std.proofs.Common.{Result, Ok, Err, refl, sym, ap, subst}
 use Rattle.std.proofs.Common.{◌∙◌, append_assoc, arith, inl, inr}
 use Rattle.std.proofs.lemmas.Bool.{cases_lt}
 use Rattle.std.proofs.lemmas.List.{length-append}
-use Rattle.rtr_units.specs.Causes.{Refusal, short, unit_type, unit_version}
-use Rattle.rtr_units.specs.Causes.{too_long, unit_length, empty_providers, refused}
+use Rattle.rtr_units.specs.StopCauses.{Refusal, short, unit_type, unit_version}
+use Rattle.rtr_units.specs.StopCauses.{too_long, unit_length, empty_providers, refused}
 use Rattle.rtr_units.specs.End.{EndMeaning, end_list}
 use Rattle.rtr_payload.specs.Payloads.{Meaning}
 use Rattle.rtr_payload.proofs.Apart.{begins_apart}
 use Rattle.rtr_payload.proofs.Fields.{units_same}
-use Rattle.rtr_payload.specs.Steps.{first_fault, first_unit, refusal_report}
+use Rattle.rtr_payload.specs.FirstFault.{first_fault, first_unit, refusal_report}
 use Rattle.rtr_views.specs.Faults.{IsFirstFault}
 use Rattle.rtr_views.specs.declared.fault.ViewFault.{ViewFault}
 use Rattle.rtr_views.specs.declared.fault.ViewFault.TheVariants as faults

@@ -1,8 +1,9 @@
 -- What C is told of a comparison (this library's own).
 use Rattle.std.specs.Prelude.{◌≡◌, ℕ, Bool, Result, Ok, Err}
-use Rattle.rtr_units.specs.Causes.{short, unit_type, unit_version, too_long, unit_length}
-use Rattle.rtr_units.specs.Causes.{empty_providers, refused, Cause, by_reader, by_writer, too_many}
-use Rattle.rtr_units.specs.Causes.{no_memory, wrong, cause_of}
+use Rattle.rtr_units.specs.StopCauses.{short, unit_type, unit_version, too_long, unit_length}
+use Rattle.rtr_units.specs.StopCauses.{empty_providers, refused, Cause, by_reader, by_writer}
+use Rattle.rtr_units.specs.StopCauses.{too_many}
+use Rattle.rtr_units.specs.StopCauses.{no_memory, wrong, cause_of}
 use Rattle.rtr_units.specs.declared.fault.Fault.{Fault}
 use Rattle.rtr_c.specs.Answers as status
 

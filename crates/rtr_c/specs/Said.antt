@@ -10,7 +10,7 @@ use Rattle.rtr_units.specs.End.{timed_list}
 use Rattle.rtr_units.specs.PrefixUnits.{address_bytes}
 use Rattle.rtr_payload.specs.Payloads.{origin, key, aspa}
 use Rattle.rtr_payload.specs.Providers.{words_of}
-use Rattle.rtr_payload.specs.Steps.{broken_rule}
+use Rattle.rtr_payload.specs.FirstFault.{broken_rule}
 use Rattle.rtr_payload.specs.declared.pdu.prefix_rule.PrefixRule.{PrefixRule}
 use Rattle.rtr_payload.specs.Units.{form}
 use Rattle.rtr_views.specs.Placing.{Places}

@@ -7,7 +7,7 @@ use Rattle.rtr_base.specs.Addresses.{Family, v4, v6, ip_version, resolved_len}
 use Rattle.rtr_base.specs.Bytes.{be}
 use Rattle.rtr_base.specs.declared.payload.Timing.{Timing}
 use Rattle.rtr_units.specs.End.{EndMeaning}
-use Rattle.rtr_units.specs.Ends.{end_meaning}
+use Rattle.rtr_units.specs.AnyEnd.{end_meaning}
 use Rattle.rtr_units.specs.PrefixUnits.{prefix_type}
 use Rattle.rtr_payload.specs.AspaUnits.{AspaFields, aspa_at}
 use Rattle.rtr_payload.specs.KeyUnits.{KeyFields, key_at}

@@ -1,7 +1,7 @@
 //! Whether two sequences mean the same.
 
 ghost use Rattle.std.specs.Prelude.{◌≡◌, Bool, Result};
-ghost use Rattle.rtr_units.specs.Causes.{cause_of};
+ghost use Rattle.rtr_units.specs.StopCauses.{cause_of};
 ghost use Rattle.rtr_units.specs.declared.fault.Fault.{Fault};
 ghost use Rattle.rtr_wire.specs.Comparison.{Compares};
 ghost use Rattle.rtr_c.specs.Compared.{TellsSame, cause_status};

@@ -1,7 +1,7 @@
 //! Units one after the other.
 
 ghost use Rattle.std.specs.Prelude.{◌≡◌, ℕ, Result};
-ghost use Rattle.rtr_units.specs.Ends.{end_meaning};
+ghost use Rattle.rtr_units.specs.AnyEnd.{end_meaning};
 ghost use Rattle.rtr_views.specs.declared.fault.ViewFault.{ViewFault};
 ghost use Rattle.rtr_views.specs.declared.view.UnitView.{UnitView};
 ghost use Rattle.rtr_views.specs.declared.view.UnitView.TheVariants as views;

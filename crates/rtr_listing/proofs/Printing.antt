@@ -9,7 +9,7 @@ use Rattle.std.proofs.KnownBytes.{Appends-trans}
 use Rattle.rtr_units.specs.Stream.{WriterState}
 use Rattle.rtr_listing.specs.Lines.{IsLine}
 use Rattle.rtr_listing.specs.Listing.{AreLines}
-use Rattle.rtr_listing.specs.PrivateCalls.{Prints, PutsLine, PutsLineBytes, Shows}
+use Rattle.rtr_listing.specs.PrivateLines.{Prints, PutsLine, PutsLineBytes, Shows}
 use Rattle.rtr_listing.specs.declared.run.Wanted.{Wanted}
 use Rattle.rtr_listing.specs.declared.run.Wanted.TheVariants.{Text, Json}
 

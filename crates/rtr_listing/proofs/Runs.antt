@@ -11,14 +11,14 @@ use Rattle.std.specs.Io.KnownBytes.{Consumes, Appends}
 use Rattle.std.proofs.KnownBytes.{Consumes-trans, Consumes-nil, Appends-trans, Appends-nil}
 use Rattle.rtr_units.specs.declared.fault.Fault.{Fault}
 use Rattle.rtr_units.specs.declared.fault.Fault.TheVariants.{TooMany}
-use Rattle.rtr_units.specs.Causes.{Cause, by_reader, by_writer, too_many, no_memory, wrong}
-use Rattle.rtr_units.specs.Causes.{cause_of}
+use Rattle.rtr_units.specs.StopCauses.{Cause, by_reader, by_writer, too_many, no_memory, wrong}
+use Rattle.rtr_units.specs.StopCauses.{cause_of}
 use Rattle.rtr_units.specs.Reading.{Takes}
 use Rattle.rtr_units.specs.Stream.{ReaderState, WriterState, reader_count, writer_count}
-use Rattle.rtr_session.specs.Reads.{HasEnded, StopsInAny}
+use Rattle.rtr_session.specs.AnyReading.{HasEnded, StopsInAny}
 use Rattle.rtr_listing.specs.Lines.{IsLine}
 use Rattle.rtr_listing.specs.Listing.{IsUnit, AreUnits, AreLines, Counts, OneEach, Ends, Lists}
-use Rattle.rtr_listing.specs.PrivateCalls.{PrintsBytes, Shows, ShowsPart, StopsLine}
+use Rattle.rtr_listing.specs.PrivateLines.{PrintsBytes, Shows, ShowsPart, StopsLine}
 use Rattle.rtr_listing.specs.declared.run.Wanted.{Wanted}
 use Rattle.rtr_listing.specs.declared.run.Wanted.TheVariants.{Text, Json, Findings}
 use Rattle.rtr_listing.proofs.Printing.{all_append, concat_push}

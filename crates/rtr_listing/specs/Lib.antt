@@ -1,5 +1,5 @@
 pub mod Lines
 pub mod Listing
-pub mod PrivateCalls
-pub mod Status
-pub mod Words
+pub mod PrivateLines
+pub mod ListStatus
+pub mod ListWords

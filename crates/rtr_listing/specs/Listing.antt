@@ -8,11 +8,11 @@ use Rattle.std.specs.Prelude.{Bool, false, Option, Result, Ok, Err, ◌⊎◌}
 use Rattle.std.specs.Io.KnownBytes.{Consumes, Appends, IsAtEnd}
 use Rattle.std.specs.List.{AllByRecursion, concat}
 use Rattle.rtr_units.specs.declared.fault.Fault.{Fault}
-use Rattle.rtr_units.specs.Causes.{Cause, by_reader, by_writer, too_many, no_memory, wrong}
-use Rattle.rtr_units.specs.Causes.{by_cause}
+use Rattle.rtr_units.specs.StopCauses.{Cause, by_reader, by_writer, too_many, no_memory, wrong}
+use Rattle.rtr_units.specs.StopCauses.{by_cause}
 use Rattle.rtr_units.specs.Stream.{ReaderState, WriterState, reader_count, writer_count}
-use Rattle.rtr_session.specs.Fields.{AnyFields, HasAnyFields}
-use Rattle.rtr_session.specs.Reads.{StopsInAny}
+use Rattle.rtr_session.specs.AnyFields.{AnyFields, HasAnyFields}
+use Rattle.rtr_session.specs.AnyReading.{StopsInAny}
 use Rattle.rtr_listing.specs.Lines.{IsLine, IsPartOfLine}
 use Rattle.rtr_listing.specs.declared.run.Wanted.{Wanted}
 use Rattle.rtr_listing.specs.declared.run.Wanted.TheVariants.{Text, Json, Findings}

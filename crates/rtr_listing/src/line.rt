@@ -3,9 +3,9 @@
 ghost use Rattle.std.specs.Prelude.{◌≡◌, ◌≢◌, ◌≤◌, ◌++◌, [], Err, OnOk, decimal};
 ghost use Rattle.std.specs.List.{All};
 ghost use Rattle.std.specs.Fmt.{AppendsText};
-ghost use Rattle.rtr_units.specs.Causes.{by_cause, by_reader};
+ghost use Rattle.rtr_units.specs.StopCauses.{by_cause, by_reader};
 ghost use Rattle.rtr_listing.specs.Lines.{IsLine};
-ghost use Rattle.rtr_listing.specs.PrivateCalls.{PutsLine};
+ghost use Rattle.rtr_listing.specs.PrivateLines.{PutsLine};
 
 use itoa::Buffer;
 use rtr_units::fault::Fault;

@@ -1,10 +1,10 @@
 //! Lines of units, one unit after the other.
 
 ghost use Rattle.std.specs.Prelude.{◌≡◌, ◌≢◌, ℕ, List, length, Option, Err, OnOk, OnErr};
-ghost use Rattle.rtr_units.specs.Causes.{by_cause, by_reader};
+ghost use Rattle.rtr_units.specs.StopCauses.{by_cause, by_reader};
 ghost use Rattle.rtr_units.specs.Stream.{WriterState};
-ghost use Rattle.rtr_listing.specs.PrivateCalls.{Prints, PrintsEach, PutsLine, offset_after};
-ghost use Rattle.rtr_session.specs.Values.{any_bytes};
+ghost use Rattle.rtr_listing.specs.PrivateLines.{Prints, PrintsEach, PutsLine, offset_after};
+ghost use Rattle.rtr_session.specs.AnyUnits.{any_bytes};
 ghost use Rattle.rtr_listing.specs.declared.run.Wanted.TheVariants.{Text, Json, Findings};
 
 use crate::check::Checker;

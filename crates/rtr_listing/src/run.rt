@@ -2,10 +2,10 @@
 
 ghost use Rattle.std.specs.Prelude.{◌≡◌, drop, IsNone, IfSome, None};
 ghost use Rattle.std.specs.Process.{exit_status};
-ghost use Rattle.rtr_units.specs.Causes.{by_cause};
+ghost use Rattle.rtr_units.specs.StopCauses.{by_cause};
 ghost use Rattle.rtr_listing.specs.Listing.{Lists};
-ghost use Rattle.rtr_listing.specs.Status.{Runs, status_of};
-ghost use Rattle.rtr_listing.specs.Words.{asked, asked_word};
+ghost use Rattle.rtr_listing.specs.ListStatus.{Runs, status_of};
+ghost use Rattle.rtr_listing.specs.ListWords.{asked, asked_word};
 
 use crate::printer::Printer;
 use rtr_session::AnyUnit;

@@ -10,7 +10,7 @@ use Rattle.rtr_units.specs.PrefixUnits.{prefix_type}
 use Rattle.rtr_payload.specs.Payloads.{Meaning}
 use Rattle.rtr_payload.specs.Units.{Fields, prefix_unit, key_unit, aspa_unit}
 use Rattle.rtr_payload.specs.Units.{unit_list, written, IsUnit, form_of}
-use Rattle.rtr_payload.specs.Steps.{BeginsUnit, BeginsEnd}
+use Rattle.rtr_payload.specs.FirstFault.{BeginsUnit, BeginsEnd}
 
 fields_type : (u : Fields) (r : List ℕ) → type_field (unit_list u ++ r) ≢ 7
 fields_type (prefix_unit u) r h = by_family u.origin.family h

@@ -20,7 +20,7 @@ use Rattle.rtr_payload.specs.Providers.{words_of}
 use Rattle.rtr_payload.specs.KeyUnits.{IsKey, KeyFields, key_list, key_at}
 use Rattle.rtr_payload.specs.AspaUnits.{IsAspa, AspaFields, aspa_list, aspa_at, HasProviders}
 use Rattle.rtr_payload.specs.declared.payload.RouteOrigin.{RouteOrigin}
-use Rattle.rtr_payload.specs.Values.{origin_of}
+use Rattle.rtr_payload.specs.Meanings.{origin_of}
 use Rattle.rtr_payload.specs.Payloads.{Payload, IsPayload}
 use Rattle.rtr_payload.specs.RouteOrigins.{PrefixFits}
 use Rattle.rtr_payload.specs.Units.{Fields, prefix_unit, key_unit, aspa_unit, fields_like}

@@ -13,14 +13,14 @@ use Rattle.rtr_base.specs.Actions.{act}
 use Rattle.rtr_base.specs.Addresses.{Family, v4, v6, width}
 use Rattle.rtr_base.specs.Bytes.{be, value}
 use Rattle.rtr_base.proofs.Numbers.{length-words, value-be}
-use Rattle.rtr_units.specs.Causes.{Refusal, short}
+use Rattle.rtr_units.specs.StopCauses.{Refusal, short}
 use Rattle.rtr_units.specs.End.{EndMeaning, End, HasTimingOf, timed_list}
 use Rattle.rtr_units.specs.PrefixUnits.{PrefixFields, prefix_type, prefix_size, prefix_list}
 use Rattle.rtr_units.specs.Header.{type_field, length_field}
 use Rattle.rtr_units.proofs.Headers.{same_header}
-use Rattle.rtr_payload.specs.Steps.{header_fault, header_step, length_step, lengths_fault}
-use Rattle.rtr_payload.specs.Steps.{frame_fault, first_of, first_fault}
-use Rattle.rtr_payload.specs.Steps.{first_unit, rule_of, broken_rule, refuse}
+use Rattle.rtr_payload.specs.FirstFault.{header_fault, header_step, length_step, lengths_fault}
+use Rattle.rtr_payload.specs.FirstFault.{frame_fault, first_of, first_fault}
+use Rattle.rtr_payload.specs.FirstFault.{first_unit, rule_of, broken_rule, refuse}
 use Rattle.rtr_payload.specs.Units.{Fields, prefix_unit, key_unit, aspa_unit}
 use Rattle.rtr_payload.specs.Units.{unit_list, Fit, WithinLimits, HasFields}
 use Rattle.rtr_payload.specs.AspaUnits.{HasProviders, aspa_list}

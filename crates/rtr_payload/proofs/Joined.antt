@@ -9,7 +9,7 @@ use Rattle.std.proofs.lemmas.List.{drop-append-le, take-append-le, take-append-d
 use Rattle.std.proofs.Math.Seq.{drop-append-add}
 use Rattle.rtr_units.specs.declared.fault.Fault.{Fault}
 use Rattle.rtr_units.specs.Stream.{PutsForm, StopsWriting, WriterState, WritesPart, writer_count}
-use Rattle.rtr_units.specs.Causes.{by_cause}
+use Rattle.rtr_units.specs.StopCauses.{by_cause}
 
 -- a piece of the fixed part
 pub part_front : (a b : List ℕ) (n k : ℕ) → n + k ≤ length a →

@@ -3,17 +3,17 @@ use Rattle.std.proofs.Common.{◌≡◌, ℕ, Option, Some, None, refl, sym, ap,
 use Rattle.std.specs.Prelude.{IsSome}
 use Rattle.rtr_base.specs.Actions.{act}
 use Rattle.rtr_base.specs.declared.payload.Action.{Action}
-use Rattle.rtr_units.specs.Causes.{short, unit_type, unit_version, too_long, unit_length}
-use Rattle.rtr_units.specs.Causes.{empty_providers, refused, Cause, by_reader}
-use Rattle.rtr_units.specs.Causes.{by_writer, too_many, no_memory, wrong}
+use Rattle.rtr_units.specs.StopCauses.{short, unit_type, unit_version, too_long, unit_length}
+use Rattle.rtr_units.specs.StopCauses.{empty_providers, refused, Cause, by_reader}
+use Rattle.rtr_units.specs.StopCauses.{by_writer, too_many, no_memory, wrong}
 use Rattle.rtr_units.specs.Header.{version_field}
 use Rattle.rtr_payload.specs.Payloads.{Payload, origin, key, aspa, Meaning, IsPayload}
-use Rattle.rtr_payload.specs.Steps.{rule_of}
+use Rattle.rtr_payload.specs.FirstFault.{rule_of}
 use Rattle.rtr_payload.specs.Units.{Fields, prefix_unit, key_unit, aspa_unit}
 use Rattle.rtr_payload.specs.Units.{LengthsAgree, meaning, written, stripped}
-use Rattle.rtr_payload.specs.UnitValues.{IsWritten, unit_bytes, unit_fields, flags_in, MeansPayload}
-use Rattle.rtr_payload.specs.UnitValues.{NeedsMemory, HasNoPayload, IsPrefixUnit}
-use Rattle.rtr_payload.specs.Values.{payload_of}
+use Rattle.rtr_payload.specs.UnitBytes.{IsWritten, unit_bytes, unit_fields, flags_in, MeansPayload}
+use Rattle.rtr_payload.specs.UnitBytes.{NeedsMemory, HasNoPayload, IsPrefixUnit}
+use Rattle.rtr_payload.specs.Meanings.{payload_of}
 use Rattle.rtr_payload.specs.declared.payload.Payload.{Payload as Value}
 use Rattle.rtr_payload.specs.declared.pdu.payload.Payload.{Payload as Unit}
 use Rattle.rtr_payload.specs.declared.pdu.payload.Payload.TheVariants.{V4, V6, RouterKey, Aspa}

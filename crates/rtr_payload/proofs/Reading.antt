@@ -6,25 +6,25 @@ use Rattle.std.proofs.KnownBytes.{Consumes-nil}
 use Rattle.std.proofs.lemmas.Bool.{cases_lt}
 use Rattle.std.proofs.Common.{cond, eqb, ltb, inl}
 use Rattle.rtr_base.specs.Addresses.{Family, v4, v6}
-use Rattle.rtr_units.specs.Causes.{Refusal, short, unit_type, unit_version}
-use Rattle.rtr_units.specs.Causes.{unit_length, refused, Cause, wrong}
-use Rattle.rtr_units.specs.Ends.{end_unit}
+use Rattle.rtr_units.specs.StopCauses.{Refusal, short, unit_type, unit_version}
+use Rattle.rtr_units.specs.StopCauses.{unit_length, refused, Cause, wrong}
+use Rattle.rtr_units.specs.AnyEnd.{end_unit}
 use Rattle.rtr_units.specs.PrefixUnits.{prefix_type, prefix_size}
 use Rattle.rtr_units.specs.Header.{version_field, type_field, length_field}
 use Rattle.rtr_units.specs.Reading.{of_size, IsPart, AsksAfter, Reads, ReadsAfter, by_bytes}
 use Rattle.rtr_units.specs.declared.fault.Fault.{Fault}
 use Rattle.rtr_units.proofs.UnitsRead.{AlikeAfter, reads_alike, at_header}
 use Rattle.rtr_units.specs.Stream.{ReaderState}
-use Rattle.rtr_units.specs.Views.{AreBytes}
+use Rattle.rtr_units.specs.HeaderBytes.{AreBytes}
 use Rattle.rtr_units.proofs.Headers.{same_header}
 use Rattle.rtr_payload.specs.UnitKinds.{variable_unit, payload_unit}
 use Rattle.rtr_units.specs.PrefixUnits.{prefix_at}
 use Rattle.rtr_payload.specs.Units.{prefix_unit}
 use Rattle.rtr_payload.specs.Refusals.{IsPartial, IsRefused}
-use Rattle.rtr_payload.specs.UnitValues.{unit_bytes, unit_fields}
+use Rattle.rtr_payload.specs.UnitBytes.{unit_bytes, unit_fields}
 use Rattle.rtr_payload.specs.declared.pdu.payload.Payload.{Payload}
 use Rattle.std.specs.Prelude.{IfOk, IsTrue}
-use Rattle.rtr_payload.specs.Steps.{header_fault, header_step}
+use Rattle.rtr_payload.specs.FirstFault.{header_fault, header_step}
 use Rattle.rtr_payload.specs.Units.{Fields, HasFields}
 use Rattle.rtr_payload.proofs.Frames.{shape_whole}
 use Rattle.rtr_payload.proofs.Refusals.{header_short, unit_short, header_refused}

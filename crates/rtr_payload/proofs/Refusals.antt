@@ -5,15 +5,15 @@ use Rattle.std.proofs.Common.{inr, Some, None, refl, sym, ap, ◌∙◌, arith, 
 use Rattle.std.proofs.lemmas.Bool.{cases_lt, lt-ltb}
 use Rattle.std.proofs.lemmas.Bool.Decides.{nat_tests}
 use Rattle.std.proofs.lemmas.List.{length-append, length-take-le, take-append-drop, take_at}
-use Rattle.rtr_units.specs.Causes.{Refusal, short, unit_type, unit_version}
-use Rattle.rtr_units.specs.Causes.{too_long, unit_length, empty_providers, refused}
+use Rattle.rtr_units.specs.StopCauses.{Refusal, short, unit_type, unit_version}
+use Rattle.rtr_units.specs.StopCauses.{too_long, unit_length, empty_providers, refused}
 use Rattle.rtr_units.specs.Header.{version_field, type_field, length_field}
 use Rattle.rtr_units.proofs.Headers.{same_header}
 use Rattle.rtr_payload.specs.declared.pdu.prefix_rule.PrefixRule.{PrefixRule}
 use Rattle.rtr_payload.specs.Refusals.{IsPartial, IsRefused}
-use Rattle.rtr_payload.specs.Steps.{header_fault, header_step, length_step, lengths_fault}
-use Rattle.rtr_payload.specs.Steps.{frame_fault, first_of, first_unit}
-use Rattle.rtr_payload.specs.Steps.{taken, rule_of, refuse, refusal_report}
+use Rattle.rtr_payload.specs.FirstFault.{header_fault, header_step, length_step, lengths_fault}
+use Rattle.rtr_payload.specs.FirstFault.{frame_fault, first_of, first_unit}
+use Rattle.rtr_payload.specs.FirstFault.{taken, rule_of, refuse, refusal_report}
 use Rattle.rtr_payload.specs.Units.{Fields, HasFields}
 use Rattle.rtr_payload.proofs.Frames.{Whole, behind_header, same_step, shape_fault, shape_cut}
 

@@ -7,12 +7,13 @@ use Rattle.std.proofs.lemmas.List.{take-append-drop, length-take-le}
 use Rattle.rtr_base.specs.Addresses.{width}
 use Rattle.rtr_base.specs.Bytes.{IsBytes}
 use Rattle.rtr_base.proofs.Numbers.{IsBytes-take}
-use Rattle.rtr_units.specs.Causes.{Refusal}
+use Rattle.rtr_units.specs.StopCauses.{Refusal}
 use Rattle.rtr_units.specs.Header.{version_field, type_field, length_field}
 use Rattle.rtr_units.proofs.Headers.{same_header}
-use Rattle.rtr_payload.specs.Steps.{header_fault, header_step, lengths_fault, frame_fault}
-use Rattle.rtr_payload.specs.Steps.{first_fault, first_unit, BeginsShape, BeginsUnit, BeginsEnd}
-use Rattle.rtr_payload.specs.Steps.{broken_rule, rule_of, refuse}
+use Rattle.rtr_payload.specs.FirstFault.{header_fault, header_step, lengths_fault, frame_fault}
+use Rattle.rtr_payload.specs.FirstFault.{first_fault, first_unit, BeginsShape, BeginsUnit}
+use Rattle.rtr_payload.specs.FirstFault.{BeginsEnd}
+use Rattle.rtr_payload.specs.FirstFault.{broken_rule, rule_of, refuse}
 use Rattle.rtr_payload.specs.Units.{Fields, prefix_unit, key_unit, aspa_unit, LengthsAgree, meaning}
 use Rattle.rtr_payload.proofs.Wholes.{whole_is}
 use Rattle.rtr_payload.proofs.Frames.{Whole, InFrame, none_in_frame, first_none}

@@ -6,18 +6,19 @@ use Rattle.std.proofs.KnownBytes.{Consumes-nil}
 use Rattle.std.proofs.lemmas.List.{length-append}
 use Rattle.rtr_base.specs.Bytes.{IsBytes}
 use Rattle.rtr_base.proofs.Numbers.{IsBytes-append}
-use Rattle.rtr_units.specs.Causes.{Refusal, short, unit_type, unit_version, too_long, unit_length}
-use Rattle.rtr_units.specs.Causes.{empty_providers, refused, Cause, by_reader}
-use Rattle.rtr_units.specs.Causes.{by_writer, too_many, no_memory, wrong}
+use Rattle.rtr_units.specs.StopCauses.{Refusal, short, unit_type, unit_version, too_long}
+use Rattle.rtr_units.specs.StopCauses.{unit_length}
+use Rattle.rtr_units.specs.StopCauses.{empty_providers, refused, Cause, by_reader}
+use Rattle.rtr_units.specs.StopCauses.{by_writer, too_many, no_memory, wrong}
 use Rattle.rtr_units.specs.Header.{length_field}
-use Rattle.rtr_units.specs.Views.{AreBytes}
+use Rattle.rtr_units.specs.HeaderBytes.{AreBytes}
 use Rattle.rtr_units.proofs.Headers.{same_header}
 use Rattle.rtr_units.specs.Reading.{IsWhole, AsksAfter, Stops, Reads}
 use Rattle.rtr_units.specs.Stream.{ReaderState}
 use Rattle.rtr_units.proofs.UnitsRead.{ByHeader, rest_stops, rest_whole, at_header}
-use Rattle.rtr_payload.specs.PrivateCalls.{StopsInFrame, IsRefusedBy}
+use Rattle.rtr_payload.specs.PrivateFrames.{StopsInFrame, IsRefusedBy}
 use Rattle.rtr_payload.specs.UnitKinds.{variable_unit}
-use Rattle.rtr_payload.specs.Steps.{header_fault}
+use Rattle.rtr_payload.specs.FirstFault.{header_fault}
 use Rattle.rtr_payload.proofs.Reading.{never_short}
 
 -- ---- headers that are refused

@@ -1,8 +1,8 @@
 -- What the front of a list shows of the unit that it begins, whatever follows it (the order of
 -- refusals is this library's own).
 use Rattle.std.specs.Prelude.{◌≡◌, List, ℕ, ◌++◌, Some}
-use Rattle.rtr_units.specs.Causes.{Refusal, short}
-use Rattle.rtr_payload.specs.Steps.{first_fault, taken}
+use Rattle.rtr_units.specs.StopCauses.{Refusal, short}
+use Rattle.rtr_payload.specs.FirstFault.{first_fault, taken}
 
 -- h is less than a whole unit, and nothing is wrong but that
 abbrev pub IsPartial : List ℕ → Type 0

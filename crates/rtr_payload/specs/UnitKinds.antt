@@ -4,7 +4,7 @@
 use Rattle.std.specs.Prelude.{ℕ, true, ◌||◌, slice_index, ◌==◌}
 use Rattle.rtr_units.specs.Header.{version_field, type_field, length_field}
 use Rattle.rtr_units.specs.Reading.{Kind}
-use Rattle.rtr_payload.specs.Steps.{header_fault, header_step}
+use Rattle.rtr_payload.specs.FirstFault.{header_fault, header_step}
 
 -- units that are taken for ones of type k, whatever type they name: 9 for router keys (RFC 8210
 -- section 5.10), 11 for ASPA units (as in the Rust crate)

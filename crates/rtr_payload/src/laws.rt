@@ -2,8 +2,8 @@
 
 ghost use Rattle.std.specs.Prelude.{◌≡◌, ◌++◌, ◌↔◌, ◌<◌, ◌^◌, ◌⊎◌, ℕ, List, None, IsSome};
 ghost use Rattle.rtr_base.specs.Bytes.{IsBytes, words};
-ghost use Rattle.rtr_payload.specs.Steps.{BeginsShape, BeginsUnit, BeginsEnd, frame_fault};
-ghost use Rattle.rtr_payload.specs.Steps.{first_fault, rule_of};
+ghost use Rattle.rtr_payload.specs.FirstFault.{BeginsShape, BeginsUnit, BeginsEnd, frame_fault};
+ghost use Rattle.rtr_payload.specs.FirstFault.{first_fault, rule_of};
 ghost use Rattle.std.specs.Cmp.{IsTotalOrder};
 ghost use Rattle.std.specs.List.{AllByRecursion};
 ghost use Rattle.std.specs.declared.cmp.Ordering.TheVariants.{Equal};
@@ -11,11 +11,11 @@ ghost use Rattle.rtr_payload.specs.Orders.{list_cmp, payload_cmp};
 ghost use Rattle.rtr_payload.specs.Payloads.{Payload, IsPayload, Meaning};
 ghost use Rattle.rtr_base.specs.Actions.{act};
 ghost use Rattle.rtr_base.specs.declared.payload.Action.{Action};
-ghost use Rattle.rtr_units.specs.Causes.{Cause, no_memory};
+ghost use Rattle.rtr_units.specs.StopCauses.{Cause, no_memory};
 ghost use Rattle.rtr_units.specs.Header.{version_field};
-ghost use Rattle.rtr_payload.specs.UnitValues.{IsWritten, unit_bytes, flags_in, MeansPayload};
-ghost use Rattle.rtr_payload.specs.UnitValues.{HasNoPayload, IsPrefixUnit};
-ghost use Rattle.rtr_payload.specs.Values.{payload_of};
+ghost use Rattle.rtr_payload.specs.UnitBytes.{IsWritten, unit_bytes, flags_in, MeansPayload};
+ghost use Rattle.rtr_payload.specs.UnitBytes.{HasNoPayload, IsPrefixUnit};
+ghost use Rattle.rtr_payload.specs.Meanings.{payload_of};
 ghost use Rattle.rtr_payload.specs.declared.payload.Payload.{Payload as Value};
 ghost use Rattle.rtr_payload.specs.declared.pdu.payload.Payload.{Payload as Unit};
 ghost use Rattle.rtr_payload.specs.Units.{Fields, fields_like, LengthsAgree, IsUnit, meaning};

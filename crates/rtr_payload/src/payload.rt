@@ -3,7 +3,7 @@
 ghost use Rattle.std.specs.Prelude.{◌≡◌, [], IfOk, IsOk, IsSome};
 ghost use Rattle.std.specs.Option.{option_copied};
 ghost use Rattle.rtr_base.specs.Addresses.{v4_test, IsMaxLenPrefix};
-ghost use Rattle.rtr_payload.specs.Values.{aspa_in, kind_of, key_in, origin_in, referent};
+ghost use Rattle.rtr_payload.specs.Meanings.{aspa_in, kind_of, key_in, origin_in, referent};
 ghost use Rattle.rtr_payload.specs.declared.payload.Payload.TheVariants as payloads;
 ghost use Rattle.rtr_payload.specs.declared.payload.PayloadRef.TheVariants as lent;
 

@@ -1,10 +1,10 @@
 -- Where reading an error report stops, by its header and by what follows it.
 use Rattle.std.proofs.Common.{eqb, cond, Some}
-use Rattle.rtr_units.specs.Causes.{unit_type}
+use Rattle.rtr_units.specs.StopCauses.{unit_type}
 use Rattle.rtr_units.specs.Reading.{least_length}
 use Rattle.rtr_units.proofs.Headers.{same_header}
 use Rattle.rtr_units.proofs.UnitsRead.{ByHeader}
-use Rattle.rtr_session.specs.Headers.{report_unit}
+use Rattle.rtr_session.specs.SessionKinds.{report_unit}
 
 pub report_by : ByHeader report_unit
 report_by = record {

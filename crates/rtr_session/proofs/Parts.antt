@@ -10,7 +10,7 @@ use Rattle.rtr_base.specs.Bytes.{be, value, IsBytes}
 use Rattle.rtr_base.proofs.Numbers.{be-value, value-be, IsBytes-take, IsBytes-drop}
 use Rattle.rtr_units.specs.Header.{header, version_field, session_field, length_field}
 use Rattle.rtr_units.proofs.Headers.{header_read}
-use Rattle.rtr_session.specs.PrivateCalls.{IsCounted, IsCutShort}
+use Rattle.rtr_session.specs.PrivateHeaders.{IsCounted, IsCutShort}
 use Rattle.rtr_session.specs.Reports.{IsReport, HasParts}
 use Rattle.rtr_session.proofs.Reports.{report_fields}
 

@@ -6,12 +6,12 @@ use Rattle.std.proofs.lemmas.Bool.Decides.{nat_tests}
 use Rattle.std.proofs.lemmas.List.{take_at}
 use Rattle.rtr_base.specs.Bytes.{IsBytes}
 use Rattle.rtr_base.proofs.Numbers.{IsBytes-append}
-use Rattle.rtr_units.specs.Causes.{unit_type, too_long, unit_length}
+use Rattle.rtr_units.specs.StopCauses.{unit_type, too_long, unit_length}
 use Rattle.rtr_units.specs.Header.{type_field, length_field}
 use Rattle.rtr_units.specs.Reading.{least_length}
-use Rattle.rtr_units.specs.Views.{AreBytes}
+use Rattle.rtr_units.specs.HeaderBytes.{AreBytes}
 use Rattle.rtr_units.proofs.Headers.{same_header}
-use Rattle.rtr_session.specs.Headers.{report_unit}
+use Rattle.rtr_session.specs.SessionKinds.{report_unit}
 use Rattle.rtr_session.specs.Reports.{IsReport}
 
 pub report_in_order : (h : List ℕ) → type_field h ≡ 10 → 16 ≤ length_field h →

@@ -7,7 +7,7 @@ use Rattle.rtr_base.specs.Bytes.{be, IsBytes}
 use Rattle.rtr_base.proofs.Cuts.{cut_number, cut_end, number_fits}
 use Rattle.rtr_base.proofs.Numbers.{IsBytes-append, IsBytes-be}
 use Rattle.rtr_units.specs.End.{EndMeaning, End, HasTimingOf, timed_list}
-use Rattle.rtr_units.specs.Ends.{end_bytes, end_meaning, end_unit}
+use Rattle.rtr_units.specs.AnyEnd.{end_bytes, end_meaning, end_unit}
 use Rattle.rtr_units.specs.declared.end.EndOfData.{EndOfData}
 use Rattle.rtr_units.specs.Queries.{bare_list, serial_list, serial_field}
 use Rattle.rtr_units.specs.PrefixUnits.{prefix_type, prefix_size, prefix_at}
@@ -15,16 +15,16 @@ use Rattle.rtr_units.specs.Header.{header, version_field, type_field, session_fi
 use Rattle.rtr_units.specs.Reading.{Kind, of_size, Takes, ReadsAfter}
 use Rattle.rtr_units.specs.Stream.{ReaderState}
 use Rattle.rtr_units.proofs.UnitsRead.{sized_from}
-use Rattle.rtr_units.specs.Views.{AreBytes}
+use Rattle.rtr_units.specs.HeaderBytes.{AreBytes}
 use Rattle.rtr_units.proofs.Headers.{header_read, header_bytes, same_header, session_fits}
 use Rattle.rtr_payload.specs.UnitKinds.{variable_unit}
 use Rattle.rtr_payload.specs.Units.{Fields, prefix_unit, HasFields}
 use Rattle.rtr_payload.proofs.FieldsRead.{prefix_has}
-use Rattle.rtr_session.specs.Fields.{AnyFields, serial_notify, serial_query, reset_query}
-use Rattle.rtr_session.specs.Fields.{cache_response, payload, end_of_data, cache_reset}
-use Rattle.rtr_session.specs.Fields.{error_report, HasAnyFields}
+use Rattle.rtr_session.specs.AnyFields.{AnyFields, serial_notify, serial_query, reset_query}
+use Rattle.rtr_session.specs.AnyFields.{cache_response, payload, end_of_data, cache_reset}
+use Rattle.rtr_session.specs.AnyFields.{error_report, HasAnyFields}
 use Rattle.rtr_session.specs.Reports.{IsReport}
-use Rattle.rtr_session.specs.Values.{serial_of, bare_of}
+use Rattle.rtr_session.specs.AnyUnits.{serial_of, bare_of}
 use Rattle.rtr_session.proofs.Reports.{report_fields}
 
 -- ---- units of a fixed size

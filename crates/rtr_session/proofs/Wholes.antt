@@ -10,15 +10,15 @@ use Rattle.rtr_units.specs.End.{HasTimingOf, timed_list}
 use Rattle.rtr_units.specs.Header.{version_field, type_field, session_field, length_field}
 use Rattle.rtr_units.proofs.Headers.{same_header}
 use Rattle.rtr_units.specs.Reading.{IsWhole}
-use Rattle.rtr_payload.specs.Steps.{header_fault}
+use Rattle.rtr_payload.specs.FirstFault.{header_fault}
 use Rattle.rtr_payload.proofs.Frames.{Whole, shape_whole}
 use Rattle.rtr_payload.proofs.Wholes.{whole_is}
-use Rattle.rtr_session.specs.Fields.{AnyFields, serial_notify, serial_query, reset_query}
-use Rattle.rtr_session.specs.Fields.{cache_response, payload, end_of_data, cache_reset}
-use Rattle.rtr_session.specs.Fields.{error_report, any_list, AnyFit, HasAnyFields}
-use Rattle.rtr_session.specs.Headers.{any_header_fault, session_unit}
+use Rattle.rtr_session.specs.AnyFields.{AnyFields, serial_notify, serial_query, reset_query}
+use Rattle.rtr_session.specs.AnyFields.{cache_response, payload, end_of_data, cache_reset}
+use Rattle.rtr_session.specs.AnyFields.{error_report, any_list, AnyFit, HasAnyFields}
+use Rattle.rtr_session.specs.SessionKinds.{any_header_fault, session_unit}
 use Rattle.rtr_session.specs.Reports.{IsReport}
-use Rattle.rtr_session.specs.Values.{serial_of, bare_of}
+use Rattle.rtr_session.specs.AnyUnits.{serial_of, bare_of}
 use Rattle.rtr_session.proofs.Reports.{fields_report}
 use Rattle.rtr_session.proofs.Units.{notify_has, query_has, reset_query_has, response_has}
 use Rattle.rtr_session.proofs.Units.{cache_reset_has, payload_has, end_has, report_has}

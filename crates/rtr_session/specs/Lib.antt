@@ -1,6 +1,6 @@
-pub mod Fields
-pub mod Headers
-pub mod PrivateCalls
-pub mod Reads
+pub mod AnyFields
+pub mod SessionKinds
+pub mod PrivateHeaders
+pub mod AnyReading
 pub mod Reports
-pub mod Values
+pub mod AnyUnits

@@ -3,7 +3,7 @@ use Rattle.std.specs.Prelude.{◌≡◌, ℕ, List}
 use Rattle.rtr_units.specs.Header.{version_field, session_field}
 use Rattle.rtr_units.specs.Reading.{IsWhole}
 use Rattle.rtr_units.specs.Report.{report}
-use Rattle.rtr_session.specs.Headers.{report_unit}
+use Rattle.rtr_session.specs.SessionKinds.{report_unit}
 
 -- these are the bytes of an error report, whatever the lengths inside it say
 abbrev pub IsReport : List ℕ → Type 0

@@ -3,9 +3,9 @@
 ghost use Rattle.std.specs.Prelude.{◌≡◌, length, IfErr};
 ghost use Rattle.rtr_units.specs.Header.{version_field};
 ghost use Rattle.rtr_units.specs.Stream.{PutsForm, HoldsReadError, HoldsWriteError};
-ghost use Rattle.rtr_units.specs.Views.{header_bytes};
-ghost use Rattle.rtr_session.specs.Fields.{any_session};
-ghost use Rattle.rtr_session.specs.PrivateCalls.{ReadsHeader};
+ghost use Rattle.rtr_units.specs.HeaderBytes.{header_bytes};
+ghost use Rattle.rtr_session.specs.AnyFields.{any_session};
+ghost use Rattle.rtr_session.specs.PrivateHeaders.{ReadsHeader};
 
 use crate::report::Report;
 use rtr_payload::pdu::{Aspa, Payload, RouterKey};
@@ -42,8 +42,8 @@ pub enum AnyUnit {
 }
 
 impl AnyUnit {
-    ghost use Rattle.rtr_session.specs.Reads.{ReadsAny, ReadsAnyAfter};
-    ghost use Rattle.rtr_session.specs.Values.{any_bytes, any_fields};
+    ghost use Rattle.rtr_session.specs.AnyReading.{ReadsAny, ReadsAnyAfter};
+    ghost use Rattle.rtr_session.specs.AnyUnits.{any_bytes, any_fields};
 
     /// Reads the next unit, or none where not a byte was left.
     ///

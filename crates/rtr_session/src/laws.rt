@@ -2,8 +2,8 @@
 
 ghost use Rattle.std.specs.Prelude.{◌≡◌, ◌++◌, ℕ, List};
 ghost use Rattle.rtr_units.specs.Reading.{IsWhole};
-ghost use Rattle.rtr_session.specs.Fields.{AnyFields, HasAnyFields};
-ghost use Rattle.rtr_session.specs.Headers.{session_unit};
+ghost use Rattle.rtr_session.specs.AnyFields.{AnyFields, HasAnyFields};
+ghost use Rattle.rtr_session.specs.SessionKinds.{session_unit};
 ghost use Rattle.rtr_session.specs.Reports.{IsReport, HasParts};
 
 use crate::report::{MIN_SIZE, Report};

@@ -9,14 +9,14 @@ ghost use Rattle.std.specs.Cmp.Rules.{hashing};
 ghost use Rattle.std.specs.Hash as fed;
 ghost use Rattle.rtr_base.specs.Bytes.{value};
 ghost use Rattle.std.specs.Io.KnownBytes.{Consumes};
-ghost use Rattle.rtr_units.specs.Causes.{by_cause, no_memory};
+ghost use Rattle.rtr_units.specs.StopCauses.{by_cause, no_memory};
 ghost use Rattle.rtr_units.specs.Header.{version_field, session_field};
 ghost use Rattle.rtr_units.specs.Reading.{Reads, ReadsAfter, Takes, by_bytes};
 ghost use Rattle.rtr_units.specs.Stream.{PutsForm, HoldsReadError, HoldsWriteError};
-ghost use Rattle.rtr_units.specs.Views.{header_bytes};
-ghost use Rattle.rtr_session.specs.Headers.{report_unit};
+ghost use Rattle.rtr_units.specs.HeaderBytes.{header_bytes};
+ghost use Rattle.rtr_session.specs.SessionKinds.{report_unit};
 ghost use Rattle.rtr_session.specs.Reports.{IsReport, HasParts};
-ghost use Rattle.rtr_session.specs.PrivateCalls.{IsCounted, IsCutShort};
+ghost use Rattle.rtr_session.specs.PrivateHeaders.{IsCounted, IsCutShort};
 
 use rtr_base::pdu::ErrorCode;
 use rtr_units::fault::Fault;

@@ -9,13 +9,13 @@ use Rattle.std.specs.Io.KnownBytes.{Consumes}
 use Rattle.std.proofs.KnownBytes.{Consumes-trans}
 use Rattle.rtr_base.proofs.Numbers.{IsBytes-append}
 use Rattle.rtr_base.specs.Bytes.{IsBytes}
-use Rattle.rtr_units.specs.Causes.{Refusal, short, unit_type, unit_version}
-use Rattle.rtr_units.specs.Causes.{too_long, unit_length, empty_providers, refused}
-use Rattle.rtr_units.specs.Causes.{Cause, by_reader, by_writer}
-use Rattle.rtr_units.specs.Causes.{too_many, no_memory, wrong, cause_of}
+use Rattle.rtr_units.specs.StopCauses.{Refusal, short, unit_type, unit_version}
+use Rattle.rtr_units.specs.StopCauses.{too_long, unit_length, empty_providers, refused}
+use Rattle.rtr_units.specs.StopCauses.{Cause, by_reader, by_writer}
+use Rattle.rtr_units.specs.StopCauses.{too_many, no_memory, wrong, cause_of}
 use Rattle.rtr_units.specs.declared.fault.Fault.{Fault}
 use Rattle.std.specs.Prelude.{IsTrue}
-use Rattle.rtr_units.specs.Ends.{end_unit}
+use Rattle.rtr_units.specs.AnyEnd.{end_unit}
 use Rattle.rtr_units.specs.Header.{version_field, type_field, length_field}
 use Rattle.rtr_units.specs.Reading.{Kind, of_size, of_type, any_unit, IsWhole, IsPart, Stops}
 use Rattle.rtr_units.specs.Reading.{FillsPiece, Reads, ReadsAfter, ReadsBytes, by_bytes}

@@ -1,7 +1,7 @@
-pub mod Causes
+pub mod StopCauses
 pub mod Codes
 pub mod End
-pub mod Ends
+pub mod AnyEnd
 pub mod Header
 pub mod Lending
 pub mod LendingEnd
@@ -12,5 +12,5 @@ pub mod Queries
 pub mod Reading
 pub mod Report
 pub mod Stream
-pub mod Tallies
-pub mod Views
+pub mod CountedFailures
+pub mod HeaderBytes

@@ -6,12 +6,12 @@ use Rattle.std.specs.Prelude.{MatchResult, Option, Some, None, Result, Ok, Err, 
 use Rattle.std.specs.Prelude.{if◌then◌else◌}
 use Rattle.std.specs.Io.KnownBytes.{Consumes, IsAtEnd}
 use Rattle.rtr_base.specs.Bytes.{IsBytes}
-use Rattle.rtr_units.specs.Causes.{Refusal, short, unit_type, too_long, unit_length}
-use Rattle.rtr_units.specs.Causes.{Cause, by_reader, by_writer, too_many, no_memory, wrong}
-use Rattle.rtr_units.specs.Causes.{cause_of}
+use Rattle.rtr_units.specs.StopCauses.{Refusal, short, unit_type, too_long, unit_length}
+use Rattle.rtr_units.specs.StopCauses.{Cause, by_reader, by_writer, too_many, no_memory, wrong}
+use Rattle.rtr_units.specs.StopCauses.{cause_of}
 use Rattle.rtr_units.specs.Header.{type_field, length_field}
 use Rattle.rtr_units.specs.Stream.{BeginsWithTaken, FallsShort, ReaderState, reader_count}
-use Rattle.rtr_units.specs.Views.{AreBytes}
+use Rattle.rtr_units.specs.HeaderBytes.{AreBytes}
 use Rattle.rtr_units.specs.declared.fault.Fault.{Fault}
 
 -- A kind of unit: what is wrong with the header that a list begins with, none where it is in order,

@@ -5,12 +5,12 @@ ghost use Rattle.std.specs.Prelude.{IfErr};
 ghost use Rattle.std.specs.Borrow.{sem};
 ghost use Rattle.rtr_base.specs.Bytes.{IsBytes};
 ghost use Rattle.rtr_units.specs.End.{End, timed_list};
-ghost use Rattle.rtr_units.specs.Ends.{end_bytes, end_meaning, end_unit, is_timed};
+ghost use Rattle.rtr_units.specs.AnyEnd.{end_bytes, end_meaning, end_unit, is_timed};
 ghost use Rattle.rtr_units.specs.Header.{version_field, type_field};
 ghost use Rattle.rtr_units.specs.Queries.{serial_list};
 ghost use Rattle.rtr_units.specs.Reading.{ReadsAfter, by_bytes};
 ghost use Rattle.rtr_units.specs.Stream.{PutsForm, HoldsReadError, HoldsWriteError};
-ghost use Rattle.rtr_units.specs.Views.{header_bytes};
+ghost use Rattle.rtr_units.specs.HeaderBytes.{header_bytes};
 
 use crate::fault::Fault;
 use crate::fixed::{EndOfDataV0, EndOfDataV1};

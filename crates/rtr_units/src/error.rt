@@ -10,7 +10,7 @@ ghost use Rattle.std.specs.Hash as fed;
 ghost use Rattle.rtr_units.specs.Reading.{FillsPiece, ReadsAfter, any_unit, by_bytes};
 ghost use Rattle.rtr_units.specs.Report.{report};
 ghost use Rattle.rtr_units.specs.Stream.{PutsForm, HoldsReadError, HoldsWriteError};
-ghost use Rattle.rtr_units.specs.Views.{header_bytes};
+ghost use Rattle.rtr_units.specs.HeaderBytes.{header_bytes};
 
 use crate::fault::Fault;
 use crate::header::{Header, MAX_SIZE};

@@ -8,7 +8,7 @@ ghost use Rattle.rtr_units.specs.Header.{header, version_field, type_field, sess
 ghost use Rattle.rtr_units.specs.Header.{length_field};
 ghost use Rattle.rtr_units.specs.Reading.{FillsPiece, by_bytes};
 ghost use Rattle.rtr_units.specs.Stream.{PutsForm, HoldsReadError, HoldsWriteError};
-ghost use Rattle.rtr_units.specs.Views.{header_bytes, AreBytes};
+ghost use Rattle.rtr_units.specs.HeaderBytes.{header_bytes, AreBytes};
 
 use crate::cells::Cells;
 use crate::fault::Fault;

@@ -7,12 +7,12 @@ ghost use Rattle.std.specs.Prelude.{MatchResult, Ok, []};
 ghost use Rattle.std.specs.Borrow.{sem, Lends, Array, u8};
 ghost use Rattle.std.specs.Io.KnownBytes.{Consumes};
 ghost use Rattle.rtr_base.specs.Bytes.{IsBytes};
-ghost use Rattle.rtr_units.specs.Causes.{by_cause, cause_of};
+ghost use Rattle.rtr_units.specs.StopCauses.{by_cause, cause_of};
 ghost use Rattle.rtr_units.specs.Header.{version_field, type_field, session_field};
 ghost use Rattle.rtr_units.specs.Reading.{LeavesUnit, Reads, ReadsAfter, ReadsBytes, Stops};
 ghost use Rattle.rtr_units.specs.Reading.{Takes, by_bytes, of_size, of_type};
 ghost use Rattle.rtr_units.specs.Stream.{PutsForm, reader_count, HoldsReadError, HoldsWriteError};
-ghost use Rattle.rtr_units.specs.Views.{header_bytes, AreBytes};
+ghost use Rattle.rtr_units.specs.HeaderBytes.{header_bytes, AreBytes};
 
 use crate::error::Error;
 use crate::fault::Fault;

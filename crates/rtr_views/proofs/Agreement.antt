@@ -6,14 +6,14 @@ use Rattle.rtr_base.specs.Addresses.{Family, v4, v6}
 use Rattle.rtr_base.specs.declared.payload.Timing.{Timing}
 use Rattle.rtr_units.specs.End.{EndMeaning, End, timed_list}
 use Rattle.rtr_units.specs.Header.{type_field}
-use Rattle.rtr_units.specs.Ends.{end_meaning}
+use Rattle.rtr_units.specs.AnyEnd.{end_meaning}
 use Rattle.rtr_payload.specs.Payloads.{Meaning}
 use Rattle.rtr_units.specs.PrefixUnits.{prefix_type, prefix_at}
 use Rattle.rtr_payload.specs.KeyUnits.{key_at}
 use Rattle.rtr_payload.specs.AspaUnits.{aspa_at}
 use Rattle.rtr_payload.specs.Units.{Fields, prefix_unit, key_unit, aspa_unit, HasFields, IsUnit}
 use Rattle.rtr_payload.specs.Units.{LengthsAgree, meaning, form_of, unit_list}
-use Rattle.rtr_payload.specs.Values.{origin_of}
+use Rattle.rtr_payload.specs.Meanings.{origin_of}
 use Rattle.rtr_payload.proofs.Fields.{lists_same}
 use Rattle.rtr_views.specs.Origins.{IsOriginOf, origin_meaning}
 use Rattle.rtr_views.specs.Views.{IsViewOf, ViewMeans, view_form}

@@ -9,7 +9,7 @@ use Rattle.rtr_base.specs.declared.payload.Action.TheVariants.{Announce, Withdra
 use Rattle.rtr_base.specs.Actions.{act, flags_of}
 use Rattle.rtr_base.specs.Bytes.{be, value, IsBytes}
 use Rattle.rtr_base.proofs.Numbers.{be-value, length-words, IsBytes-take, IsBytes-drop}
-use Rattle.rtr_units.specs.Causes.{Refusal}
+use Rattle.rtr_units.specs.StopCauses.{Refusal}
 use Rattle.rtr_units.specs.Header.{version_field, type_field, length_field}
 use Rattle.rtr_units.specs.Reading.{IsWhole, of_type}
 use Rattle.rtr_payload.specs.KeyUnits.{key_at}
@@ -17,9 +17,9 @@ use Rattle.rtr_payload.specs.Units.{key_unit, aspa_unit}
 use Rattle.rtr_payload.specs.AspaUnits.{AspaFields, aspa_list, aspa_at, meant_aspa}
 use Rattle.rtr_payload.specs.Providers.{words_of}
 use Rattle.rtr_payload.specs.Units.{HasFields, meaning, form, form_of}
-use Rattle.rtr_payload.specs.Steps.{header_fault}
+use Rattle.rtr_payload.specs.FirstFault.{header_fault}
 use Rattle.rtr_payload.specs.UnitKinds.{variable_unit}
-use Rattle.rtr_payload.specs.Values.{origin_of}
+use Rattle.rtr_payload.specs.Meanings.{origin_of}
 use Rattle.rtr_payload.proofs.FieldsRead.{key_has, aspa_has}
 use Rattle.rtr_views.specs.Origins.{origin_meaning}
 use Rattle.rtr_views.specs.declared.origin.OriginView.{OriginView}

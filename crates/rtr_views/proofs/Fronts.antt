@@ -6,8 +6,8 @@ use Rattle.std.proofs.lemmas.List.{take-append-drop, length-take-le}
 use Rattle.rtr_base.specs.Addresses.{Family, v4, v6}
 use Rattle.rtr_base.specs.Bytes.{IsBytes}
 use Rattle.rtr_base.proofs.Numbers.{IsBytes-take}
-use Rattle.rtr_units.specs.Causes.{Refusal, unit_type, unit_version, too_long}
-use Rattle.rtr_units.specs.Causes.{unit_length, empty_providers, refused}
+use Rattle.rtr_units.specs.StopCauses.{Refusal, unit_type, unit_version, too_long}
+use Rattle.rtr_units.specs.StopCauses.{unit_length, empty_providers, refused}
 use Rattle.rtr_units.specs.PrefixUnits.{prefix_type, prefix_size}
 use Rattle.rtr_units.specs.Header.{version_field, type_field, length_field}
 use Rattle.rtr_units.specs.End.{End, untimed_meaning, timed_meaning}
@@ -21,15 +21,16 @@ use Rattle.rtr_payload.specs.declared.pdu.prefix_rule.PrefixRule.{PrefixRule}
 use Rattle.rtr_payload.specs.Units.{prefix_unit, key_unit, aspa_unit}
 use Rattle.rtr_payload.specs.KeyUnits.{key_at}
 use Rattle.rtr_payload.specs.AspaUnits.{aspa_at}
-use Rattle.rtr_payload.specs.Steps.{first_fault, first_of, first_unit, header_fault, header_step}
-use Rattle.rtr_payload.specs.Steps.{length_step, lengths_fault, rule_of, refusal_report}
+use Rattle.rtr_payload.specs.FirstFault.{first_fault, first_of, first_unit, header_fault}
+use Rattle.rtr_payload.specs.FirstFault.{header_step}
+use Rattle.rtr_payload.specs.FirstFault.{length_step, lengths_fault, rule_of, refusal_report}
 use Rattle.rtr_payload.specs.UnitKinds.{variable_unit}
 use Rattle.rtr_payload.specs.Units.{HasFields}
 use Rattle.rtr_payload.proofs.FieldsRead.{prefix_has}
 use Rattle.rtr_payload.proofs.Frames.{behind_header, eleven_in_order}
 use Rattle.rtr_payload.proofs.Variable.{aspa_short, aspa_uneven, aspa_empty}
 use Rattle.rtr_payload.proofs.Refusals.{prefix_refused}
-use Rattle.rtr_views.specs.PrivateCalls.{IsFirstUnit}
+use Rattle.rtr_views.specs.PrivateFirst.{IsFirstUnit}
 use Rattle.rtr_views.specs.Faults.{IsFirstFault}
 use Rattle.rtr_views.specs.declared.fault.ViewFault.{ViewFault}
 use Rattle.rtr_views.specs.declared.fault.ViewFault.TheVariants.{TooLong}

@@ -3,10 +3,10 @@ use Rattle.std.specs.Prelude.{◌≡◌, ℕ, Bool, true, false, not, List, Some
 use Rattle.std.specs.Prelude.{MatchResult, ⊤}
 use Rattle.std.specs.Io.KnownBytes.{Appends}
 use Rattle.std.specs.declared.io.Error.{Error}
-use Rattle.rtr_units.specs.Causes.{short, unit_type, unit_version, too_long, unit_length}
-use Rattle.rtr_units.specs.Causes.{empty_providers, refused}
+use Rattle.rtr_units.specs.StopCauses.{short, unit_type, unit_version, too_long, unit_length}
+use Rattle.rtr_units.specs.StopCauses.{empty_providers, refused}
 use Rattle.rtr_units.specs.Stream.{WriterState, WritesPart, IsWriteError, count_after}
-use Rattle.rtr_payload.specs.Steps.{first_fault, first_unit, refusal_report}
+use Rattle.rtr_payload.specs.FirstFault.{first_fault, first_unit, refusal_report}
 use Rattle.rtr_views.specs.declared.fault.ViewFault.{ViewFault}
 use Rattle.rtr_views.specs.declared.fault.ViewFault.TheVariants.{Writer, Short, UnitType}
 use Rattle.rtr_views.specs.declared.fault.ViewFault.TheVariants.{UnitLength, TooLong}

@@ -1,5 +1,5 @@
 pub mod Faults
 pub mod Origins
 pub mod Placing
-pub mod PrivateCalls
+pub mod PrivateFirst
 pub mod Views

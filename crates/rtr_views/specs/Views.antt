@@ -3,7 +3,7 @@
 use Rattle.std.specs.Prelude.{◌≡◌, ℕ, List}
 use Rattle.rtr_base.specs.Addresses.{Family}
 use Rattle.rtr_units.specs.End.{End}
-use Rattle.rtr_units.specs.Ends.{end_bytes, end_meaning}
+use Rattle.rtr_units.specs.AnyEnd.{end_bytes, end_meaning}
 use Rattle.rtr_units.specs.Header.{version_field}
 use Rattle.rtr_payload.specs.Payloads.{Meaning}
 use Rattle.rtr_payload.specs.AspaUnits.{aspa_at}

@@ -2,9 +2,9 @@
 
 ghost use Rattle.std.specs.Prelude.{◌≡◌, ◌≤◌, ◌<◌, None, length, IfOk, IfErr};
 ghost use Rattle.rtr_units.specs.Header.{length_field};
-ghost use Rattle.rtr_payload.specs.Steps.{header_step};
+ghost use Rattle.rtr_payload.specs.FirstFault.{header_step};
 ghost use Rattle.rtr_views.specs.Faults.{IsFirstFault};
-ghost use Rattle.rtr_views.specs.PrivateCalls.{IsFirstUnit};
+ghost use Rattle.rtr_views.specs.PrivateFirst.{IsFirstUnit};
 
 use crate::fault::ViewFault;
 use rtr_units::numbers::u16_at;

@@ -2,10 +2,10 @@
 
 ghost use Rattle.std.specs.Prelude.{◌≡◌, ◌≤◌, length, IfOk, IfErr};
 ghost use Rattle.rtr_units.specs.End.{End};
-ghost use Rattle.rtr_units.specs.Ends.{end_bytes, end_meaning};
+ghost use Rattle.rtr_units.specs.AnyEnd.{end_bytes, end_meaning};
 ghost use Rattle.rtr_units.specs.Header.{type_field};
 ghost use Rattle.rtr_views.specs.Faults.{IsFirstFault};
-ghost use Rattle.rtr_views.specs.PrivateCalls.{IsFirstUnit};
+ghost use Rattle.rtr_views.specs.PrivateFirst.{IsFirstUnit};
 
 use crate::cut::first_unit;
 use crate::fault::ViewFault;

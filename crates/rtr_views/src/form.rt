@@ -3,7 +3,7 @@
 ghost use Rattle.std.specs.Prelude.{◌≡◌, ◌+◌, ◌<◌, ◌^◌, ◌∷◌, ◌++◌, length, IfErr};
 ghost use Rattle.rtr_base.specs.Actions.{flags_of};
 ghost use Rattle.rtr_base.specs.Bytes.{be};
-ghost use Rattle.rtr_units.specs.Ends.{end_bytes};
+ghost use Rattle.rtr_units.specs.AnyEnd.{end_bytes};
 ghost use Rattle.rtr_views.specs.Faults.{PutsPiece, HoldsViewWriteError};
 
 use crate::fault::ViewFault;

@@ -7,7 +7,7 @@ ghost use Rattle.rtr_units.specs.Reading.{IsWhole, of_type};
 ghost use Rattle.rtr_payload.specs.KeyUnits.{key_at};
 ghost use Rattle.rtr_payload.specs.UnitKinds.{variable_unit};
 ghost use Rattle.rtr_payload.specs.Units.{key_unit, meaning, form_of};
-ghost use Rattle.rtr_views.specs.PrivateCalls.{IsFirstUnit};
+ghost use Rattle.rtr_views.specs.PrivateFirst.{IsFirstUnit};
 ghost use Rattle.rtr_views.specs.Faults.{IsFirstFault, PutsPiece, HoldsViewWriteError};
 
 use crate::cut::{first_unit, size_at};

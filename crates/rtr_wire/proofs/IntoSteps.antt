@@ -6,7 +6,7 @@ use Rattle.std.proofs.lemmas.List.{length-append, take-append-drop, length-take-
 use Rattle.std.proofs.lemmas.List.{drop-drop, take_all, drop_all}
 use Rattle.std.proofs.Math.Seq.{drop-append_seam, take-append_seam}
 use Rattle.rtr_units.specs.End.{End, end_list}
-use Rattle.rtr_units.specs.Ends.{end_bytes, end_meaning}
+use Rattle.rtr_units.specs.AnyEnd.{end_bytes, end_meaning}
 use Rattle.rtr_units.specs.declared.end.EndOfData.{EndOfData}
 use Rattle.rtr_payload.specs.Payloads.{Meaning, smallest_version}
 use Rattle.rtr_payload.specs.KeyUnits.{key_at}
@@ -18,7 +18,7 @@ use Rattle.rtr_views.specs.Views.{IsViewOf, ViewMeans}
 use Rattle.rtr_views.specs.declared.view.UnitView.{UnitView}
 use Rattle.rtr_views.specs.declared.view.UnitView.TheVariants as views
 use Rattle.rtr_views.proofs.Agreement.{view_means}
-use Rattle.rtr_wire.specs.PrivateCalls.{StepTells, Steps, StopsStepInto, PlacesUnit, Stepped}
+use Rattle.rtr_wire.specs.PrivateSteps.{StepTells, Steps, StopsStepInto, PlacesUnit, Stepped}
 use borrow.Rule.Slice.PartMut.{put_mid}
 use Rattle.rtr_views.specs.Faults.{IsFirstFault}
 use Rattle.rtr_wire.specs.Into.{LacksRoom, WhyStopped, FillsInto}

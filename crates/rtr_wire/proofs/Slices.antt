@@ -8,16 +8,17 @@ use Rattle.std.specs.Io.KnownBytes.{Appends}
 use Rattle.std.proofs.KnownBytes.{Appends-trans, Appends-nil}
 use Rattle.rtr_base.specs.Bytes.{IsBytes}
 use Rattle.rtr_units.specs.declared.fault.Fault.{Fault}
-use Rattle.rtr_units.specs.Causes.{Refusal, short, unit_type, unit_version, too_long, unit_length}
-use Rattle.rtr_units.specs.Causes.{empty_providers, refused, Cause, by_reader}
-use Rattle.rtr_units.specs.Causes.{by_writer, too_many, no_memory, wrong}
-use Rattle.rtr_units.specs.Ends.{end_meaning}
+use Rattle.rtr_units.specs.StopCauses.{Refusal, short, unit_type, unit_version, too_long}
+use Rattle.rtr_units.specs.StopCauses.{unit_length}
+use Rattle.rtr_units.specs.StopCauses.{empty_providers, refused, Cause, by_reader}
+use Rattle.rtr_units.specs.StopCauses.{by_writer, too_many, no_memory, wrong}
+use Rattle.rtr_units.specs.AnyEnd.{end_meaning}
 use Rattle.rtr_units.specs.Stream.{ReaderState, WriterState, WritesPart, count_after}
 use Rattle.rtr_payload.specs.Payloads.{Meaning}
 use Rattle.rtr_payload.specs.KeyUnits.{key_at}
 use Rattle.rtr_payload.specs.Units.{key_unit, aspa_unit}
 use Rattle.rtr_payload.specs.AspaUnits.{aspa_at}
-use Rattle.rtr_payload.specs.Steps.{first_fault, first_unit, refusal_report, taken}
+use Rattle.rtr_payload.specs.FirstFault.{first_fault, first_unit, refusal_report, taken}
 use Rattle.rtr_payload.specs.Units.{meaning, form_of}
 use Rattle.rtr_views.specs.Faults.{IsFirstFault, IsWriterFault, is_view_writer_fault}
 use Rattle.rtr_views.specs.Origins.{origin_meaning}
@@ -30,8 +31,8 @@ use Rattle.rtr_views.specs.declared.fault.ViewFault.TheVariants.{Prefix, TooMany
 use Rattle.rtr_views.specs.declared.view.UnitView.{UnitView}
 use Rattle.rtr_views.specs.declared.view.UnitView.TheVariants as views
 use Rattle.rtr_views.proofs.Agreement.{view_means, form_meant}
-use Rattle.rtr_wire.specs.PrivateCalls.{StepTells, Steps, StopsStep, is_payload_unit, passed}
-use Rattle.rtr_units.specs.Causes.{by_cause}
+use Rattle.rtr_wire.specs.PrivateSteps.{StepTells, Steps, StopsStep, is_payload_unit, passed}
+use Rattle.rtr_units.specs.StopCauses.{by_cause}
 use Rattle.rtr_wire.specs.Run.{Run, Ends, IsPartOfForm, BlamesNobody, Normalises}
 use Rattle.rtr_wire.specs.Sequences.{AreUnits, everything, forms}
 use Rattle.rtr_wire.specs.declared.run.Passed.TheVariants as passes

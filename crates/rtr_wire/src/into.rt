@@ -5,7 +5,7 @@ ghost use Rattle.rtr_payload.specs.Payloads.{Meaning, smallest_version as smalle
 ghost use Rattle.rtr_views.specs.Placing.{Places};
 ghost use Rattle.rtr_views.specs.Views.{ViewMeans};
 ghost use Rattle.rtr_wire.specs.Into.{FillsInto, RefusesVersion};
-ghost use Rattle.rtr_wire.specs.PrivateCalls.{StepsInto, PlacesUnit};
+ghost use Rattle.rtr_wire.specs.PrivateSteps.{StepsInto, PlacesUnit};
 ghost use Rattle.rtr_wire.specs.Sequences.{everything, for_version};
 
 use crate::run::{LAST_VERSION, Passed};

@@ -3,7 +3,7 @@
 ghost use Rattle.std.specs.Prelude.{◌≡◌, Ok, Some, IfOk, IfErr, not};
 ghost use Rattle.rtr_units.specs.Stream.{count_after};
 ghost use Rattle.rtr_views.specs.Faults.{is_view_writer_fault, HoldsViewWriteError};
-ghost use Rattle.rtr_wire.specs.PrivateCalls.{Steps, StopsStep, is_payload_unit, passed};
+ghost use Rattle.rtr_wire.specs.PrivateSteps.{Steps, StopsStep, is_payload_unit, passed};
 ghost use Rattle.rtr_wire.specs.Sequences.{everything};
 ghost use Rattle.rtr_wire.specs.SliceRun.{NormalisesSlice};
 

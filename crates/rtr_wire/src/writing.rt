@@ -8,7 +8,7 @@ ghost use Rattle.std.proofs.lemmas.List.{map-append};
 ghost use Rattle.std.proofs.lemmas.List.Elements.{filter-append};
 ghost use Rattle.rtr_payload.specs.Payloads.{Meaning, smallest_version};
 ghost use Rattle.rtr_units.specs.End.{End, end_list};
-ghost use Rattle.rtr_units.specs.Ends.{end_bytes, end_meaning};
+ghost use Rattle.rtr_units.specs.AnyEnd.{end_bytes, end_meaning};
 ghost use Rattle.rtr_wire.specs.Sequences.{Written, everything, for_version, in_version};
 
 use rtr_units::end::EndOfData;

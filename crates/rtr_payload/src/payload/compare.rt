@@ -10,7 +10,7 @@ ghost use Rattle.std.specs.FinMap.{nat_cmp-IsAntisymmetric, slice_cmp-IsAntisymm
 ghost use Rattle.std.specs.Ordering.{as_partial_cmp, eq_by_cmp, on};
 ghost use Rattle.rtr_payload.specs.Hashes.{part_writes, payload_writes};
 ghost use Rattle.rtr_payload.specs.Orders.{parts, payload_cmp};
-ghost use Rattle.rtr_payload.specs.Values.{aspa_of, key_of, payload_of, payload_of_ref};
+ghost use Rattle.rtr_payload.specs.Meanings.{aspa_of, key_of, payload_of, payload_of_ref};
 
 use super::{Aspa, Payload, PayloadRef, RouterKey};
 use std::cmp::Ordering;

@@ -11,7 +11,7 @@ ghost use Rattle.std.specs.FinMap.{nat_cmp-IsAntisymmetric, slice_cmp-IsAntisymm
 ghost use Rattle.std.specs.Ordering.{as_partial_cmp, eq_by_cmp, on};
 ghost use Rattle.rtr_payload.specs.Hashes.{part_writes};
 ghost use Rattle.rtr_payload.specs.Orders.{parts, payload_cmp};
-ghost use Rattle.rtr_payload.specs.Values.{origin_of};
+ghost use Rattle.rtr_payload.specs.Meanings.{origin_of};
 
 use super::RouteOrigin;
 use std::cmp::Ordering;

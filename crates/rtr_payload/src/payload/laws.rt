@@ -2,7 +2,8 @@
 
 ghost use Rattle.std.specs.Prelude.{◌≡◌, ◌↔◌, IsTrue};
 ghost use Rattle.rtr_payload.specs.Payloads.{IsPayload};
-ghost use Rattle.rtr_payload.specs.Values.{aspa_of, key_of, origin_of, payload_of, payload_of_ref};
+ghost use Rattle.rtr_payload.specs.Meanings.{aspa_of, key_of, origin_of, payload_of};
+ghost use Rattle.rtr_payload.specs.Meanings.{payload_of_ref};
 ghost use Rattle.rtr_payload.specs.declared.payload.Aspa.{Aspa};
 ghost use Rattle.rtr_payload.specs.declared.payload.Payload.{Payload};
 ghost use Rattle.rtr_payload.specs.declared.payload.PayloadRef.{PayloadRef};

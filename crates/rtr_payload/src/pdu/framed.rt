@@ -6,12 +6,12 @@ ghost use Rattle.std.specs.Prelude.{slice_index, nat_eq, IfOk, MatchResult, None
 ghost use Rattle.std.specs.Cmp.{partial_equiv_from_equiv};
 ghost use Rattle.std.specs.Cmp.Lexicographic.{bytes_decides, nat_list_eq_equiv, pointwise};
 ghost use Rattle.std.specs.Hash as fed;
-ghost use Rattle.rtr_units.specs.Causes.{cause_of};
+ghost use Rattle.rtr_units.specs.StopCauses.{cause_of};
 ghost use Rattle.rtr_units.specs.Header.{version_field, type_field};
 ghost use Rattle.rtr_units.specs.Reading.{IsWhole, Reads, ReadsAfter, by_bytes, of_type};
 ghost use Rattle.rtr_units.specs.Stream.{PutsForm, HoldsReadError, HoldsWriteError};
-ghost use Rattle.rtr_units.specs.Views.{header_bytes};
-ghost use Rattle.rtr_payload.specs.PrivateCalls.{IsRefusedBy};
+ghost use Rattle.rtr_units.specs.HeaderBytes.{header_bytes};
+ghost use Rattle.rtr_payload.specs.PrivateFrames.{IsRefusedBy};
 ghost use Rattle.rtr_payload.specs.UnitKinds.{variable_unit};
 ghost use Rattle.rtr_payload.specs.Units.{Fields, HasFields};
 

@@ -3,19 +3,19 @@
 ghost use Rattle.std.specs.Prelude.{◌≡◌, ◌≢◌, ◌≤◌, ◌↔◌, Ok, Err, None, IfOk, IfErr, IsOk};
 ghost use Rattle.std.specs.Prelude.{[], IfSome, IsSome, length, take};
 ghost use Rattle.rtr_base.specs.Actions.{act};
-ghost use Rattle.rtr_units.specs.Causes.{by_cause, by_writer, cause_of};
+ghost use Rattle.rtr_units.specs.StopCauses.{by_cause, by_writer, cause_of};
 ghost use Rattle.rtr_units.specs.Header.{type_field, version_field};
 ghost use Rattle.rtr_units.specs.Reading.{Reads, ReadsAfter, by_bytes};
 ghost use Rattle.rtr_units.specs.Stream.{PutsForm, HoldsReadError, HoldsWriteError};
 ghost use Rattle.rtr_units.specs.Report.{report};
-ghost use Rattle.rtr_units.specs.Views.{header_bytes};
+ghost use Rattle.rtr_units.specs.HeaderBytes.{header_bytes};
 ghost use Rattle.rtr_payload.specs.Payloads.{smallest_version as smallest};
-ghost use Rattle.rtr_payload.specs.PrivateCalls.{IsReport};
-ghost use Rattle.rtr_payload.specs.Steps.{text_of};
+ghost use Rattle.rtr_payload.specs.PrivateFrames.{IsReport};
+ghost use Rattle.rtr_payload.specs.FirstFault.{text_of};
 ghost use Rattle.rtr_payload.specs.UnitKinds.{payload_unit};
-ghost use Rattle.rtr_payload.specs.UnitValues.{answer_bytes, IsAnswer, MeansPayload};
-ghost use Rattle.rtr_payload.specs.UnitValues.{HasNoPayload, IsPrefixUnit};
-ghost use Rattle.rtr_payload.specs.Values.{payload_of, payload_of_ref, origin_of};
+ghost use Rattle.rtr_payload.specs.UnitBytes.{answer_bytes, IsAnswer, MeansPayload};
+ghost use Rattle.rtr_payload.specs.UnitBytes.{HasNoPayload, IsPrefixUnit};
+ghost use Rattle.rtr_payload.specs.Meanings.{payload_of, payload_of_ref, origin_of};
 
 use super::aspa::Aspa;
 use super::payload_unit::PayloadUnit;
@@ -48,9 +48,9 @@ pub enum Payload {
 }
 
 impl Payload {
-    ghost use Rattle.rtr_payload.specs.UnitValues.{unit_bytes, IsWritten, flags_in, partial_len};
-    ghost use Rattle.rtr_payload.specs.UnitValues.{IsOriginRef};
-    ghost use Rattle.rtr_payload.specs.UnitValues.{IsSupported};
+    ghost use Rattle.rtr_payload.specs.UnitBytes.{unit_bytes, IsWritten, flags_in, partial_len};
+    ghost use Rattle.rtr_payload.specs.UnitBytes.{IsOriginRef};
+    ghost use Rattle.rtr_payload.specs.UnitBytes.{IsSupported};
 
     /// The unit of this version and these flags that has the payload. Free bytes are zero. Keys and
     /// ASPAs ask for memory, as their bytes are shared.

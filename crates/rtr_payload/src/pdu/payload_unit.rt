@@ -2,11 +2,11 @@
 
 ghost use Rattle.std.specs.Prelude.{◌≡◌, ◌≢◌, ℕ, List, Option, replicate, Err, IfOk, IfErr, IsOk};
 ghost use Rattle.std.specs.Prelude.{refl};
-ghost use Rattle.rtr_units.specs.Causes.{Cause, by_cause, by_writer, cause_of};
+ghost use Rattle.rtr_units.specs.StopCauses.{Cause, by_cause, by_writer, cause_of};
 ghost use Rattle.rtr_units.specs.Header.{type_field, version_field};
 ghost use Rattle.rtr_units.specs.Reading.{LeavesUnit, ReadsAfter, by_bytes};
 ghost use Rattle.rtr_units.specs.Stream.{PutsForm, HoldsReadError, HoldsWriteError};
-ghost use Rattle.rtr_units.specs.Views.{header_bytes};
+ghost use Rattle.rtr_units.specs.HeaderBytes.{header_bytes};
 ghost use Rattle.rtr_payload.specs.declared.payload.Payload.{Payload as Value};
 ghost use Rattle.rtr_payload.specs.declared.payload.Payload.TheVariants as payloads;
 ghost use Rattle.rtr_payload.specs.declared.pdu.payload.Payload.{Payload};
@@ -14,9 +14,9 @@ ghost use Rattle.rtr_payload.specs.declared.pdu.payload.Payload.TheVariants as u
 ghost use Rattle.rtr_payload.specs.Payloads.{smallest_version};
 ghost use Rattle.rtr_payload.specs.UnitKinds.{payload_unit};
 ghost use Rattle.rtr_payload.specs.Units.{HasFields};
-ghost use Rattle.rtr_payload.specs.UnitValues.{unit_bytes, unit_fields, IsWritten, MeansPayload};
-ghost use Rattle.rtr_payload.specs.UnitValues.{HasNoPayload, IsPrefixUnit, flags_in};
-ghost use Rattle.rtr_payload.specs.Values.{payload_of};
+ghost use Rattle.rtr_payload.specs.UnitBytes.{unit_bytes, unit_fields, IsWritten, MeansPayload};
+ghost use Rattle.rtr_payload.specs.UnitBytes.{HasNoPayload, IsPrefixUnit, flags_in};
+ghost use Rattle.rtr_payload.specs.Meanings.{payload_of};
 
 use super::aspa::Aspa;
 use super::payload::Payload;

@@ -2,7 +2,7 @@
 
 ghost use Rattle.std.specs.Prelude.{◌≡◌, ◌≤◌, Some, None, IfOk, IfErr};
 ghost use Rattle.rtr_base.specs.Addresses.{v4, v6, width, cleared};
-ghost use Rattle.rtr_payload.specs.Steps.{broken_rule, text_of};
+ghost use Rattle.rtr_payload.specs.FirstFault.{broken_rule, text_of};
 
 use rtr_base::addr::{MaxLenError, MaxLenPrefix, Prefix};
 

@@ -4,21 +4,21 @@ ghost use Rattle.std.specs.Prelude.{◌≡◌, ◌≢◌, ◌≤◌, Err, IfOk, 
 ghost use Rattle.std.specs.Prelude.{length, take};
 ghost use Rattle.rtr_base.specs.Addresses.{Family, v4, v6, width, cleared};
 ghost use Rattle.rtr_base.specs.Bytes.{value};
-ghost use Rattle.rtr_units.specs.Causes.{by_cause, by_writer, cause_of};
+ghost use Rattle.rtr_units.specs.StopCauses.{by_cause, by_writer, cause_of};
 ghost use Rattle.rtr_units.specs.PrefixUnits.{prefix_at, prefix_type, prefix_size, address_bytes};
 ghost use Rattle.rtr_units.specs.Header.{type_field};
 ghost use Rattle.rtr_units.specs.Reading.{LeavesUnit, ReadsAfter, by_bytes};
 ghost use Rattle.rtr_units.specs.Stream.{HoldsReadError};
-ghost use Rattle.rtr_units.specs.Views.{header_bytes};
+ghost use Rattle.rtr_units.specs.HeaderBytes.{header_bytes};
 ghost use Rattle.rtr_payload.specs.declared.payload.Payload.TheVariants as payloads;
 ghost use Rattle.rtr_payload.specs.declared.pdu.payload.Payload.{Payload};
 ghost use Rattle.rtr_payload.specs.declared.pdu.payload.Payload.TheVariants as units;
-ghost use Rattle.rtr_payload.specs.Steps.{broken_rule};
+ghost use Rattle.rtr_payload.specs.FirstFault.{broken_rule};
 ghost use Rattle.rtr_payload.specs.UnitKinds.{payload_unit};
 ghost use Rattle.rtr_payload.specs.Units.{prefix_unit, form, written, HasFields};
-ghost use Rattle.rtr_payload.specs.Values.{origin_of};
-ghost use Rattle.rtr_payload.specs.UnitValues.{unit_bytes, unit_fields, MeansPayload};
-ghost use Rattle.rtr_payload.specs.UnitValues.{HasNoPayload};
+ghost use Rattle.rtr_payload.specs.Meanings.{origin_of};
+ghost use Rattle.rtr_payload.specs.UnitBytes.{unit_bytes, unit_fields, MeansPayload};
+ghost use Rattle.rtr_payload.specs.UnitBytes.{HasNoPayload};
 
 use super::payload::{Payload, refused};
 use super::prefix_rule::{PrefixRule, ipv4_prefix, ipv6_prefix};

@@ -2,7 +2,7 @@ use Rattle.std.proofs.Common.{rules, ◌≡◌, ◌-◌, ◌<◌, ◌++◌, ◌�
 use Rattle.std.proofs.Common.{length-append, length-drop, length-take-le}
 use Rattle.std.proofs.lemmas.Result.{err_from_is_err_and}
 use Rattle.std.proofs.KnownBytes.{Consumes-trans}
-use Rattle.rtr_units.specs.Causes.{cause_of}
+use Rattle.rtr_units.specs.StopCauses.{cause_of}
 use Rattle.rtr_units.proofs.UnitsRead.{short_more}
 use Rattle.rtr_session.proofs.Stops.{header_any}
 use Rattle.rtr_session.proofs.any_unit.next_header.Goals as goal

@@ -1,8 +1,8 @@
 use Rattle.std.proofs.Common.{◌≡◌, sym, ap, ◌∙◌, arith, take, subst}
-use Rattle.rtr_payload.specs.Steps.{first_unit}
+use Rattle.rtr_payload.specs.FirstFault.{first_unit}
 use Rattle.rtr_payload.proofs.Rests.{eight_said}
 use Rattle.rtr_views.proofs.Fronts.{cut_first}
-use Rattle.rtr_views.specs.PrivateCalls.{IsFirstUnit}
+use Rattle.rtr_views.specs.PrivateFirst.{IsFirstUnit}
 use Rattle.rtr_views.proofs.cut.first_unit.Goals as goal
 
 pub returns-clause-unit : goal.returns-clause-unit

@@ -1,4 +1,4 @@
-use Rattle.rtr_payload.specs.UnitValues.{unit_bytes, unit_fields}
+use Rattle.rtr_payload.specs.UnitBytes.{unit_bytes, unit_fields}
 use Rattle.rtr_views.proofs.Agreement.{view_and_fields}
 use Rattle.rtr_views.proofs.laws.views_and_units.Goals as goal
 

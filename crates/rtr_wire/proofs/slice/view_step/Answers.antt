@@ -1,8 +1,8 @@
 use Rattle.std.proofs.Common.{List, ℕ, Bool, ◌++◌, take, drop, Some, Ok, sym, ap, subst, ◌∙◌, arith}
 use Rattle.std.proofs.lemmas.List.{take-append-drop}
-use Rattle.rtr_wire.specs.PrivateCalls.{Steps}
+use Rattle.rtr_wire.specs.PrivateSteps.{Steps}
 use Rattle.rtr_wire.specs.Sequences.{everything}
-use Rattle.rtr_wire.specs.PrivateCalls.{passed}
+use Rattle.rtr_wire.specs.PrivateSteps.{passed}
 use Rattle.rtr_wire.proofs.Slices.{view_step, not_written, not_viewed}
 use Rattle.rtr_wire.proofs.slice.view_step.Goals as goal
 

@@ -1,5 +1,5 @@
 use Rattle.rtr_payload.proofs.Orders.{payload_decides}
-use Rattle.rtr_payload.specs.Values.{aspa_of, key_of}
+use Rattle.rtr_payload.specs.Meanings.{aspa_of, key_of}
 use Rattle.rtr_payload.proofs.payload.laws.equal_values.Goals as goal
 
 pub returns-clause-keys : goal.returns-clause-keys

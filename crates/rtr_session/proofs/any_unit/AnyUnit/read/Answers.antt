@@ -1,9 +1,9 @@
 use Rattle.std.proofs.Common.{◌++◌, ◌∙◌, Err, ap}
 use Rattle.std.proofs.lemmas.Result.{err_from_is_err_and}
 use Rattle.std.proofs.KnownBytes.{Consumes-trans}
-use Rattle.rtr_units.specs.Causes.{cause_of}
+use Rattle.rtr_units.specs.StopCauses.{cause_of}
 use Rattle.rtr_units.specs.Stream.{reader_count}
-use Rattle.rtr_units.specs.Views.{header_bytes}
+use Rattle.rtr_units.specs.HeaderBytes.{header_bytes}
 use Rattle.rtr_session.specs.declared.any_unit.AnyUnit.{AnyUnit}
 use Rattle.rtr_session.proofs.any_unit.AnyUnit.read.Goals as goal
 

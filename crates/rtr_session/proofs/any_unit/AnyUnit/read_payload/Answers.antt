@@ -2,14 +2,14 @@ use Rattle.std.proofs.Common.{◌≡◌, ◌∙◌, [], sym, refl, arith, inl, i
 use Rattle.std.proofs.KnownBytes.{Consumes-nil}
 use Rattle.std.proofs.lemmas.Result.{err_from_is_err_and}
 use Rattle.rtr_base.specs.Addresses.{v4, v6}
-use Rattle.rtr_units.specs.Ends.{end_unit}
+use Rattle.rtr_units.specs.AnyEnd.{end_unit}
 use Rattle.rtr_units.specs.Header.{type_field}
 use Rattle.rtr_units.specs.Reading.{of_size}
-use Rattle.rtr_units.specs.Views.{header_bytes}
+use Rattle.rtr_units.specs.HeaderBytes.{header_bytes}
 use Rattle.rtr_payload.specs.UnitKinds.{variable_unit}
-use Rattle.rtr_session.specs.Fields.{serial_notify, serial_query, reset_query, cache_response}
-use Rattle.rtr_session.specs.Fields.{cache_reset}
-use Rattle.rtr_session.specs.Headers.{report_unit}
+use Rattle.rtr_session.specs.AnyFields.{serial_notify, serial_query, reset_query, cache_response}
+use Rattle.rtr_session.specs.AnyFields.{cache_reset}
+use Rattle.rtr_session.specs.SessionKinds.{report_unit}
 use Rattle.rtr_session.proofs.Stops.{twelve_alike, eight_alike, ipv4_any, ipv6_any, end_any}
 use Rattle.rtr_session.proofs.Stops.{key_any, aspa_any, report_any, stopped, unknown_type}
 use Rattle.rtr_session.proofs.Units.{serial_reads, bare_reads, notify_has, query_has}

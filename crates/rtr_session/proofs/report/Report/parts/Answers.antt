@@ -1,5 +1,5 @@
 use Rattle.std.proofs.Common.{◌≡◌, ◌∙◌, ap, drop, subst}
-use Rattle.rtr_session.specs.PrivateCalls.{IsCounted, IsCutShort}
+use Rattle.rtr_session.specs.PrivateHeaders.{IsCounted, IsCutShort}
 use Rattle.rtr_session.specs.Reports.{IsReport}
 use Rattle.rtr_session.proofs.Parts.{at_none, none_left, some_left, parts_made}
 use Rattle.rtr_session.proofs.Parts.{none_cut, none_second, none_more}

@@ -1,7 +1,7 @@
 use Rattle.rtr_units.specs.Reading.{by_bytes}
-use Rattle.rtr_units.specs.Views.{header_bytes}
+use Rattle.rtr_units.specs.HeaderBytes.{header_bytes}
 use Rattle.rtr_units.proofs.UnitsRead.{reads_on}
-use Rattle.rtr_session.specs.Headers.{report_unit}
+use Rattle.rtr_session.specs.SessionKinds.{report_unit}
 use Rattle.rtr_session.proofs.report.Report.read.Goals as goal
 
 pub returns-clause-bytes : goal.returns-clause-bytes

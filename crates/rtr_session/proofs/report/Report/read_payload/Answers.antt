@@ -2,11 +2,11 @@ use Rattle.std.proofs.Common.{ap, Some, refl, ◌≡◌, ◌+◌, ◌∙◌, [],
 use Rattle.std.proofs.lemmas.Result.{err_from_is_err_and}
 use Rattle.std.proofs.KnownBytes.{Consumes-nil}
 use Rattle.std.specs.Vec.{vec_len}
-use Rattle.rtr_units.specs.Causes.{too_long, unit_length, unit_type, cause_of}
+use Rattle.rtr_units.specs.StopCauses.{too_long, unit_length, unit_type, cause_of}
 use Rattle.rtr_units.specs.Header.{type_field, length_field}
-use Rattle.rtr_units.specs.Views.{AreBytes, header_bytes}
+use Rattle.rtr_units.specs.HeaderBytes.{AreBytes, header_bytes}
 use Rattle.rtr_units.proofs.UnitsRead.{at_header, rest_stops, typed_not}
-use Rattle.rtr_session.specs.Headers.{report_sized, report_unit}
+use Rattle.rtr_session.specs.SessionKinds.{report_sized, report_unit}
 use Rattle.rtr_session.specs.Reports.{IsReport}
 use Rattle.rtr_session.proofs.Headers.{report_by}
 use Rattle.rtr_session.proofs.Reports.{report_in_order, report_too_long, report_too_short}

@@ -1,9 +1,9 @@
 use Rattle.std.proofs.Common.{refl, ◌≡◌, ◌≤◌, ◌∙◌, [], sym, ap, arith}
 use Rattle.std.proofs.KnownBytes.{Consumes-nil}
-use Rattle.rtr_units.specs.Causes.{unit_version}
-use Rattle.rtr_units.specs.Ends.{end_unit}
+use Rattle.rtr_units.specs.StopCauses.{unit_version}
+use Rattle.rtr_units.specs.AnyEnd.{end_unit}
 use Rattle.rtr_units.specs.Header.{version_field, type_field, length_field}
-use Rattle.rtr_units.specs.Views.{header_bytes}
+use Rattle.rtr_units.specs.HeaderBytes.{header_bytes}
 use Rattle.rtr_units.proofs.UnitsRead.{at_header, end_version, sized_from}
 use Rattle.rtr_units.proofs.EndsRead.{untimed_has}
 use Rattle.rtr_units.proofs.EndUnits.{end_with_timing}

@@ -1,9 +1,9 @@
 use Rattle.std.proofs.Common.{◌≡◌, ◌+◌, ◌-◌, [], refl, arith, None}
 use Rattle.std.proofs.KnownBytes.{Consumes-nil}
-use Rattle.rtr_units.specs.Causes.{too_long, unit_length}
+use Rattle.rtr_units.specs.StopCauses.{too_long, unit_length}
 use Rattle.rtr_units.specs.Header.{length_field}
 use Rattle.rtr_units.specs.Reading.{any_unit}
-use Rattle.rtr_units.specs.Views.{header_bytes}
+use Rattle.rtr_units.specs.HeaderBytes.{header_bytes}
 use Rattle.rtr_units.proofs.UnitsRead.{any_is, any_long, any_low, any_by, at_header, rest_passed}
 use Rattle.rtr_units.proofs.error.Error.skip_payload.Goals as goal
 

@@ -1,7 +1,7 @@
 use Rattle.std.proofs.Common.{◌≡◌}
 use Rattle.rtr_units.specs.Header.{type_field}
 use Rattle.rtr_units.specs.Reading.{by_bytes, of_size}
-use Rattle.rtr_units.specs.Views.{header_bytes}
+use Rattle.rtr_units.specs.HeaderBytes.{header_bytes}
 use Rattle.rtr_units.proofs.UnitsRead.{read_both}
 use Rattle.rtr_units.proofs.unit.Unit.read.Goals as goal
 

@@ -2,7 +2,7 @@ use Rattle.std.proofs.Common.{◌≡◌, ◌∙◌, ◌+◌, ◌-◌, ◌++◌, 
 use Rattle.rtr_base.proofs.Numbers.{IsBytes-append}
 use Rattle.rtr_units.specs.Header.{length_field}
 use Rattle.rtr_units.specs.Reading.{of_size}
-use Rattle.rtr_units.specs.Views.{header_bytes}
+use Rattle.rtr_units.specs.HeaderBytes.{header_bytes}
 use Rattle.rtr_units.proofs.UnitsRead.{sized_by, sized_is, rest_read}
 use Rattle.rtr_units.proofs.unit.Unit.read_rest.Goals as goal
 

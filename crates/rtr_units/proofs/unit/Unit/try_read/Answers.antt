@@ -1,10 +1,10 @@
 use Rattle.std.proofs.Common.{◌≡◌, ◌∙◌, arith, sym, ◌++◌}
 use Rattle.std.proofs.lemmas.Result.{err_from_is_err_and}
 use Rattle.std.proofs.KnownBytes.{Consumes-trans}
-use Rattle.rtr_units.specs.Causes.{cause_of}
+use Rattle.rtr_units.specs.StopCauses.{cause_of}
 use Rattle.rtr_units.specs.Header.{type_field}
 use Rattle.rtr_units.specs.Reading.{of_size, of_type}
-use Rattle.rtr_units.specs.Views.{header_bytes}
+use Rattle.rtr_units.specs.HeaderBytes.{header_bytes}
 use Rattle.rtr_units.proofs.Headers.{same_header}
 use Rattle.rtr_units.proofs.UnitsRead.{alike_stops, typed_is}
 use Rattle.rtr_units.proofs.unit.Unit.try_read.Goals as goal

@@ -4,7 +4,7 @@ use Rattle.std.specs.declared.cmp.Ordering.TheVariants.{Less, Equal, Greater}
 use Rattle.std.specs.Ordering.{nat_cmp, ordering_then}
 use Rattle.rtr_base.specs.Addresses.{MaxLenParts, ip_version, prefix_cmp, resolved_len}
 use Rattle.rtr_payload.specs.Orders.{payload_cmp}
-use Rattle.rtr_payload.specs.Values.{origin_of}
+use Rattle.rtr_payload.specs.Meanings.{origin_of}
 use Rattle.rtr_payload.proofs.Orders.{origin_chain}
 use Rattle.rtr_payload.proofs.payload.compare_origins.RouteOriginOrd.cmp.Goals as goal
 

@@ -1,7 +1,7 @@
 use Rattle.std.proofs.Common.{◌≡◌, ◌≢◌, ◌%◌, ℕ, List, get_or, Some, sym, ap, ◌∙◌, arith}
-use Rattle.rtr_units.specs.Causes.{unit_length}
+use Rattle.rtr_units.specs.StopCauses.{unit_length}
 use Rattle.rtr_units.specs.Header.{length_field, version_field}
-use Rattle.rtr_units.specs.Views.{header_bytes}
+use Rattle.rtr_units.specs.HeaderBytes.{header_bytes}
 use Rattle.rtr_payload.specs.UnitKinds.{variable_unit}
 use Rattle.rtr_payload.proofs.Frames.{eleven_in_order}
 use Rattle.rtr_payload.proofs.Variable.{aspa_too_long, aspa_short, aspa_uneven, aspa_empty}

@@ -1,6 +1,6 @@
 use Rattle.std.proofs.Common.{◌≡◌, sym, ◌∙◌}
 use Rattle.rtr_units.specs.Header.{type_field}
-use Rattle.rtr_units.specs.Views.{header_bytes}
+use Rattle.rtr_units.specs.HeaderBytes.{header_bytes}
 use Rattle.rtr_units.specs.Reading.{by_bytes}
 use Rattle.rtr_units.proofs.UnitsRead.{read_both}
 use Rattle.rtr_payload.specs.UnitKinds.{variable_unit}

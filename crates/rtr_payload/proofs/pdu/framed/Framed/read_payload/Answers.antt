@@ -3,9 +3,9 @@ use Rattle.std.proofs.Common.{length, drop, ap, ◌∙◌, arith, rules, ℕ}
 use Rattle.std.proofs.lemmas.List.{length-append}
 use Rattle.std.proofs.lemmas.Result.{err_from_is_err_and}
 use Rattle.rtr_units.proofs.Headers.{same_header}
-use Rattle.rtr_units.specs.Causes.{cause_of}
+use Rattle.rtr_units.specs.StopCauses.{cause_of}
 use Rattle.rtr_units.specs.Header.{length_field}
-use Rattle.rtr_units.specs.Views.{header_bytes}
+use Rattle.rtr_units.specs.HeaderBytes.{header_bytes}
 use Rattle.rtr_payload.proofs.Variable.{frame_stops, header_stops, is_read}
 use Rattle.rtr_payload.proofs.Rests.{eight_said}
 use Rattle.rtr_payload.proofs.pdu.framed.Framed.read_payload.Goals as goal

@@ -1,8 +1,8 @@
 use Rattle.rtr_units.specs.Reading.{by_bytes}
-use Rattle.rtr_units.specs.Views.{header_bytes}
+use Rattle.rtr_units.specs.HeaderBytes.{header_bytes}
 use Rattle.rtr_units.proofs.UnitsRead.{reads_on}
 use Rattle.rtr_payload.specs.UnitKinds.{payload_unit}
-use Rattle.rtr_payload.specs.UnitValues.{answer_bytes}
+use Rattle.rtr_payload.specs.UnitBytes.{answer_bytes}
 use Rattle.rtr_payload.proofs.pdu.payload.Payload.read.Goals as goal
 
 pub returns-clause-bytes : goal.returns-clause-bytes

@@ -1,8 +1,8 @@
 use Rattle.std.proofs.Common.{◌∙◌, sym, arith, Ok, Err}
 use Rattle.std.proofs.lemmas.Result.{err_from_is_err_and}
-use Rattle.rtr_units.specs.Causes.{cause_of}
-use Rattle.rtr_units.specs.Ends.{end_bytes}
-use Rattle.rtr_units.specs.Views.{header_bytes}
+use Rattle.rtr_units.specs.StopCauses.{cause_of}
+use Rattle.rtr_units.specs.AnyEnd.{end_bytes}
+use Rattle.rtr_units.specs.HeaderBytes.{header_bytes}
 use Rattle.rtr_payload.proofs.Reading.{end_after, none_after}
 use Rattle.rtr_payload.proofs.pdu.payload.Payload.read_payload.Goals as goal
 

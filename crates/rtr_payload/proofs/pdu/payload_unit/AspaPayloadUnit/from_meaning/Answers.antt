@@ -1,4 +1,4 @@
-use Rattle.rtr_payload.specs.Values.{aspa_of}
+use Rattle.rtr_payload.specs.Meanings.{aspa_of}
 use Rattle.rtr_payload.proofs.FieldsRead.{form_fields}
 use Rattle.rtr_payload.proofs.pdu.payload_unit.AspaPayloadUnit.from_meaning.Goals as goal
 

@@ -1,7 +1,7 @@
 use Rattle.std.proofs.Common.{◌≡◌, rules}
 use Rattle.rtr_payload.specs.Payloads.{IsPayload}
 use Rattle.rtr_payload.specs.Units.{form}
-use Rattle.rtr_payload.specs.Values.{key_of}
+use Rattle.rtr_payload.specs.Meanings.{key_of}
 use Rattle.rtr_payload.proofs.FieldsRead.{form_fields}
 use Rattle.rtr_payload.proofs.pdu.payload_unit.RouterKeyPayloadUnit.from_meaning.Goals as goal
 

@@ -14,8 +14,9 @@ use Rattle.rtr_base.specs.Addresses.{width, v4, v6}
 use Rattle.rtr_units.specs.Header.{version_field, type_field, length_field}
 use Rattle.rtr_units.specs.End.{EndMeaning, End}
 use Rattle.rtr_units.specs.Report.{report}
-use Rattle.rtr_units.specs.Causes.{Refusal, short, unit_type, unit_version, too_long, unit_length}
-use Rattle.rtr_units.specs.Causes.{empty_providers, refused}
+use Rattle.rtr_units.specs.StopCauses.{Refusal, short, unit_type, unit_version, too_long}
+use Rattle.rtr_units.specs.StopCauses.{unit_length}
+use Rattle.rtr_units.specs.StopCauses.{empty_providers, refused}
 use Rattle.rtr_payload.specs.Payloads.{Meaning}
 use Rattle.rtr_payload.specs.Units.{Fields, prefix_unit, key_unit, aspa_unit, IsUnit, Shape}
 use Rattle.rtr_payload.specs.declared.pdu.prefix_rule.PrefixRule.{PrefixRule}

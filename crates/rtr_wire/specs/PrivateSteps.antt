@@ -5,12 +5,12 @@ use Rattle.std.specs.Prelude.{◌≡◌, ℕ, ◌≤◌, Bool, true, false, List
 use Rattle.std.specs.Prelude.{Option, Some, None, Result, Ok, Err, IfSome}
 use Rattle.std.specs.Io.KnownBytes.{Consumes, Appends}
 use Rattle.rtr_units.specs.declared.fault.Fault.{Fault}
-use Rattle.rtr_units.specs.Causes.{Cause, by_writer, no_memory, too_many, by_cause}
+use Rattle.rtr_units.specs.StopCauses.{Cause, by_writer, no_memory, too_many, by_cause}
 use Rattle.rtr_units.specs.End.{EndMeaning}
-use Rattle.rtr_units.specs.Views.{AreBytes}
+use Rattle.rtr_units.specs.HeaderBytes.{AreBytes}
 use Rattle.rtr_payload.specs.Payloads.{Meaning}
 use Rattle.rtr_payload.specs.Units.{IsUnit, LengthsAgree, meaning, form_of}
-use Rattle.rtr_payload.specs.UnitValues.{unit_fields, HasNoPayload}
+use Rattle.rtr_payload.specs.UnitBytes.{unit_fields, HasNoPayload}
 use Rattle.rtr_payload.specs.declared.pdu.payload.Payload.{Payload}
 use Rattle.rtr_views.specs.Faults.{IsFirstFault}
 use Rattle.rtr_views.specs.Placing.{Places}

@@ -4,12 +4,12 @@ use Rattle.std.specs.Prelude.{◌≡◌, ℕ, ◌<◌, List, [], ◌++◌, lengt
 use Rattle.std.specs.Prelude.{Result, Ok, Err}
 use Rattle.std.specs.Io.KnownBytes.{Consumes, IsAtEnd}
 use Rattle.rtr_units.specs.declared.fault.Fault.{Fault}
-use Rattle.rtr_units.specs.Causes.{short, Cause, wrong, cause_of, by_cause}
+use Rattle.rtr_units.specs.StopCauses.{short, Cause, wrong, cause_of, by_cause}
 use Rattle.rtr_units.specs.Reading.{Stops, Takes}
 use Rattle.rtr_units.specs.Stream.{ReaderState, reader_count}
-use Rattle.rtr_session.specs.Fields.{HasAnyFields}
-use Rattle.rtr_session.specs.Headers.{session_unit}
-use Rattle.rtr_session.specs.Values.{any_bytes, any_fields}
+use Rattle.rtr_session.specs.AnyFields.{HasAnyFields}
+use Rattle.rtr_session.specs.SessionKinds.{session_unit}
+use Rattle.rtr_session.specs.AnyUnits.{any_bytes, any_fields}
 use Rattle.rtr_session.specs.declared.any_unit.AnyUnit.{AnyUnit}
 
 -- Why reading a unit of any type stopped where the bytes t of it were there; `left` is what the

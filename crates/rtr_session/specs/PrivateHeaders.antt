@@ -3,13 +3,13 @@ use Rattle.std.specs.Prelude.{◌≡◌, ℕ, ◌<◌, ◌≤◌, List, ◌++◌
 use Rattle.std.specs.Prelude.{Option, Some, None, Result, Ok, Err}
 use Rattle.std.specs.Io.KnownBytes.{Consumes}
 use Rattle.rtr_base.specs.Bytes.{value}
-use Rattle.rtr_units.specs.Causes.{by_cause, cause_of}
+use Rattle.rtr_units.specs.StopCauses.{by_cause, cause_of}
 use Rattle.rtr_units.specs.Reading.{Takes}
 use Rattle.rtr_units.specs.Stream.{ReaderState, reader_count}
-use Rattle.rtr_units.specs.Views.{header_bytes}
+use Rattle.rtr_units.specs.HeaderBytes.{header_bytes}
 use Rattle.rtr_units.specs.declared.fault.Fault.{Fault}
 use Rattle.rtr_units.specs.declared.header.Header.{Header}
-use Rattle.rtr_session.specs.Reads.{HasEnded, StopsInAny}
+use Rattle.rtr_session.specs.AnyReading.{HasEnded, StopsInAny}
 
 -- a header was read, or there was none, or reading stopped inside it
 abbrev pub ReadsHeaderBytes :

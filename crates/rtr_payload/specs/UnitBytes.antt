@@ -5,18 +5,18 @@ use Rattle.std.specs.Prelude.{◌≡◌, ◌≤◌, List, [], ℕ, Option, Some,
 use Rattle.std.specs.Prelude.{IsSome}
 use Rattle.rtr_base.specs.Addresses.{v4, v6}
 use Rattle.rtr_base.specs.declared.payload.Action.{Action}
-use Rattle.rtr_units.specs.Causes.{refused, Cause, no_memory, wrong}
+use Rattle.rtr_units.specs.StopCauses.{refused, Cause, no_memory, wrong}
 use Rattle.rtr_units.specs.End.{End}
 use Rattle.rtr_units.specs.Header.{version_field}
 use Rattle.rtr_units.specs.PrefixUnits.{ipv4_bytes, ipv6_bytes, prefix_at}
-use Rattle.rtr_units.specs.Ends.{end_bytes, end_meaning}
+use Rattle.rtr_units.specs.AnyEnd.{end_bytes, end_meaning}
 use Rattle.rtr_units.specs.declared.end.EndOfData.{EndOfData}
 use Rattle.rtr_payload.specs.AspaUnits.{aspa_at}
 use Rattle.rtr_payload.specs.KeyUnits.{key_at}
-use Rattle.rtr_payload.specs.Steps.{rule_of, refusal_report}
+use Rattle.rtr_payload.specs.FirstFault.{rule_of, refusal_report}
 use Rattle.rtr_payload.specs.Units.{Fields, prefix_unit, key_unit, aspa_unit, HasFields}
 use Rattle.rtr_payload.specs.Units.{LengthsAgree, form, meaning, written}
-use Rattle.rtr_payload.specs.Values.{payload_of}
+use Rattle.rtr_payload.specs.Meanings.{payload_of}
 use Rattle.rtr_payload.specs.declared.pdu.prefix_rule.PrefixRule.{PrefixRule}
 use Rattle.rtr_payload.specs.declared.payload.Payload.{Payload as Value}
 use Rattle.rtr_payload.specs.declared.payload.Payload.TheVariants as values

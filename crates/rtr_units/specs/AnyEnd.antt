@@ -2,7 +2,7 @@
 -- what is wrong with its header. That versions above 2 are refused, and before a length, is this
 -- library's own.
 use Rattle.std.specs.Prelude.{ℕ, Bool, true, false, List, Some, nat_lt, ◌==◌, if◌then◌else◌}
-use Rattle.rtr_units.specs.Causes.{unit_version}
+use Rattle.rtr_units.specs.StopCauses.{unit_version}
 use Rattle.rtr_units.specs.End.{EndMeaning, untimed_meaning, timed_meaning}
 use Rattle.rtr_units.specs.End.{end_v0_bytes, end_v1_bytes}
 use Rattle.rtr_units.specs.Header.{version_field, length_field}

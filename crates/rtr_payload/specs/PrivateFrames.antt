@@ -1,7 +1,7 @@
 -- What calls inside this crate leave. Only contracts of private functions cite these.
 use Rattle.std.specs.Prelude.{◌≡◌, ◌⊎◌, ℕ, List, [], length, Option, Some, Result, Ok, Err}
 use Rattle.std.specs.Io.KnownBytes.{Consumes}
-use Rattle.rtr_units.specs.Causes.{Refusal, Cause, no_memory, wrong, refused}
+use Rattle.rtr_units.specs.StopCauses.{Refusal, Cause, no_memory, wrong, refused}
 use Rattle.rtr_units.specs.Reading.{Takes}
 use Rattle.rtr_units.specs.Stream.{FallsShort, ReaderState, reader_count}
 

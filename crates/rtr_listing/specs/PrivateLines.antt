@@ -5,7 +5,7 @@ use Rattle.std.specs.Prelude.{Bool, false, Option, Result, Ok, Err}
 use Rattle.std.specs.Io.KnownBytes.{Appends}
 use Rattle.std.specs.List.{concat}
 use Rattle.rtr_units.specs.declared.fault.Fault.{Fault}
-use Rattle.rtr_units.specs.Causes.{Cause, by_writer, no_memory, by_cause, cause_of}
+use Rattle.rtr_units.specs.StopCauses.{Cause, by_writer, no_memory, by_cause, cause_of}
 use Rattle.rtr_units.specs.Stream.{WriterState, writer_count}
 use Rattle.rtr_listing.specs.Lines.{IsLine, IsPartOfLine}
 use Rattle.rtr_listing.specs.Listing.{AreLines}

@@ -1,14 +1,14 @@
 -- What the values of units of any type are: their bytes, and the fields that stand in them (this
 -- library's own; the places of the fields by RFC 8210 sections 5.1 to 5.11).
 use Rattle.std.specs.Prelude.{ℕ, List, drop}
-use Rattle.rtr_units.specs.Ends.{end_bytes, end_meaning}
+use Rattle.rtr_units.specs.AnyEnd.{end_bytes, end_meaning}
 use Rattle.rtr_units.specs.Header.{version_field, session_field}
 use Rattle.rtr_units.specs.Queries.{notify_bytes, query_bytes, reset_query_bytes, response_bytes}
 use Rattle.rtr_units.specs.Queries.{cache_reset_bytes, serial_field}
-use Rattle.rtr_payload.specs.UnitValues.{unit_bytes, unit_fields}
-use Rattle.rtr_session.specs.Fields.{AnyFields, serial_notify, serial_query, reset_query}
-use Rattle.rtr_session.specs.Fields.{cache_response, payload, end_of_data, cache_reset}
-use Rattle.rtr_session.specs.Fields.{error_report}
+use Rattle.rtr_payload.specs.UnitBytes.{unit_bytes, unit_fields}
+use Rattle.rtr_session.specs.AnyFields.{AnyFields, serial_notify, serial_query, reset_query}
+use Rattle.rtr_session.specs.AnyFields.{cache_response, payload, end_of_data, cache_reset}
+use Rattle.rtr_session.specs.AnyFields.{error_report}
 use Rattle.rtr_session.specs.declared.any_unit.AnyUnit.{AnyUnit}
 use Rattle.rtr_session.specs.declared.any_unit.AnyUnit.TheVariants as units
 

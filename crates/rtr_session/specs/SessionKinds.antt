@@ -1,10 +1,10 @@
 -- The kinds of units of a session: any, and error reports alone. The order of the faults, and that
 -- an error report is read into memory, are this library's own.
 use Rattle.std.specs.Prelude.{ℕ, slice_index, length, Option, ◌&&◌, ◌||◌, ◌==◌, if◌then◌else◌}
-use Rattle.rtr_units.specs.Causes.{Refusal}
+use Rattle.rtr_units.specs.StopCauses.{Refusal}
 use Rattle.rtr_units.specs.Header.{version_field, type_field, length_field}
 use Rattle.rtr_units.specs.Reading.{Kind, exact_length, least_length, of_type}
-use Rattle.rtr_payload.specs.Steps.{header_fault}
+use Rattle.rtr_payload.specs.FirstFault.{header_fault}
 
 -- By the version v, the type t, byte 2 and the length field n: serial notify and serial query (RFC
 -- 8210 sections 5.2 and 5.3) have 12 bytes; reset query, cache response and cache reset (sections
