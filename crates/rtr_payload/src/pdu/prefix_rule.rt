@@ -32,7 +32,7 @@ impl PrefixRule {
 
 /// The IPv4 prefix and the max length that stand in a unit. Host bits are cleared.
 #[inline(always)]
-#[tactic(auto, unfolding(crate::specs::Steps::broken_rule))]
+#[tactic(auto, unfolding(crate::specs::FirstFault::broken_rule))]
 pub fn ipv4_prefix(bits: u32, len: u8, max_len: u8) -> Result<MaxLenPrefix, PrefixRule>
     ensures ok { IfOk result (λ p. p ≡
         record {
@@ -50,7 +50,7 @@ pub fn ipv4_prefix(bits: u32, len: u8, max_len: u8) -> Result<MaxLenPrefix, Pref
 
 /// The IPv6 prefix and the max length that stand in a unit. Host bits are cleared.
 #[inline(always)]
-#[tactic(auto, unfolding(crate::specs::Steps::broken_rule))]
+#[tactic(auto, unfolding(crate::specs::FirstFault::broken_rule))]
 pub fn ipv6_prefix(bits: u128, len: u8, max_len: u8) -> Result<MaxLenPrefix, PrefixRule>
     ensures ok { IfOk result (λ p. p ≡
         record {
@@ -68,7 +68,7 @@ pub fn ipv6_prefix(bits: u128, len: u8, max_len: u8) -> Result<MaxLenPrefix, Pre
 
 /// The prefix with a max length.
 #[inline(always)]
-#[tactic(auto, unfolding(crate::specs::Steps::broken_rule))]
+#[tactic(auto, unfolding(crate::specs::FirstFault::broken_rule))]
 fn with_max_len(prefix: Prefix, max_len: u8) -> Result<MaxLenPrefix, PrefixRule>
     requires { prefix.len ≤ width prefix.family }
     ensures ok { IfOk result (λ p. p ≡ record { prefix = prefix; max_len = Some max_len }) }
