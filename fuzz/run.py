@@ -84,7 +84,9 @@ def difference(args, number, data, got, wanted):
     path = os.path.join(tempfile.gettempdir(), f"rtr_normalise-{args.seed}-{number}.hex")
     with open(path, "w", encoding="ascii") as file:
         file.write(data.hex("\n", -32) + "\n")
-    lines = [f"--seed {args.seed} --input {number} differs: {len(data)} bytes, kept in {path}"]
+    version = "" if args.version is None else f" --version {args.version}"
+    call = f"--seed {args.seed} --input {number}{version}"
+    lines = [f"{call} differs: {len(data)} bytes, kept in {path}"]
     if got[0] != wanted[0]:
         place = first_difference(got[0], wanted[0])
         lines += [f"output: {len(got[0])} bytes, and not {len(wanted[0])}; at byte {place}"]

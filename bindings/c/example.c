@@ -1,6 +1,8 @@
 /* Reads a sequence from standard input, prints each unit, and checks what its form means.
  *
- * cc -o example example.c -lrtr_c */
+ * At the top of the repository, once bindings/build has made the archive:
+ *
+ *     cc -Ibindings/c -o example bindings/c/example.c bindings/lib/x86_64/librtr_c.a */
 #include <inttypes.h>
 #include <stdio.h>
 #include <stdlib.h>

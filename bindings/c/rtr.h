@@ -156,7 +156,8 @@ uint8_t rtr_write_unit(const struct rtr_unit *unit, const uint8_t *input, size_t
                        uint8_t *output, size_t output_length, size_t *written);
 
 /* Whether both inputs begin with sequences that mean the same, of fewer than `limit` payload units
- * each. It asks malloc for the room of both forms, and gives it back.
+ * each. It asks malloc for the room of both forms, for each router key and ASPA, and for a report
+ * on a refused prefix, and gives it all back.
  *
  * RTR_OK with the answer in `same`. Else `same` is as it was: RTR_SHORT to RTR_PREFIX, without a
  * detail, or RTR_TOO_MANY of the left input, or of the right one where the left is accepted; or

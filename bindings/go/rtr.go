@@ -43,21 +43,33 @@ const (
 type Fault struct {
 	Status Status
 	Detail uint8
+	bare   bool // the call tells no detail
 }
 
 func (f *Fault) Error() string {
 	text := C.GoString(C.rtr_status_text(C.uint8_t(f.Status)))
-	if f.Detail == 0 {
-		return text
+	switch f.Status {
+	case UnitType, UnitVersion, PrefixRule:
+		if !f.bare {
+			return fmt.Sprintf("%s (%d)", text, f.Detail)
+		}
 	}
-	return fmt.Sprintf("%s (%d)", text, f.Detail)
+	return text
 }
 
 func fault(status, detail C.uint8_t) error {
 	if status == 0 {
 		return nil
 	}
-	return &Fault{Status(status), uint8(detail)}
+	return &Fault{Status: Status(status), Detail: uint8(detail)}
+}
+
+// bareFault is the fault of a call that tells no detail.
+func bareFault(status C.uint8_t) error {
+	if status == 0 {
+		return nil
+	}
+	return &Fault{Status: Status(status), bare: true}
 }
 
 // Progress says how far a call came that normalises: whole units, and the end of data where it was
@@ -123,7 +135,7 @@ func SameMeaning(left, right []byte, limit uint64) (bool, error) {
 	l, n := place(left)
 	r, m := place(right)
 	status := C.rtr_same_meaning(l, n, r, m, C.uint64_t(limit), &same)
-	return bool(same), fault(status, 0)
+	return bool(same), bareFault(status)
 }
 
 // The kinds of units.
@@ -185,8 +197,9 @@ func Next(input []byte) (Unit, []byte, error) {
 // is 0.
 //
 // Errors, in this order: UnitType; NoForm for an end of data with Announce; PrefixRule; TooLong for more
-// than 65503 bytes of key info or 65520 of providers; UnitLength for providers that aren't 4 bytes each;
-// EmptyProviders; UnitVersion for an end of data of a version above 2; NoRoom.
+// than 65503 bytes of key info or, announced, 65520 of providers; UnitLength for announced providers that
+// aren't 4 bytes each; EmptyProviders where there are none; UnitVersion for an end of data of a version
+// above 2; NoRoom.
 func (unit *Unit) Write(output []byte) (int, error) {
 	u := C.struct_rtr_unit{
 		part_length: C.size_t(len(unit.Part)), asn: C.uint32_t(unit.ASN),
@@ -212,5 +225,5 @@ func (unit *Unit) Write(output []byte) (int, error) {
 	in, n := place(unit.Part)
 	out, room := place(output)
 	status := C.rtr_write_unit(&u, in, n, out, room, &written)
-	return int(written), fault(status, 0)
+	return int(written), bareFault(status)
 }

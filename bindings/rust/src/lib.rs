@@ -151,7 +151,8 @@ pub fn normalise_for(
 }
 
 /// Whether both inputs begin with sequences that mean the same, of fewer than `limit` payload
-/// units each. It asks C's `malloc` for the room of both forms, and gives it back.
+/// units each. It asks C's `malloc` for the room of both forms, for each router key and ASPA, and
+/// for a report on a refused prefix, and gives it all back.
 ///
 /// The fault is that of the left input, or of the right one where the left is accepted: `Short` to
 /// `TooMany`; or `Memory`.
@@ -235,7 +236,8 @@ impl<'a> Unit<'a> {
 
     /// Writes the written form to the front of the output, and answers its length in bytes, at most
     /// 65535. Host bits of an address are cleared, a withdrawn ASPA is written without providers,
-    /// and an end of data of version 0 without timings.
+    /// and an end of data of version 0 without timings; one of a later version that says none gets
+    /// those that RFC 8210 section 6 recommends.
     ///
     /// Faults, in this order: `Prefix`, `TooLong`, `UnitLength`, `EmptyProviders`, `UnitVersion`
     /// for an end of data; at last `NoRoom`. Nothing is written then.
@@ -301,7 +303,7 @@ impl<'a> Unit<'a> {
                 serial,
                 timing,
             } => {
-                let timing = timing.unwrap_or(NO_TIMING);
+                let timing = timing.unwrap_or(RECOMMENDED);
                 said.kind = END_OF_DATA;
                 said.session = session;
                 said.serial = serial;
@@ -321,11 +323,12 @@ const END_OF_DATA: u8 = 7;
 const ROUTER_KEY: u8 = 9;
 const ASPA: u8 = 11;
 
-/// What an end of data says that has no timings.
-const NO_TIMING: Timing = Timing {
-    refresh: 0,
-    retry: 0,
-    expire: 0,
+/// The timings that an end of data is written with that is to have some and says none (RFC 8210
+/// section 6).
+const RECOMMENDED: Timing = Timing {
+    refresh: 3600,
+    retry: 600,
+    expire: 7200,
 };
 
 impl<'a> Content<'a> {

@@ -15,7 +15,7 @@ pub(crate) const SHORT: u8 = 1;
 pub(crate) const UNIT_TYPE: u8 = 2;
 /// A unit of this protocol version is not allowed here.
 pub(crate) const UNIT_VERSION: u8 = 3;
-/// The length field is over 65535.
+/// The length field of a unit of no fixed size is over 65535.
 pub(crate) const TOO_LONG: u8 = 4;
 /// The length field does not suit the type of the unit.
 pub(crate) const UNIT_LENGTH: u8 = 5;

@@ -79,7 +79,7 @@ fn show_key(view: &RouterKeyView<'_>, size: usize, unit: &mut RtrUnit)
     ensures { unit.old ≡ none → unit.new ≡ shown (views.RouterKey view.now) size }
 {
     unit.size = size;
-    unit.part_start = 32;
+    unit.part_start = RouterKey::FIXED;
     unit.part_length = view.key_info().len();
     unit.asn = view.asn().into_u32();
     unit.kind = RouterKey::PDU;
@@ -94,7 +94,7 @@ fn show_aspa(view: &AspaView<'_>, size: usize, unit: &mut RtrUnit)
     ensures { unit.old ≡ none → unit.new ≡ shown (views.Aspa view.now) size }
 {
     unit.size = size;
-    unit.part_start = 12;
+    unit.part_start = Aspa::FIXED;
     unit.part_length = view.providers().len();
     unit.customer = view.customer().into_u32();
     unit.kind = Aspa::PDU;

@@ -13,26 +13,27 @@ use crate::answer::{
 };
 use crate::unit::RtrUnit;
 use rtr_payload::pdu::PrefixUnit;
+use rtr_units::header::{LAST_VERSION, MAX_SIZE};
 use rtr_views::placing::{flagged_header, place};
 use rtr_wire::base::Asn;
 use rtr_wire::payload::{RouteOrigin, Timing};
-use rtr_wire::pdu::{Aspa, EndOfData, Ipv4Prefix, Ipv6Prefix, RouterKey, Unit};
+use rtr_wire::pdu::{Aspa, EndOfData, Ipv4Prefix, Ipv6Prefix, ProviderAsns, RouterKey, Unit};
 use rtr_wire::state::{Serial, State};
 
 /// The most bytes of key info with which a router key is read.
-const MAX_KEY_INFO: usize = 65503;
+const MAX_KEY_INFO: usize = MAX_SIZE as usize - RouterKey::FIXED;
 /// The most bytes of providers that an ASPA unit has.
-const MAX_PROVIDERS: usize = 65520;
+const MAX_PROVIDERS: usize = 4 * ProviderAsns::MAX_COUNT;
 
 /// Writes the written form of the unit to the front of the output; key info and providers stand in
 /// the input, where the unit says.
 ///
-/// Statuses, in this order: `UNIT_TYPE` for no kind of unit; `NO_FORM` for an action that is none,
-/// a family that isn't that of the kind, or key info or providers outside the input; then
-/// `PREFIX`; `TOO_LONG` for more than 65503 bytes of key info or, announced, 65520 of providers;
-/// `UNIT_LENGTH` for announced providers that aren't four bytes each, and `EMPTY_PROVIDERS` where
-/// there are none; `UNIT_VERSION` for an end of data of a version above 2; at last `NO_ROOM`.
-/// Nothing is written then.
+/// Statuses, in this order: `UNIT_TYPE` for no kind of unit; `NO_FORM` for an action above 1, of an
+/// end of data above 0, a family that isn't that of the kind, or key info or providers outside the
+/// input; then `PREFIX`; `TOO_LONG` for more than 65503 bytes of key info or, announced, 65520 of
+/// providers; `UNIT_LENGTH` for announced providers that aren't four bytes each, and
+/// `EMPTY_PROVIDERS` where there are none; `UNIT_VERSION` for an end of data of a version above 2;
+/// at last `NO_ROOM`. Nothing is written then.
 #[unsafe(no_mangle)]
 pub extern "C" fn rtr_write_unit(
     unit: &RtrUnit,
@@ -85,7 +86,7 @@ fn write_end(unit: &RtrUnit, output: &mut [u8]) -> Result<usize, u8>
     if unit.action > 0 {
         return Err(NO_FORM);
     }
-    if unit.version > 2 {
+    if unit.version > LAST_VERSION {
         return Err(UNIT_VERSION);
     }
     let state = State::from_parts(unit.session, Serial(unit.serial));
@@ -112,15 +113,19 @@ fn write_key(unit: &RtrUnit, input: &[u8], output: &mut [u8]) -> Result<usize, u
     if info.len() > MAX_KEY_INFO {
         return Err(TOO_LONG);
     }
-    placed(&key_front(unit, 32 + info.len() as u32), info, output)
+    placed(
+        &key_front(unit, (RouterKey::FIXED + info.len()) as u32),
+        info,
+        output,
+    )
 }
 
 /// What the form of a router key of this size has before the key info.
-fn key_front(unit: &RtrUnit, size: u32) -> [u8; 32]
+fn key_front(unit: &RtrUnit, size: u32) -> [u8; RouterKey::FIXED]
     ensures { result ≡ (unit.now.version ∷ 9 ∷ unit.now.action ∷ 0 ∷ be size 4)
         ++ (unit.now.key_identifier ++ be unit.now.asn 4) }
 {
-    let mut front = [0; 32];
+    let mut front = [0; RouterKey::FIXED];
     let header = flagged_header(unit.version, RouterKey::PDU, unit.action, size);
     front[..8].copy_from_slice(&header);
     front[8..28].copy_from_slice(&unit.key_identifier);
@@ -140,7 +145,7 @@ fn write_aspa(unit: &RtrUnit, input: &[u8], output: &mut [u8]) -> Result<usize, 
         return Err(NO_FORM);
     }
     if unit.action == 0 {
-        return placed(&aspa_front(unit, 12), &[], output);
+        return placed(&aspa_front(unit, Aspa::FIXED as u32), &[], output);
     }
     if providers.len() > MAX_PROVIDERS {
         return Err(TOO_LONG);
@@ -152,18 +157,18 @@ fn write_aspa(unit: &RtrUnit, input: &[u8], output: &mut [u8]) -> Result<usize, 
         return Err(EMPTY_PROVIDERS);
     }
     placed(
-        &aspa_front(unit, 12 + providers.len() as u32),
+        &aspa_front(unit, (Aspa::FIXED + providers.len()) as u32),
         providers,
         output,
     )
 }
 
 /// What the form of an ASPA unit of this size has before the providers.
-fn aspa_front(unit: &RtrUnit, size: u32) -> [u8; 12]
+fn aspa_front(unit: &RtrUnit, size: u32) -> [u8; Aspa::FIXED]
     ensures { result ≡ unit.now.version ∷ 11 ∷ unit.now.action ∷ 0 ∷ be size 4
         ++ be unit.now.customer 4 }
 {
-    let mut front = [0; 12];
+    let mut front = [0; Aspa::FIXED];
     let header = flagged_header(unit.version, Aspa::PDU, unit.action, size);
     front[..8].copy_from_slice(&header);
     front[8..].copy_from_slice(&unit.customer.to_be_bytes());

@@ -24,9 +24,9 @@ pub fn answer(row: &Row<'_>, way: Way) -> Option<Answer> {
         "EndOfDataV0" => unit::<EndOfDataV0>(row, way, call),
         "EndOfDataV1" => unit::<EndOfDataV1>(row, way, call),
         "CacheReset" => unit::<CacheReset>(row, way, call),
-        "EndOfData" => Some(read_end(row, way)),
-        "Header" => Some(read_header(row, way)),
-        "SerialQueryPayload" => Some(read_serial(row, way)),
+        "EndOfData" if call == "read_payload" => Some(read_end(row, way)),
+        "Header" if call == "read" => Some(read_header(row, way)),
+        "SerialQueryPayload" if call == "read" => Some(read_serial(row, way)),
         _ => None,
     }
 }

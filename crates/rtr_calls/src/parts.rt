@@ -118,7 +118,7 @@ fn told_clone(row: &Row<'_>, report: &Error) -> Answer {
     seen
 }
 
-/// `Error::clone` of the report on the row's bytes, which is made with no growth refused.
+/// `Error::clone` of a report with code 3 and the text `no`, which is made with no growth refused.
 fn clone_report(row: &Row<'_>) -> Answer {
     let Ok(report) = Error::new(row.alloc, 1, 3, &[], b"no") else {
         return row.no_unit();
@@ -132,8 +132,8 @@ fn empty_report(row: &Row<'_>) -> Answer {
     told_clone(row, &report)
 }
 
-/// `Error::write` of the report of the row, of none with `empty`: what was written, and the number
-/// of calls.
+/// `Error::write` of the report of the row, of none with `empty`: what was written, and whether the
+/// writer was called.
 fn write_report(row: &Row<'_>, way: Way) -> Answer {
     let report = match row.setting("empty") {
         Some(_) => Some(Error::empty(row.alloc)),

@@ -109,7 +109,7 @@ fn lent(row: &Row<'_>) -> Answer {
     seen
 }
 
-/// `pdu::Payload::write`: `Ok` or the fault, what was written, and the number of calls.
+/// `pdu::Payload::write`: `Ok` or the fault, and what was written.
 fn write(row: &Row<'_>, way: Way) -> Answer {
     let Some(unit) = read(row) else {
         return row.no_unit();

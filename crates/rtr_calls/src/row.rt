@@ -11,6 +11,24 @@ pub struct Setting<'a> {
     pub value: &'a str,
 }
 
+impl Setting<'_> {
+    /// Whether calls know a setting of this key, and its value is of its kind.
+    pub fn is_known(&self) -> bool {
+        match self.key {
+            "by" => matches!(self.value, "1" | "123" | "whole"),
+            "to" => matches!(self.value, "1" | "7" | "whole"),
+            "empty" | "endless" => self.value == "1",
+            "flags" | "type" | "version" => self.value.parse::<u8>().is_ok(),
+            "code" | "session" => self.value.parse::<u16>().is_ok(),
+            "count" | "length" => self.value.parse::<u32>().is_ok(),
+            "breaks" | "fails" | "limit" | "room" | "set" | "size" | "stops" => {
+                self.value.parse::<u64>().is_ok()
+            }
+            _ => false,
+        }
+    }
+}
+
 /// A row's call, its settings, and the bytes before and after a `|`.
 #[derive(Drop)]
 pub struct Row<'a> {

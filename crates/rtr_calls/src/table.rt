@@ -117,8 +117,8 @@ impl Table {
         Ok(true)
     }
 
-    /// The call of a row. Words that stand for bytes are bytes, `|` parts them, and all others are
-    /// settings.
+    /// The call of a row. Words with a `=` are settings, all others stand for bytes, and `|` parts
+    /// these.
     fn given<'a>(&self, given: &'a str) -> Result<Row<'a>, Fail> {
         let (call, words) = given.split_once(" ").unwrap_or((given, ""));
         let mut row = Row {
@@ -134,7 +134,11 @@ impl Table {
             if word == "|" {
                 is_right = true;
             } else if let Some((key, value)) = word.split_once("=") {
-                row.settings.push(Setting { key, value })?;
+                let setting = Setting { key, value };
+                if !setting.is_known() {
+                    return Err(Fail::new(format_args!("{word} is no setting")));
+                }
+                row.settings.push(setting)?;
             } else {
                 let is_known = if is_right {
                     self.append(word, &mut row.right)?

@@ -2,24 +2,28 @@
 #![tactic(auto)]
 
 use rtr_wire::normalise;
-use rtr_wire::pdu::Counted;
+use rtr_wire::pdu::{Counted, Fault};
 use std::io::{self, BufReader};
 use std::process::ExitCode;
 
-fn main(rt: HostRuntime) -> ExitCode {
+fn count(rt: &HostRuntime) -> Result<u64, Fault> {
     let Ok(input) = BufReader::with_capacity(rt.alloc(), 65536, rt.stdin()) else {
-        return ExitCode::from(3);
+        return Err(Fault::Memory);
     };
     let mut reader = Counted::new(input);
     let mut writer = Counted::new(io::sink());
-    match normalise(rt.alloc(), &mut reader, &mut writer, 4294967295) {
-        Ok(count) => {
-            let _ = println!(rt; "{count} payload units");
-            ExitCode::SUCCESS
-        }
+    normalise(rt.alloc(), &mut reader, &mut writer, 4294967295)
+}
+
+fn main(rt: HostRuntime) -> ExitCode {
+    match count(&rt) {
+        Ok(count) => match println!(rt; "{count} payload units") {
+            Ok(()) => ExitCode::SUCCESS,
+            Err(_) => ExitCode::FAILURE,
+        },
         Err(fault) => {
             let _ = eprintln!(rt; "{fault}");
-            ExitCode::from(1)
+            ExitCode::FAILURE
         }
     }
 }

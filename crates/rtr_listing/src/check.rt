@@ -6,7 +6,7 @@ use rtr_base::asn::Asn;
 use rtr_base::payload::Action;
 use rtr_payload::payload;
 use rtr_payload::pdu::prefix_rule::{PrefixRule, ipv4_prefix, ipv6_prefix};
-use rtr_payload::pdu::{Aspa, Payload, ProviderAsns, RouterKey};
+use rtr_payload::pdu::{Aspa, Payload, PayloadUnit, ProviderAsns, RouterKey};
 use rtr_session::{AnyUnit, Report};
 use rtr_units::end::EndOfData;
 use rtr_units::session::CacheResponse;
@@ -45,7 +45,8 @@ impl Checker {
         }
     }
 
-    /// What the next unit breaks, in the order of its bytes.
+    /// What the next unit breaks: first the version of the sequence, then bytes and flags that are
+    /// to be zero, then what its fields say.
     pub fn check(&mut self, unit: &AnyUnit) -> Result<&[Finding], AllocError> {
         self.findings.clear();
         match unit {
@@ -176,8 +177,8 @@ impl Checker {
     }
 
     fn router_key(&mut self, unit: &RouterKey) -> Result<(), AllocError> {
-        if unit.version() == 0 {
-            self.find(Finding::Lacks(0))?;
+        if unit.version() < RouterKey::SMALLEST_VERSION {
+            self.find(Finding::Lacks(unit.version()))?;
         }
         let info = unit.key_info().clone()?;
         let key = payload::Payload::router_key(unit.key_identifier().into(), unit.asn(), info);
@@ -185,7 +186,7 @@ impl Checker {
     }
 
     fn aspa(&mut self, unit: &Aspa) -> Result<(), AllocError> {
-        if unit.version() < 2 {
+        if unit.version() < Aspa::SMALLEST_VERSION {
             self.find(Finding::Lacks(unit.version()))?;
         }
         if !ascend(unit.providers()) {

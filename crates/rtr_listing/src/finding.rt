@@ -18,7 +18,7 @@ pub enum Finding {
     /// A max length is no less than the prefix length (RFC 8210 section 5.1).
     #[error("max length is below the prefix length")]
     MaxBelow,
-    /// A prefix has no bits after its length (RFC 8210 sections 5.6 and 5.7).
+    /// A prefix has no bits after its length (this program's own).
     #[error("host bits of the prefix are not zero")]
     HostBits,
     /// A sequence has one version (RFC 8210 section 7).

@@ -18,6 +18,9 @@ use std::process::ExitCode;
 /// The status where a rule was found broken, and at a fault of the input.
 const BROKEN: u8 = 1;
 
+/// The status where the words ask for nothing.
+const USAGE: u8 = 2;
+
 /// The status where reading, writing or memory failed.
 const FAILED: u8 = 3;
 
@@ -131,11 +134,11 @@ pub fn run<R: Source, W: Sink, F: Write>(
 }
 
 /// Prints how the program is called, and answers status 2.
-pub fn usage<F: Write>(faults: &mut F) -> u8
+fn usage<F: Write>(faults: &mut F) -> u8
     ensures { result ≡ 2 }
 {
     let _ = writeln!(faults, "usage: rtr_list [--json | --check]");
-    2
+    USAGE
 }
 
 /// Prints the fault, where there is one, with the place of its unit where it is the input's, and

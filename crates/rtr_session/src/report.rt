@@ -19,6 +19,7 @@ ghost use Rattle.rtr_session.specs.Reports.{IsReport, HasParts};
 ghost use Rattle.rtr_session.specs.PrivateHeaders.{IsCounted, IsCutShort};
 
 use rtr_base::pdu::ErrorCode;
+use rtr_units::error::Error;
 use rtr_units::fault::Fault;
 use rtr_units::header::{Header, MAX_SIZE};
 use rtr_units::numbers::{u16_at, u32_at};
@@ -51,7 +52,7 @@ impl Model for Report {
 
 impl Report {
     /// The type of an error report.
-    pub const PDU: u8 = 10;
+    pub const PDU: u8 = Error::PDU;
 
     /// Reads an error report.
     ///

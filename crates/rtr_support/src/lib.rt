@@ -8,10 +8,7 @@ use std::io;
 use std::io::{Error, ErrorKind, Read, Write};
 use std::test::Fail;
 
-/// An IPv4 prefix unit with a session, upper flag bits, a free byte and host bits.
-pub const IPV4_STRAY: &str = "01 04 00 07 00 00 00 14 03 17 1a 09 c0 00 02 0a 00 01 00 0f";
-
-/// The form of `IPV4_STRAY`: 192.0.2.0/23 up to 26 of ASN 65551.
+/// An IPv4 prefix unit in its form: 192.0.2.0/23 up to 26 of ASN 65551.
 pub const IPV4: &str = "01 04 00 00 00 00 00 14 01 17 1a 00 c0 00 02 00 00 01 00 0f";
 
 /// An IPv6 prefix unit with host bits.
@@ -29,15 +26,8 @@ pub const KEY: &str =
     "01 09 01 00 00 00 00 24 01 02 03 04 05 06 07 08 09 0a 0b 0c 0d 0e 0f 10 11 12 13 14 \
      00 01 00 0f 15 16 17 18";
 
-/// What follows the header of `KEY`.
-pub const KEY_REST: &str =
-    "01 02 03 04 05 06 07 08 09 0a 0b 0c 0d 0e 0f 10 11 12 13 14 00 01 00 0f 15 16 17 18";
-
 /// An ASPA unit that withdraws and names two providers.
 pub const ASPA_NAMED: &str = "02 0b 00 00 00 00 00 14 00 01 00 0f 00 01 00 0d 00 01 00 0e";
-
-/// What follows the header of `ASPA_NAMED`.
-pub const ASPA_REST: &str = "00 01 00 0f 00 01 00 0d 00 01 00 0e";
 
 /// The form of `ASPA_NAMED`.
 pub const ASPA_BARE: &str = "02 0b 00 00 00 00 00 0c 00 01 00 0f";

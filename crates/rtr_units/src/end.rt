@@ -14,7 +14,7 @@ ghost use Rattle.rtr_units.specs.HeaderBytes.{header_bytes};
 
 use crate::fault::Fault;
 use crate::fixed::{EndOfDataV0, EndOfDataV1};
-use crate::header::Header;
+use crate::header::{Header, LAST_VERSION};
 use crate::source::{Sink, Source};
 use crate::unit::Unit;
 use rtr_base::payload::Timing;
@@ -34,9 +34,10 @@ impl EndOfData {
     ghost use Rattle.rtr_units.specs.LendingEnd.{LendsEnd};
 
     /// The type of an end of data.
-    pub const PDU: u8 = 7;
+    pub const PDU: u8 = EndOfDataV0::PDU;
 
-    /// The end of data in this state. Version 0 has no place for the timing parameters.
+    /// The end of data in this state. Version 0 has no place for the timing parameters. The version
+    /// is not checked: above version 2 it is one that reading refuses.
     #[inline(always)]
     pub fn new(version: u8, state: State, timing: Timing) -> Self
         ensures zero { version ≡ 0 → end_bytes result ≡ serial_list 0 7 state.session state.serial }
@@ -71,7 +72,7 @@ impl EndOfData {
         ensures error { IfErr result (HoldsReadError (R.fails reader.new)) }
     {
         let version = header.version();
-        if version > 2 {
+        if version > LAST_VERSION {
             return Err(Fault::UnitVersion(version));
         }
         if version == 0 {

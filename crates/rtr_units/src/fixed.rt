@@ -1,4 +1,4 @@
-//! Units of a fixed size (RFC 6810 and RFC 8210 sections 5.2 to 5.9).
+//! Prefix units and ends of data (RFC 6810 and RFC 8210 sections 5.6 to 5.8).
 
 ghost use Rattle.std.specs.Prelude.{◌≡◌, ℕ, List, length, replicate, Some, refl};
 ghost use Rattle.std.proofs.Common.{rules};
@@ -10,6 +10,7 @@ ghost use Rattle.rtr_units.specs.Queries.{serial_list, serial_field};
 
 use crate::cells::Cells;
 use crate::numbers::{u32_at, u128_at, u128_bytes};
+use crate::session::serial_after_header;
 use crate::unit::Unit;
 use rtr_base::asn::Asn;
 use rtr_base::payload::Timing;
@@ -405,7 +406,7 @@ impl EndOfDataV0 {
     pub fn serial(&self) -> Serial
         ensures { result.0 ≡ serial_field (end_v0_bytes self.now) }
     {
-        Serial(u32_at(self.as_ref(), 8))
+        serial_after_header(self.as_ref())
     }
 }
 
@@ -483,7 +484,7 @@ impl EndOfDataV1 {
     pub fn serial(&self) -> Serial
         ensures { result.0 ≡ serial_field (end_v1_bytes self.now) }
     {
-        Serial(u32_at(self.as_ref(), 8))
+        serial_after_header(self.as_ref())
     }
 
     /// The timing parameters, in seconds.

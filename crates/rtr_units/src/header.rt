@@ -20,6 +20,10 @@ use crate::source::{Sink, Source};
 /// in the Rust crate `rpki`).
 pub const MAX_SIZE: u32 = 65535;
 
+/// The last version of the protocol that is known. Of later ones no end of data is read and no
+/// sequence written, which is this library's own.
+pub const LAST_VERSION: u8 = 2;
+
 /// The header that each unit begins with: eight bytes.
 #[derive(Clone, Copy, Debug, PartialEq, Eq, Hash)]
 pub struct Header {
@@ -52,7 +56,8 @@ impl Header {
         }
     }
 
-    /// Reads a header: eight bytes, which are not checked.
+    /// Reads a header: eight bytes, which are not checked. `Short` and `Reader` are answered with
+    /// the bytes taken that came before.
     #[inline(always)]
     pub fn read<R: Source>(reader: &mut R) -> Result<Self, Fault>
         ensures bytes { FillsPiece 8 (by_bytes header_bytes result)

@@ -211,7 +211,7 @@ impl SerialQueryPayload {
         }
     }
 
-    /// Reads four bytes.
+    /// Reads four bytes. `Short` and `Reader` are answered with the bytes taken that came before.
     #[inline(always)]
     pub fn read<R: Source>(reader: &mut R) -> Result<Self, Fault>
         ensures bytes { FillsPiece 4 (by_bytes query_payload_bytes result)
@@ -448,7 +448,7 @@ impl CacheReset {
 
 /// The serial number that stands after the header of a unit.
 #[inline(always)]
-fn serial_after_header(bytes: &[u8]) -> Serial
+pub(crate) fn serial_after_header(bytes: &[u8]) -> Serial
     requires { 12 ≤ length bytes.now }
     ensures { result.0 ≡ serial_field bytes.now }
 {

@@ -88,8 +88,10 @@ pub trait Unit: Drop + Copy {
         Self::LENGTH as u32
     }
 
-    /// Reads a unit. `UnitType` and then `UnitLength` are answered after the header, `Short` and
-    /// `Reader` inside the unit.
+    /// Reads a unit.
+    ///
+    /// Faults, in this order: `Short` or `Reader` inside the header; `UnitType` and then
+    /// `UnitLength` with the header taken; `Short` or `Reader` inside the unit.
     #[inline(always)]
     final fn read<R: Source>(reader: &mut R) -> Result<Self, Fault>
         ensures bytes { Reads (of_type PDU (of_size LENGTH)) [] (by_bytes bytes result)

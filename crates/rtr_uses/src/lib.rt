@@ -5,8 +5,8 @@
 use rtr_wire::base::{Asn, MaxLenPrefix, ParseMaxLenPrefixError};
 use rtr_wire::payload::{Action, Aspa, Payload, RouteOrigin, Timing};
 use rtr_wire::pdu::{
-    CacheResponse, EndOfData, Error, ErrorCode, Fault, Header, ResetQuery, Sink, Source, Unit,
-    UnitView, ViewFault,
+    CacheResponse, EndOfData, Error, ErrorCode, Fault, Header, LAST_VERSION, ResetQuery, Sink,
+    Source, Unit, UnitView, ViewFault,
 };
 use rtr_wire::state::State;
 use rtr_wire::{normalise, pdu, same_meaning};
@@ -19,9 +19,6 @@ mod tests;
 
 /// The most units that these functions read of one sequence.
 pub const MOST_UNITS: u64 = 4_294_967_295;
-
-/// The last version of the protocol.
-pub const LAST_VERSION: u8 = 2;
 
 /// Takes a cache response and the sequence after it from one reader, and writes the form of the
 /// sequence. Answers the session and the number of payload units.

@@ -178,13 +178,14 @@ fn an_aspa_is_withdrawn(rt: HostRuntime) -> Result<(), Fail> {
     let mut data = Data::new(alloc);
     let input = joined(&rt, &[ASPA, END])?;
     let _ = data.apply(alloc, &mut Counted::new(input.as_slice()))?;
-    if let Some(aspa) = data.aspas.get(&Asn::from_u32(64496)) {
-        let unit = withdrawal(alloc, aspa)?;
-        assert!(rt; unit.action() == Action::Withdraw);
-        let mut writer = Counted::new(Vec::new(alloc));
-        unit.write(&mut writer)?;
-        assert!(rt; writer.into_inner().as_slice() == ASPA_WITHDRAWN);
-    }
+    let Some(aspa) = data.aspas.get(&Asn::from_u32(64496)) else {
+        return Err(Fail::new("no ASPA"));
+    };
+    let unit = withdrawal(alloc, aspa)?;
+    assert!(rt; unit.action() == Action::Withdraw);
+    let mut writer = Counted::new(Vec::new(alloc));
+    unit.write(&mut writer)?;
+    assert!(rt; writer.into_inner().as_slice() == ASPA_WITHDRAWN);
     Ok(())
 }
 

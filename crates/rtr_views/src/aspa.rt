@@ -19,9 +19,6 @@ use rtr_payload::pdu::Aspa;
 use rtr_units::numbers::u32_at;
 use rtr_units::source::Sink;
 
-/// The bytes of an ASPA unit before its providers.
-pub(crate) const FIXED: usize = 12;
-
 /// An ASPA unit that lies in a slice.
 #[derive(Clone, Copy, Debug)]
 pub struct AspaView<'a> {
@@ -61,7 +58,7 @@ impl<'a> AspaView<'a> {
     pub fn providers(&self) -> &'a [u8]
         ensures { result.now ≡ drop 12 self.now.unit.now }
     {
-        let (_, providers) = self.unit.split_at(FIXED);
+        let (_, providers) = self.unit.split_at(Aspa::FIXED);
         providers
     }
 
@@ -86,10 +83,10 @@ impl<'a> AspaView<'a> {
             Ok(size) => size,
             Err(e) => return Err(e),
         };
-        if size < FIXED || size % 4 != 0 {
+        if size < Aspa::FIXED || size % 4 != 0 {
             return Err(ViewFault::UnitLength);
         }
-        if size == FIXED && input[2] % 2 == 1 {
+        if size == Aspa::FIXED && input[2] % 2 == 1 {
             return Err(ViewFault::EmptyProviders);
         }
         match first_unit(input, size) {
@@ -109,7 +106,7 @@ impl<'a> AspaView<'a> {
         let action = Action::from_flags(self.flags());
         let kept = match action {
             Action::Announce => self.unit.len(),
-            Action::Withdraw => FIXED,
+            Action::Withdraw => Aspa::FIXED,
         };
         put_flagged(
             writer,

@@ -11,6 +11,7 @@ use crate::cut::first_unit;
 use crate::fault::ViewFault;
 use rtr_units::end::EndOfData;
 use rtr_units::fixed::{EndOfDataV0, EndOfDataV1};
+use rtr_units::header::LAST_VERSION;
 use rtr_units::numbers::u32_at;
 use rtr_units::unit::Unit;
 
@@ -25,7 +26,7 @@ pub fn first_end(input: &[u8]) -> Result<EndOfData, ViewFault>
 {
     let version = input[0];
     let size = u32_at(input, 4);
-    if version > 2 {
+    if version > LAST_VERSION {
         return Err(ViewFault::UnitVersion(version));
     }
     if version == 0 {

@@ -18,7 +18,7 @@ pub enum ViewFault {
     /// The length field does not suit the type of the unit.
     #[error("invalid unit length")]
     UnitLength,
-    /// The length field is over 65535.
+    /// The length field of a unit of no fixed size is over 65535.
     #[error("unit is longer than 65535 bytes")]
     TooLong,
     /// An ASPA unit that announces has no providers.

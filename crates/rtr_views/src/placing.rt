@@ -11,7 +11,7 @@ ghost use Rattle.rtr_views.specs.Origins.{origin_meaning};
 ghost use Rattle.rtr_views.specs.Placing.{Places};
 ghost use Rattle.rtr_views.specs.Views.{ViewMeans, version_shown, view_form};
 
-use crate::aspa::{AspaView, FIXED};
+use crate::aspa::AspaView;
 use crate::origin::OriginView;
 use crate::router_key::RouterKeyView;
 use crate::view::UnitView;
@@ -109,7 +109,7 @@ impl<'a> AspaView<'a> {
         let action = Action::from_flags(self.flags());
         let kept = match action {
             Action::Announce => self.unit.len(),
-            Action::Withdraw => FIXED,
+            Action::Withdraw => Aspa::FIXED,
         };
         let rest = &self.unit[8..kept];
         place_flagged(self.version(), Aspa::PDU, action, rest, output)

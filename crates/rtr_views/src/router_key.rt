@@ -19,9 +19,6 @@ use rtr_payload::pdu::RouterKey;
 use rtr_units::numbers::u32_at;
 use rtr_units::source::Sink;
 
-/// The bytes of a router key before its key info.
-const FIXED: usize = 32;
-
 /// A router key that lies in a slice.
 #[derive(Clone, Copy, Debug)]
 pub struct RouterKeyView<'a> {
@@ -71,7 +68,7 @@ impl<'a> RouterKeyView<'a> {
     pub fn key_info(&self) -> &'a [u8]
         ensures { result.now ≡ (key_at self.now.unit.now).key.info }
     {
-        let (_, key_info) = self.unit.split_at(FIXED);
+        let (_, key_info) = self.unit.split_at(RouterKey::FIXED);
         key_info
     }
 
@@ -96,7 +93,7 @@ impl<'a> RouterKeyView<'a> {
             Ok(size) => size,
             Err(e) => return Err(e),
         };
-        if size < FIXED {
+        if size < RouterKey::FIXED {
             return Err(ViewFault::UnitLength);
         }
         match first_unit(input, size) {

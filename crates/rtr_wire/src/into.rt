@@ -8,10 +8,11 @@ ghost use Rattle.rtr_wire.specs.Into.{FillsInto, RefusesVersion};
 ghost use Rattle.rtr_wire.specs.PrivateSteps.{StepsInto, PlacesUnit};
 ghost use Rattle.rtr_wire.specs.Sequences.{everything, for_version};
 
-use crate::run::{LAST_VERSION, Passed};
+use crate::run::Passed;
 use crate::writing::{Everything, ForVersion, Writing};
 use rtr_payload::pdu::{Aspa, PayloadUnit, RouterKey};
 use rtr_units::fixed::{Ipv4Prefix, Ipv6Prefix};
+use rtr_units::header::LAST_VERSION;
 use rtr_units::unit::Unit;
 use rtr_views::fault::ViewFault;
 use rtr_views::placing::place;
@@ -40,7 +41,7 @@ pub enum IntoFault {
     /// As many units as were allowed were taken.
     #[error("too many units")]
     TooMany,
-    /// What follows in the input is refused. Text and source are those of the fault.
+    /// What follows in the input is refused. The text is that of the fault.
     #[error(transparent)]
     Refused(ViewFault),
 }

@@ -4,7 +4,7 @@ use rtr_wire::{base, laws, payload, pdu, state};
 use std::mem::size_of;
 use std::process::Abort;
 
-/// Each law is called once: a call does nothing.
+/// Laws of each layer are called: a call does nothing.
 #[test]
 fn laws_are_shown() {
     laws::prefix_order();
@@ -24,7 +24,7 @@ fn expect_small(rt: &impl Abort, sizes: &[usize]) {
     }
 }
 
-/// Each type of the modules of plain values is named once.
+/// Types of the modules of plain values are named.
 #[test]
 fn plain_values_are_shown(rt: HostRuntime) {
     let sizes = [
@@ -40,7 +40,7 @@ fn plain_values_are_shown(rt: HostRuntime) {
     expect_small(&rt, &sizes);
 }
 
-/// Each type of module `payload` is named once.
+/// Types of module `payload` are named.
 #[test]
 fn meanings_are_shown(rt: HostRuntime) {
     let sizes = [
@@ -57,7 +57,7 @@ fn meanings_are_shown(rt: HostRuntime) {
     expect_small(&rt, &sizes);
 }
 
-/// Each type of readers, faults and units of a fixed size is named once.
+/// Types of readers, faults and units of a fixed size are named.
 #[test]
 fn fixed_units_are_shown(rt: HostRuntime) {
     let sizes = [
@@ -82,7 +82,7 @@ fn fixed_units_are_shown(rt: HostRuntime) {
     expect_small(&rt, &sizes);
 }
 
-/// Each type of variable units and what they hold is named once.
+/// Types of variable units and what they hold are named.
 #[test]
 fn variable_units_are_shown(rt: HostRuntime) {
     let sizes = [

@@ -75,6 +75,9 @@ impl Aspa {
     /// The type of an ASPA unit.
     pub const PDU: u8 = 11;
 
+    /// The bytes of an ASPA unit before its providers.
+    pub const FIXED: usize = FIXED;
+
     /// The unit with these fields.
     #[inline(always)]
     pub fn new(version: u8, flags: u8, customer: Asn, providers: ProviderAsns) -> Self

@@ -70,6 +70,9 @@ impl RouterKey {
     /// The type of a router key.
     pub const PDU: u8 = 9;
 
+    /// The bytes of a router key before its key info.
+    pub const FIXED: usize = FIXED;
+
     /// The most bytes of key info that a router key holds: its length field says no more. One that
     /// is read has at most 65503.
     pub const fn max_key_info_size() -> usize
