@@ -5,10 +5,11 @@ use Rattle.rtr_views.proofs.Fronts.{end_length_1, end_in_order_0, end_in_order_1
 use Rattle.rtr_views.proofs.Fronts.{end_front_1}
 use Rattle.rtr_views.proofs.end.first_end.Goals as goal
 
-pub returns-then-version-gt2-clause-fault : goal.returns-then-version-gt2-clause-fault
-returns-then-version-gt2-clause-fault c =
+pub returns-then-version-gt-LAST_VERSION-clause-fault :
+    goal.returns-then-version-gt-LAST_VERSION-clause-fault
+returns-then-version-gt-LAST_VERSION-clause-fault c =
     typed_shows c.args.input.now 7 _ c.requires.header c.requires.kind
-    (end_version _ _ _ c.if-version-gt2.true)
+    (end_version _ _ _ c.if-version-gt-LAST_VERSION.true)
 
 pub returns-then-size-clause-fault : goal.returns-then-size-clause-fault
 returns-then-size-clause-fault c =
@@ -25,14 +26,14 @@ first_unit-requires-clause-in_order c =
 pub returns-then-size-2-clause-fault : goal.returns-then-size-2-clause-fault
 returns-then-size-2-clause-fault c =
     typed_shows c.args.input.now 7 _ c.requires.header c.requires.kind
-    (end_length_1 _ _ _ c.if-version-gt2.false c.if-version-eq0.false
+    (end_length_1 _ _ _ c.if-version-gt-LAST_VERSION.false c.if-version-eq0.false
     (λ e. c.if-size-2.true (c.u32_at-size.ensures ∙ e ∙ sym c.size-else-version-eq0.ensures)))
 
 pub first_unit-requires-else-version-eq0-clause-in_order :
     goal.first_unit-requires-else-version-eq0-clause-in_order
 first_unit-requires-else-version-eq0-clause-in_order c =
     typed_in_order c.args.input.now 7 c.requires.kind
-    (end_in_order_1 _ _ _ c.if-version-gt2.false c.if-version-eq0.false
+    (end_in_order_1 _ _ _ c.if-version-gt-LAST_VERSION.false c.if-version-eq0.false
     (sym c.u32_at-size.ensures ∙ c.if-size-2.false ∙ c.size-else-version-eq0.ensures))
 
 pub returns-in-Ok-clause-end : goal.returns-in-Ok-clause-end
@@ -46,7 +47,7 @@ pub returns-in-Ok-first_unit-clause-end : goal.returns-in-Ok-first_unit-clause-e
 returns-in-Ok-first_unit-clause-end c =
     subst (λ l. End l (timed_meaning l)) (sym c.unit_of-in-Ok-first_unit.ensures)
     (end_front_1 c.args.input.now c.in-Ok-first_unit.unit.now
-    (λ i. omega (arith, c.type_inv.input i)) c.requires.kind c.if-version-gt2.false
+    (λ i. omega (arith, c.type_inv.input i)) c.requires.kind c.if-version-gt-LAST_VERSION.false
     c.if-version-eq0.false
     (sym c.u32_at-size.ensures ∙ c.if-size-2.false ∙ c.size-else-version-eq0.ensures)
     c.in-Ok-first_unit.ensures.unit)

@@ -10,8 +10,9 @@ use Rattle.rtr_units.proofs.EndUnits.{end_with_timing}
 use Rattle.rtr_units.proofs.Headers.{same_header}
 use Rattle.rtr_units.proofs.end.EndOfData.read_payload.Goals as goal
 
-pub returns-then-version-gt2-clause-bytes : goal.returns-then-version-gt2-clause-bytes
-returns-then-version-gt2-clause-bytes g c =
+pub returns-then-version-gt-LAST_VERSION-clause-bytes :
+    goal.returns-then-version-gt-LAST_VERSION-clause-bytes
+returns-then-version-gt-LAST_VERSION-clause-bytes g c =
     let h = header_bytes c.args.header in
     let is = c.version-version.ensures.header in
     let v = c.version-version.ensures.value in (
@@ -45,7 +46,7 @@ returns-in_ok-read_payload-2-clause-end g c is_type =
     let u = c.in_ok-read_payload-2.field-0.cells.bytes in
     let (is, (((t, taken, parts), whole), count)) = c.in_ok-read_payload-2.ensures.bytes in
     let small : version_field h ≤ 2 =
-    rw (← c.version-version.ensures.value) c.if-version-gt2.false in
+    rw (← c.version-version.ensures.value) c.if-version-gt-LAST_VERSION.false in
     let later : ¬ (version_field h ≡ 0) =
     λ zero. c.if-version-eq0.false (c.version-version.ensures.value ∙ zero) in
     let same = same_header h t (omega (arith, is.0)) in
