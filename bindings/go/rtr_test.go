@@ -94,3 +94,24 @@ func TestUnits(t *testing.T) {
 		}
 	}
 }
+
+func TestTexts(t *testing.T) {
+	for _, one := range []struct {
+		input []byte
+		text  string
+	}{
+		{[]byte{1, 0, 0, 0, 0, 0, 0, 12, 0, 0, 0, 2}, "unit type is not allowed here (0)"},
+		{[]byte{1, 10, 0, 0, 0, 0, 0, 16}, "unit type is not allowed here (10)"},
+		{[]byte{3, 7, 0, 0, 0, 0, 0, 24}, "version is not supported here (3)"},
+		{[]byte{1, 4}, "unexpected end of input"},
+	} {
+		if _, _, err := Next(one.input); err == nil || err.Error() != one.text {
+			t.Fatalf("%x: %v", one.input, err)
+		}
+	}
+	// This call tells no type.
+	_, err := SameMeaning([]byte{1, 0, 0, 0, 0, 0, 0, 12}, nil, 1)
+	if err == nil || err.Error() != "unit type is not allowed here" {
+		t.Fatal(err)
+	}
+}

@@ -162,6 +162,27 @@ fn what_has_no_form() {
     assert_eq!(output, form);
 }
 
+/// An end of data that says no timings has those of RFC 8210 section 6, where it is to have some.
+#[test]
+fn timings_that_are_not_said() {
+    let end = |version| Unit {
+        version,
+        content: Content::EndOfData {
+            session: 0x1234,
+            serial: 0xdead_beef,
+            timing: None,
+        },
+    };
+    let mut output = [0; 24];
+    assert_eq!(end(0).write(&mut output), Ok(12));
+    assert_eq!(end(1).write(&mut output), Ok(24));
+    let form = [
+        1, 7, 0x12, 0x34, 0, 0, 0, 24, 0xde, 0xad, 0xbe, 0xef, 0, 0, 0x0e, 0x10, 0, 0, 0x02, 0x58,
+        0, 0, 0x1c, 0x20,
+    ];
+    assert_eq!(output, form);
+}
+
 #[test]
 fn texts() {
     assert_eq!(
