@@ -14,18 +14,17 @@ pub struct Setting<'a> {
 impl Setting<'_> {
     /// Whether calls know a setting of this key, and its value is of its kind.
     pub fn is_known(&self) -> bool {
-        match self.key {
-            "by" => matches!(self.value, "1" | "123" | "whole"),
-            "to" => matches!(self.value, "1" | "7" | "whole"),
-            "empty" | "endless" => self.value == "1",
-            "flags" | "type" | "version" => self.value.parse::<u8>().is_ok(),
-            "code" | "session" => self.value.parse::<u16>().is_ok(),
-            "count" | "length" => self.value.parse::<u32>().is_ok(),
-            "breaks" | "fails" | "limit" | "room" | "set" | "size" | "stops" => {
-                self.value.parse::<u64>().is_ok()
-            }
-            _ => false,
-        }
+        let most = match self.key {
+            "by" => return matches!(self.value, "1" | "123" | "whole"),
+            "to" => return matches!(self.value, "1" | "7" | "whole"),
+            "empty" | "endless" => return self.value == "1",
+            "flags" | "type" | "version" => u64::from(u8::MAX),
+            "code" | "session" => u64::from(u16::MAX),
+            "count" | "length" => u64::from(u32::MAX),
+            "breaks" | "fails" | "limit" | "room" | "set" | "size" | "stops" => u64::MAX,
+            _ => return false,
+        };
+        self.value.parse::<u64>().is_ok_and(|number| number <= most)
     }
 }
 
