@@ -57,14 +57,14 @@ none_in_frame r e =
     }
 
 -- after eight bytes the steps go on with the header
-pub behind_header : (r : List ℕ) → 8 ≤ length r →
+pub after_header : (r : List ℕ) → 8 ≤ length r →
     frame_fault r ≡ first_of (header_step r) (length_step r)
-behind_header r l =
+after_header r l =
     ap (λ b. cond b (Some short) (first_of (header_step r) (length_step r))) (le-ltb (length r) 8 l)
 
 pub in_frame_none : (r : List ℕ) → InFrame r → frame_fault r ≡ None
 in_frame_none r h =
-    behind_header r h.whole_header ∙ ap (λ o. first_of o (length_step r)) h.in_order
+    after_header r h.whole_header ∙ ap (λ o. first_of o (length_step r)) h.in_order
     ∙ ap (λ (b : Bool). cond b (Some short) None) (le-ltb (length r) (length_field r) h.whole)
 
 -- what follows a header does not change what is wrong with it

@@ -15,7 +15,7 @@ use Rattle.rtr_payload.specs.FirstFault.{header_fault, header_step, length_step,
 use Rattle.rtr_payload.specs.FirstFault.{frame_fault, first_of, first_unit}
 use Rattle.rtr_payload.specs.FirstFault.{taken, rule_of, refuse, refusal_report}
 use Rattle.rtr_payload.specs.Units.{Fields, HasFields}
-use Rattle.rtr_payload.proofs.Frames.{Whole, behind_header, same_step, shape_fault, shape_cut}
+use Rattle.rtr_payload.proofs.Frames.{Whole, after_header, same_step, shape_fault, shape_cut}
 
 -- ---- a list that ends too early
 
@@ -27,7 +27,7 @@ pub unit_short : (h : List ℕ) → 8 ≤ length h → header_step h ≡ None �
 unit_short h l e less =
     let tail = first_unit h in
     let frame : frame_fault h ≡ Some short =
-    behind_header h l ∙ ap (λ o. first_of o (length_step h)) e
+    after_header h l ∙ ap (λ o. first_of o (length_step h)) e
     ∙ ap (λ (b : Bool). cond b (Some short) None) (lt-ltb (length h) (length_field h) less) in
     ap (λ o. first_of o (lengths_fault (type_field h) tail)) frame
 
@@ -67,7 +67,7 @@ header_refused h f l e = λ r.
     let long : 8 ≤ length all = omega (arith, length-append h r) in
     let step : header_step all ≡ Some f = same_step h r (omega arith) ∙ e in
     let frame : frame_fault all ≡ Some f =
-    behind_header all long ∙ ap (λ o. first_of o (length_step all)) step in (
+    after_header all long ∙ ap (λ o. first_of o (length_step all)) step in (
       ap (λ o. first_of o (lengths_fault (type_field all) (first_unit all))) frame,
       header_takes (version_field all) (type_field all) (get_or all 2 0) (length_field all) f
           all step

@@ -29,8 +29,8 @@ eight_said v t g n e = grind (arith, nat_tests)
 pub cut_whole : (r : List ℕ) → InFrame r → Whole (first_unit r)
 cut_whole r h =
     let b = first_unit r in
-    let behind = drop (length_field r) r in
-    let all : b ++ behind ≡ r = take-append-drop (length_field r) r in
+    let later = drop (length_field r) r in
+    let all : b ++ later ≡ r = take-append-drop (length_field r) r in
     let n : length b ≡ length_field r = length-take-le (length_field r) r h.whole in
     let long : 8 ≤ length b =
     omega (
@@ -38,10 +38,10 @@ cut_whole r h =
       eight_said (version_field r) (type_field r) (get_or r 2 0) (length_field r) h.in_order,
     ) in
     let same : length_field r ≡ length_field b =
-    ap length_field (sym all) ∙ (same_header b behind long).size in
+    ap length_field (sym all) ∙ (same_header b later long).size in
     record {
       long = long;
-      in_order = sym (same_step b behind long) ∙ ap header_step all ∙ h.in_order;
+      in_order = sym (same_step b later long) ∙ ap header_step all ∙ h.in_order;
       size = sym same ∙ sym n;
     }
 

@@ -27,7 +27,7 @@ use Rattle.rtr_payload.specs.FirstFault.{length_step, lengths_fault, rule_of, re
 use Rattle.rtr_payload.specs.UnitKinds.{variable_unit}
 use Rattle.rtr_payload.specs.Units.{HasFields}
 use Rattle.rtr_payload.proofs.FieldsRead.{prefix_has}
-use Rattle.rtr_payload.proofs.Frames.{behind_header, eleven_in_order}
+use Rattle.rtr_payload.proofs.Frames.{after_header, eleven_in_order}
 use Rattle.rtr_payload.proofs.Variable.{aspa_short, aspa_uneven, aspa_empty}
 use Rattle.rtr_payload.proofs.Refusals.{prefix_refused}
 use Rattle.rtr_views.specs.PrivateFirst.{IsFirstUnit}
@@ -41,7 +41,7 @@ pub header_shows : (r : List ℕ) (f : Refusal) → 8 ≤ length r → header_st
     first_fault r ≡ Some f
 header_shows r f l e =
     ap (λ o. first_of o (lengths_fault (type_field r) (first_unit r)))
-    (behind_header r l ∙ ap (λ o. first_of o (length_step r)) e)
+    (after_header r l ∙ ap (λ o. first_of o (length_step r)) e)
 
 -- the unit at the front is cut
 pub cut_first : (r : List ℕ) → 8 ≤ length r → 8 ≤ length_field r → length_field r ≤ length r →

@@ -172,7 +172,7 @@ pub further : (what : Written) (units left_out : ℕ) (input : List ℕ) (taken 
     Stepped what s (drop taken input) (drop written now) part → after ≡ take written now ++ part →
     Further what units left_out input taken before now after written s a
 further what units left_out input taken before now after written s a part did is =
-    let behind : drop written now ≡ drop written before =
+    let kept : drop written now ≡ drop written before =
     ap (drop written) a.output ∙ ap (λ (n : ℕ). drop n (a.form ++ drop written before)) a.size
     ∙ drop-append_seam a.form (drop written before) in
     let front : take written now ≡ a.form =
@@ -181,7 +181,7 @@ further what units left_out input taken before now after written s a part did is
     let left : drop s.taken (drop taken input) ≡ drop (taken + s.taken) input =
     drop-drop s.taken taken input in
     let room : s.written ≤ length before - written =
-    omega (arith, did.fits, ap length behind, length-drop written before) in
+    omega (arith, did.fits, ap length kept, length-drop written before) in
     record {
       within =
           omega (
@@ -198,7 +198,7 @@ further what units left_out input taken before now after written s a part did is
       output =
           is ∙ (λ i. front i ++ did.output i)
           ∙ ap (λ l. a.form ++ (did.wrote ++ l))
-          (ap (drop s.written) behind ∙ drop-drop s.written written before)
+          (ap (drop s.written) kept ∙ drop-drop s.written written before)
           ∙ sym (append_assoc a.form did.wrote (drop (written + s.written) before));
       steps = (
         did.took,
