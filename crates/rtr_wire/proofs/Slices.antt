@@ -201,11 +201,11 @@ pub slice_ends : (limit count : ℕ) (input rest left : List ℕ) (mid : Option 
     Steps everything (Ok passes.End) (Some rest) (Some left) mid new.held →
     new.failed ≡ old.failed →
     NormalisesSlice limit (Ok (count, length input - length left)) input old new
-slice_ends limit count input rest left mid old new lt reached step failed =
+slice_ends limit count input rest left mid old new lt gone step failed =
     let ran = subst (λ n. Ran everything limit (Ok n) (Some input) (Some left) old.held new.held)
     (none_less count)
     (finishes everything limit count 0 (Some input) (Some rest) (Some left) old.held mid new.held lt
-    reached step) in
+    gone step) in
     let size : length input - length left ≡ length ran.taken =
     omega (arith, ap length ran.takes, length-append ran.taken left) in
     normalises_slice limit (Ok (count, length input - length left)) input ran.taken left ran.written
@@ -215,9 +215,9 @@ slice_ends limit count input rest left mid old new lt reached step failed =
 pub slice_fills : (limit count : ℕ) (input rest : List ℕ) (old new : WriterState) → count ≡ limit →
     SoFar everything count 0 (Some input) (Some rest) old.held new.held → new.failed ≡ old.failed →
     NormalisesSlice limit (Err TooMany) input old new
-slice_fills limit count input rest old new full reached failed =
+slice_fills limit count input rest old new full gone failed =
     let ran =
-    reaches_limit everything limit count 0 (Some input) (Some rest) old.held new.held full reached in
+    reaches_limit everything limit count 0 (Some input) (Some rest) old.held new.held full gone in
     normalises_slice limit (Err TooMany) input ran.taken rest ran.written ran.run.last old new
     ran.takes ran.appends ran.run refl tt failed
 
