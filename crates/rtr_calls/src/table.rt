@@ -28,6 +28,16 @@ pub struct Seen {
     pub is_other: bool,
 }
 
+/// The setting of this key and value, which calls have to know.
+fn setting<'a>(key: &'a str, value: &'a str) -> Result<Setting<'a>, Fail> {
+    let setting = Setting { key, value };
+    if setting.is_known() {
+        Ok(setting)
+    } else {
+        Err(Fail::new(format_args!("{key}={value} is no setting")))
+    }
+}
+
 impl Table {
     /// No lines. Calls are marked by mark of that many bytes, if that is any.
     pub fn new(alloc: Global, mark: usize) -> Table {
@@ -134,11 +144,7 @@ impl Table {
             if word == "|" {
                 is_right = true;
             } else if let Some((key, value)) = word.split_once("=") {
-                let setting = Setting { key, value };
-                if !setting.is_known() {
-                    return Err(Fail::new(format_args!("{word} is no setting")));
-                }
-                row.settings.push(setting)?;
+                row.settings.push(setting(key, value)?)?;
             } else {
                 let is_known = if is_right {
                     self.append(word, &mut row.right)?
