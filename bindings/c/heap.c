@@ -1,4 +1,5 @@
 /* What rtr_same_meaning asks for memory: the allocator of the program. */
+#include <stdalign.h>
 #include <stdbool.h>
 #include <stddef.h>
 #include <stdlib.h>
@@ -11,17 +12,27 @@ struct rattle_tried {
 
 static char nowhere;
 
+/* How malloc aligns a block that is no shorter than this. */
+static const size_t kept_alignment = alignof(max_align_t);
+
+/* What the archive was seen to ask for. */
+_Static_assert(alignof(max_align_t) >= 8, "malloc aligns to 8 bytes");
+
+static struct rattle_tried tried(void *block)
+{
+    return (struct rattle_tried){block != NULL, block ? block : &nowhere};
+}
+
+/* A block of at least its alignment, which malloc keeps then; an alignment above is refused. */
 struct rattle_tried rattle_alloc(size_t size, size_t align)
 {
-    void *block = malloc(size ? size : align);
-    return (struct rattle_tried){block != NULL, block ? block : &nowhere};
+    return tried(align > kept_alignment ? NULL : malloc(size > align ? size : align));
 }
 
 struct rattle_tried rattle_realloc(void *block, size_t kept, size_t size, size_t align)
 {
-    void *grown = realloc(block, size ? size : align);
     (void)kept;
-    return (struct rattle_tried){grown != NULL, grown ? grown : &nowhere};
+    return tried(align > kept_alignment ? NULL : realloc(block, size > align ? size : align));
 }
 
 void rattle_dealloc(void *block)

@@ -1,5 +1,9 @@
 /* Payload units and sequences of the RPKI to Router protocol (RFC 6810, RFC 8210), in memory.
  *
+ * Copyright (c) 2026, the authors of Fishreef
+ * Copyright (c) 2018, NLnet Labs
+ * BSD 3-Clause License: see the file LICENSE at the top of the repository.
+ *
  * The functions are proved: the contracts stand in crates/rtr_c, and docs/PROTOCOL.md says in
  * prose what is accepted, in which order faults come, and what the written form is. This header is
  * not proved; `.ci/bindings` checks its layout and runs its examples. All lengths are in bytes.
@@ -14,15 +18,28 @@
  *   - for rtr_same_meaning alone: malloc, realloc and free are those of one allocator, and it is
  *     called neither from a signal handler nor in a forked child of a process with threads.
  * Outputs and what the last pointer points at needn't be set before. Then no call crashes, reads or
- * writes a byte outside of what it is given, keeps a pointer or a state of its own, or waits.
- * Several threads may call at once. All calls but rtr_same_meaning ask for no memory.
+ * writes a byte outside of what it is given, or keeps a pointer or a state of its own. Several
+ * threads may call at once. All calls but rtr_same_meaning ask for no memory, and wait for nothing;
+ * rtr_same_meaning calls malloc, realloc and free, and waits where they do, for a lock of theirs.
+ *
+ * ASPA units are read in one layout (docs/PROTOCOL.md): the flags in byte 2, whose lowest bit
+ * announces; byte 3 zero, though it is read whatever it holds; the length in bytes 4 to 7; the
+ * customer AS in bytes 8 to 11; the providers from byte 12 on, 4 bytes each. Caches of older drafts
+ * differ: stayrtr 0.5.1 sends zeros in bytes 2 and 3, flags, an address family and a count of
+ * providers in bytes 8 to 11, the customer AS in bytes 12 to 15, and then the providers. No unit
+ * says which of the two it has, so that such a one is misread, without a fault: an announcement by
+ * AS65010 with two providers is read as a withdrawal by AS16777218 with three.
  */
-#ifndef RTR_H
-#define RTR_H
+#ifndef FISHREEF_RTR_H
+#define FISHREEF_RTR_H
 
 #include <stdbool.h>
 #include <stddef.h>
 #include <stdint.h>
+
+/* The version of this header and of the archive that was made with it, as CHANGELOG.md numbers
+ * them. */
+#define RTR_WIRE_VERSION "0.2.0"
 
 #ifdef __cplusplus
 extern "C" {

@@ -1,11 +1,17 @@
 /* Calls each function over the cases of a file that `bindings/cases.py` wrote, in eight threads at
- * once, and over a few units by hand.
+ * once, and over a few units by hand. No sanitizer sees what the archive reads and writes, which
+ * isn't instrumented: each input and output lies between two pages that can't be touched, once at
+ * the front of what is between them and once at its end.
  *
  * usage: tests CASES */
+#define _DEFAULT_SOURCE /* MAP_ANONYMOUS */
 #include <pthread.h>
+#include <stdalign.h>
 #include <stdio.h>
 #include <stdlib.h>
 #include <string.h>
+#include <sys/mman.h>
+#include <unistd.h>
 #include "rtr.h"
 
 #define THREADS 8
@@ -33,17 +39,23 @@ struct rattle_tried __real_rattle_alloc(size_t size, size_t align);
 struct rattle_tried __real_rattle_realloc(void *block, size_t kept, size_t size, size_t align);
 struct rattle_tried __wrap_rattle_alloc(size_t size, size_t align);
 struct rattle_tried __wrap_rattle_realloc(void *block, size_t kept, size_t size, size_t align);
+void rattle_dealloc(void *block);
+
+static struct rattle_tried aligned(struct rattle_tried tried, size_t align)
+{
+    CHECK(tried.granted && (uintptr_t)tried.block % align == 0);
+    asked++;
+    return tried;
+}
 
 struct rattle_tried __wrap_rattle_alloc(size_t size, size_t align)
 {
-    asked++;
-    return __real_rattle_alloc(size, align);
+    return aligned(__real_rattle_alloc(size, align), align);
 }
 
 struct rattle_tried __wrap_rattle_realloc(void *block, size_t kept, size_t size, size_t align)
 {
-    asked++;
-    return __real_rattle_realloc(block, kept, size, align);
+    return aligned(__real_rattle_realloc(block, kept, size, align), align);
 }
 
 /* One case: a version or 255, and what is expected of a call. The numbers are little-endian. */
@@ -78,15 +90,51 @@ static struct test_case next_case(const uint8_t **at)
     return one;
 }
 
-/* A copy of its own length, so that a byte read or written beyond it is seen. */
-static uint8_t *copied(const uint8_t *bytes, size_t length)
+/* As many bytes as an input or an output has at most. */
+#define MOST ((size_t)1 << 19)
+
+/* Whole pages between two that can't be touched. */
+struct fenced {
+    uint8_t *front, *end;
+};
+
+static struct fenced fence(size_t most)
 {
-    uint8_t *copy = malloc(length ? length : 1);
-    CHECK(copy != NULL);
-    if (length)
-        memcpy(copy, bytes, length);
+    size_t page = (size_t)sysconf(_SC_PAGESIZE), size = (most + page - 1) / page * page;
+    uint8_t *all = mmap(NULL, size + 2 * page, PROT_NONE, MAP_PRIVATE | MAP_ANONYMOUS, -1, 0);
+    CHECK(all != MAP_FAILED);
+    CHECK(mprotect(all + page, size, PROT_READ | PROT_WRITE) == 0);
+    return (struct fenced){all + page, all + page + size};
+}
+
+/* Where the inputs and outputs of a thread lie: all at the front of their pages, or at the end. */
+struct place {
+    bool at_end;
+    struct fenced input, other, output, told, unit;
+};
+
+static struct place new_place(void)
+{
+    return (struct place){false, fence(MOST), fence(MOST), fence(MOST), fence(1), fence(1)};
+}
+
+/* So many bytes, right after the one page that can't be touched or right before the other. */
+static void *lie(const struct place *place, struct fenced fenced, size_t length)
+{
+    CHECK(length <= (size_t)(fenced.end - fenced.front));
+    return place->at_end ? fenced.end - length : fenced.front;
+}
+
+static uint8_t *copied(const struct place *place, struct fenced fenced, const uint8_t *bytes,
+                       size_t length)
+{
+    uint8_t *copy = lie(place, fenced, length);
+    memcpy(copy, bytes, length);
     return copy;
 }
+
+/* What the last pointer points at, filled with what no call answers. */
+#define FILLED(fenced, type) ((type *)memset(lie(place, fenced, sizeof(type)), 0xa5, sizeof(type)))
 
 static uint8_t normalised(const struct test_case *one, const uint8_t *input, uint8_t *output,
                           size_t room, uint64_t limit, struct rtr_answer *answer)
@@ -100,91 +148,96 @@ static uint8_t normalised(const struct test_case *one, const uint8_t *input, uin
 }
 
 /* Whole, with as much room as always suffices. */
-static void check_whole(const struct test_case *one, const uint8_t *input)
+static void check_whole(const struct place *place, const struct test_case *one,
+                        const uint8_t *input)
 {
     size_t room = one->input_length + (one->version == 255 ? 0 : 12);
-    uint8_t *output = malloc(room + 1);
-    struct rtr_answer answer;
-    CHECK(output != NULL);
-    memset(output, 0xa5, room + 1);
-    CHECK(normalised(one, input, output, room, UINT32_MAX, &answer) == one->status);
-    CHECK(answer.detail == one->detail && answer.units == one->units);
-    CHECK(answer.forms == one->forms && answer.taken == one->taken);
-    CHECK(answer.written == one->form_length);
+    uint8_t *output = lie(place, place->output, room);
+    struct rtr_answer *answer = FILLED(place->told, struct rtr_answer);
+    memset(output, 0xa5, room);
+    CHECK(normalised(one, input, output, room, UINT32_MAX, answer) == one->status);
+    CHECK(answer->detail == one->detail && answer->units == one->units);
+    CHECK(answer->forms == one->forms && answer->taken == one->taken);
+    CHECK(answer->written == one->form_length);
     CHECK(memcmp(output, one->form, one->form_length) == 0);
-    for (size_t i = answer.written; i <= room; i++)
+    for (size_t i = answer->written; i < room; i++)
         CHECK(output[i] == 0xa5);
-    free(output);
 }
 
 /* An output as long as the form suffices, and a shorter one doesn't. */
-static void check_room(const struct test_case *one, const uint8_t *input)
+static void check_room(const struct place *place, const struct test_case *one,
+                       const uint8_t *input)
 {
     for (size_t lack = 0; lack < 2 && one->status == RTR_OK; lack++) {
         size_t room = one->form_length - lack;
-        uint8_t *output = malloc(room);
-        struct rtr_answer answer;
-        CHECK(output != NULL);
-        CHECK(normalised(one, input, output, room, one->units + 1, &answer)
+        uint8_t *output = lie(place, place->output, room);
+        struct rtr_answer *answer = FILLED(place->told, struct rtr_answer);
+        CHECK(normalised(one, input, output, room, one->units + 1, answer)
               == (lack ? RTR_NO_ROOM : RTR_OK));
-        CHECK(memcmp(output, one->form, answer.written) == 0);
-        CHECK(lack ? answer.taken < one->taken : answer.written == room);
-        CHECK(normalised(one, input, output, room, one->units, &answer) == RTR_TOO_MANY);
-        free(output);
+        CHECK(memcmp(output, one->form, answer->written) == 0);
+        CHECK(lack ? answer->taken < one->taken : answer->written == room);
+        CHECK(normalised(one, input, output, room, one->units, answer) == RTR_TOO_MANY);
     }
 }
 
 /* In turns, with little room and few units each time: going on gives the same. */
-static void check_in_turns(const struct test_case *one, const uint8_t *input, size_t room)
+static void check_in_turns(const struct place *place, const struct test_case *one,
+                           const uint8_t *input, size_t room)
 {
     struct test_case rest = *one;
     size_t taken = 0, written = 0;
     uint64_t units = 0;
     for (;;) {
-        uint8_t *output = malloc(room);
-        struct rtr_answer answer;
-        CHECK(output != NULL);
-        uint8_t status = normalised(&rest, input + taken, output, room, 3, &answer);
-        CHECK(answer.written <= room && written + answer.written <= one->form_length);
-        CHECK(memcmp(output, one->form + written, answer.written) == 0);
-        free(output);
-        taken += answer.taken;
-        written += answer.written;
-        units += answer.units;
-        rest.input_length -= answer.taken;
-        if (status == RTR_NO_ROOM && answer.taken == 0)
+        uint8_t *output = lie(place, place->output, room);
+        struct rtr_answer *answer = FILLED(place->told, struct rtr_answer);
+        uint8_t status = normalised(&rest, input + taken, output, room, 3, answer);
+        CHECK(answer->written <= room && written + answer->written <= one->form_length);
+        CHECK(memcmp(output, one->form + written, answer->written) == 0);
+        taken += answer->taken;
+        written += answer->written;
+        units += answer->units;
+        rest.input_length -= answer->taken;
+        if (status == RTR_NO_ROOM && answer->taken == 0)
             room *= 2;
         else if (status != RTR_NO_ROOM && status != RTR_TOO_MANY) {
-            CHECK(status == one->status && answer.detail == one->detail);
+            CHECK(status == one->status && answer->detail == one->detail);
             break;
         }
     }
     CHECK(taken == one->taken && written == one->form_length && units == one->units);
 }
 
-/* Unit by unit: each is written again as its part of the form. */
-static void check_units(const struct test_case *one, const uint8_t *input)
+/* A unit is written again as this part of the form, of which this gives the length. */
+static size_t check_unit(const struct place *place, const struct rtr_unit *unit,
+                         const uint8_t *bytes, const uint8_t *form, size_t most)
 {
-    size_t at = 0, formed = 0, size = 0, none = 1;
+    const uint8_t *input = copied(place, place->other, bytes, unit->size);
+    size_t *told = FILLED(place->told, size_t);
+    uint8_t *output = lie(place, place->output, unit->size);
+    CHECK(rtr_write_unit(unit, input, unit->size, output, unit->size, told) == RTR_OK);
+    size_t size = *told;
+    CHECK(size <= most && memcmp(output, form, size) == 0);
+    output = lie(place, place->output, size - 1);
+    uint8_t status = rtr_write_unit(unit, input, unit->size, output, size - 1, told);
+    CHECK(status == RTR_NO_ROOM && *told == 0);
+    return size;
+}
+
+/* Unit by unit. */
+static void check_units(const struct place *place, const struct test_case *one,
+                        const uint8_t *input)
+{
+    size_t at = 0, formed = 0;
     uint64_t units = 0;
-    struct rtr_unit unit;
+    struct rtr_unit *unit = FILLED(place->unit, struct rtr_unit);
     uint8_t status;
-    memset(&unit, 0xa5, sizeof unit);
-    while ((status = rtr_next(input + at, one->input_length - at, &unit)) == RTR_OK) {
-        CHECK(unit.size <= one->input_length - at && unit.detail == 0);
-        CHECK(unit.part_start + unit.part_length <= unit.size);
-        uint8_t *output = malloc(unit.size);
-        CHECK(output != NULL);
-        CHECK(rtr_write_unit(&unit, input + at, unit.size, output, unit.size, &size) == RTR_OK);
-        CHECK(size <= one->form_length - formed);
-        CHECK(memcmp(output, one->form + formed, size) == 0);
-        status = rtr_write_unit(&unit, input + at, unit.size, output, size - 1, &none);
-        CHECK(status == RTR_NO_ROOM && none == 0);
-        free(output);
-        at += unit.size;
-        formed += size;
-        status = RTR_OK;
-        if (unit.kind == RTR_END_OF_DATA)
+    while ((status = rtr_next(input + at, one->input_length - at, unit)) == RTR_OK) {
+        CHECK(unit->size <= one->input_length - at && unit->detail == 0);
+        CHECK(unit->part_start + unit->part_length <= unit->size);
+        formed += check_unit(place, unit, input + at, one->form + formed,
+                             one->form_length - formed);
+        at += unit->size;
+        if (unit->kind == RTR_END_OF_DATA)
             break;
         units++;
     }
@@ -194,19 +247,37 @@ static void check_units(const struct test_case *one, const uint8_t *input)
         struct rtr_unit nothing;
         memset(&nothing, 0, sizeof nothing);
         nothing.detail = one->detail;
-        CHECK(memcmp(&unit, &nothing, offsetof(struct rtr_unit, detail) + 1) == 0);
+        CHECK(memcmp(unit, &nothing, offsetof(struct rtr_unit, detail) + 1) == 0);
     }
 }
 
 /* A sequence means the same as its form. */
-static void check_same(const struct test_case *one, const uint8_t *input)
+static void check_same(const struct place *place, const struct test_case *one,
+                       const uint8_t *input)
 {
-    bool same = one->status != RTR_OK;
-    uint8_t *form = copied(one->form, one->form_length);
-    CHECK(rtr_same_meaning(input, one->input_length, form, one->form_length, UINT32_MAX, &same)
+    bool *same = lie(place, place->told, sizeof *same);
+    const uint8_t *form = copied(place, place->other, one->form, one->form_length);
+    *same = one->status != RTR_OK;
+    CHECK(rtr_same_meaning(input, one->input_length, form, one->form_length, UINT32_MAX, same)
           == one->status);
-    CHECK(same);
-    free(form);
+    CHECK(*same);
+}
+
+static void check_case(const struct place *place, const struct test_case *one)
+{
+    const uint8_t *input = copied(place, place->input, one->input, one->input_length);
+    check_whole(place, one, input);
+    check_room(place, one, input);
+    if (one->input_length < 1 << 16)
+        check_in_turns(place, one, input, 16);
+    if (one->version == 255)
+        check_units(place, one, input);
+    CHECK(asked == 0);
+    if (one->version == 255)
+        check_same(place, one, input);
+    CHECK(asked > 0 || one->version != 255 || one->status != RTR_OK);
+    asked = 0;
+    CHECK(memcmp(input, one->input, one->input_length) == 0);
 }
 
 struct cases {
@@ -218,35 +289,28 @@ static void *check_cases(void *all)
 {
     const struct cases *cases = all;
     const uint8_t *at = cases->bytes;
+    struct place place = new_place();
     while (at < cases->bytes + cases->length) {
         struct test_case one = next_case(&at);
-        uint8_t *input = copied(one.input, one.input_length);
-        check_whole(&one, input);
-        check_room(&one, input);
-        if (one.input_length < 1 << 16)
-            check_in_turns(&one, input, 16);
-        if (one.version == 255)
-            check_units(&one, input);
-        CHECK(asked == 0);
-        if (one.version == 255)
-            check_same(&one, input);
-        CHECK(asked > 0 || one.version != 255 || one.status != RTR_OK);
-        asked = 0;
-        free(input);
+        for (int side = 0; side < 2; side++) {
+            place.at_end = side;
+            check_case(&place, &one);
+        }
     }
     return NULL;
 }
 
 /* An IPv4 prefix with free bits set, field by field (RFC 8210 section 5.6). */
-static void check_ipv4(void)
+static void check_ipv4(const struct place *place)
 {
     static const uint8_t stray[] = {1, 4,  0,  7, 0,   0, 0, 20, /* free bytes are 7, 3 and 9 */
                                     3, 23, 26, 9, 192, 0, 2, 10, 0, 1, 0, 15};
     static const uint8_t form[] = {1, 4,  0,  0, 0,   0, 0, 20, /* and the address is cleared */
                                    1, 23, 26, 0, 192, 0, 2, 0,  0, 1, 0, 15};
-    struct rtr_unit unit, expected;
-    uint8_t output[20];
-    size_t written;
+    const uint8_t *input = copied(place, place->input, stray, sizeof stray);
+    uint8_t *output = lie(place, place->output, sizeof form);
+    struct rtr_unit *unit = FILLED(place->unit, struct rtr_unit), expected;
+    size_t *written = FILLED(place->told, size_t);
     memset(&expected, 0, sizeof expected);
     expected.size = 20;
     expected.asn = 65551;
@@ -257,14 +321,28 @@ static void check_ipv4(void)
     expected.prefix_length = 23;
     expected.max_length = 26;
     memcpy(expected.address, "\xc0\x00\x02\x00", 4);
-    CHECK(rtr_next(stray, sizeof stray, &unit) == RTR_OK);
-    CHECK(memcmp(&unit, &expected, offsetof(struct rtr_unit, detail) + 1) == 0);
-    CHECK(rtr_write_unit(&unit, stray, 0, output, sizeof output, &written) == RTR_OK);
-    CHECK(written == 20 && memcmp(output, form, 20) == 0);
+    CHECK(rtr_next(input, sizeof stray, unit) == RTR_OK);
+    CHECK(memcmp(unit, &expected, offsetof(struct rtr_unit, detail) + 1) == 0);
+    input = lie(place, place->input, 0);
+    CHECK(rtr_write_unit(unit, input, 0, output, sizeof form, written) == RTR_OK);
+    CHECK(*written == 20 && memcmp(output, form, 20) == 0);
+}
+
+/* An ASPA in the layout of an older draft, with flags, an address family and a count after the
+ * length: AS65010 is announced there with two providers. It is read as what rtr.h says. */
+static void check_older_aspa(const struct place *place)
+{
+    static const uint8_t older[] = {2, 11, 0, 0, 0, 0, 0, 24, 1, 0, 0, 2, 0, 0, 0xfd, 0xf2,
+                                    0, 0, 0xfd, 0xe9, 0, 0, 0xfd, 0xea};
+    const uint8_t *input = copied(place, place->input, older, sizeof older);
+    struct rtr_unit *unit = FILLED(place->unit, struct rtr_unit);
+    CHECK(rtr_next(input, sizeof older, unit) == RTR_OK);
+    CHECK(unit->kind == RTR_ASPA && unit->action == 0 && unit->customer == 16777218);
+    CHECK(unit->part_start == 12 && unit->part_length == 3 * 4);
 }
 
 /* What has no form is refused, and nothing is written. */
-static void check_refused(void)
+static void check_refused(const struct place *place)
 {
     static const struct {
         uint8_t status, kind, version, action, family, length, max_length;
@@ -289,41 +367,64 @@ static void check_refused(void)
         {RTR_NO_FORM, RTR_END_OF_DATA, 1, 1, 0, 0, 0, 0, 0},
         {RTR_UNIT_VERSION, RTR_END_OF_DATA, 3, 0, 0, 0, 0, 0, 0},
     };
-    static uint8_t input[100000], output[100000];
+    size_t length = 100000;
+    const uint8_t *input = memset(lie(place, place->input, length), 0, length);
+    uint8_t *output = lie(place, place->output, length);
     for (size_t i = 0; i < sizeof rows / sizeof rows[0]; i++) {
-        struct rtr_unit unit;
-        size_t written = 1;
-        memset(&unit, 0, sizeof unit);
-        unit.kind = rows[i].kind;
-        unit.version = rows[i].version;
-        unit.action = rows[i].action;
-        unit.family = rows[i].family;
-        unit.prefix_length = rows[i].length;
-        unit.max_length = rows[i].max_length;
-        unit.part_start = rows[i].part_start;
-        unit.part_length = rows[i].part_length;
+        struct rtr_unit *unit = lie(place, place->unit, sizeof *unit);
+        size_t *written = FILLED(place->told, size_t);
+        memset(unit, 0, sizeof *unit);
+        unit->kind = rows[i].kind;
+        unit->version = rows[i].version;
+        unit->action = rows[i].action;
+        unit->family = rows[i].family;
+        unit->prefix_length = rows[i].length;
+        unit->max_length = rows[i].max_length;
+        unit->part_start = rows[i].part_start;
+        unit->part_length = rows[i].part_length;
         output[0] = 0xa5;
-        CHECK(rtr_write_unit(&unit, input, sizeof input, output, sizeof output, &written)
-              == rows[i].status);
-        CHECK(written == 0 && output[0] == 0xa5);
+        CHECK(rtr_write_unit(unit, input, length, output, length, written) == rows[i].status);
+        CHECK(*written == 0 && output[0] == 0xa5);
     }
 }
 
-/* Slices of no bytes, a limit of 0, and a version that there isn't. */
-static void check_bounds(void)
+/* Slices of no bytes, a limit of 0, and versions that there aren't. */
+static void check_bounds(const struct place *place)
 {
-    uint8_t byte = 0xa5;
-    struct rtr_unit unit;
-    struct rtr_answer answer;
-    bool same = false;
-    CHECK(rtr_next(&byte, 0, &unit) == RTR_SHORT);
-    CHECK(rtr_normalise_slice(&byte, 0, &byte, 0, 1, &answer) == RTR_SHORT && answer.taken == 0);
-    CHECK(rtr_normalise_slice(&byte, 0, &byte, 0, 0, &answer) == RTR_TOO_MANY);
-    CHECK(rtr_normalise_for_slice(&byte, 0, &byte, 0, 1, 3, &answer) == RTR_UNIT_VERSION);
-    CHECK(answer.detail == 3 && answer.units == 0 && answer.written == 0);
-    CHECK(rtr_same_meaning(&byte, 0, &byte, 0, 1, &same) == RTR_SHORT && !same && byte == 0xa5);
+    const uint8_t *none = lie(place, place->input, 0);
+    uint8_t *no_room = lie(place, place->output, 0);
+    struct rtr_unit *unit = FILLED(place->unit, struct rtr_unit);
+    struct rtr_answer *answer = FILLED(place->told, struct rtr_answer);
+    CHECK(rtr_next(none, 0, unit) == RTR_SHORT);
+    CHECK(rtr_normalise_slice(none, 0, no_room, 0, 1, answer) == RTR_SHORT);
+    CHECK(answer->taken == 0);
+    CHECK(rtr_normalise_slice(none, 0, no_room, 0, 0, answer) == RTR_TOO_MANY);
+    for (int version = 3; version < 256; version++) {
+        CHECK(rtr_normalise_for_slice(none, 0, no_room, 0, 1, (uint8_t)version, answer)
+              == RTR_UNIT_VERSION);
+        CHECK(answer->detail == version && answer->units == 0 && answer->written == 0);
+    }
+    bool *same = lie(place, place->told, sizeof *same);
+    *same = false;
+    CHECK(rtr_same_meaning(none, 0, none, 0, 1, same) == RTR_SHORT && !*same);
     for (int status = 0; status < 256; status++)
         CHECK(rtr_status_text((uint8_t)status)[0] != '\0');
+}
+
+/* heap.c keeps each alignment that malloc has, for blocks of any length, and refuses others. */
+static void check_heap(void)
+{
+    for (size_t align = 1; align <= alignof(max_align_t); align *= 2)
+        for (size_t size = 0; size < 40; size++) {
+            struct rattle_tried tried = __wrap_rattle_alloc(size, align);
+            tried = __wrap_rattle_realloc(tried.block, size, 3 * size, align);
+            rattle_dealloc(tried.block);
+        }
+    size_t over = 2 * alignof(max_align_t);
+    struct rattle_tried tried = __real_rattle_alloc(over, over);
+    CHECK(!tried.granted && tried.block != NULL);
+    tried = __real_rattle_realloc(tried.block, over, over, over);
+    CHECK(!tried.granted && tried.block != NULL);
 }
 
 int main(int count, char **words)
@@ -336,9 +437,15 @@ int main(int count, char **words)
     CHECK(bytes != NULL && fread(bytes, 1, length, file) == length);
     fclose(file);
 
-    check_ipv4();
-    check_refused();
-    check_bounds();
+    struct place place = new_place();
+    for (int side = 0; side < 2; side++) {
+        place.at_end = side;
+        check_ipv4(&place);
+        check_older_aspa(&place);
+        check_refused(&place);
+        check_bounds(&place);
+    }
+    check_heap();
     struct cases cases = {bytes, length};
     pthread_t threads[THREADS];
     for (int i = 0; i < THREADS; i++)

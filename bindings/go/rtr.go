@@ -4,6 +4,9 @@
 // Slices may be nil or empty. What is written to must not overlap what is read, and no other goroutine
 // may write to what a call is given, or read its output, before the call returns. SameMeaning alone asks
 // C's malloc for memory. Several goroutines may call at once.
+//
+// Copyright (c) 2026, the authors of Fishreef; copyright (c) 2018, NLnet Labs. BSD 3-Clause License: see the
+// file LICENSE at the top of the repository.
 package rtr
 
 /*
@@ -19,8 +22,8 @@ import (
 	"unsafe"
 )
 
-// Status says how a call ended; each but OK is an error. Those of a unit are Short to PrefixRule, and
-// come in the order of docs/PROTOCOL.md.
+// Status says how a call ended; each but OK is an error, which calls give within a Fault. Those of a unit
+// are Short to PrefixRule, and come in the order of docs/PROTOCOL.md.
 type Status uint8
 
 // The numbers are those of rtr.h.
@@ -39,6 +42,16 @@ const (
 	NoMemory              // memory was refused
 )
 
+// Error is the text of the status.
+func (s Status) Error() string {
+	return C.GoString(C.rtr_status_text(C.uint8_t(s)))
+}
+
+// String is the same text.
+func (s Status) String() string {
+	return s.Error()
+}
+
 // Fault is an error with what it tells of: a type, a version or a rule on prefix lengths, else 0.
 type Fault struct {
 	Status Status
@@ -47,7 +60,7 @@ type Fault struct {
 }
 
 func (f *Fault) Error() string {
-	text := C.GoString(C.rtr_status_text(C.uint8_t(f.Status)))
+	text := f.Status.Error()
 	switch f.Status {
 	case UnitType, UnitVersion, PrefixRule:
 		if !f.bare {
@@ -55,6 +68,11 @@ func (f *Fault) Error() string {
 		}
 	}
 	return text
+}
+
+// Unwrap gives the status, so that errors.Is(err, NoRoom) asks for it.
+func (f *Fault) Unwrap() error {
+	return f.Status
 }
 
 func fault(status, detail C.uint8_t) error {

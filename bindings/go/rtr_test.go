@@ -3,7 +3,10 @@ package rtr
 import (
 	"bytes"
 	"encoding/binary"
+	"errors"
+	"fmt"
 	"os"
+	"sync"
 	"testing"
 )
 
@@ -14,9 +17,22 @@ type testCase struct {
 	input, form             []byte
 }
 
-// The cases of the file that RTR_CASES names.
+const wantsCases = "wants cases: ../cases.py > FILE, and then RTR_CASES=FILE go test -count=1"
+
+func TestMain(m *testing.M) {
+	if os.Getenv("RTR_CASES") == "" {
+		fmt.Println("skipped is what", wantsCases)
+	}
+	os.Exit(m.Run())
+}
+
+// The cases of the file that RTR_CASES names; a test that wants them is skipped where it names none.
 func cases(t *testing.T) []testCase {
-	rest, err := os.ReadFile(os.Getenv("RTR_CASES"))
+	path := os.Getenv("RTR_CASES")
+	if path == "" {
+		t.Skip(wantsCases)
+	}
+	rest, err := os.ReadFile(path)
 	if err != nil {
 		t.Fatal(err)
 	}
@@ -43,23 +59,202 @@ func told(err error) (uint8, uint8) {
 	return uint8(fault.Status), fault.Detail
 }
 
+// normalised calls Normalise, or NormaliseFor where the case is for one version.
+func (one *testCase) normalised(input, output []byte, limit uint64) (Progress, error) {
+	if one.version == 255 {
+		return Normalise(input, output, limit)
+	}
+	return NormaliseFor(input, output, limit, one.version)
+}
+
+// room is how much room always suffices.
+func (one *testCase) room() int {
+	if one.version == 255 {
+		return len(one.input)
+	}
+	return len(one.input) + 12
+}
+
+// whole says what is wrong with the case as one call.
+func (one *testCase) whole() error {
+	output := make([]byte, one.room())
+	progress, err := one.normalised(one.input, output, 1<<32)
+	status, detail := told(err)
+	expected := Progress{one.numbers[0], one.numbers[1], int(one.numbers[2]), len(one.form)}
+	if status != one.status || detail != one.detail || progress != expected {
+		return fmt.Errorf("%x: %v %v", one.input, progress, err)
+	}
+	if !bytes.Equal(output[:progress.Written], one.form) {
+		return fmt.Errorf("%x: another form", one.input)
+	}
+	return nil
+}
+
 func TestSequences(t *testing.T) {
 	for _, one := range cases(t) {
-		output := make([]byte, len(one.input)+12)
-		var progress Progress
+		if err := one.whole(); err != nil {
+			t.Fatal(err)
+		}
+	}
+}
+
+// In eight goroutines at once.
+func TestGoroutines(t *testing.T) {
+	all := cases(t)
+	var running sync.WaitGroup
+	for i := 0; i < 8; i++ {
+		running.Add(1)
+		go func() {
+			defer running.Done()
+			for _, one := range all {
+				if err := one.whole(); err != nil {
+					t.Error(err)
+					return
+				}
+			}
+		}()
+	}
+	running.Wait()
+}
+
+// In turns, with little room and few units each time: going on gives the same.
+func TestInTurns(t *testing.T) {
+	for _, one := range cases(t) {
+		if len(one.input) >= 1<<16 {
+			continue
+		}
+		var form []byte
+		var units uint64
 		var err error
-		if one.version == 255 {
-			progress, err = Normalise(one.input, output[:len(one.input)], 1<<32)
-		} else {
-			progress, err = NormaliseFor(one.input, output, 1<<32, one.version)
+		rest, room := one.input, 16
+		for {
+			var progress Progress
+			output := make([]byte, room)
+			progress, err = one.normalised(rest, output, 3)
+			form = append(form, output[:progress.Written]...)
+			rest = rest[progress.Taken:]
+			units += progress.Units
+			if errors.Is(err, NoRoom) && progress.Taken == 0 {
+				room *= 2
+			} else if !errors.Is(err, NoRoom) && !errors.Is(err, TooMany) {
+				break
+			}
 		}
 		status, detail := told(err)
-		expected := Progress{one.numbers[0], one.numbers[1], int(one.numbers[2]), len(one.form)}
-		if status != one.status || detail != one.detail || progress != expected {
+		taken := len(one.input) - len(rest)
+		if status != one.status || detail != one.detail || taken != int(one.numbers[2]) {
+			t.Fatalf("%x: %v after %d bytes", one.input, err, taken)
+		}
+		if units != one.numbers[0] || !bytes.Equal(form, one.form) {
+			t.Fatalf("%x: another form", one.input)
+		}
+	}
+}
+
+// An output that is one byte too short, and a limit that is one too low.
+func TestNoRoomAndTooMany(t *testing.T) {
+	for _, one := range cases(t) {
+		if one.status != 0 {
+			continue
+		}
+		output := make([]byte, len(one.form))
+		progress, err := one.normalised(one.input, output[1:], one.numbers[0]+1)
+		if told, _ := told(err); Status(told) != NoRoom || progress.Taken >= int(one.numbers[2]) {
 			t.Fatalf("%x: %v %v", one.input, progress, err)
 		}
-		if !bytes.Equal(output[:progress.Written], one.form) {
+		if !bytes.Equal(output[1:1+progress.Written], one.form[:progress.Written]) {
 			t.Fatalf("%x: another form", one.input)
+		}
+		progress, err = one.normalised(one.input, output, one.numbers[0])
+		if told, _ := told(err); Status(told) != TooMany || progress.Units != one.numbers[0] {
+			t.Fatalf("%x: %v %v", one.input, progress, err)
+		}
+		_, err = one.normalised(one.input, output, one.numbers[0]+1)
+		if err != nil {
+			t.Fatalf("%x: %v", one.input, err)
+		}
+	}
+}
+
+// An end of data of version 1 (RFC 8210 section 5.8).
+var end = []byte{
+	1, 7, 0x12, 0x34, 0, 0, 0, 24, 0xde, 0xad, 0xbe, 0xef,
+	0, 0, 0x0e, 0x10, 0, 0, 0x02, 0x58, 0, 0, 0x1c, 0x20,
+}
+
+func TestVersions(t *testing.T) {
+	output := make([]byte, len(end)+12)
+	for version := 3; version < 256; version++ {
+		progress, err := NormaliseFor(end, output, 1, uint8(version))
+		status, detail := told(err)
+		if Status(status) != UnitVersion || int(detail) != version || progress != (Progress{}) {
+			t.Fatalf("%d: %v %v", version, progress, err)
+		}
+		unit := Unit{Kind: EndOfData, Version: uint8(version)}
+		if size, err := unit.Write(output); size != 0 || !errors.Is(err, UnitVersion) {
+			t.Fatalf("%d: %d %v", version, size, err)
+		}
+	}
+	if !bytes.Equal(output, make([]byte, len(output))) {
+		t.Fatalf("%x", output)
+	}
+}
+
+// What has no form is refused, and nothing is written.
+func TestNoForm(t *testing.T) {
+	output := make([]byte, 70000)
+	for _, one := range []struct {
+		unit   Unit
+		status Status
+		room   int
+	}{
+		{Unit{}, UnitType, 70000},
+		{Unit{Kind: 5}, UnitType, 70000},
+		{Unit{Kind: EndOfData, Version: 1, Announce: true}, NoForm, 70000},
+		{Unit{Kind: IPv4Prefix, PrefixLength: 33, MaxLength: 33}, PrefixRule, 70000},
+		{Unit{Kind: IPv6Prefix, PrefixLength: 9, MaxLength: 8}, PrefixRule, 70000},
+		{Unit{Kind: RouterKey, Part: make([]byte, 65504)}, TooLong, 70000},
+		{Unit{Kind: ASPA, Announce: true, Part: make([]byte, 65524)}, TooLong, 70000},
+		{Unit{Kind: ASPA, Announce: true, Part: make([]byte, 6)}, UnitLength, 70000},
+		{Unit{Kind: ASPA, Announce: true}, EmptyProviders, 70000},
+		{Unit{Kind: EndOfData, Version: 3}, UnitVersion, 70000},
+		{Unit{Kind: IPv4Prefix}, NoRoom, 19},
+		{Unit{Kind: IPv6Prefix}, NoRoom, 31},
+		{Unit{Kind: RouterKey}, NoRoom, 31},
+		{Unit{Kind: ASPA}, NoRoom, 11},
+		{Unit{Kind: EndOfData}, NoRoom, 0},
+		{Unit{Kind: EndOfData, Version: 1}, NoRoom, 23},
+	} {
+		size, err := one.unit.Write(output[:one.room])
+		if size != 0 || !errors.Is(err, one.status) {
+			t.Fatalf("%v: %d %v", one.unit.Kind, size, err)
+		}
+	}
+	if !bytes.Equal(output, make([]byte, len(output))) {
+		t.Fatal("something was written")
+	}
+}
+
+// Each status has the text of rtr.h.
+func TestStatus(t *testing.T) {
+	for status, text := range []string{
+		"accepted",
+		"unexpected end of input",
+		"unit type is not allowed here",
+		"version is not supported here",
+		"unit is longer than 65535 bytes",
+		"invalid unit length",
+		"ASPA unit has no providers",
+		"prefix fields are not allowed",
+		"too many units",
+		"no room in the output",
+		"no unit has these fields",
+		"out of memory",
+		"unknown status",
+	} {
+		var err error = Status(status)
+		if err.Error() != text || Status(status).String() != text {
+			t.Fatalf("%d: %v", status, err)
 		}
 	}
 }

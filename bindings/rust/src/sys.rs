@@ -199,8 +199,44 @@ pub(crate) fn same_meaning(left: &[u8], right: &[u8], limit: u64) -> Result<bool
 
 #[cfg(test)]
 mod tests {
-    use super::{Answer, Unit};
+    use super::{write, Answer, Fault, Unit};
     use std::mem::{offset_of, size_of};
+
+    /// What no unit of the wrapper can say.
+    #[test]
+    fn no_form() {
+        let rows = [
+            // The kind, the action and the family.
+            ((0, 1, 4), Fault::UnitType(0)),
+            ((5, 1, 4), Fault::UnitType(5)),
+            ((4, 2, 4), Fault::NoForm),
+            ((4, 1, 6), Fault::NoForm),
+            ((6, 1, 4), Fault::NoForm),
+            ((7, 1, 0), Fault::NoForm),
+            ((9, 2, 0), Fault::NoForm),
+            ((11, 2, 0), Fault::NoForm),
+        ];
+        for ((kind, action, family), fault) in rows {
+            let unit = Unit {
+                kind,
+                action,
+                family,
+                version: 1,
+                ..Unit::default()
+            };
+            let mut output = [0xa5; 40];
+            assert_eq!(write(&unit, &[], &mut output), Err(fault));
+            assert_eq!(output, [0xa5; 40]);
+        }
+        // A part that lies outside of the input.
+        let unit = Unit {
+            kind: 9,
+            version: 1,
+            part_length: 1,
+            ..Unit::default()
+        };
+        assert_eq!(write(&unit, &[], &mut [0; 40]), Err(Fault::NoForm));
+    }
 
     /// The layout that `crates/rtr_c` states, where a `usize` has eight bytes.
     #[test]

@@ -1,7 +1,10 @@
 //! The cases that `bindings/cases.py` writes, read from the file that `RTR_CASES` names, and what
-//! the wrapper adds.
+//! the wrapper adds. Without that file, tests that want it are ignored.
 
-use rtr_wire::{normalise, normalise_for, same_meaning, Content, Fault, PrefixRule, Unit, Units};
+use rtr_wire::{
+    normalise, normalise_for, same_meaning, Content, Fault, PrefixRule, Progress, Stopped, Unit,
+    Units,
+};
 use std::net::Ipv4Addr;
 
 /// One case.
@@ -64,29 +67,114 @@ fn numbers(fault: Fault) -> (u8, u8) {
     }
 }
 
-#[test]
-fn sequences() {
-    for case in cases() {
-        let mut output = vec![0; case.input.len() + 12];
-        let end = match case.version {
-            None => {
-                output.truncate(case.input.len());
-                normalise(&case.input, &mut output, u32::MAX.into())
-            }
-            Some(version) => normalise_for(&case.input, &mut output, u32::MAX.into(), version),
-        };
-        let (progress, told) = match end {
+impl Case {
+    /// Calls `normalise`, or `normalise_for` where the case is for one version.
+    fn normalised(&self, input: &[u8], output: &mut [u8], limit: u64) -> Result<Progress, Stopped> {
+        match self.version {
+            None => normalise(input, output, limit),
+            Some(version) => normalise_for(input, output, limit, version),
+        }
+    }
+
+    /// How much room always suffices.
+    fn room(&self) -> usize {
+        self.input.len() + self.version.map_or(0, |_| 12)
+    }
+
+    /// The case as one call.
+    fn check_whole(&self) {
+        let mut output = vec![0; self.room()];
+        let (progress, told) = match self.normalised(&self.input, &mut output, u32::MAX.into()) {
             Ok(progress) => (progress, (0, 0)),
             Err(stopped) => (stopped.progress, numbers(stopped.fault)),
         };
-        assert_eq!(told, (case.status, case.detail));
-        assert_eq!((progress.units, progress.forms), (case.units, case.forms));
-        assert_eq!(progress.taken, case.taken);
-        assert_eq!(output[..progress.written], case.form);
+        assert_eq!(told, (self.status, self.detail));
+        assert_eq!((progress.units, progress.forms), (self.units, self.forms));
+        assert_eq!(progress.taken, self.taken);
+        assert_eq!(output[..progress.written], self.form);
+    }
+
+    /// In turns, with little room and few units each time: going on gives the same.
+    fn check_in_turns(&self) {
+        let (mut form, mut units, mut taken, mut room) = (Vec::new(), 0, 0, 16);
+        let told = loop {
+            let mut output = vec![0; room];
+            let end = self.normalised(&self.input[taken..], &mut output, 3);
+            let progress = match end {
+                Ok(progress) => progress,
+                Err(stopped) => stopped.progress,
+            };
+            form.extend_from_slice(&output[..progress.written]);
+            units += progress.units;
+            taken += progress.taken;
+            match end.map_err(|stopped| stopped.fault) {
+                Ok(_) => break (0, 0),
+                Err(Fault::NoRoom) if progress.taken == 0 => room *= 2,
+                Err(Fault::NoRoom | Fault::TooMany) => {}
+                Err(fault) => break numbers(fault),
+            }
+        };
+        assert_eq!(told, (self.status, self.detail));
+        assert_eq!((units, taken), (self.units, self.taken));
+        assert_eq!(form, self.form);
+    }
+
+    /// An output as long as the form suffices, and one that is a byte shorter doesn't; nor does a
+    /// limit of as many units as there are.
+    fn check_bounds(&self) {
+        let mut output = vec![0; self.form.len()];
+        let short = self.form.len() - 1;
+        let stopped = self.normalised(&self.input, &mut output[..short], self.units + 1);
+        let Stopped { progress, fault } = stopped.unwrap_err();
+        assert_eq!(fault, Fault::NoRoom);
+        assert!(progress.taken < self.taken);
+        assert_eq!(output[..progress.written], self.form[..progress.written]);
+        let stopped = self.normalised(&self.input, &mut output, self.units);
+        let Stopped { progress, fault } = stopped.unwrap_err();
+        assert_eq!((fault, progress.units), (Fault::TooMany, self.units));
+        let progress = self.normalised(&self.input, &mut output, self.units + 1);
+        assert_eq!(progress.map(|progress| progress.taken), Ok(self.taken));
+        assert_eq!(output, self.form);
     }
 }
 
 #[test]
+#[ignore = "wants cases: ../cases.py > FILE; RTR_CASES=FILE cargo test -- --include-ignored"]
+fn sequences() {
+    for case in cases() {
+        case.check_whole();
+    }
+}
+
+#[test]
+#[ignore = "wants cases: ../cases.py > FILE; RTR_CASES=FILE cargo test -- --include-ignored"]
+fn in_threads() {
+    let all = cases();
+    std::thread::scope(|scope| {
+        for _ in 0..8 {
+            scope.spawn(|| all.iter().for_each(Case::check_whole));
+        }
+    });
+}
+
+#[test]
+#[ignore = "wants cases: ../cases.py > FILE; RTR_CASES=FILE cargo test -- --include-ignored"]
+fn in_turns() {
+    for case in cases().iter().filter(|case| case.input.len() < 1 << 16) {
+        case.check_in_turns();
+    }
+}
+
+#[test]
+#[ignore = "wants cases: ../cases.py > FILE; RTR_CASES=FILE cargo test -- --include-ignored"]
+fn little_room_and_few_units() {
+    for case in cases().iter().filter(|case| case.status == 0) {
+        case.check_bounds();
+    }
+}
+
+#[test]
+#[ignore = "wants cases: ../cases.py > FILE; RTR_CASES=FILE cargo test -- --include-ignored"]
 fn unit_by_unit() {
     for case in cases().iter().filter(|case| case.version.is_none()) {
         let mut form = Vec::new();
@@ -112,6 +200,7 @@ fn unit_by_unit() {
 }
 
 #[test]
+#[ignore = "wants cases: ../cases.py > FILE; RTR_CASES=FILE cargo test -- --include-ignored"]
 fn meanings() {
     // An end of data of version 0 alone.
     let end = [0, 7, 0, 1, 0, 0, 0, 12, 0, 0, 0, 2];
@@ -160,6 +249,63 @@ fn what_has_no_form() {
         1, 4, 0, 0, 0, 0, 0, 20, 1, 23, 26, 0, 192, 0, 2, 0, 0, 1, 0, 15,
     ];
     assert_eq!(output, form);
+}
+
+/// No sequence is written in a version above 2, and no end of data.
+#[test]
+fn versions_that_there_are_not() {
+    let end = [0, 7, 0, 1, 0, 0, 0, 12, 0, 0, 0, 2];
+    let mut output = [0; 24];
+    for version in 3..=255 {
+        let refused = Stopped {
+            progress: Progress::default(),
+            fault: Fault::UnitVersion(version),
+        };
+        assert_eq!(normalise_for(&end, &mut output, 1, version), Err(refused));
+        let unit = Unit {
+            version,
+            content: Content::EndOfData {
+                session: 1,
+                serial: 2,
+                timing: None,
+            },
+        };
+        assert_eq!(unit.write(&mut output), Err(Fault::UnitVersion(version)));
+    }
+    assert_eq!(output, [0; 24]);
+}
+
+/// Keys and providers that are too long, or that don't suit.
+#[test]
+fn parts_that_have_no_form() {
+    let bytes = [0; 65524];
+    let key = |length| Unit {
+        version: 1,
+        content: Content::RouterKey {
+            announce: true,
+            identifier: [0; 20],
+            asn: 65551,
+            key_info: &bytes[..length],
+        },
+    };
+    let aspa = |length| Unit {
+        version: 2,
+        content: Content::Aspa {
+            announce: true,
+            customer: 65551,
+            providers: &bytes[..length],
+        },
+    };
+    let mut output = [0xa5; 65535];
+    assert_eq!(key(65504).write(&mut output), Err(Fault::TooLong));
+    assert_eq!(aspa(65524).write(&mut output), Err(Fault::TooLong));
+    assert_eq!(aspa(6).write(&mut output), Err(Fault::UnitLength));
+    assert_eq!(aspa(0).write(&mut output), Err(Fault::EmptyProviders));
+    assert_eq!(key(4).write(&mut output[..35]), Err(Fault::NoRoom));
+    assert_eq!(aspa(8).write(&mut output[..19]), Err(Fault::NoRoom));
+    assert_eq!(output, [0xa5; 65535]);
+    assert_eq!(key(65503).write(&mut output), Ok(65535));
+    assert_eq!(aspa(65520).write(&mut output), Ok(65532));
 }
 
 /// An end of data that says no timings has those of RFC 8210 section 6, where it is to have some.
