@@ -36,6 +36,15 @@ pub fn types_and_limits() -> (u8, u8)
     (RouterKey::PDU, Aspa::PDU)
 }
 
+/// The bytes of the fixed part of a router key (RFC 8210 section 5.10) and of an ASPA unit (as in the
+/// Rust crate `rpki`), which are answered.
+pub fn fixed_sizes() -> (usize, usize)
+    ensures router_key { result.0 ≡ 32 }
+    ensures aspa { result.1 ≡ 12 }
+{
+    (RouterKey::FIXED, Aspa::FIXED)
+}
+
 /// With one version and one pair of flags, payloads have one form exactly where they are equal.
 pub fn payload_forms()
     ensures exact { (v f : ℕ) (p q : Payload) → IsPayload p → IsPayload q →

@@ -71,7 +71,8 @@ impl RouterKey {
         }
     }
 
-    /// The same key once more. The bytes of its info are shared, which asks for memory.
+    /// The same key once more. The bytes of its info are shared: no memory is asked for, and
+    /// `AllocError` says that the count of those that share them is full.
     pub fn clone(&self) -> Result<Self, AllocError>
         ensures { IfOk result (λ k. k ≡ self.now) }
     {
@@ -122,7 +123,8 @@ impl Aspa {
         Ok(Aspa::new(self.customer, providers))
     }
 
-    /// The same ASPA once more. The bytes of its providers are shared, which asks for memory.
+    /// The same ASPA once more. The bytes of its providers are shared: no memory is asked for, and
+    /// `AllocError` says that the count of those that share them is full.
     pub fn clone(&self) -> Result<Self, AllocError>
         ensures { IfOk result (λ a. a ≡ self.now) }
     {

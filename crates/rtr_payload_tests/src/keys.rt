@@ -22,6 +22,31 @@ fn key_info_debug(rt: HostRuntime) -> Result<(), Fail> {
     Ok(())
 }
 
+/// How many zero bytes, and how many digits their text has, each of them `A`: four for three bytes,
+/// and then two for one byte or three for two (RFC 4648 sections 4 and 5, unpadded).
+const ZEROS: &[(usize, usize)] = &[
+    (299, 399),
+    (300, 400),
+    (301, 402),
+    (32768, 43691),
+    (65503, 87338),
+];
+
+#[test]
+fn texts_of_long_key_infos(rt: HostRuntime) -> Result<(), Fail> {
+    let alloc = rt.alloc();
+    for (count, digits) in ZEROS {
+        let mut zeros = Vec::new(alloc);
+        for _ in 0..*count {
+            zeros.push(0)?;
+        }
+        let text = RouterKeyInfo::from_vec(alloc, zeros)?.to_text(alloc)?;
+        expect_equal(&rt, text.len(), *digits);
+        assert!(rt; text.as_bytes().iter().all(|digit| *digit == b'A'));
+    }
+    Ok(())
+}
+
 #[test]
 fn key_info_errors(rt: HostRuntime) -> Result<(), Fail> {
     let alloc = rt.alloc();

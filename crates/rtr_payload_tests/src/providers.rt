@@ -84,15 +84,29 @@ fn providers_in_their_order(rt: HostRuntime) -> Result<(), Fail> {
     Ok(())
 }
 
-/// The text is that of a list of the items.
 #[test]
 fn providers_debug(rt: HostRuntime) -> Result<(), Fail> {
     let alloc = rt.alloc();
     let named = providers(alloc, "7 5 7")?;
-    let items = [Asn::from_u32(7), Asn::from_u32(5), Asn::from_u32(7)];
     let shown = format!(in alloc; "{named:?}")?;
-    let wanted = format!(in alloc; "{:?}", items.as_slice())?;
-    expect_equal(&rt, shown, wanted);
+    expect_equal(&rt, shown.as_str(), "[Asn(7), Asn(5), Asn(7)]");
+    Ok(())
+}
+
+/// The text is that of a list of the items, all of them.
+#[test]
+fn many_providers_debug(rt: HostRuntime) -> Result<(), Fail> {
+    let alloc = rt.alloc();
+    for count in [8, 9, 20, 101, 16380] {
+        let named = ProviderAsns::try_from_iter(alloc, (0..count).map(|i| Asn::from_u32(i)))?;
+        let mut items = Vec::new(alloc);
+        for i in 0..count {
+            items.push(Asn::from_u32(i))?;
+        }
+        let shown = format!(in alloc; "{named:?}")?;
+        let wanted = format!(in alloc; "{:?}", items.as_slice())?;
+        expect_equal(&rt, shown, wanted);
+    }
     Ok(())
 }
 

@@ -6,11 +6,12 @@ ghost use Rattle.rtr_units.specs.End.{End, IsEndMeaning, EndMeaning, end_list};
 use crate::end::EndOfData;
 use crate::error::Error;
 use crate::fixed::{EndOfDataV0, EndOfDataV1, Ipv4Prefix, Ipv6Prefix};
+use crate::header::LAST_VERSION;
 use crate::session::{CacheReset, CacheResponse, ResetQuery, SerialNotify, SerialQuery};
 use crate::unit::Unit;
 
 /// The type of each unit, and its size in bytes where it is fixed (RFC 8210 sections 5.2 to 5.9 and
-/// 5.11, RFC 6810 section 5.8).
+/// 5.11, RFC 6810 section 5.8); the last version of the protocol that is known.
 pub fn types_and_sizes()
     ensures serial_notify { (⟦<SerialNotify as Unit>⟧.PDU ≡ 0) ×
         (⟦<SerialNotify as Unit>⟧.LENGTH ≡ 12) }
@@ -28,6 +29,7 @@ pub fn types_and_sizes()
         (⟦<EndOfDataV1 as Unit>⟧.LENGTH ≡ 24) }
     ensures cache_reset { (⟦<CacheReset as Unit>⟧.PDU ≡ 8) × (⟦<CacheReset as Unit>⟧.LENGTH ≡ 8) }
     ensures error_report { Error.PDU ≡ 10 }
+    ensures last_version { LAST_VERSION ≡ 2 }
 {}
 
 /// The constants of any unit of a fixed size are those that contracts name.

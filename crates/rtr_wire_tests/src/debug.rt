@@ -1,6 +1,6 @@
-//! Debug texts: all types of values have one. What it says is not told.
+//! Debug texts: all types of values have one. What it says is told of units of no fixed size alone.
 
-use crate::unit;
+use crate::{expect_equal, unit};
 use rtr_support::{ASPA_NAMED, IPV4, IPV6, KEY, bytes};
 use rtr_wire::base::{Asn, KeyIdentifier, MaxLenPrefix, Prefix};
 use rtr_wire::payload::{Action, Afi, PayloadType, RouteOrigin, Timing};
@@ -88,6 +88,42 @@ fn payload_units_and_their_meanings(rt: HostRuntime) -> Result<(), Fail> {
     for text in [IPV4, IPV6, KEY, ASPA_NAMED] {
         expect_unit_shown(&rt, rt.alloc(), text)?;
     }
+    Ok(())
+}
+
+/// Units of no fixed size, and their debug texts: the names of the type and of its fields, and all
+/// bytes.
+const TEXTS: &[(&str, &str)] = &[
+    (
+        KEY,
+        "RouterKey(RouterKey { \
+         fixed: [1, 9, 1, 0, 0, 0, 0, 36, 1, 2, 3, 4, 5, 6, 7, 8, 9, 10, 11, 12, 13, 14, 15, 16, \
+         17, 18, 19, 20, 0, 1, 0, 15], body: RouterKeyInfo(FRYXGA) })",
+    ),
+    (
+        ASPA_NAMED,
+        "Aspa(Aspa { \
+         fixed: [2, 11, 0, 0, 0, 0, 0, 20, 0, 1, 0, 15], body: [Asn(65549), Asn(65550)] })",
+    ),
+];
+
+#[test]
+fn texts_of_units_of_no_fixed_size(rt: HostRuntime) -> Result<(), Fail> {
+    for (input, want) in TEXTS {
+        let input = bytes(rt.alloc(), &[*input])?;
+        let unit = unit(Payload::read(rt.alloc(), &mut SliceSource::new(&input))?)?;
+        let text = format!(in rt.alloc(); "{unit:?}")?;
+        expect_equal(&rt, text.as_str(), *want);
+    }
+    Ok(())
+}
+
+#[test]
+fn text_of_an_error_report(rt: HostRuntime) -> Result<(), Fail> {
+    let report = Error::new(rt.alloc(), 1, 3, &[], b"no")?;
+    let text = format!(in rt.alloc(); "{report:?}")?;
+    let want = "Error { bytes: [1, 10, 0, 3, 0, 0, 0, 18, 0, 0, 0, 0, 0, 0, 0, 2, 110, 111] }";
+    expect_equal(&rt, text.as_str(), want);
     Ok(())
 }
 

@@ -209,7 +209,8 @@ impl<const FIXED: usize, B: Body<FIXED>> Framed<FIXED, B> {
         self.body
     }
 
-    /// The same unit once more. The bytes of its body are shared, which asks for memory.
+    /// The same unit once more. The bytes of its body are shared: no memory is asked for, and
+    /// `AllocError` says that the count of those that share them is full.
     pub fn clone(&self) -> Result<Self, AllocError>
         ensures { IfOk result (λ u. u ≡ self.now) }
     {

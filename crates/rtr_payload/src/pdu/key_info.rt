@@ -125,7 +125,8 @@ impl RouterKeyInfo {
         self.0
     }
 
-    /// The same key info once more. Its bytes are shared, which asks for memory.
+    /// The same key info once more. Its bytes are shared: no memory is asked for, and `AllocError`
+    /// says that the count of those that share them is full.
     pub fn clone(&self) -> Result<Self, AllocError>
         ensures { IfOk result (λ k. k ≡ self.now) }
     {

@@ -52,8 +52,9 @@ impl Payload {
     ghost use Rattle.rtr_payload.specs.UnitBytes.{IsOriginRef};
     ghost use Rattle.rtr_payload.specs.UnitBytes.{IsSupported};
 
-    /// The unit of this version and these flags that has the payload. Free bytes are zero. Keys and
-    /// ASPAs ask for memory, as their bytes are shared.
+    /// The unit of this version and these flags that has the payload. Free bytes are zero. The bytes
+    /// of keys and ASPAs are shared: no memory is asked for, and `AllocError` says that the count of
+    /// those that share them is full.
     ///
     /// All providers of an ASPA are written, with even flags too: a withdrawal is made of
     /// `payload::Aspa::withdraw`.
@@ -106,7 +107,7 @@ impl Payload {
     }
 
     /// As `new`, or none where the version has no such payload: origins need version 0, router keys
-    /// version 1 and ASPAs version 2. No memory is asked for where it answers none.
+    /// version 1 and ASPAs version 2.
     pub fn new_if_supported(
         version: u8,
         flags: u8,
@@ -223,9 +224,10 @@ impl Payload {
     }
 
     /// The action and the payload that the unit means, by its variant, whatever its type and length
-    /// bytes say. Keys and ASPAs ask for memory, as their bytes are shared.
+    /// bytes say. The bytes of keys and ASPAs are shared.
     ///
-    /// `Refused` with the report on a prefix that breaks the rule on its lengths, or `Memory`.
+    /// `Refused` holds the report on a prefix that breaks the rule on its lengths. `Memory` says
+    /// that there was none for that report, or that the count of those that share the bytes is full.
     pub fn to_payload(&self, alloc: Global) -> Result<(Action, payload::Payload), Fault>
         ensures ok { IfOk result (λ m. MeansPayload self.now m.0 m.1) }
         ensures err { IfErr result (λ e. HasNoPayload self.now (cause_of e)) }
@@ -265,7 +267,8 @@ impl Payload {
         }
     }
 
-    /// The same unit once more. Keys and ASPAs ask for memory, as their bytes are shared.
+    /// The same unit once more. The bytes of keys and ASPAs are shared: no memory is asked for, and
+    /// `AllocError` says that the count of those that share them is full.
     pub fn clone(&self) -> Result<Self, AllocError>
         ensures same { IfOk result (λ u. u ≡ self.now) }
         ensures prefix { IsPrefixUnit self.now → IsOk result }

@@ -172,7 +172,8 @@ impl ProviderAsns {
         self.0.as_slice()
     }
 
-    /// The same providers once more. Their bytes are shared, which asks for memory.
+    /// The same providers once more. Their bytes are shared: no memory is asked for, and
+    /// `AllocError` says that the count of those that share them is full.
     pub fn clone(&self) -> Result<Self, AllocError>
         ensures { IfOk result (λ p. p ≡ self.now) }
     {
