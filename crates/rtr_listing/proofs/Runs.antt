@@ -1,7 +1,7 @@
 -- Units that are read and printed one after the other are a run.
-use Rattle.std.proofs.Common.{◌≡◌, ℕ, ◌+◌, ◌-◌, ◌^◌, Bool, false, List, [], ◌∷◌}
+use Rattle.std.proofs.Common.{◌≡◌, ℕ, ◌+◌, ◌-◌, ◌^◌, min, Bool, false, List, [], ◌∷◌}
 use Rattle.std.proofs.Common.{◌++◌, length, Option, Result, Ok, Err, refl, sym, ap, subst, ◌∙◌}
-use Rattle.std.proofs.Common.{append-nil, append_assoc, arith, inl, inr}
+use Rattle.std.proofs.Common.{append-nil, arith, inl, inr}
 use Rattle.std.proofs.lemmas.Bool.Decides.{nat_tests}
 use Rattle.std.specs.Prelude.{nat_lt, ◌||◌}
 use Rattle.std.specs.List.{concat}
@@ -15,13 +15,15 @@ use Rattle.rtr_units.specs.StopCauses.{Cause, by_reader, by_writer, too_many, no
 use Rattle.rtr_units.specs.StopCauses.{cause_of}
 use Rattle.rtr_units.specs.Reading.{Takes}
 use Rattle.rtr_units.specs.Stream.{ReaderState, WriterState, reader_count, writer_count}
+use Rattle.rtr_session.specs.AnyFields.{AnyFields, HasAnyFields, any_list}
 use Rattle.rtr_session.specs.AnyReading.{HasEnded, StopsInAny}
-use Rattle.rtr_listing.specs.Lines.{IsLine}
-use Rattle.rtr_listing.specs.Listing.{IsUnit, AreUnits, AreLines, Counts, OneEach, Ends, Lists}
-use Rattle.rtr_listing.specs.PrivateLines.{PrintsBytes, Shows, ShowsPart, StopsLine}
+use Rattle.rtr_listing.specs.PrivateFollowing.{HasSeen}
+use Rattle.rtr_listing.specs.Listing.{AreUnits, BreaksOff, Ends, Lists, Printed, UnitLines}
+use Rattle.rtr_listing.specs.Listing.{offset_of, tells_broken, units_bytes}
+use Rattle.rtr_listing.specs.PrivateLines.{HasChecked, PrintsBytes, offset_after}
+use Rattle.rtr_listing.specs.declared.check.Checker.{Checker}
 use Rattle.rtr_listing.specs.declared.run.Wanted.{Wanted}
 use Rattle.rtr_listing.specs.declared.run.Wanted.TheVariants.{Text, Json, Findings}
-use Rattle.rtr_listing.proofs.Printing.{all_append, concat_push}
 
 -- the counts of failures after this answer
 abbrev Counted : Result Bool Cause → (old new : ReaderState) (before after : WriterState) → Type 0
@@ -30,230 +32,212 @@ Counted answer old new before after =
     × (after.failed ≡ writer_count answer before.failed)
 
 -- n units were read and printed
-pub record SoFar (what : Wanted) (found : Bool) (n : ℕ)
+pub record SoFar (what : Wanted) (found : Bool) (n offset : ℕ) (checker : Checker)
     (old new held holds : Option (List ℕ)) : Type 0 where
-  pub units : List (List ℕ)
+  pub units : List AnyFields
   pub are_units : AreUnits units
-  pub took : Consumes old new (concat units)
+  pub took : Consumes old new (units_bytes units)
   pub counted : length units ≡ n
   pub lines : List (List ℕ)
-  pub are_lines : AreLines lines
+  pub is_printed : Printed what units lines
   pub wrote : Appends held holds (concat lines)
-  pub shows : Counts what (Ok found) units lines
+  pub shows : found ≡ tells_broken what lines
+  pub place : offset ≡ offset_of units
+  pub checked : HasChecked what checker units
 
-none_shown : (what : Wanted) → Counts what (Ok false) [] []
-none_shown Text = (refl, refl)
-none_shown Json = (refl, refl)
+none_shown : (what : Wanted) → false ≡ tells_broken what []
+none_shown Text = refl
+none_shown Json = refl
 none_shown Findings = refl
 
-pub starts : (what : Wanted) (a h : Option (List ℕ)) → SoFar what false 0 a a h h
-starts what a h = record {
+none_checked : (what : Wanted) (checker : Checker) → HasSeen checker [] →
+    HasChecked what checker []
+none_checked Text checker h = tt
+none_checked Json checker h = tt
+none_checked Findings checker h = h
+
+pub starts : (what : Wanted) (offset : ℕ) (checker : Checker) (a h : Option (List ℕ)) →
+    offset ≡ 0 → HasSeen checker [] → SoFar what false 0 offset checker a a h h
+starts what offset checker a h first seen = record {
   units = [];
   are_units = tt;
   took = Consumes-nil a;
   counted = refl;
   lines = [];
-  are_lines = tt;
+  is_printed = refl;
   wrote = Appends-nil h;
   shows = none_shown what;
+  place = first;
+  checked = none_checked what checker seen;
 }
 
 -- ---- one unit more
 
--- the units u, and one more
-one_more : (u : List (List ℕ)) (x : List ℕ) → length (u ++ x ∷ []) ≡ length u + 1
-one_more u x = length-append u (x ∷ [])
-
-or_false : (a b : Bool) → a ≡ false → b ≡ false → (a || b) ≡ false
-or_false a b e f = cc
-
-one_line_more : (found more : Bool) (units lines new : List (List ℕ)) (u : List ℕ) →
-    OneEach (Ok found) units lines → (length new ≡ 1) × (more ≡ false) →
-    OneEach (Ok (found || more)) (units ++ u ∷ []) (lines ++ new)
-one_line_more found more units lines new u h k = (
-  omega (arith, length-append lines new, one_more units u, h.0, k.0),
-  or_false found more h.1 k.1,
-)
-
 nat_lt_sum : (m n : ℕ) → (nat_lt 0 m || nat_lt 0 n) ≡ nat_lt 0 (m + n)
 nat_lt_sum m n = grind (arith, nat_tests)
 
--- what the lines say with those of one unit more
-shows_more : (what : Wanted) (found more : Bool) (units lines new : List (List ℕ)) (u : List ℕ) →
-    Counts what (Ok found) units lines → Shows what more new →
-    Counts what (Ok (found || more)) (units ++ u ∷ []) (lines ++ new)
-shows_more Text found more units lines new u h k = one_line_more found more units lines new u h k
-shows_more Json found more units lines new u h k = one_line_more found more units lines new u h k
-shows_more Findings found more units lines new u h k =
-    ap (λ b. b || more) h ∙ ap (λ b. nat_lt 0 (length lines) || b) k ∙
-    nat_lt_sum (length lines) (length new) ∙ ap (nat_lt 0) (sym (length-append lines new))
+-- whether a rule is told broken in the lines before or in those after
+tells_more : (what : Wanted) (found more : Bool) (xs ys : List (List ℕ)) →
+    found ≡ tells_broken what xs → more ≡ tells_broken what ys →
+    (found || more) ≡ tells_broken what (xs ++ ys)
+tells_more Text found more xs ys h k = cc
+tells_more Json found more xs ys h k = cc
+tells_more Findings found more xs ys h k =
+    ap (λ b. b || more) h ∙ ap (λ b. nat_lt 0 (length xs) || b) k ∙
+    nat_lt_sum (length xs) (length ys) ∙ ap (nat_lt 0) (sym (length-append xs ys))
 
-pub goes_on : (what : Wanted) (found more : Bool) (n : ℕ) (u : List ℕ) →
-    (a b c h i j : Option (List ℕ)) → SoFar what found n a b h i → Consumes b c u → IsUnit u →
-    PrintsBytes what (Ok more) i j → SoFar what (found || more) (n + 1) a c h j
-goes_on what found more n u a b c h i j p took is (new, are, wrote, shows) = record {
-  units = p.units ++ u ∷ [];
-  are_units = all_append IsUnit p.units (u ∷ []) p.are_units (is, tt);
-  took = subst (Consumes a c) (sym (concat_push p.units u))
-      (Consumes-trans a b c (concat p.units) u p.took took);
-  counted = omega (arith, one_more p.units u, p.counted);
-  lines = p.lines ++ new;
-  are_lines = all_append IsLine p.lines new p.are_lines are;
-  wrote = subst (Appends h j) (sym (concat-append p.lines new))
-      (Appends-trans h i j (concat p.lines) (concat new) p.wrote wrote);
-  shows = shows_more what found more p.units p.lines new u p.shows shows;
-}
+min_twice : (a b m : ℕ) → min (min a m + b) m ≡ min (a + b) m
+min_twice a b m = omega arith
+
+-- the offset of the unit after these and one more
+next_place : (units : List AnyFields) (f : AnyFields) (bytes : List ℕ) (offset next : ℕ) →
+    bytes ≡ any_list f → offset ≡ offset_of units → next ≡ offset_after offset bytes →
+    next ≡ offset_of (f ∷ units)
+next_place units f bytes offset next is place moved =
+    moved ∙ ap (λ o. offset_after o bytes) place
+    ∙ ap (λ b. offset_after (offset_of units) b) is
+    ∙ min_twice (length (units_bytes units)) (length (any_list f)) (2 ^ 64 - 1)
+    ∙ ap (λ n. min n (2 ^ 64 - 1)) (sym (length-append (units_bytes units) (any_list f)))
+
+-- of the unit at this offset, after any units that the checker has seen, its lines were printed
+abbrev PrintsNext : Wanted → ℕ → Checker → AnyFields → Result Bool Fault →
+    Option (List ℕ) → Option (List ℕ) → Type 0
+PrintsNext what offset checker f r held holds = (before : List AnyFields) →
+    HasChecked what checker before → (lines : List (List ℕ))
+    × UnitLines what offset before f lines × PrintsBytes what lines r held holds
+
+abbrev ChecksNext : Wanted → Checker → AnyFields → Checker → Type 0
+ChecksNext what checker f next = (before : List AnyFields) → HasChecked what checker before →
+    HasChecked what next (f ∷ before)
+
+pub goes_on : (what : Wanted) (found more : Bool) (n offset next : ℕ) (old new : Checker) →
+    (f : AnyFields) (u : List ℕ) (a b c h i j : Option (List ℕ)) →
+    SoFar what found n offset old a b h i → Consumes b c u → HasAnyFields u f →
+    PrintsNext what offset old f (Ok more) i j → ChecksNext what old f new →
+    next ≡ offset_after offset u → SoFar what (found || more) (n + 1) next new a c h j
+goes_on what found more n offset next old new f u a b c h i j p took is prints checks moved =
+    let shown = prints p.units p.checked in
+    record {
+      units = f ∷ p.units;
+      are_units = (subst (λ l. HasAnyFields l f) is.bytes is, p.are_units);
+      took = Consumes-trans a b c (units_bytes p.units) (any_list f) p.took
+          (subst (Consumes b c) is.bytes took);
+      counted = omega (arith, p.counted);
+      lines = p.lines ++ shown.0;
+      is_printed = (
+        p.lines,
+        shown.0,
+        p.is_printed,
+        subst (λ o. UnitLines what o p.units f shown.0) p.place shown.1,
+        refl,
+      );
+      wrote = subst (Appends h j) (sym (concat-append p.lines shown.0))
+          (Appends-trans h i j (concat p.lines) (concat shown.0) p.wrote shown.2.0);
+      shows = tells_more what found more p.lines shown.0 p.shows shown.2.1;
+      place = next_place p.units f u offset next is.bytes p.place moved;
+      checked = checks p.units p.checked;
+    }
 
 -- ---- how a run ends
 
-pub ends : (what : Wanted) (found : Bool) (n : ℕ) (old new : ReaderState)
-    (before after : WriterState) (b : Option (List ℕ)) →
-    SoFar what found n old.left b before.held after.held → HasEnded b new.left →
-    new.failed ≡ old.failed → after.failed ≡ before.failed →
+pub ends : (what : Wanted) (found : Bool) (n offset : ℕ) (checker : Checker) →
+    (old new : ReaderState) (before after : WriterState) (b : Option (List ℕ)) →
+    SoFar what found n offset checker old.left b before.held after.held →
+    HasEnded b new.left → new.failed ≡ old.failed → after.failed ≡ before.failed →
     Lists what (Ok found) old new before after
-ends what found n old new before after b p ended reads writes = record {
+ends what found n offset checker old new before after b p ended reads writes = record {
   units = p.units;
   rest = [];
   are_units = p.are_units;
-  takes = Consumes-trans old.left b new.left (concat p.units) [] p.took ended.0;
-  lines = p.lines;
-  part = [];
-  are_lines = p.are_lines;
-  writes = subst (Appends before.held after.held) (sym (append-nil (concat p.lines))) p.wrote;
-  counts = p.shows;
-  ends = (refl, ended.1, refl);
+  takes = Consumes-trans old.left b new.left (units_bytes p.units) [] p.took ended.0;
+  written = concat p.lines;
+  writes = p.wrote;
+  ends = (refl, ended.1, (p.lines, p.is_printed, refl, p.shows));
   reader_failures = reads;
   writer_failures = writes;
 }
 
--- one line of each unit, where reading stopped by this cause
-one_each_stopped : (c : Cause) (found : Bool) (units lines : List (List ℕ)) (t : List ℕ) →
-    (left : Option (List ℕ)) → OneEach (Ok found) units lines → StopsInAny c t left →
-    OneEach (Err c) units lines
-one_each_stopped by_reader found units lines t left h stops = h.0
-one_each_stopped by_writer found units lines t left h stops = absurd stops
-one_each_stopped too_many found units lines t left h stops = absurd stops
-one_each_stopped no_memory found units lines t left h stops =
-    (omega (arith, h.0), omega (arith, h.0))
-one_each_stopped (wrong f) found units lines t left h stops = h.0
+ends_stopped : (what : Wanted) (c : Cause) (units : List AnyFields) (t : List ℕ) →
+    (left : Option (List ℕ)) (lines : List (List ℕ)) → Printed what units lines →
+    StopsInAny c t left → Ends what (Err c) units t left (concat lines)
+ends_stopped what by_reader units t left lines p stops = (stops, (lines, p, refl))
+ends_stopped what by_writer units t left lines p stops = absurd stops
+ends_stopped what too_many units t left lines p stops = absurd stops
+ends_stopped what no_memory units t left lines p stops = inr (stops, (lines, p, refl))
+ends_stopped what (wrong f) units t left lines p stops = (stops, (lines, p, refl))
 
-counts_stopped : (what : Wanted) (c : Cause) (found : Bool) (units lines : List (List ℕ)) →
-    (t : List ℕ) (left : Option (List ℕ)) → Counts what (Ok found) units lines →
-    StopsInAny c t left → Counts what (Err c) units lines
-counts_stopped Text c found units lines t left h stops =
-    one_each_stopped c found units lines t left h stops
-counts_stopped Json c found units lines t left h stops =
-    one_each_stopped c found units lines t left h stops
-counts_stopped Findings c found units lines t left h stops = tt
-
-ends_stopped : (c : Cause) (units : List (List ℕ)) (t : List ℕ) (left : Option (List ℕ)) →
-    StopsInAny c t left → Ends (Err c) units t left []
-ends_stopped by_reader units t left stops = (stops, refl)
-ends_stopped by_writer units t left stops = absurd stops
-ends_stopped too_many units t left stops = absurd stops
-ends_stopped no_memory units t left stops = (inr stops, refl)
-ends_stopped (wrong f) units t left stops = (stops, refl)
-
-pub stops_reading : (what : Wanted) (found : Bool) (n : ℕ) (e : Fault) (old new : ReaderState)
-    (before after : WriterState) →
-    (b : Option (List ℕ)) → SoFar what found n old.left b before.held after.held →
+pub stops_reading : (what : Wanted) (found : Bool) (n offset : ℕ) (checker : Checker) →
+    (e : Fault) (old new : ReaderState) (before after : WriterState) (b : Option (List ℕ)) →
+    SoFar what found n offset checker old.left b before.held after.held →
     Takes b new.left (λ t. StopsInAny (cause_of e) t new.left) →
     Counted (Err (cause_of e)) old new before after →
     Lists what (Err e) old new before after
-stops_reading what found n e old new before after b p (t, took, stops) counted = record {
-  units = p.units;
-  rest = t;
-  are_units = p.are_units;
-  takes = Consumes-trans old.left b new.left (concat p.units) t p.took took;
-  lines = p.lines;
-  part = [];
-  are_lines = p.are_lines;
-  writes = subst (Appends before.held after.held) (sym (append-nil (concat p.lines))) p.wrote;
-  counts = counts_stopped what (cause_of e) found p.units p.lines t new.left p.shows stops;
-  ends = ends_stopped (cause_of e) p.units t new.left stops;
-  reader_failures = counted.0;
-  writer_failures = counted.1;
-}
-
--- no line of the last unit, where writing it stopped by this cause
-one_each_broken : (c : Cause) (found : Bool) (units lines : List (List ℕ)) (u part : List ℕ) →
-    OneEach (Ok found) units lines → StopsLine c part → OneEach (Err c) (units ++ u ∷ []) lines
-one_each_broken by_reader found units lines u part h stops = absurd stops
-one_each_broken by_writer found units lines u part h stops =
-    omega (arith, one_more units u, h.0)
-one_each_broken too_many found units lines u part h stops = absurd stops
-one_each_broken no_memory found units lines u part h stops =
-    (omega (arith, one_more units u, h.0), omega (arith, one_more units u, h.0))
-one_each_broken (wrong f) found units lines u part h stops = absurd stops
-
-counts_broken : (what : Wanted) (c : Cause) (found : Bool) (units lines new : List (List ℕ)) →
-    (u part : List ℕ) → Counts what (Ok found) units lines → StopsLine c part →
-    ShowsPart what new → Counts what (Err c) (units ++ u ∷ []) (lines ++ new)
-counts_broken Text c found units lines new u part h stops none =
-    subst (OneEach (Err c) (units ++ u ∷ [])) (sym (ap (λ l. lines ++ l) none ∙ append-nil lines))
-    (one_each_broken c found units lines u part h stops)
-counts_broken Json c found units lines new u part h stops none =
-    subst (OneEach (Err c) (units ++ u ∷ [])) (sym (ap (λ l. lines ++ l) none ∙ append-nil lines))
-    (one_each_broken c found units lines u part h stops)
-counts_broken Findings c found units lines new u part h stops none = tt
-
-ends_broken : (c : Cause) (units : List (List ℕ)) (left : Option (List ℕ)) (part : List ℕ) →
-    StopsLine c part → Ends (Err c) units [] left part
-ends_broken by_reader units left part stops = absurd stops
-ends_broken by_writer units left part stops = (refl, stops)
-ends_broken too_many units left part stops = absurd stops
-ends_broken no_memory units left part stops = (inl refl, stops)
-ends_broken (wrong f) units left part stops = absurd stops
-
-pub stops_printing : (what : Wanted) (found : Bool) (n : ℕ) (e : Fault) (u : List ℕ) →
-    (old new : ReaderState) (before after : WriterState) (b i : Option (List ℕ)) →
-    SoFar what found n old.left b before.held i →
-    Consumes b new.left u → IsUnit u → PrintsBytes what (Err e) i after.held →
-    Counted (Err (cause_of e)) old new before after → Lists what (Err e) old new before after
-stops_printing what found n e u old new before after b i p took is
-    (more, part, are, wrote, stops, none) counted = record {
-      units = p.units ++ u ∷ [];
-      rest = [];
-      are_units = all_append IsUnit p.units (u ∷ []) p.are_units (is, tt);
-      takes = subst (Consumes old.left new.left)
-          (sym (append-nil (concat (p.units ++ u ∷ [])) ∙ concat_push p.units u))
-          (Consumes-trans old.left b new.left (concat p.units) u p.took took);
-      lines = p.lines ++ more;
-      part = part;
-      are_lines = all_append IsLine p.lines more p.are_lines are;
-      writes = subst (Appends before.held after.held)
-          (sym (ap (λ l. l ++ part) (concat-append p.lines more) ∙
-          append_assoc (concat p.lines) (concat more) part))
-          (Appends-trans before.held i after.held (concat p.lines) (concat more ++ part)
-          p.wrote wrote);
-      counts = counts_broken what (cause_of e) found p.units p.lines more u part p.shows stops none;
-      ends = ends_broken (cause_of e) (p.units ++ u ∷ []) new.left part stops;
+stops_reading what found n offset checker e old new before after b p (t, took, stops) counted =
+    record {
+      units = p.units;
+      rest = t;
+      are_units = p.are_units;
+      takes = Consumes-trans old.left b new.left (units_bytes p.units) t p.took took;
+      written = concat p.lines;
+      writes = p.wrote;
+      ends = ends_stopped what (cause_of e) p.units t new.left p.lines p.is_printed stops;
       reader_failures = counted.0;
       writer_failures = counted.1;
     }
 
-counts_full : (what : Wanted) (found : Bool) (units lines : List (List ℕ)) →
-    Counts what (Ok found) units lines → Counts what (Err too_many) units lines
-counts_full Text found units lines h = h.0
-counts_full Json found units lines h = h.0
-counts_full Findings found units lines h = tt
+ends_broken : (what : Wanted) (c : Cause) (f : AnyFields) (units : List AnyFields) →
+    (left : Option (List ℕ)) (earlier last : List (List ℕ)) (part : List ℕ) →
+    Printed what units earlier → UnitLines what (offset_of units) units f last →
+    BreaksOff c last part → Ends what (Err c) (f ∷ units) [] left (concat earlier ++ part)
+ends_broken what by_reader f units left earlier last part p q stops = absurd stops
+ends_broken what by_writer f units left earlier last part p q stops =
+    (refl, (earlier, last, part, p, q, stops, refl))
+ends_broken what too_many f units left earlier last part p q stops = absurd stops
+ends_broken what no_memory f units left earlier last part p q stops =
+    inl (refl, (earlier, last, part, p, q, stops, refl))
+ends_broken what (wrong r) f units left earlier last part p q stops = absurd stops
 
-pub reaches_limit : (what : Wanted) (found : Bool) (n : ℕ) (old new : ReaderState)
-    (before after : WriterState) →
-    n ≡ 2 ^ 64 - 1 → SoFar what found n old.left new.left before.held after.held →
+pub stops_printing : (what : Wanted) (found : Bool) (n offset : ℕ) (checker : Checker) →
+    (e : Fault) (f : AnyFields) (u : List ℕ) →
+    (old new : ReaderState) (before after : WriterState) (b i : Option (List ℕ)) →
+    SoFar what found n offset checker old.left b before.held i →
+    Consumes b new.left u → HasAnyFields u f →
+    PrintsNext what offset checker f (Err e) i after.held →
+    Counted (Err (cause_of e)) old new before after → Lists what (Err e) old new before after
+stops_printing what found n offset checker e f u old new before after b i p took is prints
+    counted =
+    let shown = prints p.units p.checked in
+    record {
+      units = f ∷ p.units;
+      rest = [];
+      are_units = (subst (λ l. HasAnyFields l f) is.bytes is, p.are_units);
+      takes = subst (Consumes old.left new.left)
+          (sym (append-nil (units_bytes p.units ++ any_list f)))
+          (Consumes-trans old.left b new.left (units_bytes p.units) (any_list f) p.took
+          (subst (Consumes b new.left) is.bytes took));
+      written = concat p.lines ++ shown.2.0;
+      writes = Appends-trans before.held i after.held (concat p.lines) shown.2.0 p.wrote
+          shown.2.1;
+      ends = ends_broken what (cause_of e) f p.units new.left p.lines shown.0 shown.2.0
+          p.is_printed (subst (λ o. UnitLines what o p.units f shown.0) p.place shown.1)
+          shown.2.2;
+      reader_failures = counted.0;
+      writer_failures = counted.1;
+    }
+
+pub reaches_limit : (what : Wanted) (found : Bool) (n offset : ℕ) (checker : Checker) →
+    (old new : ReaderState) (before after : WriterState) → n ≡ 2 ^ 64 - 1 →
+    SoFar what found n offset checker old.left new.left before.held after.held →
     new.failed ≡ old.failed → after.failed ≡ before.failed →
     Lists what (Err TooMany) old new before after
-reaches_limit what found n old new before after full p reads writes = record {
+reaches_limit what found n offset checker old new before after full p reads writes = record {
   units = p.units;
   rest = [];
   are_units = p.are_units;
-  takes = subst (Consumes old.left new.left) (sym (append-nil (concat p.units))) p.took;
-  lines = p.lines;
-  part = [];
-  are_lines = p.are_lines;
-  writes = subst (Appends before.held after.held) (sym (append-nil (concat p.lines))) p.wrote;
-  counts = counts_full what found p.units p.lines p.shows;
-  ends = (p.counted ∙ full, refl, refl);
+  takes = subst (Consumes old.left new.left) (sym (append-nil (units_bytes p.units))) p.took;
+  written = concat p.lines;
+  writes = p.wrote;
+  ends = (p.counted ∙ full, refl, (p.lines, p.is_printed, refl));
   reader_failures = reads;
   writer_failures = writes;
 }

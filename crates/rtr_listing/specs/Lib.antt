@@ -1,5 +1,14 @@
+pub mod ControlEscapes
+pub mod FindingTexts
+pub mod PrivateFollowing
+pub mod JsonLines
 pub mod Lines
-pub mod Listing
-pub mod PrivateLines
 pub mod ListStatus
 pub mod ListWords
+pub mod Listing
+pub mod PrivateLines
+pub mod PrivateJson
+pub mod ReportParts
+pub mod Rules
+pub mod SequenceSoFar
+pub mod TextLines

@@ -1,11 +1,6 @@
 -- Lines of output: this program's own.
-use Rattle.std.specs.Prelude.{◌≡◌, ℕ, ◌<◌, ◌≤◌, List, [], ◌∷◌, ◌++◌, length}
-use Rattle.std.specs.List.{All}
+use Rattle.std.specs.Prelude.{ℕ, List, [], ◌∷◌, ◌++◌, map, max}
 
--- a text of bytes from 32 on, and one line feed at its end
-abbrev pub IsLine : List ℕ → Type 0
-IsLine line = (text : List ℕ) × All (λ byte. 32 ≤ byte) text × (line ≡ text ++ 10 ∷ [])
-
--- the first bytes of a line, but not all of them
-abbrev pub IsPartOfLine : List ℕ → Type 0
-IsPartOfLine part = (others : List ℕ) × IsLine (part ++ others) × (0 < length others)
+-- the line that is written of a text: bytes below 32 are made spaces, and it ends with a line feed
+unfoldable pub written_line : List ℕ → List ℕ
+written_line text = map (λ byte. max byte 32) text ++ 10 ∷ []

@@ -1,5 +1,8 @@
 //! A unit as a JSON object (RFC 8259), with the fields by the names that RFC 8210 gives them.
 
+use crate::escapes::without_controls;
+use crate::fields;
+use crate::fields::parts;
 use crate::line::Line;
 use hex::encode;
 use json::Writer;
@@ -8,12 +11,15 @@ use rtr_base::payload::Action;
 use rtr_payload::pdu::{Aspa, Payload, RouterKey};
 use rtr_session::{AnyUnit, Report};
 use rtr_units::end::EndOfData;
+use rtr_units::fixed::{Ipv4Prefix, Ipv6Prefix};
 use rtr_units::unit::Unit;
 use std::alloc::{AllocError, Global};
-use std::fmt::{Display, Write};
+use std::fmt::Write;
+use std::net::{Ipv4Addr, Ipv6Addr};
 use std::str;
 
-/// Writes what the unit says, in the memory of the line, which is used again.
+/// Writes what the unit says, in the memory of the line, which is used again. What stands in the
+/// line goes.
 pub fn describe(
     alloc: Global,
     line: Line,
@@ -21,18 +27,30 @@ pub fn describe(
     offset: u64,
     unit: &AnyUnit,
 ) -> Result<Line, AllocError> {
-    let mut out = Writer::new(line.into_bytes());
+    let mut bytes = line.into_bytes();
+    bytes.clear();
+    let mut out = Writer::new(bytes);
+    write_object(alloc, &mut out, scratch, offset, unit)?;
+    without_controls(alloc, Line::from_bytes(out.into_inner()))
+}
+
+fn write_object(
+    alloc: Global,
+    out: &mut Writer,
+    scratch: &mut String,
+    offset: u64,
+    unit: &AnyUnit,
+) -> Result<(), AllocError> {
     out.begin_object()?;
-    number(&mut out, "offset", offset)?;
-    number(&mut out, "length", u64::from(unit.size()))?;
-    text(&mut out, "kind", kind(unit))?;
-    number(&mut out, "version", u64::from(unit.version()))?;
+    number(out, "offset", offset)?;
+    number(out, "length", fields::size(unit))?;
+    text(out, "kind", kind(unit))?;
+    number(out, "version", u64::from(fields::version(unit)))?;
     if let Some(session) = unit.session() {
-        number(&mut out, "session_id", u64::from(session))?;
+        number(out, "session_id", u64::from(session))?;
     }
-    fields(alloc, &mut out, scratch, unit)?;
-    out.end_object()?;
-    Ok(Line::from_bytes(out.into_inner()))
+    own_fields(alloc, out, scratch, unit)?;
+    out.end_object()
 }
 
 /// The name of the unit's type.
@@ -52,7 +70,8 @@ fn kind(unit: &AnyUnit) -> &'static str {
     }
 }
 
-fn fields(
+/// The fields that not all units have, without the session.
+fn own_fields(
     alloc: Global,
     out: &mut Writer,
     scratch: &mut String,
@@ -78,30 +97,28 @@ fn payload_fields(
 ) -> Result<(), AllocError> {
     number(out, "flags", u64::from(unit.flags()))?;
     text(out, "action", action_name(unit.action()))?;
-    payload_zeros(out, unit)?;
+    reserved(out, unit)?;
     match unit {
-        Payload::V4(unit) => {
-            let lengths = (unit.prefix_len(), unit.max_len());
-            prefix_fields(out, scratch, unit.prefix(), lengths, unit.asn())
-        }
-        Payload::V6(unit) => {
-            let lengths = (unit.prefix_len(), unit.max_len());
-            prefix_fields(out, scratch, unit.prefix(), lengths, unit.asn())
-        }
+        Payload::V4(unit) => ipv4_fields(out, scratch, unit),
+        Payload::V6(unit) => ipv6_fields(out, scratch, unit),
         Payload::RouterKey(unit) => key_fields(alloc, out, unit),
         Payload::Aspa(unit) => aspa_fields(out, unit),
     }
 }
 
 /// The reserved fields: bytes 2 and 3 and byte 11 of a prefix unit, byte 3 of the others.
-fn payload_zeros(out: &mut Writer, unit: &Payload) -> Result<(), AllocError> {
+fn reserved(out: &mut Writer, unit: &Payload) -> Result<(), AllocError> {
     let bytes = unit.as_partial_slice();
-    let byte = |place: usize| u16::from(bytes.get(place).copied().unwrap_or(0));
     match unit {
-        Payload::V4(unit) => zeros(out, &[unit.session(), byte(11)]),
-        Payload::V6(unit) => zeros(out, &[unit.session(), byte(11)]),
-        Payload::RouterKey(_) | Payload::Aspa(_) => zeros(out, &[byte(3)]),
+        Payload::V4(unit) => zeros(out, &[unit.session(), byte_at(bytes, 11)]),
+        Payload::V6(unit) => zeros(out, &[unit.session(), byte_at(bytes, 11)]),
+        Payload::RouterKey(_) | Payload::Aspa(_) => zeros(out, &[byte_at(bytes, 3)]),
     }
+}
+
+/// The byte at the place, or 0 where there is none.
+fn byte_at(bytes: &[u8], place: usize) -> u16 {
+    u16::from(bytes.get(place).copied().unwrap_or(0))
 }
 
 /// The fields that RFC 8210 calls zero, in their order.
@@ -114,18 +131,58 @@ fn zeros(out: &mut Writer, fields: &[u16]) -> Result<(), AllocError> {
     out.end_array()
 }
 
-fn prefix_fields<A: Display + Drop>(
+fn ipv4_fields(
     out: &mut Writer,
     scratch: &mut String,
-    address: A,
-    lengths: (u8, u8),
+    unit: &Ipv4Prefix,
+) -> Result<(), AllocError> {
+    show_ipv4(scratch, unit.prefix_bits())?;
+    origin_fields(
+        out,
+        scratch.as_str(),
+        unit.prefix_len(),
+        unit.max_len(),
+        unit.asn(),
+    )
+}
+
+fn ipv6_fields(
+    out: &mut Writer,
+    scratch: &mut String,
+    unit: &Ipv6Prefix,
+) -> Result<(), AllocError> {
+    show_ipv6(scratch, unit.prefix_bits())?;
+    origin_fields(
+        out,
+        scratch.as_str(),
+        unit.prefix_len(),
+        unit.max_len(),
+        unit.asn(),
+    )
+}
+
+/// Makes the text that of the IPv4 address of this number.
+fn show_ipv4(text: &mut String, bits: u32) -> Result<(), AllocError> {
+    text.clear();
+    write!(text, "{}", Ipv4Addr::from_bits(bits))
+}
+
+/// Makes the text that of the IPv6 address of this number.
+fn show_ipv6(text: &mut String, bits: u128) -> Result<(), AllocError> {
+    text.clear();
+    write!(text, "{}", Ipv6Addr::from_bits(bits))
+}
+
+fn origin_fields(
+    out: &mut Writer,
+    address: &str,
+    prefix_len: u8,
+    max_len: u8,
     asn: Asn,
 ) -> Result<(), AllocError> {
-    scratch.clear();
-    write!(scratch, "{address}")?;
-    text(out, "prefix", scratch.as_str())?;
-    number(out, "prefix_length", u64::from(lengths.0))?;
-    number(out, "max_length", u64::from(lengths.1))?;
+    text(out, "prefix", address)?;
+    number(out, "prefix_length", u64::from(prefix_len))?;
+    number(out, "max_length", u64::from(max_len))?;
     number(out, "asn", u64::from(asn.into_u32()))
 }
 
@@ -159,33 +216,26 @@ fn end_fields(out: &mut Writer, unit: &EndOfData) -> Result<(), AllocError> {
 
 fn report_fields(alloc: Global, out: &mut Writer, report: &Report) -> Result<(), AllocError> {
     number(out, "error_code", u64::from(report.code().0))?;
-    bytes(alloc, out, "erroneous_pdu", report.pdu())?;
-    bytes(alloc, out, "error_text_bytes", report.text())?;
-    let shown = match report.text() {
-        Some(text) => str::from_utf8(text).ok(),
-        None => None,
-    };
-    out.key("error_text")?;
-    match shown {
-        Some(shown) => out.string(shown),
-        None => out.null(),
+    match parts(report) {
+        Some((pdu, shown)) => {
+            text(out, "erroneous_pdu", encode(alloc, pdu)?.as_str())?;
+            text(out, "error_text_bytes", encode(alloc, shown)?.as_str())?;
+            out.key("error_text")?;
+            text_or_null(out, shown)
+        }
+        None => {
+            null(out, "erroneous_pdu")?;
+            null(out, "error_text_bytes")?;
+            null(out, "error_text")
+        }
     }
 }
 
-/// Bytes as hex, or null where there are none.
-fn bytes(
-    alloc: Global,
-    out: &mut Writer,
-    key: &str,
-    value: Option<&[u8]>,
-) -> Result<(), AllocError> {
-    out.key(key)?;
-    match value {
-        Some(bytes) => {
-            let shown = encode(alloc, bytes)?;
-            out.string(shown.as_str())
-        }
-        None => out.null(),
+/// A text as a string, or null where it isn't UTF-8.
+fn text_or_null(out: &mut Writer, bytes: &[u8]) -> Result<(), AllocError> {
+    match str::from_utf8(bytes) {
+        Ok(shown) => out.string(shown),
+        Err(_) => out.null(),
     }
 }
 
@@ -197,6 +247,11 @@ fn number(out: &mut Writer, key: &str, value: u64) -> Result<(), AllocError> {
 fn text(out: &mut Writer, key: &str, value: &str) -> Result<(), AllocError> {
     out.key(key)?;
     out.string(value)
+}
+
+fn null(out: &mut Writer, key: &str) -> Result<(), AllocError> {
+    out.key(key)?;
+    out.null()
 }
 
 fn action_name(action: Action) -> &'static str {

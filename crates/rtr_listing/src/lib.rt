@@ -3,11 +3,14 @@
 #![tactic(auto)]
 
 mod check;
+mod escapes;
+mod fields;
 mod finding;
 mod human;
 mod json_line;
 mod line;
 mod printer;
 mod run;
+mod unit_rules;
 
 pub use run::program;

@@ -1,10 +1,11 @@
 //! Lines.
 
-ghost use Rattle.std.specs.Prelude.{◌≡◌, ◌≢◌, ◌≤◌, ◌++◌, [], Err, OnOk, decimal};
-ghost use Rattle.std.specs.List.{All};
+ghost use Rattle.std.specs.Prelude.{◌≡◌, ◌≢◌, ◌∷◌, ◌++◌, [], Err, OnOk, decimal, flat_map, map};
+ghost use Rattle.std.specs.Prelude.{max};
+ghost use Rattle.std.specs.Char.Escape.{escape_ascii};
 ghost use Rattle.std.specs.Fmt.{AppendsText};
 ghost use Rattle.rtr_units.specs.StopCauses.{by_cause, by_reader};
-ghost use Rattle.rtr_listing.specs.Lines.{IsLine};
+ghost use Rattle.rtr_listing.specs.Lines.{written_line};
 ghost use Rattle.rtr_listing.specs.PrivateLines.{PutsLine};
 
 use itoa::Buffer;
@@ -81,10 +82,37 @@ impl Line {
 
     /// Adds a label and a number after it.
     pub fn labelled(&mut self, label: &str, number: u64) -> Result<(), AllocError>
-        ensures { OnOk result (self.new ≡ self.old ++ label.now ++ decimal number) }
+        ensures { OnOk result (self.new ≡ self.old ++ (label.now ++ decimal number)) }
     {
         self.text(label)?;
         self.number(number)
+    }
+
+    /// Adds a byte.
+    pub fn byte(&mut self, byte: u8) -> Result<(), AllocError>
+        ensures { OnOk result (self.new ≡ self.old ++ byte ∷ []) }
+    {
+        self.bytes.push(byte)?;
+        Ok(())
+    }
+
+    /// Adds bytes, with an escape such as `\n` or `\x1b` for each that isn't ASCII that prints.
+    pub fn escaped(&mut self, bytes: &[u8]) -> Result<(), AllocError>
+        ensures { OnOk result (self.new ≡ self.old ++ flat_map escape_ascii bytes.now) }
+    {
+        for byte in bytes {
+            self.escaped_byte(*byte)?;
+        }
+        Ok(())
+    }
+
+    fn escaped_byte(&mut self, byte: u8) -> Result<(), AllocError>
+        ensures { OnOk result (self.new ≡ self.old ++ escape_ascii byte) }
+    {
+        for piece in byte.escape_ascii() {
+            self.byte(piece)?;
+        }
+        Ok(())
     }
 
     /// Adds a value's text.
@@ -99,8 +127,9 @@ impl Line {
 
     /// Ends the line. Bytes below 32 in it, of which its texts have none, are made spaces, so that
     /// it is one line.
+    #[tactic(auto, unfolding(crate::specs::Lines::written_line))]
     fn end(&mut self) -> Result<(), AllocError>
-        ensures { OnOk result (IsLine self.new) }
+        ensures { OnOk result (self.new ≡ written_line self.old) }
     {
         clear_controls(self.bytes.as_mut_slice());
         self.bytes.push(b'\n')?;
@@ -110,7 +139,7 @@ impl Line {
     /// Ends the line and writes it. `Memory` says that nothing was written, `Writer` that a part
     /// was.
     pub fn put<W: Sink>(&mut self, writer: &mut W) -> Result<(), Fault>
-        ensures bytes { PutsLine result (W.state writer.old) (W.state writer.new) }
+        ensures bytes { PutsLine self.old result (W.state writer.old) (W.state writer.new) }
         ensures no_reader { by_cause result ≢ Err by_reader }
     {
         match self.end() {
@@ -133,7 +162,7 @@ impl fmt::Write for Line {
 
 /// Makes bytes below 32 spaces.
 fn clear_controls(text: &mut [u8])
-    ensures { All (λ byte. 32 ≤ byte) text.new }
+    ensures { text.new ≡ map (λ byte. max byte 32) text.old }
 {
     for byte in text.iter_mut() {
         *byte = (*byte).max(SPACE);

@@ -1,10 +1,17 @@
 //! Lines of units, one unit after the other.
 
-ghost use Rattle.std.specs.Prelude.{◌≡◌, ◌≢◌, ℕ, List, length, Option, Err, OnOk, OnErr};
+ghost use Rattle.std.specs.Prelude.{◌≡◌, ◌≢◌, ℕ, List, [], ◌∷◌, ◌++◌, Err, OnOk, OnErr};
 ghost use Rattle.rtr_units.specs.StopCauses.{by_cause, by_reader};
 ghost use Rattle.rtr_units.specs.Stream.{WriterState};
-ghost use Rattle.rtr_listing.specs.PrivateLines.{Prints, PrintsEach, PutsLine, offset_after};
-ghost use Rattle.rtr_session.specs.AnyUnits.{any_bytes};
+ghost use Rattle.rtr_session.specs.AnyFields.{AnyFields};
+ghost use Rattle.rtr_session.specs.AnyUnits.{any_bytes, any_fields};
+ghost use Rattle.rtr_listing.specs.FindingTexts.{finding_of};
+ghost use Rattle.rtr_listing.specs.PrivateFollowing.{HasSeen};
+ghost use Rattle.rtr_listing.specs.Lines.{written_line};
+ghost use Rattle.rtr_listing.specs.Listing.{finding_lines};
+ghost use Rattle.rtr_listing.specs.PrivateLines.{HasChecked, Prints, PrintsUnit, PutsLine};
+ghost use Rattle.rtr_listing.specs.PrivateLines.{PutsSome, offset_after};
+ghost use Rattle.rtr_listing.specs.TextLines.{unit_text};
 ghost use Rattle.rtr_listing.specs.declared.run.Wanted.TheVariants.{Text, Json, Findings};
 
 use crate::check::Checker;
@@ -16,39 +23,33 @@ use rtr_session::AnyUnit;
 use rtr_units::fault::Fault;
 use rtr_units::source::Sink;
 use std::alloc::{AllocError, Global};
-use std::marker::Model;
 use std::mem;
 
 /// What is printed of units that come one after the other, in memory that it uses again for each.
-/// It is seen as the number of bytes of the units before.
 #[derive(Drop)]
 pub struct Printer {
     alloc: Global,
-    /// The number of bytes of the units before.
+    /// The number of bytes of the units before, which stays at the greatest number.
     offset: u64,
     checker: Checker,
+    /// What the newest unit breaks.
+    findings: Vec<Finding>,
     line: Line,
     /// The text of an address.
     scratch: String,
 }
 
-impl Model for Printer {
-    ghost use Rattle.std.specs.Prelude.{ℕ};
-
-    ghost Value = { ℕ };
-
-    ghost view = { λ printer. printer.offset };
-}
-
 impl Printer {
     /// A printer that has printed nothing.
     pub fn new(alloc: Global) -> Printer
-        ensures { result ≡ 0 }
+        ensures offset { result.offset ≡ 0 }
+        ensures checker { HasSeen result.checker [] }
     {
         Printer {
             alloc,
             offset: 0,
             checker: Checker::new(alloc),
+            findings: Vec::new(alloc),
             line: Line::new(alloc),
             scratch: String::new(alloc),
         }
@@ -56,7 +57,7 @@ impl Printer {
 
     /// The number of bytes of the units that were printed.
     pub fn offset(&self) -> u64
-        ensures { result ≡ self.now }
+        ensures { result ≡ self.now.offset }
     {
         self.offset
     }
@@ -69,10 +70,16 @@ impl Printer {
         unit: &AnyUnit,
         output: &mut W,
     ) -> Result<bool, Fault>
-        ensures bytes { Prints wanted result (W.state output.old) (W.state output.new) }
+        // Where these units were before, their lines are those of the unit after them.
+        ensures lines { (before : List AnyFields) → HasChecked wanted self.old.checker before →
+            PrintsUnit wanted self.old.offset before (any_fields unit.now) result
+            (W.state output.old) (W.state output.new) }
+        ensures checks { (before : List AnyFields) → HasChecked wanted self.old.checker before →
+            OnOk result (HasChecked wanted self.new.checker (any_fields unit.now ∷ before)) }
         ensures no_reader { by_cause result ≢ Err by_reader }
-        ensures moves { OnOk result (self.new ≡ offset_after self.old (any_bytes unit.now)) }
-        ensures stays { OnErr result (self.new ≡ self.old) }
+        ensures moves { OnOk result (
+            self.new.offset ≡ offset_after self.old.offset (any_bytes unit.now)) }
+        ensures stays { OnErr result (self.new.offset ≡ self.old.offset) }
     {
         let answer = self.print_lines(wanted, unit, output);
         if answer.is_ok() {
@@ -88,9 +95,13 @@ impl Printer {
         unit: &AnyUnit,
         output: &mut W,
     ) -> Result<bool, Fault>
-        ensures bytes { Prints wanted result (W.state output.old) (W.state output.new) }
+        ensures lines { (before : List AnyFields) → HasChecked wanted self.old.checker before →
+            PrintsUnit wanted self.old.offset before (any_fields unit.now) result
+            (W.state output.old) (W.state output.new) }
+        ensures checks { (before : List AnyFields) → HasChecked wanted self.old.checker before →
+            OnOk result (HasChecked wanted self.new.checker (any_fields unit.now ∷ before)) }
         ensures no_reader { by_cause result ≢ Err by_reader }
-        ensures offset { self.new ≡ self.old }
+        ensures offset { self.new.offset ≡ self.old.offset }
     {
         match wanted {
             Wanted::Text => listed(self.print_text(unit, output)),
@@ -100,9 +111,10 @@ impl Printer {
     }
 
     fn print_text<W: Sink>(&mut self, unit: &AnyUnit, output: &mut W) -> Result<(), Fault>
-        ensures bytes { PutsLine result (W.state output.old) (W.state output.new) }
+        ensures line { PutsLine (unit_text self.old.offset (any_fields unit.now)) result
+            (W.state output.old) (W.state output.new) }
         ensures no_reader { by_cause result ≢ Err by_reader }
-        ensures offset { self.new ≡ self.old }
+        ensures offset { self.new.offset ≡ self.old.offset }
     {
         self.line.clear();
         match human::describe(self.alloc, &mut self.line, self.offset, unit) {
@@ -112,9 +124,9 @@ impl Printer {
     }
 
     fn print_json<W: Sink>(&mut self, unit: &AnyUnit, output: &mut W) -> Result<(), Fault>
-        ensures bytes { PutsLine result (W.state output.old) (W.state output.new) }
+        ensures line { PutsSome result (W.state output.old) (W.state output.new) }
         ensures no_reader { by_cause result ≢ Err by_reader }
-        ensures offset { self.new ≡ self.old }
+        ensures offset { self.new.offset ≡ self.old.offset }
     {
         let mut line = mem::replace(&mut self.line, Line::new(self.alloc));
         line.clear();
@@ -126,12 +138,16 @@ impl Printer {
     }
 
     fn print_findings<W: Sink>(&mut self, unit: &AnyUnit, output: &mut W) -> Result<bool, Fault>
-        ensures bytes { Prints Findings result (W.state output.old) (W.state output.new) }
+        ensures lines { (before : List AnyFields) → HasSeen self.old.checker before →
+            PrintsUnit Findings self.old.offset before (any_fields unit.now) result
+            (W.state output.old) (W.state output.new) }
+        ensures checks { (before : List AnyFields) → HasSeen self.old.checker before →
+            OnOk result (HasSeen self.new.checker (any_fields unit.now ∷ before)) }
         ensures no_reader { by_cause result ≢ Err by_reader }
-        ensures offset { self.new ≡ self.old }
+        ensures offset { self.new.offset ≡ self.old.offset }
     {
-        match self.checker.check(unit) {
-            Ok(findings) => put_findings(findings, self.offset, &mut self.line, output),
+        match self.checker.check(unit, &mut self.findings) {
+            Ok(()) => put_findings(&self.findings, self.offset, &mut self.line, output),
             Err(_) => Err(Fault::Memory),
         }
     }
@@ -139,10 +155,10 @@ impl Printer {
 
 /// A listed unit breaks no rule that is looked for.
 fn listed(line: Result<(), Fault>) -> Result<bool, Fault>
-    ensures text { (held holds : WriterState) → PutsLine line held holds →
-        Prints Text result held holds }
-    ensures json { (held holds : WriterState) → PutsLine line held holds →
-        Prints Json result held holds }
+    ensures text { (text : List ℕ) → (old new : WriterState) → PutsLine text line old new →
+        Prints Text (written_line text ∷ []) result old new }
+    ensures json { (text : List ℕ) → (old new : WriterState) → PutsLine text line old new →
+        Prints Json (written_line text ∷ []) result old new }
     ensures reader { by_cause line ≢ Err by_reader → by_cause result ≢ Err by_reader }
 {
     match line {
@@ -158,8 +174,8 @@ fn put_findings<W: Sink>(
     line: &mut Line,
     output: &mut W,
 ) -> Result<bool, Fault>
-    ensures bytes { PrintsEach (length findings.now) result (W.state output.old)
-        (W.state output.new) }
+    ensures lines { Prints Findings (finding_lines offset findings.now) result
+        (W.state output.old) (W.state output.new) }
     ensures no_reader { by_cause result ≢ Err by_reader }
 {
     for finding in findings {
@@ -175,7 +191,9 @@ fn put_findings<W: Sink>(
     Ok(!findings.is_empty())
 }
 
-fn describe_finding(line: &mut Line, offset: u64, finding: Finding) -> Result<(), AllocError> {
+fn describe_finding(line: &mut Line, offset: u64, finding: Finding) -> Result<(), AllocError>
+    ensures { OnOk result (line.new ≡ line.old ++ finding_of offset finding) }
+{
     line.labelled("offset ", offset)?;
     line.text(": ")?;
     line.show(finding)

@@ -1,8 +1,9 @@
 //! One run of the program, over any reader and writers.
 
-ghost use Rattle.std.specs.Prelude.{◌≡◌, drop, IsNone, IfSome, None};
+ghost use Rattle.std.specs.Prelude.{◌≡◌, [], drop, IsNone, IfSome, None};
 ghost use Rattle.std.specs.Process.{exit_status};
 ghost use Rattle.rtr_units.specs.StopCauses.{by_cause};
+ghost use Rattle.rtr_listing.specs.PrivateFollowing.{HasSeen};
 ghost use Rattle.rtr_listing.specs.Listing.{Lists};
 ghost use Rattle.rtr_listing.specs.ListStatus.{Runs, status_of};
 ghost use Rattle.rtr_listing.specs.ListWords.{asked, asked_word};
@@ -172,6 +173,9 @@ fn list<R: Source, W: Sink>(
     input: &mut R,
     output: &mut W,
 ) -> Result<bool, Fault>
+    // The printer has printed nothing.
+    requires offset { printer.old.offset ≡ 0 }
+    requires checker { HasSeen printer.old.checker [] }
     ensures { Lists wanted result
         (R.state input.old) (R.state input.new) (W.state output.old) (W.state output.new) }
 {

@@ -1,9 +1,11 @@
-//! Tests of units of any type and of error reports: whether the clauses say what is meant, and what
-//! no clause says.
+//! Tests of units of any type, of error reports and of the program that lists them: whether the
+//! clauses say what is meant, and what no clause says.
 #![tactic(auto)]
 
 #[cfg(test)]
 mod faults;
+#[cfg(test)]
+mod flushes;
 #[cfg(test)]
 mod reports;
 #[cfg(test)]

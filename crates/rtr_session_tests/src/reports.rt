@@ -83,6 +83,21 @@ fn longest_report(rt: HostRuntime) -> Result<(), Fail> {
     Ok(())
 }
 
+/// The name of the type and of its field, and all bytes.
+#[test]
+fn debug_text_of_a_report(rt: HostRuntime) -> Result<(), Fail> {
+    let alloc = rt.alloc();
+    let input = bytes(
+        alloc,
+        &["00 0a 00 03 00 00 00 12 00 00 00 00 00 00 00 02 6e 6f"],
+    )?;
+    let report = Report::read(alloc, &mut SliceSource::new(&input))?;
+    let text = format!(in alloc; "{report:?}")?;
+    let want = "Report { bytes: [0, 10, 0, 3, 0, 0, 0, 18, 0, 0, 0, 0, 0, 0, 0, 2, 110, 111] }";
+    expect_equal(&rt, text.as_str(), want);
+    Ok(())
+}
+
 #[test]
 fn headers_of_other_units(rt: HostRuntime) -> Result<(), Fail> {
     let alloc = rt.alloc();

@@ -1,6 +1,8 @@
-use Rattle.std.proofs.Common.{◌≤◌, ◌<◌, ℕ, slice_index_or}
+use Rattle.std.proofs.Common.{◌≡◌, ◌++◌, take, drop, map, max}
 use Rattle.rtr_listing.proofs.line.clear_controls.Given as goal
 
--- no byte before this one is below 32
+-- the bytes before this one are made spaces where they are below 32, and those from it on stay
 abbrev pub invariant-loop-byte : goal.invariant-loop-byte
-invariant-loop-byte l = (k d : ℕ) → k < l.byte-index → 32 ≤ slice_index_or l.text k d
+invariant-loop-byte l =
+    l.text ≡ map (λ byte. max byte 32) (take l.byte-index l.initial.text)
+    ++ drop l.byte-index l.initial.text

@@ -1,10 +1,11 @@
-use Rattle.rtr_listing.proofs.Printing.{text_line, json_line}
+use Rattle.rtr_listing.proofs.Printing.{one_broken}
+use Rattle.rtr_listing.specs.declared.run.Wanted.TheVariants.{Text, Json}
 use Rattle.rtr_listing.proofs.printer.listed.Goals as goal
 
-pub returns-in-Ok-clause-text : goal.returns-in-Ok-clause-text
-returns-in-Ok-clause-text c = λ held holds put. text_line c.in-Ok.field-0 held holds
-    (rw c.in-Ok.is at put)
+pub returns-in-Err-clause-text : goal.returns-in-Err-clause-text
+returns-in-Err-clause-text c = λ text old new put. one_broken Text text c.in-Err.fault old new
+    (rw c.in-Err.is at put)
 
-pub returns-in-Ok-clause-json : goal.returns-in-Ok-clause-json
-returns-in-Ok-clause-json c = λ held holds put. json_line c.in-Ok.field-0 held holds
-    (rw c.in-Ok.is at put)
+pub returns-in-Err-clause-json : goal.returns-in-Err-clause-json
+returns-in-Err-clause-json c = λ text old new put. one_broken Json text c.in-Err.fault old new
+    (rw c.in-Err.is at put)

@@ -1,0 +1,113 @@
+-- What a line for people says of a unit: this program's own. Numbers are in decimal, addresses as
+-- std writes them (IPv6 as RFC 5952), bytes in hex, and key info in base64 for URLs without padding
+-- (RFC 4648 section 5).
+use Rattle.std.specs.Prelude.{ℕ, List, [], ◌++◌, codes, decimal, Option, Some, None, flat_map}
+use Rattle.std.specs.Char.Escape.{escape_ascii}
+use Rattle.base64.specs.Engines.{url_safe_no_pad}
+use Rattle.base64.specs.GeneralPurpose.{encode_of}
+use Rattle.hex.specs.Hex.{encode_lower}
+use Rattle.rtr_base.specs.declared.payload.Timing.{Timing}
+use Rattle.rtr_base.specs.Actions.{act}
+use Rattle.rtr_base.specs.Addresses.{Family, v4, v6}
+use Rattle.rtr_base.specs.PlainTexts.{action_text, address_text, asn_text, error_code_text}
+use Rattle.rtr_units.specs.PrefixUnits.{OriginParts}
+use Rattle.rtr_payload.specs.AspaUnits.{AspaParts}
+use Rattle.rtr_payload.specs.KeyUnits.{KeyParts}
+use Rattle.rtr_payload.specs.PayloadTexts.{each_text}
+use Rattle.rtr_payload.specs.Units.{Fields, prefix_unit, key_unit, aspa_unit}
+use Rattle.rtr_session.specs.AnyFields.{AnyFields, serial_notify, serial_query, reset_query}
+use Rattle.rtr_session.specs.AnyFields.{cache_response, payload, end_of_data, cache_reset}
+use Rattle.rtr_session.specs.AnyFields.{error_report}
+use Rattle.rtr_listing.specs.ReportParts.{report_parts}
+use Rattle.rtr_listing.specs.SequenceSoFar.{payload_version}
+
+-- ---- the version of the protocol (RFC 8210 section 5.1)
+
+abbrev pub fields_version : AnyFields → ℕ
+fields_version (serial_notify version session serial) = version
+fields_version (serial_query version session serial) = version
+fields_version (reset_query version session) = version
+fields_version (cache_response version session) = version
+fields_version (payload fields) = payload_version fields
+fields_version (end_of_data meaning) = meaning.version
+fields_version (cache_reset version session) = version
+fields_version (error_report version code body) = version
+
+-- ---- payload units
+
+abbrev pub payload_flags : Fields → ℕ
+payload_flags (prefix_unit u) = u.flags
+payload_flags (key_unit u) = u.flags
+payload_flags (aspa_unit u) = u.flags
+
+abbrev pub family_words : Family → List ℕ
+family_words v4 = codes " IPv4 prefix"
+family_words v6 = codes " IPv6 prefix"
+
+abbrev pub kind_words : Fields → List ℕ
+kind_words (prefix_unit u) = family_words u.origin.family
+kind_words (key_unit u) = codes " router key"
+kind_words (aspa_unit u) = codes " ASPA"
+
+-- 192.0.2.10/23-26 AS65551
+abbrev pub origin_words : OriginParts → List ℕ
+origin_words o =
+    codes " " ++ address_text o.family o.address ++ codes "/" ++ decimal o.prefix_len
+    ++ codes "-" ++ decimal o.max_len ++ codes " " ++ asn_text o.asn
+
+-- 0102030405060708090a0b0c0d0e0f1011121314 AS65551 FRYXGA
+abbrev pub key_words : KeyParts → List ℕ
+key_words k =
+    codes " " ++ encode_lower k.identifier ++ codes " " ++ asn_text k.asn
+    ++ codes " " ++ encode_of url_safe_no_pad k.info
+
+-- AS65551 providers AS65549 AS65550, with all providers
+abbrev pub aspa_words : AspaParts → List ℕ
+aspa_words a = codes " " ++ asn_text a.customer ++ codes " providers" ++ each_text a.providers
+
+abbrev pub parts_words : Fields → List ℕ
+parts_words (prefix_unit u) = origin_words u.origin
+parts_words (key_unit u) = key_words u.key
+parts_words (aspa_unit u) = aspa_words u.aspa
+
+-- the kind, "announce" or "withdraw" by the flags, and the parts
+abbrev pub payload_words : Fields → List ℕ
+payload_words fields =
+    kind_words fields ++ codes " " ++ action_text (act (payload_flags fields)) ++ parts_words fields
+
+-- ---- the other units
+
+-- refresh 3600 retry 600 expire 7200, where there are timings
+abbrev pub timing_words : Option Timing → List ℕ
+timing_words None = []
+timing_words (Some t) =
+    codes " refresh " ++ decimal t.refresh ++ codes " retry " ++ decimal t.retry
+    ++ codes " expire " ++ decimal t.expire
+
+-- the parts of an error report: the unit in hex, and the text with escapes for what isn't ASCII that
+-- prints
+abbrev pub report_words : Option (List ℕ × List ℕ) → List ℕ
+report_words None = codes " with lengths that do not fit"
+report_words (Some (pdu, text)) =
+    codes " pdu \"" ++ encode_lower pdu
+    ++ codes "\" text \"" ++ flat_map escape_ascii text ++ codes "\""
+
+-- what is unit_words after the version
+abbrev pub unit_words : AnyFields → List ℕ
+unit_words (serial_notify version session serial) =
+    codes " serial notify session " ++ decimal session ++ codes " serial " ++ decimal serial
+unit_words (serial_query version session serial) =
+    codes " serial query session " ++ decimal session ++ codes " serial " ++ decimal serial
+unit_words (reset_query version session) = codes " reset query"
+unit_words (cache_response version session) = codes " cache response session " ++ decimal session
+unit_words (payload fields) = payload_words fields
+unit_words (end_of_data meaning) =
+    codes " end of data session " ++ decimal meaning.session
+    ++ codes " serial " ++ decimal meaning.serial ++ timing_words meaning.timing
+unit_words (cache_reset version session) = codes " cache reset"
+unit_words (error_report version code body) =
+    codes " error report code " ++ error_code_text code ++ report_words (report_parts body)
+
+-- the line of a unit that stands after so many bytes
+abbrev pub unit_text : ℕ → AnyFields → List ℕ
+unit_text offset fields = decimal offset ++ codes " v" ++ decimal (fields_version fields) ++ unit_words fields
