@@ -77,19 +77,22 @@ fn skipped(row: &Row<'_>, way: Way) -> Answer {
     seen
 }
 
+/// The most bytes that a part of a row's report has.
+const MOST_BYTES: usize = 1000000;
+
 /// The report of a row on the left bytes, with the right ones as its text, or none where there was
 /// no memory for it.
 fn made(row: &Row<'_>) -> Option<Error> {
     let (version, code) = (row.byte("version", 1), row.short("code"));
-    if row.left.len() > 1000000 || row.right.len() > 1000000 {
+    if row.left.len() > MOST_BYTES || row.right.len() > MOST_BYTES {
         return None;
     }
-    row.ready();
     Error::new(row.alloc, version, code, &row.left, &row.right).ok()
 }
 
 /// `Error::new`.
 fn report(row: &Row<'_>) -> Answer {
+    row.ready();
     let report = made(row);
     let mut seen = row.answer();
     match &report {
@@ -118,12 +121,12 @@ fn told_clone(row: &Row<'_>, report: &Error) -> Answer {
     seen
 }
 
-/// `Error::clone` of a report with code 3 and the text `no`, which is made with no growth refused.
+/// `Error::clone` of the report of the row, which is made with no growth refused.
 fn clone_report(row: &Row<'_>) -> Answer {
-    let Ok(report) = Error::new(row.alloc, 1, 3, &[], b"no") else {
-        return row.no_unit();
-    };
-    told_clone(row, &report)
+    match made(row) {
+        Some(report) => told_clone(row, &report),
+        None => row.no_unit(),
+    }
 }
 
 /// `Error::empty`, and its clone.

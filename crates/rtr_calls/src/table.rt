@@ -186,7 +186,7 @@ impl Table {
                 };
                 let seen = self.spelled(seen.into_text()?.as_str())?;
                 if self.mark > 0 {
-                    return self.refused(seen, whole, refused.trim().trim_start_matches('?'));
+                    return self.refused(seen, whole, refused.trim());
                 }
                 if seen != whole {
                     return self.other(seen.as_str());

@@ -3,8 +3,8 @@
 //! The table is standard input, one row a line. `//` begins a comment. `NAME = WORDS` gives bytes a
 //! name, and `CALL WORDS => ANSWER` is a call with bytes and settings `KEY=VALUE`, and its answer.
 //! Words that stand for bytes are names, hex digits, `..N` for N bytes that count up, and `WORD*N`
-//! for N times those of a word. A second `=>` says which answers may come where a growth is
-//! refused, in their order and with `;` between; they must come, unless they begin with `?`.
+//! for N times those of a word. A second `=>` says which answers come where a growth is refused, in
+//! their order and with `;` between; with none after it the call asks for no growth.
 //! With an argument the program marks each call by a growth of that many bytes before it and after
 //! it, so that `.ci/growth` can refuse the growths between. Then each row prints `whole`, or
 //! `refused` and which of its answers that is.

@@ -5,20 +5,43 @@
 use rtr_wire::base::{Asn, MaxLenPrefix, ParseMaxLenPrefixError};
 use rtr_wire::payload::{Action, Aspa, Payload, RouteOrigin, Timing};
 use rtr_wire::pdu::{
-    CacheResponse, EndOfData, Error, ErrorCode, Fault, Header, LAST_VERSION, ResetQuery, Sink,
-    Source, Unit, UnitView, ViewFault,
+    CacheResponse, Counted, EndOfData, Error, ErrorCode, Fault, Header, LAST_VERSION, ResetQuery,
+    Sink, Source, Unit, UnitView, ViewFault,
 };
 use rtr_wire::state::State;
 use rtr_wire::{normalise, pdu, same_meaning};
 use std::alloc::{AllocError, Global};
 use std::collections::{BTreeMap, BTreeSet};
-use std::io;
+use std::env;
+use std::fs::File;
+use std::io::{self, BufReader, BufWriter};
 
 #[cfg(test)]
 mod tests;
 
 /// The most units that these functions read of one sequence.
 pub const MOST_UNITS: u64 = 4_294_967_295;
+
+/// Bytes of a file that are read or written at once.
+const BUFFER_SIZE: usize = 65536;
+
+/// The words that the program was started with, its name first.
+pub fn words(rt: &HostRuntime) -> io::Result<Vec<String>> {
+    Ok(env::args(rt)?.collect(rt.alloc())?)
+}
+
+/// Writes the form of the sequence in one file to another one. Answers the number of payload units.
+pub fn normalise_file(rt: &HostRuntime, from: &str, to: &str) -> Result<u64, Fault> {
+    let input = File::open(rt, from).map_err(Fault::Reader)?;
+    let output = File::create(rt, to).map_err(Fault::Writer)?;
+    let input = BufReader::with_capacity(rt.alloc(), BUFFER_SIZE, input).map_err(Fault::Reader)?;
+    let output = BufWriter::with_capacity(rt.alloc(), BUFFER_SIZE, output).map_err(Fault::Writer)?;
+    let mut reader = Counted::new(input);
+    let mut writer = Counted::new(output);
+    let count = normalise(rt.alloc(), &mut reader, &mut writer, MOST_UNITS)?;
+    writer.flush().map_err(Fault::Writer)?;
+    Ok(count)
+}
 
 /// Takes a cache response and the sequence after it from one reader, and writes the form of the
 /// sequence. Answers the session and the number of payload units.

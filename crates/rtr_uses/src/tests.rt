@@ -1,15 +1,15 @@
 //! The uses, over units written out by hand.
 
 use super::{
-    Data, Unlisted, answer_reset, compare, list, origin, report_on, response_or_code,
-    take_response, withdrawal,
+    Data, Unlisted, answer_reset, compare, list, normalise_file, origin, report_on,
+    response_or_code, take_response, withdrawal, words,
 };
 use rtr_wire::base::Asn;
 use rtr_wire::payload::{Action, Payload};
 use rtr_wire::pdu::{Counted, ErrorCode, Fault, Header, Unit, ViewFault};
 use rtr_wire::state::{Serial, State};
-use std::io;
 use std::test::Fail;
+use std::{fs, io};
 
 /// A cache response of session 0x1234.
 const RESPONSE: &[u8] = &[2, 3, 0x12, 0x34, 0, 0, 0, 8];
@@ -68,6 +68,34 @@ fn a_response_is_taken(rt: HostRuntime) -> Result<(), Fail> {
     assert_eq!(rt; form.len(), ORIGIN.len() + END.len());
     let sequence = joined(&rt, &[ORIGIN, END])?;
     assert!(rt; compare(rt.alloc(), form.as_slice(), sequence.as_slice())?);
+    Ok(())
+}
+
+#[test]
+fn a_file_is_normalised(rt: HostRuntime) -> Result<(), Fail> {
+    let sequence = joined(&rt, &[ORIGIN, END])?;
+    fs::write(&rt, "sequence.bin", sequence.as_slice())?;
+    let count = normalise_file(&rt, "sequence.bin", "form.bin")?;
+    let form = fs::read(&rt, "form.bin")?;
+    fs::remove_file(&rt, "sequence.bin")?;
+    fs::remove_file(&rt, "form.bin")?;
+    assert_eq!(rt; count, 1);
+    assert_eq!(rt; form.len(), sequence.len());
+    assert!(rt; compare(rt.alloc(), form.as_slice(), sequence.as_slice())?);
+    Ok(())
+}
+
+#[test]
+fn a_missing_file_is_a_fault_of_reading(rt: HostRuntime) -> Result<(), Fail> {
+    let missing = normalise_file(&rt, "missing.bin", "unwritten.bin");
+    assert!(rt; matches!(&missing, Err(Fault::Reader(_))));
+    assert!(rt; fs::read(&rt, "unwritten.bin").is_err());
+    Ok(())
+}
+
+#[test]
+fn words_begin_with_the_name(rt: HostRuntime) -> Result<(), Fail> {
+    assert!(rt; !words(&rt)?.is_empty());
     Ok(())
 }
 
