@@ -18,7 +18,7 @@ use Rattle.hex.specs.declared.error.FromHexError.{FromHexError}
 use Rattle.std.specs.Result.{result_unwrap_or}
 use Rattle.hex.proofs.HexLemmas.{IsOk-decode_sized, decode_sized-encode_lower, length-encode_with}
 use Rattle.rtr_base.specs.Addresses.{Family, v4, v6, PrefixParts, MaxLenParts, IsPrefix}
-use Rattle.rtr_base.specs.Addresses.{IsMaxLenPrefix, prefix_at, width, BreaksPrefix, BreaksMaxLen}
+use Rattle.rtr_base.specs.Addresses.{IsMaxLenPrefix, prefix_of_address, width, BreaksPrefix, BreaksMaxLen}
 use Rattle.rtr_base.specs.Bytes.{be, IsBytes}
 use Rattle.rtr_base.specs.Numerals.{IsDigit, number_after, IsNumeral}
 use Rattle.rtr_base.specs.PlainTexts.{asn_text, address_text, prefix_text, dash_text, max_len_text}
@@ -133,11 +133,11 @@ is_ip v4 a = IsDotted-ipv4_text (be a 4) refl (IsBytes-be a 4)
 is_ip v6 a =
     IsColonHex-ipv6_text (segments_of (be a 16)) refl (segments_small (be a 16) (IsBytes-be a 16))
 
-is_at : (p : PrefixParts) → IsPrefix p → p ≡ prefix_at (ip_of p.family p.address) p.len
+is_at : (p : PrefixParts) → IsPrefix p → p ≡ prefix_of_address (ip_of p.family p.address) p.len
 is_at p h = at p.family p.address p.len h.address
   where
     at : (f : Family) (a l : ℕ) → a < 2 ^ width f →
-        record { family = f; address = a; len = l } ≡ prefix_at (ip_of f a) l
+        record { family = f; address = a; len = l } ≡ prefix_of_address (ip_of f a) l
     at v4 a l small = λ i. record {
       family = v4;
       address = sym (ipv4_bits-be (record { octets = be a 4 }) a small refl) i;
@@ -193,7 +193,7 @@ form_unique text p q a b =
     (subst (λ (t : List ℕ). IsIpText t a.ip) cut.0 a.address) b.address in
     let len = numeral_unique b.back p.len q.len
     (subst (λ (t : List ℕ). IsNumeral t p.len) cut.1 a.len.numeral) b.len.numeral in
-    a.value ∙ (λ i. prefix_at (ip i) (len i)) ∙ sym b.value
+    a.value ∙ (λ i. prefix_of_address (ip i) (len i)) ∙ sym b.value
 
 not_broken : (p : PrefixParts) (e : _) → IsPrefix p → ¬ BreaksPrefix p e
 not_broken p LenOverflow h b = let le = h.len in omega (arith, le, b)

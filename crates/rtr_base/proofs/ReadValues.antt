@@ -9,7 +9,7 @@ use Rattle.hex.specs.Hex.{decode_sized, is_hex_digit}
 use Rattle.hex.specs.declared.error.FromHexError.{FromHexError}
 use Rattle.hex.proofs.HexLemmas.{IsOk-decode_sized}
 use Rattle.rtr_base.specs.Addresses.{PrefixParts, MaxLenParts, IsMaxLenPrefix, BreaksMaxLen}
-use Rattle.rtr_base.specs.Addresses.{prefix_at, width}
+use Rattle.rtr_base.specs.Addresses.{prefix_of_address, width}
 use Rattle.rtr_base.specs.declared.addr.MaxLenError.{MaxLenError}
 use Rattle.rtr_base.specs.declared.addr.MaxLenError.TheVariants.{Overflow, Underflow}
 use Rattle.rtr_base.specs.Numerals.{IsDigit, IsNumeral, IsSerialText}
@@ -51,7 +51,7 @@ not_letter text n c rest high m e =
     ]
 
 pub address_and_len : (text front back : List ℕ) (ip : IpAddr) (l : ℕ) (p : PrefixParts) →
-    SplitsAt 47 text front back → IsIpText front ip → IsLenText back l → p ≡ prefix_at ip l →
+    SplitsAt 47 text front back → IsIpText front ip → IsLenText back l → p ≡ prefix_of_address ip l →
     IsAddressAndLen text p
 address_and_len text front back ip l p split address len e =
     subst (IsAddressAndLen text) (sym e) (record {

@@ -72,8 +72,8 @@ IsAddressOf p (V4 a) = (p.family ≡ v4) × (ipv4_octets a ≡ be p.address 4)
 IsAddressOf p (V6 a) = (p.family ≡ v6) × (ipv6_octets a ≡ be p.address 16)
 
 -- the address as it is, with this length
-abbrev pub prefix_at : IpAddr → ℕ → PrefixParts
-prefix_at a l = record { family = ip_family a; address = ip_number a; len = l }
+abbrev pub prefix_of_address : IpAddr → ℕ → PrefixParts
+prefix_of_address a l = record { family = ip_family a; address = ip_number a; len = l }
 
 -- why an address and a length are no prefix
 abbrev pub BreaksPrefix : PrefixParts → PrefixError → Type 0

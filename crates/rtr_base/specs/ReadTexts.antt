@@ -5,7 +5,7 @@ use Rattle.std.specs.List.{AllPass}
 use Rattle.std.specs.declared.net.ip_addr.IpAddr.{IpAddr}
 use Rattle.std.specs.Net.Grammar.{IsIpText}
 use Rattle.hex.specs.Hex.{decode_sized, is_hex_digit}
-use Rattle.rtr_base.specs.Addresses.{PrefixParts, MaxLenParts, IsPrefix, IsMaxLenPrefix, prefix_at}
+use Rattle.rtr_base.specs.Addresses.{PrefixParts, MaxLenParts, IsPrefix, IsMaxLenPrefix, prefix_of_address}
 use Rattle.rtr_base.specs.Addresses.{BreaksPrefix, BreaksMaxLen}
 use Rattle.rtr_base.specs.Numerals.{IsNumeral, IsSerialText}
 use Rattle.rtr_base.specs.declared.parse.ParseAsnError.{ParseAsnError}
@@ -50,7 +50,7 @@ pub record IsAddressAndLen (text : List ℕ) (p : PrefixParts) : Type 0 where
   pub ip : IpAddr
   pub address : IsIpText front ip
   pub len : IsLenText back p.len
-  pub value : p ≡ prefix_at ip p.len
+  pub value : p ≡ prefix_of_address ip p.len
 
 -- they are a prefix
 pub record IsPrefixText (text : List ℕ) (p : PrefixParts) : Type 0 where

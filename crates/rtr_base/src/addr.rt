@@ -9,7 +9,7 @@ ghost use Rattle.std.specs.Ordering.{eq_by_cmp, as_partial_cmp};
 ghost use Rattle.std.specs.Net.Addr.{ipv4_bits, ipv6_bits};
 ghost use Rattle.rtr_base.specs.Addresses.{v4, v6, width, cleared, v4_test, IsPrefix};
 ghost use Rattle.rtr_base.specs.Addresses.{IsMaxLenPrefix, IsAddressOf, ip_number, resolved_len};
-ghost use Rattle.rtr_base.specs.Addresses.{prefix_at, prefix_cmp, BreaksPrefix};
+ghost use Rattle.rtr_base.specs.Addresses.{prefix_of_address, prefix_cmp, BreaksPrefix};
 
 use std::cmp::Ordering;
 use std::error::Error;
@@ -72,9 +72,9 @@ impl Error for PrefixError {}
 impl Prefix {
     /// The prefix of this address and length. Host bits have to be zero.
     pub fn new(addr: IpAddr, len: u8) -> Result<Self, PrefixError>
-        ensures ok { IfOk result (λ p. p ≡ prefix_at addr len) }
+        ensures ok { IfOk result (λ p. p ≡ prefix_of_address addr len) }
         ensures valid { IfOk result IsPrefix }
-        ensures broken { IfErr result (BreaksPrefix (prefix_at addr len)) }
+        ensures broken { IfErr result (BreaksPrefix (prefix_of_address addr len)) }
     {
         match addr {
             IpAddr::V4(addr) => Prefix::new_v4(addr, len),

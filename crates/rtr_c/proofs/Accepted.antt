@@ -15,7 +15,7 @@ use Rattle.rtr_views.specs.Faults.{IsFirstFault}
 use Rattle.rtr_views.specs.declared.fault.ViewFault.{ViewFault}
 use Rattle.rtr_views.specs.declared.fault.ViewFault.TheVariants as faults
 use Rattle.rtr_wire.specs.Into.{FillsInto, RefusesVersion}
-use Rattle.rtr_wire.specs.Sequences.{AreUnits, Accepts, Written, forms, sequence_form}
+use Rattle.rtr_wire.specs.Sequences.{AreUnits, Accepts, Output, forms, sequence_form}
 use Rattle.rtr_wire.specs.declared.into.IntoFault.{IntoFault}
 use Rattle.rtr_wire.specs.declared.into.IntoFault.TheVariants.{NoRoom, TooMany, Refused}
 use Rattle.rtr_wire.specs.declared.into.Progress.{Progress}
@@ -23,7 +23,7 @@ use Rattle.rtr_wire.proofs.OneAnswer.{begins_end, no_unit, no_end}
 use Rattle.rtr_wire.proofs.Push.{forms_append, units_push}
 use Rattle.rtr_wire.proofs.Runs.{accepted_same, after as then, goes_on, kept_accepted}
 use Rattle.rtr_wire.proofs.Stepping.{Joins}
-use Rattle.rtr_c.specs.Answers.{Tells, TellsSequence, Succeeds, SucceedsOnly}
+use Rattle.rtr_c.specs.Answers.{Tells, TellsSequence, CallSucceeds, CallSucceedsOnly}
 use Rattle.rtr_c.specs.Answers.{fault_status, stop_status, run_status}
 use Rattle.rtr_c.specs.declared.answer.RtrAnswer.{RtrAnswer}
 
@@ -59,9 +59,9 @@ stop_some (Refused e) = fault_some e
 
 -- ---- a run that came to the end of data
 
-pub only : (what : Written) (limit : ℕ) (r : Result Unit IntoFault) (input before after : List ℕ)
+pub only : (what : Output) (limit : ℕ) (r : Result Unit IntoFault) (input before after : List ℕ)
     (p : Progress) (a : RtrAnswer) (code : ℕ) → FillsInto what limit r input before after p →
-    Tells p r a code → SucceedsOnly what limit input before after a code
+    Tells p r a code → CallSucceedsOnly what limit input before after a code
 only what limit (Err g) input before after p a code f t zero =
     absurd (stop_some g (sym t.answered ∙ zero))
 only what limit (Ok done) input before after p a code f t zero =
@@ -102,7 +102,7 @@ unknown version r before after p a code f t zero =
 -- ---- a run that stopped
 
 -- what was read up to a stop is kept, and an end of data comes next
-stopped : (what : Written) (limit : ℕ) (g : IntoFault) (input before after : List ℕ)
+stopped : (what : Output) (limit : ℕ) (g : IntoFault) (input before after : List ℕ)
     (p : Progress) → FillsInto what limit (Err g) input before after p → g ≢ NoRoom → (b : List ℕ)
     (ms : List Meaning) (e : EndMeaning) → Accepts input b ms e → length ms < limit → ⊥
 stopped what limit NoRoom input before after p f not b ms e acc few = not refl
@@ -144,7 +144,7 @@ front_of a r c s (m ∷ ms) (n ∷ ns) h j e l =
     (more, λ i. sym f.1 i ∷ is i)
 
 -- the form of units is as long as that of some of them, of one more and of the others
-longer : (what : Written) → Joins what → (ns : List Meaning) (m : Meaning)
+longer : (what : Output) → Joins what → (ns : List Meaning) (m : Meaning)
     (more ms : List Meaning) → ms ≡ (ns ++ m ∷ []) ++ more →
     length (forms (what.units ns)) + length (forms (what.units (m ∷ []))) ≤
     length (forms (what.units ms))
@@ -165,7 +165,7 @@ longer what joins ns m more ms is =
     )
 
 -- an output as long as the form doesn't lack room
-fitting : (what : Written) → Joins what → (limit : ℕ) (input before after : List ℕ) (p : Progress) →
+fitting : (what : Output) → Joins what → (limit : ℕ) (input before after : List ℕ) (p : Progress) →
     FillsInto what limit (Err NoRoom) input before after p → (b : List ℕ) (ms : List Meaning)
     (e : EndMeaning) → Accepts input b ms e →
     length (sequence_form (what.units ms) (what.end e)) ≤ length before → ⊥
@@ -225,10 +225,10 @@ fitting what joins limit input before after p f b ms e acc enough =
 abbrev NotNoRoom : Result Unit IntoFault → Type 0
 NotNoRoom r = r ≢ Err NoRoom
 
-pub accepted : (what : Written) → Joins what → (limit enough : ℕ) (r : Result Unit IntoFault)
+pub accepted : (what : Output) → Joins what → (limit enough : ℕ) (r : Result Unit IntoFault)
     (input before after : List ℕ) (p : Progress) (a : RtrAnswer) (code : ℕ) →
     FillsInto what limit r input before after p → Tells p r a code →
-    (enough ≤ length before → r ≢ Err NoRoom) → Succeeds what limit enough input before after a code
+    (enough ≤ length before → r ≢ Err NoRoom) → CallSucceeds what limit enough input before after a code
 accepted what joins limit enough (Err g) input before after p a code f t always b ms e acc
     few room =
     absurd (stopped what limit g input before after p f (by_room g f always) b ms e acc few)

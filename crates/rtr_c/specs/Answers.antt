@@ -13,7 +13,7 @@ use Rattle.rtr_views.specs.declared.fault.ViewFault.TheVariants.{UnitLength, Too
 use Rattle.rtr_views.specs.declared.fault.ViewFault.TheVariants.{EmptyProviders, UnitVersion}
 use Rattle.rtr_views.specs.declared.fault.ViewFault.TheVariants.{Prefix}
 use Rattle.rtr_views.specs.declared.fault.ViewFault.TheVariants as faults
-use Rattle.rtr_wire.specs.Sequences.{Accepts, Written, sequence_form}
+use Rattle.rtr_wire.specs.Sequences.{Accepts, Output, sequence_form}
 use Rattle.rtr_wire.specs.declared.into.IntoFault.{IntoFault}
 use Rattle.rtr_wire.specs.declared.into.IntoFault.TheVariants.{NoRoom, TooMany, Refused}
 use Rattle.rtr_wire.specs.declared.into.Progress.{Progress}
@@ -119,7 +119,7 @@ pub record Tells (p : Progress) (r : Result Unit IntoFault) (a : RtrAnswer) (cod
   pub answered : code ≡ run_status r
 
 -- the sequence b was taken, and the form of what is written of it stands at the front of the output
-pub record TellsSequence (what : Written) (b : List ℕ) (ms : List Meaning) (e : EndMeaning)
+pub record TellsSequence (what : Output) (b : List ℕ) (ms : List Meaning) (e : EndMeaning)
     (before after : List ℕ) (a : RtrAnswer) (code : ℕ) : Type 0 where
   pub units : a.units ≡ length ms
   pub forms : a.forms ≡ length (what.units ms)
@@ -134,16 +134,16 @@ pub record TellsSequence (what : Written) (b : List ℕ) (ms : List Meaning) (e 
 -- An input that begins with a sequence of fewer than limit units is accepted, where the output is
 -- as long as what is written, or has this many bytes, which are enough for all inputs of that
 -- length.
-abbrev pub Succeeds : Written → (limit enough : ℕ) → (input before after : List ℕ) → RtrAnswer → ℕ
+abbrev pub CallSucceeds : Output → (limit enough : ℕ) → (input before after : List ℕ) → RtrAnswer → ℕ
     → Type 0
-Succeeds what limit enough input before after a code =
+CallSucceeds what limit enough input before after a code =
     (b : List ℕ) (ms : List Meaning) (e : EndMeaning) → Accepts input b ms e → length ms < limit →
     (enough ≤ length before)
     ⊎ (length (sequence_form (what.units ms) (what.end e)) ≤ length before) →
     TellsSequence what b ms e before after a code
 
 -- no other input is
-abbrev pub SucceedsOnly : Written → ℕ → (input before after : List ℕ) → RtrAnswer → ℕ → Type 0
-SucceedsOnly what limit input before after a code =
+abbrev pub CallSucceedsOnly : Output → ℕ → (input before after : List ℕ) → RtrAnswer → ℕ → Type 0
+CallSucceedsOnly what limit input before after a code =
     code ≡ accepted → (b : List ℕ) × (ms : List Meaning) × (e : EndMeaning) × Accepts input b ms e
     × (length ms < limit) × TellsSequence what b ms e before after a code

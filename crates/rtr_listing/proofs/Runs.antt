@@ -18,7 +18,7 @@ use Rattle.rtr_units.specs.Stream.{ReaderState, WriterState, reader_count, write
 use Rattle.rtr_session.specs.AnyFields.{AnyFields, HasAnyFields, any_list}
 use Rattle.rtr_session.specs.AnyReading.{HasEnded, StopsInAny}
 use Rattle.rtr_listing.specs.PrivateFollowing.{HasSeen}
-use Rattle.rtr_listing.specs.Listing.{AreUnits, BreaksOff, Ends, Lists, Printed, UnitLines}
+use Rattle.rtr_listing.specs.Listing.{AreAnyUnits, BreaksOff, ListingEnds, Lists, Printed, UnitLines}
 use Rattle.rtr_listing.specs.Listing.{offset_of, tells_broken, units_bytes}
 use Rattle.rtr_listing.specs.PrivateLines.{HasChecked, PrintsBytes, offset_after}
 use Rattle.rtr_listing.specs.declared.check.Checker.{Checker}
@@ -35,7 +35,7 @@ Counted answer old new before after =
 pub record SoFar (what : Wanted) (found : Bool) (n offset : ℕ) (checker : Checker)
     (old new held holds : Option (List ℕ)) : Type 0 where
   pub units : List AnyFields
-  pub are_units : AreUnits units
+  pub are_units : AreAnyUnits units
   pub took : Consumes old new (units_bytes units)
   pub counted : length units ≡ n
   pub lines : List (List ℕ)
@@ -159,7 +159,7 @@ ends what found n offset checker old new before after b p ended reads writes = r
 
 ends_stopped : (what : Wanted) (c : Cause) (units : List AnyFields) (t : List ℕ) →
     (left : Option (List ℕ)) (lines : List (List ℕ)) → Printed what units lines →
-    StopsInAny c t left → Ends what (Err c) units t left (concat lines)
+    StopsInAny c t left → ListingEnds what (Err c) units t left (concat lines)
 ends_stopped what by_reader units t left lines p stops = (stops, (lines, p, refl))
 ends_stopped what by_writer units t left lines p stops = absurd stops
 ends_stopped what too_many units t left lines p stops = absurd stops
@@ -188,7 +188,7 @@ stops_reading what found n offset checker e old new before after b p (t, took, s
 ends_broken : (what : Wanted) (c : Cause) (f : AnyFields) (units : List AnyFields) →
     (left : Option (List ℕ)) (earlier last : List (List ℕ)) (part : List ℕ) →
     Printed what units earlier → UnitLines what (offset_of units) units f last →
-    BreaksOff c last part → Ends what (Err c) (f ∷ units) [] left (concat earlier ++ part)
+    BreaksOff c last part → ListingEnds what (Err c) (f ∷ units) [] left (concat earlier ++ part)
 ends_broken what by_reader f units left earlier last part p q stops = absurd stops
 ends_broken what by_writer f units left earlier last part p q stops =
     (refl, (earlier, last, part, p, q, stops, refl))

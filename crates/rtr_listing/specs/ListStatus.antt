@@ -9,18 +9,18 @@ use Rattle.rtr_listing.specs.declared.run.Wanted.{Wanted}
 
 -- the status by the answer, where the flush after it succeeded: 0 at the end of the input where no
 -- rule was found broken, 1 where one was and at a fault of the input, 3 otherwise
-abbrev pub status_of : Result Bool Cause → ℕ
-status_of (Ok false) = 0
-status_of (Ok true) = 1
-status_of (Err by_reader) = 3
-status_of (Err by_writer) = 3
-status_of (Err too_many) = 3
-status_of (Err no_memory) = 3
-status_of (Err (wrong fault)) = 1
+abbrev pub listing_status : Result Bool Cause → ℕ
+listing_status (Ok false) = 0
+listing_status (Ok true) = 1
+listing_status (Err by_reader) = 3
+listing_status (Err by_writer) = 3
+listing_status (Err too_many) = 3
+listing_status (Err no_memory) = 3
+listing_status (Err (wrong fault)) = 1
 
 -- the status by the answer, and by whether the flush after it succeeded
 abbrev pub status_after : Result Bool Cause → Bool → ℕ
-status_after answer true = status_of answer
+status_after answer true = listing_status answer
 status_after answer false = 3
 
 -- a run of what is asked for, then one flush of the output, and both decide the status

@@ -31,8 +31,8 @@ units_bytes [] = []
 units_bytes (newest ∷ before) = units_bytes before ++ any_list newest
 
 -- the fields of each fit their places
-abbrev pub AreUnits : List AnyFields → Type 0
-AreUnits = AllByRecursion (λ unit. HasAnyFields (any_list unit) unit)
+abbrev pub AreAnyUnits : List AnyFields → Type 0
+AreAnyUnits = AllByRecursion (λ unit. HasAnyFields (any_list unit) unit)
 
 -- ---- their lines
 
@@ -109,32 +109,32 @@ PrintsAll what units written =
     (lines : List (List ℕ)) × Printed what units lines × (written ≡ concat lines)
 
 -- and they tell of a broken rule, or don't
-abbrev pub Tells : Wanted → Bool → List AnyFields → List ℕ → Type 0
-Tells what found units written = (lines : List (List ℕ)) × Printed what units lines
+abbrev pub PrintsToTheEnd : Wanted → Bool → List AnyFields → List ℕ → Type 0
+PrintsToTheEnd what found units written = (lines : List (List ℕ)) × Printed what units lines
     × (written ≡ concat lines) × (found ≡ tells_broken what lines)
 
 -- How a run ended, by the answer: which bytes it took after the units, what it left of the input,
 -- and what it wrote.
-abbrev pub Ends : Wanted → Result Bool Cause → List AnyFields → List ℕ → Option (List ℕ) →
+abbrev pub ListingEnds : Wanted → Result Bool Cause → List AnyFields → List ℕ → Option (List ℕ) →
     List ℕ → Type 0
 -- at the end of the input
-Ends what (Ok found) units rest left written =
-    (rest ≡ []) × IsAtEnd left × Tells what found units written
+ListingEnds what (Ok found) units rest left written =
+    (rest ≡ []) × IsAtEnd left × PrintsToTheEnd what found units written
 -- by the reader's error, inside a unit or before one
-Ends what (Err by_reader) units rest left written =
+ListingEnds what (Err by_reader) units rest left written =
     StopsInAny by_reader rest left × PrintsAll what units written
 -- by the writer's error, inside a line
-Ends what (Err by_writer) units rest left written =
+ListingEnds what (Err by_writer) units rest left written =
     (rest ≡ []) × PrintsPart what by_writer units written
 -- at the most units that are read
-Ends what (Err too_many) units rest left written =
+ListingEnds what (Err too_many) units rest left written =
     (length units ≡ 2 ^ 64 - 1) × (rest ≡ []) × PrintsAll what units written
 -- for want of memory, for the newest unit's lines or for a unit, inside which reading stopped then
-Ends what (Err no_memory) units rest left written =
+ListingEnds what (Err no_memory) units rest left written =
     ((rest ≡ []) × PrintsPart what no_memory units written)
     ⊎ (StopsInAny no_memory rest left × PrintsAll what units written)
 -- at a fault of the input
-Ends what (Err (wrong fault)) units rest left written =
+ListingEnds what (Err (wrong fault)) units rest left written =
     StopsInAny (wrong fault) rest left × PrintsAll what units written
 
 -- The whole promise of a run: `old` and `new` are what the reader has before and after it, `before`
@@ -144,12 +144,12 @@ pub record Lists (what : Wanted) (answer : Result Bool Fault) (old new : ReaderS
   -- it took units, the newest first here, and then some bytes
   pub units : List AnyFields
   pub rest : List ℕ
-  pub are_units : AreUnits units
+  pub are_units : AreAnyUnits units
   pub takes : Consumes old.left new.left (units_bytes units ++ rest)
   -- it wrote their lines
   pub written : List ℕ
   pub writes : Appends before.held after.held written
-  pub ends : Ends what (by_cause answer) units rest new.left written
+  pub ends : ListingEnds what (by_cause answer) units rest new.left written
   -- the reader is blamed exactly where its count of failures rose, and the writer where its count
   -- did
   pub reader_failures : new.failed ≡ reader_count (by_cause answer) old.failed

@@ -5,8 +5,8 @@ ghost use Rattle.std.specs.Process.{exit_status};
 ghost use Rattle.rtr_units.specs.StopCauses.{by_cause};
 ghost use Rattle.rtr_listing.specs.PrivateFollowing.{HasSeen};
 ghost use Rattle.rtr_listing.specs.Listing.{Lists};
-ghost use Rattle.rtr_listing.specs.ListStatus.{Runs, status_of};
-ghost use Rattle.rtr_listing.specs.ListWords.{asked, asked_word};
+ghost use Rattle.rtr_listing.specs.ListStatus.{Runs, listing_status};
+ghost use Rattle.rtr_listing.specs.ListWords.{wanted_by_words, wanted_by_word};
 
 use crate::printer::Printer;
 use rtr_session::AnyUnit;
@@ -39,13 +39,13 @@ pub fn program<R: Source, W: Sink, F: Write>(
     ensures no_words { IsNone words →
         (exit_status result ≡ 2) × (input.new ≡ input.old) × (output.new ≡ output.old) }
     // Nor is it with words after the program's name that ask for nothing.
-    ensures usage { IfSome words (λ all. asked (drop 1 all.items) ≡ None →
+    ensures usage { IfSome words (λ all. wanted_by_words (drop 1 all.items) ≡ None →
         (exit_status result ≡ 2) × (input.new ≡ input.old) × (output.new ≡ output.old)) }
     // Where it succeeds no line is printed on `faults`.
     ensures quiet { exit_status result ≡ 0 → faults.new ≡ faults.old }
     // Otherwise what they ask for is printed of the input, and then the output flushed once, of
     // which a clause sees a failure alone.
-    ensures lists { IfSome words (λ all. IfSome (asked (drop 1 all.items)) (λ what.
+    ensures lists { IfSome words (λ all. IfSome (wanted_by_words (drop 1 all.items)) (λ what.
         Runs what (exit_status result)
         (R.state input.old) (R.state input.new) (W.state output.old) (W.state output.new))) }
 {
@@ -76,7 +76,7 @@ pub enum Wanted {
 
 /// What the words after the program's name ask for.
 fn form_wanted(words: &[String]) -> Option<Wanted>
-    ensures { result ≡ asked words.now }
+    ensures { result ≡ wanted_by_words words.now }
 {
     match words {
         [] => Some(Wanted::Text),
@@ -87,7 +87,7 @@ fn form_wanted(words: &[String]) -> Option<Wanted>
 
 /// What the word asks for.
 fn form_named(word: &str) -> Option<Wanted>
-    ensures { result ≡ asked_word word.now }
+    ensures { result ≡ wanted_by_word word.now }
 {
     match word {
         "--json" => Some(Wanted::Json),
@@ -109,13 +109,13 @@ pub fn run<R: Source, W: Sink, F: Write>(
     faults: &mut F,
 ) -> u8
     // With words that ask for nothing, nothing is read or written.
-    ensures usage { asked args.now ≡ None →
+    ensures usage { wanted_by_words args.now ≡ None →
         (result ≡ 2) × (input.new ≡ input.old) × (output.new ≡ output.old) }
     // Where it succeeds no line is printed on `faults`.
     ensures quiet { result ≡ 0 → faults.new ≡ faults.old }
     // Otherwise what they ask for is printed of the input, and then the output flushed once, of
     // which a clause sees a failure alone.
-    ensures lists { IfSome (asked args.now) (λ what. Runs what result
+    ensures lists { IfSome (wanted_by_words args.now) (λ what. Runs what result
         (R.state input.old) (R.state input.new) (W.state output.old) (W.state output.new)) }
 {
     let Some(wanted) = form_wanted(args) else {
@@ -145,7 +145,7 @@ fn usage<F: Write>(faults: &mut F) -> u8
 /// Prints the fault, where there is one, with the place of its unit where it is the input's, and
 /// answers the status to end with.
 fn tell<F: Write>(answer: Result<bool, Fault>, offset: u64, faults: &mut F) -> u8
-    ensures status { result ≡ status_of (by_cause answer) }
+    ensures status { result ≡ listing_status (by_cause answer) }
     ensures quiet { result ≡ 0 → faults.new ≡ faults.old }
 {
     let fault = match answer {

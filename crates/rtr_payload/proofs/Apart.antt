@@ -4,12 +4,12 @@ use Rattle.std.proofs.Common.{Some, None, refl, sym, ap, ◌∙◌, arith}
 use Rattle.rtr_base.specs.declared.payload.Timing.{Timing}
 use Rattle.rtr_base.specs.Actions.{flags_of}
 use Rattle.rtr_base.specs.Addresses.{Family, v4, v6}
-use Rattle.rtr_units.specs.End.{EndMeaning, End, end_list, timed_list}
+use Rattle.rtr_units.specs.End.{EndMeaning, IsEnd, end_list, timed_list}
 use Rattle.rtr_units.specs.Header.{type_field}
 use Rattle.rtr_units.specs.PrefixUnits.{prefix_type}
 use Rattle.rtr_payload.specs.Payloads.{Meaning}
 use Rattle.rtr_payload.specs.Units.{Fields, prefix_unit, key_unit, aspa_unit}
-use Rattle.rtr_payload.specs.Units.{unit_list, written, IsUnit, form_of}
+use Rattle.rtr_payload.specs.Units.{unit_list, written_fields, IsUnit, form_of}
 use Rattle.rtr_payload.specs.FirstFault.{BeginsUnit, BeginsEnd}
 
 fields_type : (u : Fields) (r : List ℕ) → type_field (unit_list u ++ r) ≢ 7
@@ -38,7 +38,7 @@ end_type r h =
 pub begins_apart : (r : List ℕ) → BeginsUnit r → BeginsEnd r → ⊥
 begins_apart r h j = unit_type r h (end_type r j)
 
-pub unit_or_end : (a b r s : List ℕ) (m : Meaning) (e : EndMeaning) → IsUnit a m → End b e →
+pub unit_or_end : (a b r s : List ℕ) (m : Meaning) (e : EndMeaning) → IsUnit a m → IsEnd b e →
     a ++ r ≡ b ++ s → ⊥
 unit_or_end a b r s m e h j eq =
     begins_apart (a ++ r) (record { bytes = a; means = m; rest = r; unit = h; parts = refl })
@@ -47,5 +47,5 @@ unit_or_end a b r s m e h j eq =
 pub form_or_end : (m : Meaning) (e : EndMeaning) (r s : List ℕ) →
     form_of m ++ r ≡ end_list e ++ s → ⊥
 form_or_end m e r s eq =
-    fields_type (written m.version (flags_of m.action) m.payload) r
+    fields_type (written_fields m.version (flags_of m.action) m.payload) r
     (ap type_field eq ∙ timed_type e.version e.session e.serial e.timing s)

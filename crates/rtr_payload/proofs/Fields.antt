@@ -18,7 +18,7 @@ use Rattle.rtr_payload.specs.Payloads.{Payload, origin, key, aspa, Meaning, IsPa
 use Rattle.rtr_base.specs.Actions.{act}
 use Rattle.rtr_payload.specs.Units.{Fields, prefix_unit, key_unit, aspa_unit, unit_list, Fit}
 use Rattle.rtr_payload.specs.Units.{WithinLimits, LengthsAgree, IsUnit}
-use Rattle.rtr_payload.specs.Units.{meaning, written, form, form_of, stripped}
+use Rattle.rtr_payload.specs.Units.{meaning, written_fields, form, form_of, stripped}
 use Rattle.rtr_payload.specs.AspaUnits.{AspaParts, IsAspa, AspaFields, aspa_list}
 use Rattle.rtr_payload.specs.AspaUnits.{named, HasProviders, meant_aspa}
 use Rattle.rtr_payload.specs.KeyUnits.{IsKey, KeyFields, key_list}
@@ -185,7 +185,7 @@ fields_same (aspa_unit u) (key_unit w) r t h j e = absurd (let d : _ ≡ _ = byt
 pub lists_same : (u w : Fields) → Fit u → Fit w → unit_list u ≡ unit_list w → u ≡ w
 lists_same u w h j e = (fields_same u w [] [] h j (ap (λ (l : List ℕ). l ++ []) e)).0
 
-pub Fit-written : (v f : ℕ) (p : Payload) → IsPayload p → Fit (written v f p)
+pub Fit-written : (v f : ℕ) (p : Payload) → IsPayload p → Fit (written_fields v f p)
 Fit-written v f (origin o) h = (omega arith, h.address, h.asn)
 Fit-written v f (key k) h = h
 Fit-written v f (aspa a) h = h
@@ -207,13 +207,13 @@ flags_of_fields (key_unit u) = u.flags
 flags_of_fields (aspa_unit u) = u.flags
 
 written_parts : (v f : ℕ) (p : Payload) →
-    (version_of (written v f p) ≡ v) × (flags_of_fields (written v f p) ≡ f)
-    × (parts_of (written v f p) ≡ p)
+    (version_of (written_fields v f p) ≡ v) × (flags_of_fields (written_fields v f p) ≡ f)
+    × (parts_of (written_fields v f p) ≡ p)
 written_parts v f (origin o) = (refl, refl, refl)
 written_parts v f (key k) = (refl, refl, refl)
 written_parts v f (aspa a) = (refl, refl, refl)
 
-pub written_same : (v f w g : ℕ) (p q : Payload) → written v f p ≡ written w g q →
+pub written_same : (v f w g : ℕ) (p q : Payload) → written_fields v f p ≡ written_fields w g q →
     (v ≡ w) × (f ≡ g) × (p ≡ q)
 written_same v f w g p q e =
     let h = written_parts v f p in
@@ -227,7 +227,7 @@ pub form_same : (v f : ℕ) (p q : Payload) → IsPayload p → IsPayload q → 
     p ≡ q
 form_same v f p q hp hq e =
     (written_same v f v f p q
-    (lists_same (written v f p) (written v f q) (Fit-written v f p hp) (Fit-written v f q hq) e)).2
+    (lists_same (written_fields v f p) (written_fields v f q) (Fit-written v f p hp) (Fit-written v f q hq) e)).2
 
 flags_same : (a b : Action) → flags_of a ≡ flags_of b → a ≡ b
 flags_same Announce Announce e = refl
@@ -237,8 +237,8 @@ flags_same a b e = absurd (omega arith)
 pub forms_same : (m n : Meaning) (r s : List ℕ) → IsPayload m.payload → IsPayload n.payload →
     form_of m ++ r ≡ form_of n ++ s → (m ≡ n) × (r ≡ s)
 forms_same m n r s hm hn e =
-    let t = fields_same (written m.version (flags_of m.action) m.payload)
-    (written n.version (flags_of n.action) n.payload) r s (Fit-written _ _ m.payload hm)
+    let t = fields_same (written_fields m.version (flags_of m.action) m.payload)
+    (written_fields n.version (flags_of n.action) n.payload) r s (Fit-written _ _ m.payload hm)
     (Fit-written _ _ n.payload hn) e in
     let w = written_same m.version (flags_of m.action) n.version (flags_of n.action) m.payload
     n.payload t.0 in
@@ -257,7 +257,7 @@ cleared_none : (w l a : ℕ) → a % 2 ^ (w - l) ≡ 0 → cleared w l a ≡ a
 cleared_none w l a h = omega arith
 
 pub meaning-written : (v f : ℕ) (p : Payload) → IsPayload p →
-    meaning (written v f p) ≡ record { version = v; action = act f; payload = stripped (act f) p }
+    meaning (written_fields v f p) ≡ record { version = v; action = act f; payload = stripped (act f) p }
 meaning-written v f (origin o) h =
     ap
     (λ (b : ℕ). record { version = v; action = act f; payload = origin (record o { address = b }) })
@@ -316,19 +316,19 @@ HasProviders-named Announce ps h = h
 HasProviders-named Withdraw ps h = tt
 
 limits_again : (u : Fields) → WithinLimits u →
-    WithinLimits (written (meaning u).version (flags_of (meaning u).action) (meaning u).payload)
+    WithinLimits (written_fields (meaning u).version (flags_of (meaning u).action) (meaning u).payload)
 limits_again (prefix_unit u) h = tt
 limits_again (key_unit u) h = h
 limits_again (aspa_unit u) h = HasProviders-named (act u.flags) u.aspa.providers h
 
 lengths_again : (u : Fields) → LengthsAgree u →
-    LengthsAgree (written (meaning u).version (flags_of (meaning u).action) (meaning u).payload)
+    LengthsAgree (written_fields (meaning u).version (flags_of (meaning u).action) (meaning u).payload)
 lengths_again (prefix_unit u) h = h
 lengths_again (key_unit u) h = tt
 lengths_again (aspa_unit u) h = tt
 
 form_means : (m : Meaning) → IsPayload m.payload → stripped m.action m.payload ≡ m.payload →
-    meaning (written m.version (flags_of m.action) m.payload) ≡ m
+    meaning (written_fields m.version (flags_of m.action) m.payload) ≡ m
 form_means m h e =
     let a = act_again m.action in
     meaning-written m.version (flags_of m.action) m.payload h
@@ -378,7 +378,7 @@ form_bytes (aspa_unit u) h =
 pub form_is_unit : (b : List ℕ) (m : Meaning) → IsUnit b m → IsUnit (form_of m) m
 form_is_unit b m h = rw h.means (record {
   fields =
-      written (meaning h.fields).version (flags_of (meaning h.fields).action)
+      written_fields (meaning h.fields).version (flags_of (meaning h.fields).action)
       (meaning h.fields).payload;
   shape = record {
     fits = Fit-written _ _ _ (meaning_fits h.fields h.fits h.lengths);

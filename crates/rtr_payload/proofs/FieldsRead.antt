@@ -24,7 +24,7 @@ use Rattle.rtr_payload.specs.Meanings.{origin_of}
 use Rattle.rtr_payload.specs.Payloads.{Payload, IsPayload}
 use Rattle.rtr_payload.specs.RouteOrigins.{PrefixFits}
 use Rattle.rtr_payload.specs.Units.{Fields, prefix_unit, key_unit, aspa_unit, fields_like}
-use Rattle.rtr_payload.specs.Units.{unit_list, Fit, HasFields, form, written}
+use Rattle.rtr_payload.specs.Units.{unit_list, Fit, HasFields, form, written_fields}
 
 -- ---- the fields of a unit's list are those of the unit
 
@@ -83,9 +83,9 @@ fields_read (aspa_unit u) h = ap aspa_unit (aspa_read u h)
 
 -- bytes that are a form have the fields that were written
 pub form_fields : (u : List ℕ) (v f : ℕ) (p : Payload) → IsPayload p → u ≡ form v f p →
-    fields_like (written v f p) u ≡ written v f p
+    fields_like (written_fields v f p) u ≡ written_fields v f p
 form_fields u v f p h e =
-    ap (fields_like (written v f p)) e ∙ fields_read (written v f p) (Fit-written v f p h)
+    ap (fields_like (written_fields v f p)) e ∙ fields_read (written_fields v f p) (Fit-written v f p h)
 
 -- the parts of an origin are in their ranges
 pub IsOrigin-of : (o : RouteOrigin) → IsMaxLenPrefix o.prefix → o.asn < 2 ^ 32 →

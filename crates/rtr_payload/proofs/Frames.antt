@@ -14,7 +14,7 @@ use Rattle.rtr_base.specs.Addresses.{Family, v4, v6, width}
 use Rattle.rtr_base.specs.Bytes.{be, value}
 use Rattle.rtr_base.proofs.Numbers.{length-words, value-be}
 use Rattle.rtr_units.specs.StopCauses.{Refusal, short}
-use Rattle.rtr_units.specs.End.{EndMeaning, End, HasTimingOf, timed_list}
+use Rattle.rtr_units.specs.End.{EndMeaning, IsEnd, HasTimingOf, timed_list}
 use Rattle.rtr_units.specs.PrefixUnits.{PrefixFields, prefix_type, prefix_size, prefix_list}
 use Rattle.rtr_units.specs.Header.{type_field, length_field}
 use Rattle.rtr_units.proofs.Headers.{same_header}
@@ -219,7 +219,7 @@ pub shape_cut : (b r : List ℕ) (u : Fields) → HasFields b u →
     (frame_fault (b ++ r) ≡ None) × (first_unit (b ++ r) ≡ b)
 shape_cut b r u h = whole_front b r (shape_whole b u h)
 
-pub end_cut : (b r : List ℕ) (e : EndMeaning) → End b e →
+pub end_cut : (b r : List ℕ) (e : EndMeaning) → IsEnd b e →
     (frame_fault (b ++ r) ≡ None) × (first_unit (b ++ r) ≡ b)
 end_cut b r e h =
     whole_front b r
@@ -230,7 +230,7 @@ end_lengths : (v s q : ℕ) (t : Option Timing) →
 end_lengths v s q None = refl
 end_lengths v s q (Some t) = refl
 
-pub end_fault : (b r : List ℕ) (e : EndMeaning) → End b e → first_fault (b ++ r) ≡ None
+pub end_fault : (b r : List ℕ) (e : EndMeaning) → IsEnd b e → first_fault (b ++ r) ≡ None
 end_fault b r e h =
     let w : Whole b =
     subst Whole (sym h.bytes) (end_whole e.version e.session e.serial e.timing h.fits.timing) in

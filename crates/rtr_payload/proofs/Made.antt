@@ -10,7 +10,7 @@ use Rattle.rtr_units.specs.Header.{version_field}
 use Rattle.rtr_payload.specs.Payloads.{Payload, origin, key, aspa, Meaning, IsPayload}
 use Rattle.rtr_payload.specs.FirstFault.{rule_of}
 use Rattle.rtr_payload.specs.Units.{Fields, prefix_unit, key_unit, aspa_unit}
-use Rattle.rtr_payload.specs.Units.{LengthsAgree, meaning, written, stripped}
+use Rattle.rtr_payload.specs.Units.{LengthsAgree, meaning, written_fields, stripped}
 use Rattle.rtr_payload.specs.UnitBytes.{IsWritten, unit_bytes, unit_fields, flags_in, MeansPayload}
 use Rattle.rtr_payload.specs.UnitBytes.{NeedsMemory, HasNoPayload, IsPrefixUnit}
 use Rattle.rtr_payload.specs.Meanings.{payload_of}
@@ -32,7 +32,7 @@ flags_read (V6 u) = refl
 flags_read (RouterKey u) = refl
 flags_read (Aspa u) = refl
 
-flags_there : (v f : ℕ) (p : Payload) → flags_among (written v f p) ≡ f
+flags_there : (v f : ℕ) (p : Payload) → flags_among (written_fields v f p) ≡ f
 flags_there v f (origin o) = refl
 flags_there v f (key k) = refl
 flags_there v f (aspa a) = refl
@@ -51,7 +51,7 @@ made_means v f p u a q valid h m =
     )
 
 -- a form keeps the rule on the lengths of a prefix
-lengths_kept : (v f : ℕ) (p : Payload) → IsPayload p → LengthsAgree (written v f p)
+lengths_kept : (v f : ℕ) (p : Payload) → IsPayload p → LengthsAgree (written_fields v f p)
 lengths_kept v f (origin o) h = h.lengths
 lengths_kept v f (key k) h = tt
 lengths_kept v f (aspa a) h = tt
@@ -59,7 +59,7 @@ lengths_kept v f (aspa a) h = tt
 no_rule : (v f : ℕ) (p : Payload) (u : Unit) → IsPayload p → IsWritten v f p u →
     rule_of (unit_fields u) ≡ None
 no_rule v f p u valid h =
-    ap rule_of h.fields ∙ agree_kept (written v f p) (lengths_kept v f p valid)
+    ap rule_of h.fields ∙ agree_kept (written_fields v f p) (lengths_kept v f p valid)
 
 not_some : {A : Type 0} (o : Option A) → o ≡ None → IsSome o → ⊥
 not_some None e h = absurd cc

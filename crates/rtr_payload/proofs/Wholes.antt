@@ -12,7 +12,7 @@ use Rattle.rtr_payload.specs.UnitKinds.{variable_unit}
 use Rattle.rtr_payload.specs.Providers.{AreProviderBytes}
 use Rattle.rtr_payload.specs.declared.pdu.key_info.TheConstants.{MAX_LEN as MOST}
 use Rattle.rtr_payload.proofs.ProviderBytes.{provider_bytes_of}
-use Rattle.rtr_units.specs.End.{EndMeaning, End, untimed_meaning, timed_meaning}
+use Rattle.rtr_units.specs.End.{EndMeaning, IsEnd, untimed_meaning, timed_meaning}
 use Rattle.rtr_units.specs.PrefixUnits.{prefix_type, prefix_size}
 use Rattle.rtr_units.specs.Header.{version_field, type_field, length_field}
 use Rattle.rtr_units.proofs.EndsRead.{untimed_has, timed_has}
@@ -107,7 +107,7 @@ aspa_whole b h w t =
     aspa_has b h (omega (arith, w.size)) (omega (arith, w.size)) (rw (← w.size) n.2)
     (λ e. n.3 (w.size ∙ e)) t w.size
 
-pub end_whole : (b : List ℕ) → IsBytes b → Whole b → type_field b ≡ 7 → (e : EndMeaning) × End b e
+pub end_whole : (b : List ℕ) → IsBytes b → Whole b → type_field b ≡ 7 → (e : EndMeaning) × IsEnd b e
 end_whole b h w t =
     elim (end_said (version_field b) (get_or b 2 0) (length_field b) (step_of b 7 w t)) [
       | inl x ↦ (untimed_meaning b, untimed_has b h x.0 t (sym w.size ∙ x.1) x.1)
@@ -115,7 +115,7 @@ end_whole b h w t =
     ]
 
 pub whole_is : (b : List ℕ) → IsBytes b → Whole b →
-    ((u : Fields) × HasFields b u) ⊎ ((e : EndMeaning) × End b e)
+    ((u : Fields) × HasFields b u) ⊎ ((e : EndMeaning) × IsEnd b e)
 whole_is b h w =
     elim (kinds (version_field b) (type_field b) (get_or b 2 0) (length_field b) w.in_order) [
       | inl x ↦ inl (prefix_unit (prefix_at x.0 b), prefix_whole x.0 b h w x.1)

@@ -12,7 +12,7 @@ use Rattle.std.specs.Prelude.{codes, ◌≡◌, ℕ, ◌%◌, Bool, not, ◌&&�
 use Rattle.std.specs.Prelude.{slice_index, Option, Some, None, nat_lt, nat_le, ◌==◌, if◌then◌else◌}
 use Rattle.rtr_base.specs.Addresses.{width, v4, v6}
 use Rattle.rtr_units.specs.Header.{version_field, type_field, length_field}
-use Rattle.rtr_units.specs.End.{EndMeaning, End}
+use Rattle.rtr_units.specs.End.{EndMeaning, IsEnd}
 use Rattle.rtr_units.specs.Report.{report}
 use Rattle.rtr_units.specs.StopCauses.{Refusal, short, unit_type, unit_version, too_long}
 use Rattle.rtr_units.specs.StopCauses.{unit_length}
@@ -25,8 +25,8 @@ use Rattle.rtr_payload.specs.declared.pdu.prefix_rule.PrefixRule.TheVariants.{Ma
 use Rattle.rtr_payload.specs.declared.pdu.prefix_rule.PrefixRule.TheVariants.{MaxUnderflow}
 
 -- prefixes, ends of data, router keys (RFC 8210 sections 5.6 to 5.8 and 5.10) and ASPA units
-abbrev pub is_known : ℕ → Bool
-is_known t = (t == 4) || (t == 6) || (t == 7) || (t == 9) || (t == 11)
+abbrev pub is_payload_or_end : ℕ → Bool
+is_payload_or_end t = (t == 4) || (t == 6) || (t == 7) || (t == 9) || (t == 11)
 
 -- the length field n suits the type t and the version v: the sizes of RFC 8210 sections 5.6 to 5.8
 -- and 5.10, and four bytes for each provider
@@ -48,7 +48,7 @@ broken_rule width prefix_len max_len = if nat_lt width prefix_len then Some LenO
 -- steps 2 to 6, by the version v, the type t, byte 2 and the length field n
 unfoldable pub header_fault : ℕ → ℕ → ℕ → ℕ → Option Refusal
 header_fault v t g n =
-    if not (is_known t) then Some (unit_type t)
+    if not (is_payload_or_end t) then Some (unit_type t)
     else if (t == 7) && nat_lt 2 v then Some (unit_version v)
     else if ((t == 9) || (t == 11)) && nat_lt 65535 n then Some too_long
     else if not (suits t v n) then Some unit_length
@@ -141,5 +141,5 @@ pub record BeginsEnd (r : List ℕ) : Type 0 where
   pub bytes : List ℕ
   pub means : EndMeaning
   pub rest : List ℕ
-  pub end : End bytes means
+  pub end : IsEnd bytes means
   pub parts : r ≡ bytes ++ rest

@@ -26,7 +26,7 @@ IsRefusedBy fault (wrong f) = fault ≡ Some f
 IsRefusedBy fault c = ⊥
 
 -- a report, or no memory for it
-abbrev pub IsReport : Cause → List ℕ → Type 0
-IsReport (wrong (refused r)) report = r ≡ report
-IsReport no_memory report = Unit {0}
-IsReport c report = ⊥
+abbrev pub AnswersReport : Cause → List ℕ → Type 0
+AnswersReport (wrong (refused r)) report = r ≡ report
+AnswersReport no_memory report = Unit {0}
+AnswersReport c report = ⊥

@@ -6,7 +6,7 @@ use Rattle.std.specs.Prelude.{IsSome}
 use Rattle.rtr_base.specs.Addresses.{v4, v6}
 use Rattle.rtr_base.specs.declared.payload.Action.{Action}
 use Rattle.rtr_units.specs.StopCauses.{refused, Cause, no_memory, wrong}
-use Rattle.rtr_units.specs.End.{End}
+use Rattle.rtr_units.specs.End.{IsEnd}
 use Rattle.rtr_units.specs.Header.{version_field}
 use Rattle.rtr_units.specs.PrefixUnits.{ipv4_bytes, ipv6_bytes, prefix_at}
 use Rattle.rtr_units.specs.AnyEnd.{end_bytes, end_meaning}
@@ -15,7 +15,7 @@ use Rattle.rtr_payload.specs.AspaUnits.{aspa_at}
 use Rattle.rtr_payload.specs.KeyUnits.{key_at}
 use Rattle.rtr_payload.specs.FirstFault.{rule_of, refusal_report}
 use Rattle.rtr_payload.specs.Units.{Fields, prefix_unit, key_unit, aspa_unit, HasFields}
-use Rattle.rtr_payload.specs.Units.{LengthsAgree, form, meaning, written}
+use Rattle.rtr_payload.specs.Units.{LengthsAgree, form, meaning, written_fields}
 use Rattle.rtr_payload.specs.Meanings.{payload_of}
 use Rattle.rtr_payload.specs.declared.pdu.prefix_rule.PrefixRule.{PrefixRule}
 use Rattle.rtr_payload.specs.declared.payload.Payload.{Payload as Value}
@@ -43,7 +43,7 @@ unit_fields (units.Aspa u) = aspa_unit (aspa_at u)
 -- its fields.
 pub record IsWritten (v f : ℕ) (p : Meant) (u : Payload) : Type 0 where
   pub bytes : unit_bytes u ≡ form v f p
-  pub fields : unit_fields u ≡ written v f p
+  pub fields : unit_fields u ≡ written_fields v f p
 
 -- the bytes of what is read where a payload unit or an end of data may stand
 abbrev pub answer_bytes : Result (Option Payload) EndOfData → List ℕ
@@ -55,7 +55,7 @@ answer_bytes (Err d) = end_bytes d
 abbrev pub IsAnswer : Result (Option Payload) EndOfData → Type 0
 IsAnswer (Ok (Some u)) = HasFields (unit_bytes u) (unit_fields u)
 IsAnswer (Ok None) = ⊥
-IsAnswer (Err d) = End (end_bytes d) (end_meaning d)
+IsAnswer (Err d) = IsEnd (end_bytes d) (end_meaning d)
 
 -- an origin whose max length was given
 abbrev pub HasMaxLen : Value → Type 0

@@ -92,15 +92,15 @@ pub record IsUnit (b : List ℕ) (m : Meaning) : Type 0 where
 
 -- the fields of the written form with this version and these flags: the session and the free byte
 -- are zero (RFC 8210 section 5.1: a sender sets what is free to zero)
-abbrev pub written : (version flags : ℕ) → Payload → Fields
-written v f (origin o) =
+abbrev pub written_fields : (version flags : ℕ) → Payload → Fields
+written_fields v f (origin o) =
     prefix_unit (record { version = v; session = 0; flags = f; free = 0; origin = o })
-written v f (key k) = key_unit (record { version = v; flags = f; free = 0; key = k })
-written v f (aspa a) = aspa_unit (record { version = v; flags = f; free = 0; aspa = a })
+written_fields v f (key k) = key_unit (record { version = v; flags = f; free = 0; key = k })
+written_fields v f (aspa a) = aspa_unit (record { version = v; flags = f; free = 0; aspa = a })
 
 -- the written form of a payload with this version and these flags
 abbrev pub form : (version flags : ℕ) → Payload → List ℕ
-form version flags p = unit_list (written version flags p)
+form version flags p = unit_list (written_fields version flags p)
 
 -- the written form of a meaning
 abbrev pub form_of : Meaning → List ℕ

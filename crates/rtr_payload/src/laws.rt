@@ -19,7 +19,7 @@ ghost use Rattle.rtr_payload.specs.Meanings.{payload_of};
 ghost use Rattle.rtr_payload.specs.declared.payload.Payload.{Payload as Value};
 ghost use Rattle.rtr_payload.specs.declared.pdu.payload.Payload.{Payload as Unit};
 ghost use Rattle.rtr_payload.specs.Units.{Fields, fields_like, LengthsAgree, IsUnit, meaning};
-ghost use Rattle.rtr_payload.specs.Units.{form, form_of, written, stripped};
+ghost use Rattle.rtr_payload.specs.Units.{form, form_of, written_fields, stripped};
 
 use crate::pdu::{Aspa, ProviderAsns, RouterKey};
 use rtr_units::header::MAX_SIZE;
@@ -50,9 +50,9 @@ pub fn payload_forms()
     ensures exact { (v f : ℕ) (p q : Payload) → IsPayload p → IsPayload q →
         (form v f p ≡ form v f q) ↔ (p ≡ q) }
     ensures places { (v f : ℕ) (p : Payload) → IsPayload p →
-        fields_like (written v f p) (form v f p) ≡ written v f p }
+        fields_like (written_fields v f p) (form v f p) ≡ written_fields v f p }
     ensures fields { (v f : ℕ) (p : Payload) → IsPayload p →
-        meaning (written v f p) ≡
+        meaning (written_fields v f p) ≡
         record { version = v; action = act f; payload = stripped (act f) p } }
 {}
 

@@ -6,7 +6,7 @@ use Rattle.rtr_base.specs.Addresses.{Family}
 use Rattle.rtr_base.specs.Bytes.{be, IsBytes}
 use Rattle.rtr_base.proofs.Cuts.{cut_number, cut_end, number_fits}
 use Rattle.rtr_base.proofs.Numbers.{IsBytes-append, IsBytes-be}
-use Rattle.rtr_units.specs.End.{EndMeaning, End, HasTimingOf, timed_list}
+use Rattle.rtr_units.specs.End.{EndMeaning, IsEnd, HasTimingOf, timed_list}
 use Rattle.rtr_units.specs.AnyEnd.{end_bytes, end_meaning, end_unit}
 use Rattle.rtr_units.specs.declared.end.EndOfData.{EndOfData}
 use Rattle.rtr_units.specs.Queries.{bare_list, serial_list, serial_field}
@@ -174,7 +174,7 @@ timed_bytes v s q (Some t) small =
     header_bytes v 7 s 24 (be q 4 ++ be t.refresh 4 ++ be t.retry 4 ++ be t.expire 4) small
     (omega arith) times
 
-pub end_has : (b : List ℕ) (e : EndMeaning) → End b e → HasAnyFields b (end_of_data e)
+pub end_has : (b : List ℕ) (e : EndMeaning) → IsEnd b e → HasAnyFields b (end_of_data e)
 end_has b e is =
     let bytes : IsBytes b =
     subst IsBytes (sym is.bytes)
@@ -183,7 +183,7 @@ end_has b e is =
     record { fits = is.fits; bytes = is.bytes; are_bytes = bytes }
 
 pub end_reads : (h : List ℕ) (e : EndOfData) (old new : ReaderState) →
-    ReadsAfter end_unit h (Ok (end_bytes e)) old new → End (end_bytes e) (end_meaning e) →
+    ReadsAfter end_unit h (Ok (end_bytes e)) old new → IsEnd (end_bytes e) (end_meaning e) →
     (Takes old.left new.left (λ t. end_bytes e ≡ h ++ t)
     × HasAnyFields (end_bytes e) (end_of_data (end_meaning e)))
     × (new.failed ≡ old.failed)

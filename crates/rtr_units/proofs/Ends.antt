@@ -3,9 +3,9 @@ use Rattle.std.proofs.Common.{◌≡◌, ℕ, ◌^◌, ◌<◌, List, ◌++◌, 
 use Rattle.std.proofs.Common.{sym, ap, ◌∙◌, arith, get_or, inl, inr}
 use Rattle.rtr_base.specs.declared.payload.Timing.{Timing}
 use Rattle.rtr_base.proofs.Numbers.{be-injective}
-use Rattle.rtr_units.specs.End.{EndMeaning, IsEndMeaning, End, HasTimingOf, timed_list, end_list}
+use Rattle.rtr_units.specs.End.{EndMeaning, IsEndMeaning, IsEnd, HasTimingOf, timed_list, end_list}
 
-pub end_made : (e : EndMeaning) → IsEndMeaning e → End (end_list e) e
+pub end_made : (e : EndMeaning) → IsEndMeaning e → IsEnd (end_list e) e
 end_made e h = record { fits = h; bytes = refl }
 
 -- the number of k bytes at a place
@@ -41,7 +41,7 @@ timing_one v s q v' s' q' (Some t) (Some t') r r' hs hs' hq hq' ht ht' e =
       ap (drop 24) e,
     )
 
-pub end_one : (a b r s : List ℕ) (d e : EndMeaning) → End a d → End b e → a ++ r ≡ b ++ s →
+pub end_one : (a b r s : List ℕ) (d e : EndMeaning) → IsEnd a d → IsEnd b e → a ++ r ≡ b ++ s →
     (a ≡ b) × (d ≡ e) × (r ≡ s)
 end_one a b r s d e h g eq =
     let eq' : end_list d ++ r ≡ end_list e ++ s = cc in

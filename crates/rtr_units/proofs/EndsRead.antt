@@ -2,12 +2,12 @@
 use Rattle.std.proofs.Common.{◌≡◌, ℕ, ◌++◌, ◌⊎◌, List, [], length, refl, take, drop, ◌∙◌, arith}
 use Rattle.rtr_base.specs.Bytes.{be, value, IsBytes}
 use Rattle.rtr_base.proofs.Cuts.{cut_number, cut_end, number_fits}
-use Rattle.rtr_units.specs.End.{End, timing_fields, untimed_meaning, timed_meaning}
+use Rattle.rtr_units.specs.End.{IsEnd, timing_fields, untimed_meaning, timed_meaning}
 use Rattle.rtr_units.specs.Header.{header, version_field, type_field, session_field, length_field}
 use Rattle.rtr_units.proofs.Headers.{header_read, session_fits}
 
 pub untimed_has : (b : List ℕ) → IsBytes b → version_field b ≡ 0 → type_field b ≡ 7 →
-    length b ≡ 12 → length_field b ≡ 12 → End b (untimed_meaning b)
+    length b ≡ 12 → length_field b ≡ 12 → IsEnd b (untimed_meaning b)
 untimed_has b h v t l e =
     let serial = value (take 4 (drop 8 b)) in
     record {
@@ -22,7 +22,7 @@ untimed_has b h v t l e =
     }
 
 pub timed_has : (b : List ℕ) → IsBytes b → (version_field b ≡ 1) ⊎ (version_field b ≡ 2) →
-    type_field b ≡ 7 → length b ≡ 24 → length_field b ≡ 24 → End b (timed_meaning b)
+    type_field b ≡ 7 → length b ≡ 24 → length_field b ≡ 24 → IsEnd b (timed_meaning b)
 timed_has b h v t l e =
     let serial = value (take 4 (drop 8 b)) in
     let times = timing_fields b in

@@ -36,7 +36,7 @@ pub record IsEndMeaning (e : EndMeaning) : Type 0 where
   pub timing : HasTimingOf e.version e.timing
 
 -- the bytes are an end of data with this meaning
-pub record End (b : List ℕ) (e : EndMeaning) : Type 0 where
+pub record IsEnd (b : List ℕ) (e : EndMeaning) : Type 0 where
   pub fits : IsEndMeaning e
   pub bytes : b ≡ end_list e
 

@@ -4,7 +4,7 @@ ghost use Rattle.std.specs.Prelude.{◌≡◌, ℕ, List, length, IfOk, MatchRes
 ghost use Rattle.std.specs.Prelude.{IfErr};
 ghost use Rattle.std.specs.Borrow.{sem};
 ghost use Rattle.rtr_base.specs.Bytes.{IsBytes};
-ghost use Rattle.rtr_units.specs.End.{End, timed_list};
+ghost use Rattle.rtr_units.specs.End.{IsEnd, timed_list};
 ghost use Rattle.rtr_units.specs.AnyEnd.{end_bytes, end_meaning, end_unit, is_timed};
 ghost use Rattle.rtr_units.specs.Header.{version_field, type_field};
 ghost use Rattle.rtr_units.specs.Queries.{serial_list};
@@ -66,7 +66,7 @@ impl EndOfData {
         ensures version { IfOk result (λ e.
             (end_meaning e).version ≡ version_field (header_bytes header)) }
         ensures end { IfOk result (λ e. type_field (header_bytes header) ≡ 7 →
-            End (end_bytes e) (end_meaning e)) }
+            IsEnd (end_bytes e) (end_meaning e)) }
         ensures kind { IfOk result (λ e. is_timed e ≡
             not (version_field (header_bytes header) == 0)) }
         ensures error { IfErr result (HoldsReadError (R.fails reader.new)) }

@@ -1,7 +1,7 @@
 //! Laws of units of a fixed size, and the constants of this crate.
 
 ghost use Rattle.std.specs.Prelude.{◌≡◌, ◌++◌, ℕ, List};
-ghost use Rattle.rtr_units.specs.End.{End, IsEndMeaning, EndMeaning, end_list};
+ghost use Rattle.rtr_units.specs.End.{IsEnd, IsEndMeaning, EndMeaning, end_list};
 
 use crate::end::EndOfData;
 use crate::error::Error;
@@ -42,11 +42,11 @@ pub fn type_and_size<U: Unit>() -> (u8, usize)
 
 /// No end of data begins another, and equal lists mean the same.
 pub fn end_self_delimiting()
-    ensures { (a b r s : List ℕ) (d e : EndMeaning) → End a d → End b e → a ++ r ≡ b ++ s →
+    ensures { (a b r s : List ℕ) (d e : EndMeaning) → IsEnd a d → IsEnd b e → a ++ r ≡ b ++ s →
         (a ≡ b) × (d ≡ e) × (r ≡ s) }
 {}
 
 /// Each end of data has one list.
 pub fn end_form()
-    ensures { (e : EndMeaning) → IsEndMeaning e → End (end_list e) e }
+    ensures { (e : EndMeaning) → IsEndMeaning e → IsEnd (end_list e) e }
 {}

@@ -4,7 +4,7 @@ use Rattle.std.proofs.Common.{arith, refl, sym, ap, subst, ◌∙◌}
 use Rattle.rtr_base.specs.Actions.{act}
 use Rattle.rtr_base.specs.Addresses.{Family, v4, v6}
 use Rattle.rtr_base.specs.declared.payload.Timing.{Timing}
-use Rattle.rtr_units.specs.End.{EndMeaning, End, timed_list}
+use Rattle.rtr_units.specs.End.{EndMeaning, IsEnd, timed_list}
 use Rattle.rtr_units.specs.Header.{type_field}
 use Rattle.rtr_units.specs.AnyEnd.{end_meaning}
 use Rattle.rtr_payload.specs.Payloads.{Meaning}
@@ -35,7 +35,7 @@ timed_type : (v s q : ℕ) (t : Option Timing) → type_field (timed_list v s q 
 timed_type v s q None = refl
 timed_type v s q (Some t) = refl
 
-shape_or_end : (b : List ℕ) (u : Fields) (e : EndMeaning) → HasFields b u → End b e → ⊥
+shape_or_end : (b : List ℕ) (u : Fields) (e : EndMeaning) → HasFields b u → IsEnd b e → ⊥
 shape_or_end b u e h end =
     fields_type u
     (ap type_field (sym h.bytes ∙ end.bytes) ∙ timed_type e.version e.session e.serial e.timing)
@@ -131,7 +131,7 @@ form_meant (views.RouterKey v) m e = ap form_of (sym e)
 form_meant (views.Aspa v) m e = ap form_of (sym e)
 form_meant (views.End d) m e = absurd e
 
-pub form_end : (v : UnitView) (b : List ℕ) (e : EndMeaning) → IsViewOf v b → End b e →
+pub form_end : (v : UnitView) (b : List ℕ) (e : EndMeaning) → IsViewOf v b → IsEnd b e →
     view_form v ≡ b
 form_end (views.Origin v) b e (f, is) end =
     absurd (shape_or_end b (prefix_unit (prefix_at f b)) e is.shape end)

@@ -10,7 +10,7 @@ use Rattle.rtr_units.specs.StopCauses.{Refusal, unit_type, unit_version, too_lon
 use Rattle.rtr_units.specs.StopCauses.{unit_length, empty_providers, refused}
 use Rattle.rtr_units.specs.PrefixUnits.{prefix_type, prefix_size}
 use Rattle.rtr_units.specs.Header.{version_field, type_field, length_field}
-use Rattle.rtr_units.specs.End.{End, untimed_meaning, timed_meaning}
+use Rattle.rtr_units.specs.End.{IsEnd, untimed_meaning, timed_meaning}
 use Rattle.rtr_units.proofs.EndUnits.{end_with_timing}
 use Rattle.rtr_units.proofs.EndsRead.{untimed_has}
 use Rattle.rtr_units.proofs.Headers.{same_header}
@@ -136,13 +136,13 @@ typed_in_order r t kind e =
     ap (λ k. header_fault (version_field r) k (get_or r 2 0) (length_field r)) kind ∙ e
 
 pub end_front_0 : (r u : List ℕ) → IsBytes r → type_field r ≡ 7 → version_field r ≡ 0 →
-    length_field r ≡ 12 → IsFirstUnit r u → End u (untimed_meaning u)
+    length_field r ≡ 12 → IsFirstUnit r u → IsEnd u (untimed_meaning u)
 end_front_0 r u h kind version field is =
     untimed_has u (rw is.cut (IsBytes-take (length_field r) r h)) (is.version ∙ version)
     (is.kind ∙ kind) (is.size ∙ field) (is.field ∙ field)
 
 pub end_front_1 : (r u : List ℕ) → IsBytes r → type_field r ≡ 7 → version_field r ≤ 2 →
-    version_field r ≢ 0 → length_field r ≡ 24 → IsFirstUnit r u → End u (timed_meaning u)
+    version_field r ≢ 0 → length_field r ≡ 24 → IsFirstUnit r u → IsEnd u (timed_meaning u)
 end_front_1 r u h kind small later field is =
     end_with_timing u (rw is.cut (IsBytes-take (length_field r) r h)) (is.size ∙ field)
     (omega (arith, is.version)) (λ e. later (sym is.version ∙ e)) (is.kind ∙ kind)

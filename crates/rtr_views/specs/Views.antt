@@ -2,7 +2,7 @@
 -- sections 5.6 to 5.8 and 5.10, ASPA units as in the Rust crate).
 use Rattle.std.specs.Prelude.{◌≡◌, ℕ, List}
 use Rattle.rtr_base.specs.Addresses.{Family}
-use Rattle.rtr_units.specs.End.{End}
+use Rattle.rtr_units.specs.End.{IsEnd}
 use Rattle.rtr_units.specs.AnyEnd.{end_bytes, end_meaning}
 use Rattle.rtr_units.specs.Header.{version_field}
 use Rattle.rtr_payload.specs.Payloads.{Meaning}
@@ -19,7 +19,7 @@ abbrev pub IsViewOf : UnitView → List ℕ → Type 0
 IsViewOf (views.Origin v) b = (f : Family) × IsOriginOf f v b
 IsViewOf (views.RouterKey v) b = (v.unit.now ≡ b) × HasFields b (key_unit (key_at b))
 IsViewOf (views.Aspa v) b = (v.unit.now ≡ b) × HasFields b (aspa_unit (aspa_at b))
-IsViewOf (views.End e) b = (end_bytes e ≡ b) × End b (end_meaning e)
+IsViewOf (views.End e) b = (end_bytes e ≡ b) × IsEnd b (end_meaning e)
 
 -- what is viewed is a payload unit, and means this
 abbrev pub ViewMeans : UnitView → Meaning → Type 0

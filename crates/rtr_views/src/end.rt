@@ -1,7 +1,7 @@
 //! The end of data at the front of a slice (RFC 6810 and RFC 8210 section 5.8).
 
 ghost use Rattle.std.specs.Prelude.{◌≡◌, ◌≤◌, length, IfOk, IfErr};
-ghost use Rattle.rtr_units.specs.End.{End};
+ghost use Rattle.rtr_units.specs.End.{IsEnd};
 ghost use Rattle.rtr_units.specs.AnyEnd.{end_bytes, end_meaning};
 ghost use Rattle.rtr_units.specs.Header.{type_field};
 ghost use Rattle.rtr_views.specs.Faults.{IsFirstFault};
@@ -21,7 +21,7 @@ pub fn first_end(input: &[u8]) -> Result<EndOfData, ViewFault>
     requires kind { type_field input.now ≡ 7 }
     ensures unit { IfOk result (λ e. IsFirstUnit input.now (end_bytes e)) }
     ensures within { IfOk result (λ e. length (end_bytes e) ≤ length input.now) }
-    ensures end { IfOk result (λ e. End (end_bytes e) (end_meaning e)) }
+    ensures end { IfOk result (λ e. IsEnd (end_bytes e) (end_meaning e)) }
     ensures fault { IfErr result (λ e. IsFirstFault input.now e) }
 {
     let version = input[0];

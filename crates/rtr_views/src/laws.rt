@@ -1,7 +1,7 @@
 //! Laws of views.
 
 ghost use Rattle.std.specs.Prelude.{◌≡◌, ℕ, List};
-ghost use Rattle.rtr_units.specs.End.{EndMeaning, End};
+ghost use Rattle.rtr_units.specs.End.{EndMeaning, IsEnd};
 ghost use Rattle.rtr_payload.specs.Payloads.{Meaning};
 ghost use Rattle.rtr_payload.specs.Units.{HasFields, IsUnit, LengthsAgree, meaning, form_of};
 ghost use Rattle.rtr_payload.specs.UnitBytes.{unit_bytes, unit_fields};
@@ -17,7 +17,7 @@ pub fn views_of_units()
         IsViewOf v b → IsUnit b m → ViewMeans v m }
     ensures form { (v : UnitView) (m : Meaning) → ViewMeans v m → view_form v ≡ form_of m }
     ensures end { (v : UnitView) (b : List ℕ) (e : EndMeaning) →
-        IsViewOf v b → End b e → view_form v ≡ b }
+        IsViewOf v b → IsEnd b e → view_form v ≡ b }
 {}
 
 /// The view of a payload unit and the unit that was read from the same bytes mean the same.

@@ -10,7 +10,7 @@ use Rattle.rtr_base.specs.Addresses.{Family, v4, v6}
 use Rattle.rtr_base.specs.Bytes.{be, words}
 use Rattle.rtr_base.specs.declared.payload.Action.{Action}
 use Rattle.rtr_base.specs.declared.payload.Action.TheVariants.{Announce, Withdraw}
-use Rattle.rtr_units.specs.End.{EndMeaning, End, end_list, timed_list}
+use Rattle.rtr_units.specs.End.{EndMeaning, IsEnd, end_list, timed_list}
 use Rattle.rtr_payload.specs.Payloads.{Meaning, Payload, origin, key, aspa, smallest_version}
 use Rattle.rtr_units.specs.PrefixUnits.{PrefixFields, prefix_list}
 use Rattle.rtr_payload.specs.AspaUnits.{aspa_list, meant_aspa}
@@ -18,7 +18,7 @@ use Rattle.rtr_payload.specs.Units.{Fields, prefix_unit, key_unit, aspa_unit}
 use Rattle.rtr_payload.specs.Units.{IsUnit, unit_list, meaning, form_of}
 use Rattle.rtr_base.specs.declared.payload.Timing.{Timing}
 use Rattle.rtr_wire.specs.Into.{LacksRoom, FillsInto}
-use Rattle.rtr_wire.specs.Sequences.{AreUnits, Written, everything, for_version}
+use Rattle.rtr_wire.specs.Sequences.{AreUnits, Output, everything, for_version}
 use Rattle.rtr_wire.specs.Sequences.{forms, in_version, units_for, end_for}
 use Rattle.rtr_wire.specs.declared.into.IntoFault.{IntoFault}
 use Rattle.rtr_wire.specs.declared.into.IntoFault.TheVariants.{NoRoom}
@@ -104,10 +104,10 @@ end_size v s q None = (omega arith, omega arith)
 end_size v s q (Some t) = (omega arith, omega arith)
 
 -- the next is written in no more bytes than it has, and these more
-module _ (what : Written) (more : ℕ)
+module _ (what : Output) (more : ℕ)
     (units_fits : (us : List ℕ) (ms : List Meaning) → AreUnits us ms →
     length (forms (what.units ms)) ≤ length us)
-    (end_fits : (next : List ℕ) (e : EndMeaning) → End next e →
+    (end_fits : (next : List ℕ) (e : EndMeaning) → IsEnd next e →
     length (end_list (what.end e)) ≤ length next + more) where
   next_fits : (rest : List ℕ) (room : ℕ) → LacksRoom what rest room → room < length rest + more
   next_fits rest room (next, left, parts, inl (m, unit, less)) =

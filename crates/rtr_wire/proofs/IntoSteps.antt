@@ -5,7 +5,7 @@ use Rattle.std.proofs.Common.{◌∙◌, append_assoc, append-nil, arith, inl, i
 use Rattle.std.proofs.lemmas.List.{length-append, take-append-drop, length-take-le, length-drop}
 use Rattle.std.proofs.lemmas.List.{drop-drop, take_all, drop_all}
 use Rattle.std.proofs.Math.Seq.{drop-append_seam, take-append_seam}
-use Rattle.rtr_units.specs.End.{End, end_list}
+use Rattle.rtr_units.specs.End.{IsEnd, end_list}
 use Rattle.rtr_units.specs.AnyEnd.{end_bytes, end_meaning}
 use Rattle.rtr_units.specs.declared.end.EndOfData.{EndOfData}
 use Rattle.rtr_payload.specs.Payloads.{Meaning, smallest_version}
@@ -24,7 +24,7 @@ use Rattle.rtr_views.specs.Faults.{IsFirstFault}
 use Rattle.rtr_wire.specs.Into.{LacksRoom, WhyStopped, FillsInto}
 use Rattle.rtr_wire.specs.declared.into.IntoFault.{IntoFault}
 use Rattle.rtr_wire.specs.declared.into.IntoFault.TheVariants.{NoRoom, TooMany, Refused}
-use Rattle.rtr_wire.specs.Sequences.{Written, forms, in_version}
+use Rattle.rtr_wire.specs.Sequences.{Output, forms, in_version}
 use Rattle.rtr_wire.specs.declared.into.Step.{Step}
 use Rattle.rtr_wire.specs.declared.run.Passed.TheVariants as passes
 use Rattle.rtr_wire.proofs.Stepping.{Joins, SoFar, starts, goes_on, leaves_out}
@@ -51,7 +51,7 @@ viewed (views.Aspa v) b not is =
     record { m = m; means = refl; unit = view_means (views.Aspa v) b m is refl }
 viewed (views.End e) b not is = absurd (not e refl)
 
-module _ (what : Written) (has : ℕ → Bool) (to : ℕ → ℕ) (one : OneByOne what has to) (rest : List ℕ)
+module _ (what : Output) (has : ℕ → Bool) (to : ℕ → ℕ) (one : OneByOne what has to) (rest : List ℕ)
     (k : ℕ) (le : k ≤ length rest) (before : List ℕ) where
   parts : rest ≡ take k rest ++ drop k rest
   parts = sym (take-append-drop k rest)
@@ -116,7 +116,7 @@ module _ (what : Written) (has : ℕ → Bool) (to : ℕ → ℕ) (one : OneByOn
 
   -- at an end of data, for which x is written
   module _ (d : EndOfData) (is : end_bytes d ≡ take k rest)
-      (end : End (take k rest) (end_meaning d)) (x : List ℕ)
+      (end : IsEnd (take k rest) (end_meaning d)) (x : List ℕ)
       (for_it : x ≡ end_list (what.end (end_meaning d))) where
     pub end_lacks_room : (after : List ℕ) → Places None x before after →
         (after ≡ before) × LacksRoom what rest (length before)
@@ -133,7 +133,7 @@ module _ (what : Written) (has : ℕ → Bool) (to : ℕ → ℕ) (one : OneByOn
 -- ---- one after the other
 
 -- how far a run has come
-pub record Along (what : Written) (units left_out : ℕ) (input : List ℕ) (taken : ℕ)
+pub record Along (what : Output) (units left_out : ℕ) (input : List ℕ) (taken : ℕ)
     (before now : List ℕ) (written : ℕ) : Type 0 where
   pub within : taken ≤ length input
   pub fits : written ≤ length before
@@ -143,7 +143,7 @@ pub record Along (what : Written) (units left_out : ℕ) (input : List ℕ) (tak
   pub so_far :
       SoFar what units left_out (Some input) (Some (drop taken input)) (Some []) (Some form)
 
-pub along_starts : (what : Written) (input before : List ℕ) → Joins what →
+pub along_starts : (what : Output) (input before : List ℕ) → Joins what →
     Along what 0 0 input 0 before before 0
 along_starts what input before joins = record {
   within = omega arith;
@@ -155,7 +155,7 @@ along_starts what input before joins = record {
 }
 
 -- one step further: what the step leaves of the run
-pub record Further (what : Written) (units left_out : ℕ) (input : List ℕ) (taken : ℕ)
+pub record Further (what : Output) (units left_out : ℕ) (input : List ℕ) (taken : ℕ)
     (before now after : List ℕ) (written : ℕ) (s : Step)
     (a : Along what units left_out input taken before now written) : Type 0 where
   pub within : taken + s.taken ≤ length input
@@ -166,7 +166,7 @@ pub record Further (what : Written) (units left_out : ℕ) (input : List ℕ) (t
   pub steps : Steps what (Ok s.passed) (Some (drop taken input))
       (Some (drop (taken + s.taken) input)) (Some a.form) (Some form)
 
-pub further : (what : Written) (units left_out : ℕ) (input : List ℕ) (taken : ℕ)
+pub further : (what : Output) (units left_out : ℕ) (input : List ℕ) (taken : ℕ)
     (before now after : List ℕ) (written : ℕ) (s : Step)
     (a : Along what units left_out input taken before now written) (part : List ℕ) →
     Stepped what s (drop taken input) (drop written now) part → after ≡ take written now ++ part →
@@ -222,7 +222,7 @@ put_is n xs ys =
     (ap (λ l. ys ++ l) (drop_all (length xs - n) (drop n xs) (omega (arith, length-drop n xs)))
     ∙ append-nil ys)
 
-module _ (what : Written) (joins : Joins what) (units left_out : ℕ) (input : List ℕ) (taken : ℕ)
+module _ (what : Output) (joins : Joins what) (units left_out : ℕ) (input : List ℕ) (taken : ℕ)
     (before now : List ℕ) (written : ℕ)
     (a : Along what units left_out input taken before now written) where
   module _ (s : Step) (part : List ℕ)

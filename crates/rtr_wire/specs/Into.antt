@@ -1,42 +1,42 @@
 -- What a run from a slice into another writes and answers (this library's own).
 use Rattle.std.specs.Prelude.{◌≡◌, ℕ, ◌+◌, ◌<◌, ◌≤◌, ◌⊎◌, List, [], ◌∷◌, ◌++◌, length, drop}
 use Rattle.std.specs.Prelude.{Result, Ok, Err}
-use Rattle.rtr_units.specs.End.{EndMeaning, End, end_list}
+use Rattle.rtr_units.specs.End.{EndMeaning, IsEnd, end_list}
 use Rattle.rtr_payload.specs.Payloads.{Meaning}
 use Rattle.rtr_payload.specs.Units.{IsUnit}
 use Rattle.rtr_views.specs.Faults.{IsFirstFault}
 use Rattle.rtr_views.specs.declared.fault.ViewFault.TheVariants.{UnitVersion}
-use Rattle.rtr_wire.specs.Sequences.{AreUnits, Written, forms}
+use Rattle.rtr_wire.specs.Sequences.{AreUnits, Output, forms}
 use Rattle.rtr_wire.specs.declared.into.IntoFault.{IntoFault}
 use Rattle.rtr_wire.specs.declared.into.IntoFault.TheVariants.{NoRoom, TooMany, Refused}
 use Rattle.rtr_wire.specs.declared.into.Progress.{Progress}
 
 -- the next unit or end of data is there, and what is to be written for it has more bytes than this
-abbrev pub LacksRoom : Written → List ℕ → ℕ → Type 0
+abbrev pub LacksRoom : Output → List ℕ → ℕ → Type 0
 LacksRoom what rest room = (next left : List ℕ) × (rest ≡ next ++ left)
     × (((m : Meaning) × IsUnit next m × (room < length (forms (what.units (m ∷ [])))))
-    ⊎ ((e : EndMeaning) × End next e × (room < length (end_list (what.end e)))))
+    ⊎ ((e : EndMeaning) × IsEnd next e × (room < length (end_list (what.end e)))))
 
 -- why a call stopped after units with these meanings, at the rest of the input, with this room
 -- left in the output
-abbrev pub WhyStopped : Written → ℕ → IntoFault → List Meaning → List ℕ → ℕ → Type 0
+abbrev pub WhyStopped : Output → ℕ → IntoFault → List Meaning → List ℕ → ℕ → Type 0
 WhyStopped what limit NoRoom ms rest room = (length ms < limit) × LacksRoom what rest room
 WhyStopped what limit TooMany ms rest room = length ms ≡ limit
 WhyStopped what limit (Refused e) ms rest room = (length ms < limit) × IsFirstFault rest e
 
 -- what a call did after units with these meanings, of n bytes: it took the end of data and wrote
 -- the form of what is written for it, or it stopped
-abbrev pub EndsInto : Written → ℕ → Result Unit IntoFault → List Meaning → ℕ → List ℕ → ℕ
+abbrev pub EndsInto : Output → ℕ → Result Unit IntoFault → List Meaning → ℕ → List ℕ → ℕ
     → List ℕ → ℕ → Type 0
 EndsInto what limit (Ok done) ms n rest room written taken =
-    (e : EndMeaning) × (last left : List ℕ) × (rest ≡ last ++ left) × End last e
+    (e : EndMeaning) × (last left : List ℕ) × (rest ≡ last ++ left) × IsEnd last e
     × (length ms < limit) × (taken ≡ n + length last)
     × (written ≡ forms (what.units ms) ++ end_list (what.end e))
 EndsInto what limit (Err f) ms n rest room written taken =
     (taken ≡ n) × (written ≡ forms (what.units ms)) × WhyStopped what limit f ms rest room
 
 -- the whole promise of a run from the input into the output
-pub record FillsInto (what : Written) (limit : ℕ) (result : Result Unit IntoFault)
+pub record FillsInto (what : Output) (limit : ℕ) (result : Result Unit IntoFault)
     (input before after : List ℕ) (p : Progress) : Type 0 where
   -- units at the front of the input, with these meanings, and what follows them
   pub us : List ℕ

@@ -25,7 +25,7 @@ use Rattle.rtr_wire.specs.declared.run.Passed.TheVariants as passes
 use Rattle.rtr_wire.specs.Comparison.{Accepted}
 use Rattle.rtr_wire.specs.Into.{LacksRoom}
 use Rattle.rtr_wire.specs.Run.{IsProperPrefix, Ends}
-use Rattle.rtr_wire.specs.Sequences.{Written, everything, forms, in_version, sequence_form}
+use Rattle.rtr_wire.specs.Sequences.{Output, everything, forms, in_version, sequence_form}
 use Rattle.rtr_wire.specs.SliceRun.{view_cause}
 
 -- ---- a step from a reader to a writer
@@ -37,13 +37,13 @@ number_of passes.LeftOut = Some 0
 number_of passes.End = None
 
 -- the form of what is written for this meaning is w, and this step wrote it
-abbrev pub WritesMeaning : Written → Meaning → Passed → List ℕ → Type 0
+abbrev pub WritesMeaning : Output → Meaning → Passed → List ℕ → Type 0
 WritesMeaning what m step w =
     (w ≡ forms (what.units (m ∷ []))) × (Some (length (what.units (m ∷ []))) ≡ number_of step)
 
 -- What writing for the unit u says of the bytes w that were written: they are all that is to be
 -- written, or a proper prefix of it; or none, where there is no payload or no memory for it.
-abbrev pub FormTells : Written → Payload → Result Passed Cause → List ℕ → Type 0
+abbrev pub FormTells : Output → Payload → Result Passed Cause → List ℕ → Type 0
 FormTells what u (Ok step) w =
     LengthsAgree (unit_fields u) × WritesMeaning what (meaning (unit_fields u)) step w
 FormTells what u (Err by_writer) w =
@@ -53,7 +53,7 @@ FormTells what u (Err c) w = HasNoPayload u c × (w ≡ [])
 
 -- One unit was read, and what is to be written for it was written; or an end of data, at which a
 -- run ends, as it does at a fault. t was taken and w written.
-abbrev pub StepTells : Written → Result Passed Cause → List ℕ → List ℕ → Option (List ℕ) → Type 0
+abbrev pub StepTells : Output → Result Passed Cause → List ℕ → List ℕ → Option (List ℕ) → Type 0
 StepTells what (Ok passes.End) t w left = IfSome left (λ left. Ends what (Ok 0) t left w)
 StepTells what (Ok step) t w left = (m : Meaning) × IsUnit t m × WritesMeaning what m step w
 StepTells what (Err too_many) t w left = ⊥
@@ -65,20 +65,20 @@ abbrev pub Moves :
 Moves old new held holds P = (t w : List ℕ) × Consumes old new t × Appends held holds w × P t w
 
 abbrev pub WritesForm :
-    Written → Payload → Result Passed Fault → (held holds : Option (List ℕ)) → Type 0
+    Output → Payload → Result Passed Fault → (held holds : Option (List ℕ)) → Type 0
 WritesForm what u r held holds = (w : List ℕ) × Appends held holds w ×
     FormTells what u (by_cause r) w
 
 -- one unit: the reader's bytes before and after, the writer's before and after
 abbrev pub Steps :
-    Written → Result Passed Fault → (old new held holds : Option (List ℕ)) → Type 0
+    Output → Result Passed Fault → (old new held holds : Option (List ℕ)) → Type 0
 Steps what r old new held holds =
     Moves old new held holds (λ t w. StepTells what (by_cause r) t w new)
 
 -- one unit after its header h: what is said is said of all that was taken, of h and of what follows
 -- it
 abbrev pub StepsAfter :
-    Written → List ℕ → Result Passed Fault → (old new held holds : Option (List ℕ)) → Type 0
+    Output → List ℕ → Result Passed Fault → (old new held holds : Option (List ℕ)) → Type 0
 StepsAfter what h r old new held holds =
     AreBytes 8 h → (before : Option (List ℕ)) → Consumes before old h →
     Steps what r before new held holds
@@ -111,7 +111,7 @@ abbrev pub PlacesUnit : ℕ → Meaning → Option ℕ → List ℕ → List ℕ
 PlacesUnit v m placed before after = Places placed (form_of (in_version v m)) before after
 
 -- one unit was taken, and what is to be written for it was written; or an end of data
-pub record Stepped (what : Written) (s : Step) (rest before after : List ℕ) : Type 0 where
+pub record Stepped (what : Output) (s : Step) (rest before after : List ℕ) : Type 0 where
   pub took : List ℕ
   pub wrote : List ℕ
   pub parts : rest ≡ took ++ drop s.taken rest
@@ -121,12 +121,12 @@ pub record Stepped (what : Written) (s : Step) (rest before after : List ℕ) : 
   pub output : after ≡ wrote ++ drop s.written before
   pub tells : StepTells what (Ok s.passed) took wrote (Some (drop s.taken rest))
 
-abbrev pub StopsStepInto : Written → IntoFault → List ℕ → ℕ → Type 0
+abbrev pub StopsStepInto : Output → IntoFault → List ℕ → ℕ → Type 0
 StopsStepInto what NoRoom rest room = LacksRoom what rest room
 StopsStepInto what TooMany rest room = ⊥
 StopsStepInto what (Refused e) rest room = IsFirstFault rest e
 
-abbrev pub StepsInto : Written → Result Step IntoFault → (rest before after : List ℕ) → Type 0
+abbrev pub StepsInto : Output → Result Step IntoFault → (rest before after : List ℕ) → Type 0
 StepsInto what (Ok s) rest before after = Stepped what s rest before after
 StepsInto what (Err f) rest before after =
     (after ≡ before) × StopsStepInto what f rest (length before)

@@ -7,16 +7,16 @@ ghost use Rattle.std.proofs.Math.Dec.{leb-zero};
 ghost use Rattle.std.proofs.lemmas.List.{map-append};
 ghost use Rattle.std.proofs.lemmas.List.Elements.{filter-append};
 ghost use Rattle.rtr_payload.specs.Payloads.{Meaning, smallest_version};
-ghost use Rattle.rtr_units.specs.End.{End, end_list};
+ghost use Rattle.rtr_units.specs.End.{IsEnd, end_list};
 ghost use Rattle.rtr_units.specs.AnyEnd.{end_bytes, end_meaning};
-ghost use Rattle.rtr_wire.specs.Sequences.{Written, everything, for_version, in_version};
+ghost use Rattle.rtr_wire.specs.Sequences.{Output, everything, for_version, in_version};
 
 use rtr_units::end::EndOfData;
 
 /// Which units a run writes, in which version, and which end of data.
 pub(crate) trait Writing: Copy {
     /// What is written.
-    ghost what: { Self → Written };
+    ghost what: { Self → Output };
 
     /// Whether units are written whose payload came with this version of the protocol.
     ghost has: { Self → ℕ → Bool };
@@ -35,7 +35,7 @@ pub(crate) trait Writing: Copy {
 
     /// The end of data that is written for this one.
     fn end(self, end: EndOfData) -> EndOfData
-        ensures { End (end_bytes end) (end_meaning end) →
+        ensures { IsEnd (end_bytes end) (end_meaning end) →
             end_bytes result ≡ end_list ((what self).end (end_meaning end)) };
 
     /// What is written for one unit.

@@ -10,7 +10,7 @@ ghost use Rattle.rtr_units.specs.Stream.{PutsForm, HoldsReadError, HoldsWriteErr
 ghost use Rattle.rtr_units.specs.Report.{report};
 ghost use Rattle.rtr_units.specs.HeaderBytes.{header_bytes};
 ghost use Rattle.rtr_payload.specs.Payloads.{smallest_version as smallest};
-ghost use Rattle.rtr_payload.specs.PrivateFrames.{IsReport};
+ghost use Rattle.rtr_payload.specs.PrivateFrames.{AnswersReport};
 ghost use Rattle.rtr_payload.specs.FirstFault.{text_of};
 ghost use Rattle.rtr_payload.specs.UnitKinds.{payload_unit};
 ghost use Rattle.rtr_payload.specs.UnitBytes.{answer_bytes, IsAnswer, MeansPayload};
@@ -329,7 +329,7 @@ fn smallest_version(payload: &PayloadRef<'_>) -> u8
 #[inline(always)]
 pub(crate) fn refused(alloc: Global, version: u8, unit: &[u8], rule: PrefixRule) -> Fault
     requires { length unit.now ≤ 32 }
-    ensures { IsReport (cause_of result) (report version 0 unit.now (text_of rule)) }
+    ensures { AnswersReport (cause_of result) (report version 0 unit.now (text_of rule)) }
 {
     match report_on(alloc, version, unit, rule) {
         Ok(report) => Fault::Refused(report),

@@ -15,7 +15,7 @@ ghost use Rattle.rtr_payload.specs.declared.pdu.payload.Payload.{Payload};
 ghost use Rattle.rtr_payload.specs.declared.pdu.payload.Payload.TheVariants as units;
 ghost use Rattle.rtr_payload.specs.FirstFault.{broken_rule};
 ghost use Rattle.rtr_payload.specs.UnitKinds.{payload_unit};
-ghost use Rattle.rtr_payload.specs.Units.{prefix_unit, form, written, HasFields};
+ghost use Rattle.rtr_payload.specs.Units.{prefix_unit, form, written_fields, HasFields};
 ghost use Rattle.rtr_payload.specs.Meanings.{origin_of};
 ghost use Rattle.rtr_payload.specs.UnitBytes.{unit_bytes, unit_fields, MeansPayload};
 ghost use Rattle.rtr_payload.specs.UnitBytes.{HasNoPayload};
@@ -49,7 +49,7 @@ pub trait PrefixUnit: Unit {
         requires { origin.prefix.prefix.family ≡ family }
         ensures form { Self.bytes result ≡ form version flags (origin_of origin) }
         ensures fields { prefix_unit (prefix_at family (Self.bytes result)) ≡
-            written version flags (origin_of origin) };
+            written_fields version flags (origin_of origin) };
 
     /// The prefix with these lengths whose address the bytes begin with. Host bits are cleared.
     fn prefix_of(address: &[u8], prefix_len: u8, max_len: u8) -> Result<MaxLenPrefix, PrefixRule>

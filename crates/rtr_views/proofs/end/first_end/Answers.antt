@@ -1,5 +1,5 @@
 use Rattle.std.proofs.Common.{arith, sym, subst, ◌∙◌}
-use Rattle.rtr_units.specs.End.{End, untimed_meaning, timed_meaning}
+use Rattle.rtr_units.specs.End.{IsEnd, untimed_meaning, timed_meaning}
 use Rattle.rtr_views.proofs.Fronts.{typed_shows, typed_in_order, end_version, end_length_0}
 use Rattle.rtr_views.proofs.Fronts.{end_length_1, end_in_order_0, end_in_order_1, end_front_0}
 use Rattle.rtr_views.proofs.Fronts.{end_front_1}
@@ -38,14 +38,14 @@ first_unit-requires-else-version-eq0-clause-in_order c =
 
 pub returns-in-Ok-clause-end : goal.returns-in-Ok-clause-end
 returns-in-Ok-clause-end c =
-    subst (λ l. End l (untimed_meaning l)) (sym c.unit_of.ensures)
+    subst (λ l. IsEnd l (untimed_meaning l)) (sym c.unit_of.ensures)
     (end_front_0 c.args.input.now c.in-Ok.unit.now (λ i. omega (arith, c.type_inv.input i))
     c.requires.kind c.if-version-eq0.true
     (sym c.u32_at-size.ensures ∙ c.if-size.false ∙ c.size.ensures) c.in-Ok.ensures.unit)
 
 pub returns-in-Ok-first_unit-clause-end : goal.returns-in-Ok-first_unit-clause-end
 returns-in-Ok-first_unit-clause-end c =
-    subst (λ l. End l (timed_meaning l)) (sym c.unit_of-in-Ok-first_unit.ensures)
+    subst (λ l. IsEnd l (timed_meaning l)) (sym c.unit_of-in-Ok-first_unit.ensures)
     (end_front_1 c.args.input.now c.in-Ok-first_unit.unit.now
     (λ i. omega (arith, c.type_inv.input i)) c.requires.kind c.if-version-gt-LAST_VERSION.false
     c.if-version-eq0.false

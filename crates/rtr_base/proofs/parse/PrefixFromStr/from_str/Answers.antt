@@ -1,5 +1,5 @@
 use Rattle.std.proofs.Common.{arith, refl}
-use Rattle.rtr_base.specs.Addresses.{prefix_at}
+use Rattle.rtr_base.specs.Addresses.{prefix_of_address}
 use Rattle.rtr_base.proofs.Parsing.{reads_len, refuses_len}
 use Rattle.rtr_base.proofs.ReadValues.{address_and_len}
 use Rattle.rtr_base.proofs.Splits.{cut_at, not_cut}
@@ -44,7 +44,7 @@ returns-in-Err-new c =
     let split =
     cut_at 47 c.args.text.now c.in-Some.addr c.in-Some.len c.in-Some.ensures.cases (omega arith) in
     let len = reads_len c.in-Some.len.now c.in-Ok-parse.len c.in-Ok-parse.ensures.value.0 in (
-      prefix_at c.in-Ok.addr c.in-Ok-parse.len,
+      prefix_of_address c.in-Ok.addr c.in-Ok-parse.len,
       address_and_len c.args.text.now c.in-Some.addr.now c.in-Some.len.now c.in-Ok.addr
           c.in-Ok-parse.len _ split c.in-Ok.ensures.value len refl,
       c.in-Err-new.ensures.broken,
