@@ -18,7 +18,8 @@ use Rattle.hex.specs.declared.error.FromHexError.{FromHexError}
 use Rattle.std.specs.Result.{result_unwrap_or}
 use Rattle.hex.proofs.HexLemmas.{IsOk-decode_sized, decode_sized-encode_lower, length-encode_with}
 use Rattle.rtr_base.specs.Addresses.{Family, v4, v6, PrefixParts, MaxLenParts, IsPrefix}
-use Rattle.rtr_base.specs.Addresses.{IsMaxLenPrefix, prefix_of_address, width, BreaksPrefix, BreaksMaxLen}
+use Rattle.rtr_base.specs.Addresses.{IsMaxLenPrefix, prefix_of_address, width, BreaksPrefix}
+use Rattle.rtr_base.specs.Addresses.{BreaksMaxLen}
 use Rattle.rtr_base.specs.Bytes.{be, IsBytes}
 use Rattle.rtr_base.specs.Numerals.{IsDigit, number_after, IsNumeral}
 use Rattle.rtr_base.specs.PlainTexts.{asn_text, address_text, prefix_text, dash_text, max_len_text}

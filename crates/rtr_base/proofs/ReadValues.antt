@@ -51,7 +51,8 @@ not_letter text n c rest high m e =
     ]
 
 pub address_and_len : (text front back : List ℕ) (ip : IpAddr) (l : ℕ) (p : PrefixParts) →
-    SplitsAt 47 text front back → IsIpText front ip → IsLenText back l → p ≡ prefix_of_address ip l →
+    SplitsAt 47 text front back → IsIpText front ip → IsLenText back l →
+    p ≡ prefix_of_address ip l →
     IsAddressAndLen text p
 address_and_len text front back ip l p split address len e =
     subst (IsAddressAndLen text) (sym e) (record {

@@ -5,7 +5,8 @@ use Rattle.std.specs.List.{AllPass}
 use Rattle.std.specs.declared.net.ip_addr.IpAddr.{IpAddr}
 use Rattle.std.specs.Net.Grammar.{IsIpText}
 use Rattle.hex.specs.Hex.{decode_sized, is_hex_digit}
-use Rattle.rtr_base.specs.Addresses.{PrefixParts, MaxLenParts, IsPrefix, IsMaxLenPrefix, prefix_of_address}
+use Rattle.rtr_base.specs.Addresses.{PrefixParts, MaxLenParts, IsPrefix, IsMaxLenPrefix}
+use Rattle.rtr_base.specs.Addresses.{prefix_of_address}
 use Rattle.rtr_base.specs.Addresses.{BreaksPrefix, BreaksMaxLen}
 use Rattle.rtr_base.specs.Numerals.{IsNumeral, IsSerialText}
 use Rattle.rtr_base.specs.declared.parse.ParseAsnError.{ParseAsnError}

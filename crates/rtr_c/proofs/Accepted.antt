@@ -228,7 +228,8 @@ NotNoRoom r = r ≢ Err NoRoom
 pub accepted : (what : Output) → Joins what → (limit enough : ℕ) (r : Result Unit IntoFault)
     (input before after : List ℕ) (p : Progress) (a : RtrAnswer) (code : ℕ) →
     FillsInto what limit r input before after p → Tells p r a code →
-    (enough ≤ length before → r ≢ Err NoRoom) → CallSucceeds what limit enough input before after a code
+    (enough ≤ length before → r ≢ Err NoRoom) →
+    CallSucceeds what limit enough input before after a code
 accepted what joins limit enough (Err g) input before after p a code f t always b ms e acc
     few room =
     absurd (stopped what limit g input before after p f (by_room g f always) b ms e acc few)

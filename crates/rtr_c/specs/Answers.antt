@@ -21,45 +21,45 @@ use Rattle.rtr_c.specs.declared.answer.RtrAnswer.{RtrAnswer}
 
 -- ---- statuses
 
-abbrev pub accepted : ℕ
-accepted = 0
+abbrev pub rtr_ok : ℕ
+rtr_ok = 0
 
-abbrev pub short : ℕ
-short = 1
+abbrev pub rtr_short : ℕ
+rtr_short = 1
 
-abbrev pub unit_type : ℕ
-unit_type = 2
+abbrev pub rtr_unit_type : ℕ
+rtr_unit_type = 2
 
-abbrev pub unit_version : ℕ
-unit_version = 3
+abbrev pub rtr_unit_version : ℕ
+rtr_unit_version = 3
 
-abbrev pub too_long : ℕ
-too_long = 4
+abbrev pub rtr_too_long : ℕ
+rtr_too_long = 4
 
-abbrev pub unit_length : ℕ
-unit_length = 5
+abbrev pub rtr_unit_length : ℕ
+rtr_unit_length = 5
 
-abbrev pub empty_providers : ℕ
-empty_providers = 6
+abbrev pub rtr_empty_providers : ℕ
+rtr_empty_providers = 6
 
-abbrev pub prefix : ℕ
-prefix = 7
+abbrev pub rtr_prefix : ℕ
+rtr_prefix = 7
 
-abbrev pub too_many : ℕ
-too_many = 8
+abbrev pub rtr_too_many : ℕ
+rtr_too_many = 8
 
-abbrev pub no_room : ℕ
-no_room = 9
+abbrev pub rtr_no_room : ℕ
+rtr_no_room = 9
 
-abbrev pub no_form : ℕ
-no_form = 10
+abbrev pub rtr_no_form : ℕ
+rtr_no_form = 10
 
-abbrev pub no_memory : ℕ
-no_memory = 11
+abbrev pub rtr_no_memory : ℕ
+rtr_no_memory = 11
 
 -- a reader or a writer failed, as none does here
-abbrev pub writer : ℕ
-writer = 255
+abbrev pub rtr_failed : ℕ
+rtr_failed = 255
 
 -- ---- what is told of a call
 
@@ -71,15 +71,15 @@ rule_number MaxUnderflow = 3
 
 -- the status of a fault of one unit
 abbrev pub fault_status : ViewFault → ℕ
-fault_status Short = short
-fault_status (UnitType t) = unit_type
-fault_status (UnitVersion v) = unit_version
-fault_status TooLong = too_long
-fault_status UnitLength = unit_length
-fault_status EmptyProviders = empty_providers
-fault_status (Prefix rule) = prefix
-fault_status faults.TooMany = too_many
-fault_status (Writer e) = writer
+fault_status Short = rtr_short
+fault_status (UnitType t) = rtr_unit_type
+fault_status (UnitVersion v) = rtr_unit_version
+fault_status TooLong = rtr_too_long
+fault_status UnitLength = rtr_unit_length
+fault_status EmptyProviders = rtr_empty_providers
+fault_status (Prefix rule) = rtr_prefix
+fault_status faults.TooMany = rtr_too_many
+fault_status (Writer e) = rtr_failed
 
 -- the type or the version that is refused, or the rule that is broken
 abbrev pub fault_detail : ViewFault → ℕ
@@ -91,8 +91,8 @@ fault_detail _ = 0
 -- the status of why a run stopped
 abbrev pub stop_status : IntoFault → ℕ
 stop_status (Refused e) = fault_status e
-stop_status TooMany = too_many
-stop_status NoRoom = no_room
+stop_status TooMany = rtr_too_many
+stop_status NoRoom = rtr_no_room
 
 abbrev pub stop_detail : IntoFault → ℕ
 stop_detail (Refused e) = fault_detail e
@@ -100,7 +100,7 @@ stop_detail _ = 0
 
 -- the status and the detail of a run, which is accepted where it came to the end of data
 abbrev pub run_status : Result Unit IntoFault → ℕ
-run_status (Ok done) = accepted
+run_status (Ok done) = rtr_ok
 run_status (Err f) = stop_status f
 
 abbrev pub run_detail : Result Unit IntoFault → ℕ
@@ -127,15 +127,15 @@ pub record TellsSequence (what : Output) (b : List ℕ) (ms : List Meaning) (e :
   pub written : a.written ≡ length (sequence_form (what.units ms) (what.end e))
   pub fits : a.written ≤ length before
   pub output : after ≡ sequence_form (what.units ms) (what.end e) ++ drop a.written before
-  pub status : a.status ≡ accepted
+  pub status : a.status ≡ rtr_ok
   pub detail : a.detail ≡ 0
-  pub answered : code ≡ accepted
+  pub answered : code ≡ rtr_ok
 
 -- An input that begins with a sequence of fewer than limit units is accepted, where the output is
 -- as long as what is written, or has this many bytes, which are enough for all inputs of that
 -- length.
-abbrev pub CallSucceeds : Output → (limit enough : ℕ) → (input before after : List ℕ) → RtrAnswer → ℕ
-    → Type 0
+abbrev pub CallSucceeds : Output → (limit enough : ℕ) → (input before after : List ℕ) → RtrAnswer →
+    ℕ → Type 0
 CallSucceeds what limit enough input before after a code =
     (b : List ℕ) (ms : List Meaning) (e : EndMeaning) → Accepts input b ms e → length ms < limit →
     (enough ≤ length before)
@@ -145,5 +145,5 @@ CallSucceeds what limit enough input before after a code =
 -- no other input is
 abbrev pub CallSucceedsOnly : Output → ℕ → (input before after : List ℕ) → RtrAnswer → ℕ → Type 0
 CallSucceedsOnly what limit input before after a code =
-    code ≡ accepted → (b : List ℕ) × (ms : List Meaning) × (e : EndMeaning) × Accepts input b ms e
+    code ≡ rtr_ok → (b : List ℕ) × (ms : List Meaning) × (e : EndMeaning) × Accepts input b ms e
     × (length ms < limit) × TellsSequence what b ms e before after a code

@@ -5,23 +5,25 @@ use Rattle.rtr_units.specs.StopCauses.{empty_providers, refused, Cause, by_reade
 use Rattle.rtr_units.specs.StopCauses.{too_many}
 use Rattle.rtr_units.specs.StopCauses.{no_memory, wrong, cause_of}
 use Rattle.rtr_units.specs.declared.fault.Fault.{Fault}
-use Rattle.rtr_c.specs.Answers as status
+use Rattle.rtr_c.specs.Answers.{rtr_ok, rtr_short, rtr_unit_type, rtr_unit_version, rtr_too_long}
+use Rattle.rtr_c.specs.Answers.{rtr_unit_length, rtr_empty_providers, rtr_prefix, rtr_too_many}
+use Rattle.rtr_c.specs.Answers.{rtr_no_memory, rtr_failed}
 
 -- the status of a cause
 abbrev pub cause_status : Cause → ℕ
-cause_status (wrong short) = status.short
-cause_status (wrong (unit_type t)) = status.unit_type
-cause_status (wrong (unit_version v)) = status.unit_version
-cause_status (wrong too_long) = status.too_long
-cause_status (wrong unit_length) = status.unit_length
-cause_status (wrong empty_providers) = status.empty_providers
-cause_status (wrong (refused report)) = status.prefix
-cause_status too_many = status.too_many
-cause_status no_memory = status.no_memory
-cause_status by_reader = status.writer
-cause_status by_writer = status.writer
+cause_status (wrong short) = rtr_short
+cause_status (wrong (unit_type t)) = rtr_unit_type
+cause_status (wrong (unit_version v)) = rtr_unit_version
+cause_status (wrong too_long) = rtr_too_long
+cause_status (wrong unit_length) = rtr_unit_length
+cause_status (wrong empty_providers) = rtr_empty_providers
+cause_status (wrong (refused report)) = rtr_prefix
+cause_status too_many = rtr_too_many
+cause_status no_memory = rtr_no_memory
+cause_status by_reader = rtr_failed
+cause_status by_writer = rtr_failed
 
 -- the answer comes with the status of what is accepted; a fault leaves what was there
 abbrev pub TellsSame : Result Bool Fault → (before after : Bool) → ℕ → Type 0
-TellsSame (Ok same) before after code = (after ≡ same) × (code ≡ status.accepted)
+TellsSame (Ok same) before after code = (after ≡ same) × (code ≡ rtr_ok)
 TellsSame (Err f) before after code = (after ≡ before) × (code ≡ cause_status (cause_of f))

@@ -14,7 +14,9 @@ use Rattle.rtr_payload.specs.FirstFault.{broken_rule}
 use Rattle.rtr_payload.specs.declared.pdu.prefix_rule.PrefixRule.{PrefixRule}
 use Rattle.rtr_payload.specs.Units.{form}
 use Rattle.rtr_views.specs.Placing.{Places}
-use Rattle.rtr_c.specs.Answers as status
+use Rattle.rtr_c.specs.Answers.{rtr_ok, rtr_unit_type, rtr_unit_version, rtr_too_long}
+use Rattle.rtr_c.specs.Answers.{rtr_unit_length, rtr_empty_providers, rtr_prefix, rtr_no_room}
+use Rattle.rtr_c.specs.Answers.{rtr_no_form}
 use Rattle.rtr_c.specs.declared.unit.RtrUnit.{RtrUnit}
 
 -- the key info or the providers that the unit says, where they lie in the input
@@ -27,12 +29,12 @@ part_said u input =
 -- a form, where the rule on prefix lengths is kept
 abbrev pub unless_broken : Option PrefixRule → List ℕ → Result (List ℕ) ℕ
 unless_broken None f = Ok f
-unless_broken (Some fault) f = Err status.prefix
+unless_broken (Some fault) f = Err rtr_prefix
 
 -- the form of a prefix with its address cleared, or the status that refuses it
 abbrev pub prefix_said : Family → RtrUnit → Result (List ℕ) ℕ
 prefix_said f u =
-    if nat_lt 1 u.action || not (u.family == ip_version f) then Err status.no_form
+    if nat_lt 1 u.action || not (u.family == ip_version f) then Err rtr_no_form
     else unless_broken (broken_rule (width f) u.prefix_length u.max_length)
     (form u.version u.action (origin (record {
       family = f;
@@ -44,10 +46,10 @@ prefix_said f u =
 
 -- the form of a router key
 abbrev pub key_said : RtrUnit → Option (List ℕ) → Result (List ℕ) ℕ
-key_said u None = Err status.no_form
+key_said u None = Err rtr_no_form
 key_said u (Some info) =
-    if nat_lt 1 u.action then Err status.no_form
-    else if nat_lt 65503 (length info) then Err status.too_long
+    if nat_lt 1 u.action then Err rtr_no_form
+    else if nat_lt 65503 (length info) then Err rtr_too_long
     else Ok (form u.version u.action
     (key (record { identifier = u.key_identifier; asn = u.asn; info = info })))
 
@@ -58,13 +60,13 @@ aspa_form u providers =
 
 -- the form of an ASPA unit, without providers where it is withdrawn
 abbrev pub aspa_said : RtrUnit → Option (List ℕ) → Result (List ℕ) ℕ
-aspa_said u None = Err status.no_form
+aspa_said u None = Err rtr_no_form
 aspa_said u (Some providers) =
-    if nat_lt 1 u.action then Err status.no_form
+    if nat_lt 1 u.action then Err rtr_no_form
     else if u.action == 0 then Ok (aspa_form u [])
-    else if nat_lt 65520 (length providers) then Err status.too_long
-    else if not (length providers % 4 == 0) then Err status.unit_length
-    else if length providers == 0 then Err status.empty_providers
+    else if nat_lt 65520 (length providers) then Err rtr_too_long
+    else if not (length providers % 4 == 0) then Err rtr_unit_length
+    else if length providers == 0 then Err rtr_empty_providers
     else Ok (aspa_form u (words_of providers))
 
 -- the timings of an end of data, which has none in version 0
@@ -76,8 +78,8 @@ timing_said u =
 -- an end of data
 abbrev pub end_said : RtrUnit → Result (List ℕ) ℕ
 end_said u =
-    if nat_lt 0 u.action then Err status.no_form
-    else if nat_lt 2 u.version then Err status.unit_version
+    if nat_lt 0 u.action then Err rtr_no_form
+    else if nat_lt 2 u.version then Err rtr_unit_version
     else Ok (timed_list u.version u.session u.serial (timing_said u))
 
 -- the form of the unit, or the status that refuses it
@@ -88,18 +90,18 @@ said u input =
     else if u.kind == 7 then end_said u
     else if u.kind == 9 then key_said u (part_said u input)
     else if u.kind == 11 then aspa_said u (part_said u input)
-    else Err status.unit_type
+    else Err rtr_unit_type
 
 -- A form is written where there is room for it, or refused for want of room; what has none is
 -- refused with its status.
 abbrev pub Writes : Result (List ℕ) ℕ → Result ℕ ℕ → (before after : List ℕ) → Type 0
 Writes (Ok f) (Ok n) before after = Places (Some n) f before after
-Writes (Ok f) (Err s) before after = (s ≡ status.no_room) × Places None f before after
+Writes (Ok f) (Err s) before after = (s ≡ rtr_no_room) × Places None f before after
 Writes (Err t) (Ok n) before after = ⊥
 Writes (Err t) (Err s) before after = (s ≡ t) × (after ≡ before)
 
 abbrev pub Told : Result ℕ ℕ → (n code : ℕ) → Type 0
-Told (Ok k) n code = (n ≡ k) × (code ≡ status.accepted)
+Told (Ok k) n code = (n ≡ k) × (code ≡ rtr_ok)
 Told (Err s) n code = (n ≡ 0) × (code ≡ s)
 
 -- the same, told by a status and the number of bytes that were written

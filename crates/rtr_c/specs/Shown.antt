@@ -17,7 +17,7 @@ use Rattle.rtr_views.specs.Views.{IsViewOf}
 use Rattle.rtr_views.specs.declared.fault.ViewFault.{ViewFault}
 use Rattle.rtr_views.specs.declared.view.UnitView.{UnitView}
 use Rattle.rtr_views.specs.declared.view.UnitView.TheVariants as views
-use Rattle.rtr_c.specs.Answers.{accepted, fault_status, fault_detail}
+use Rattle.rtr_c.specs.Answers.{rtr_ok, fault_status, fault_detail}
 use Rattle.rtr_c.specs.declared.unit.RtrUnit.{RtrUnit}
 
 -- a unit of no kind
@@ -111,7 +111,7 @@ shown (views.End e) n = end_shown n (end_meaning e)
 -- the first unit or end of data of the input is shown, or its first fault is told
 abbrev pub ShowsFirst : Result (UnitView × ℕ) ViewFault → List ℕ → RtrUnit → ℕ → Type 0
 ShowsFirst (Ok (v, n)) input u code =
-    IsViewOf v (take n input) × (n ≤ length input) × (u ≡ shown v n) × (code ≡ accepted)
+    IsViewOf v (take n input) × (n ≤ length input) × (u ≡ shown v n) × (code ≡ rtr_ok)
 ShowsFirst (Err e) input u code =
     IsFirstFault input e × (u ≡ record none { detail = fault_detail e })
     × (code ≡ fault_status e)

@@ -5,7 +5,7 @@ ghost use Rattle.rtr_wire.specs.Into.{FillsInto, RefusesVersion};
 ghost use Rattle.rtr_wire.specs.Sequences.{everything, for_version};
 ghost use Rattle.rtr_wire.specs.declared.into.IntoFault.{IntoFault};
 ghost use Rattle.rtr_wire.specs.declared.into.Progress.{Progress};
-ghost use Rattle.rtr_c.specs.Answers.{Tells, CallSucceeds, CallSucceedsOnly, no_room};
+ghost use Rattle.rtr_c.specs.Answers.{Tells, CallSucceeds, CallSucceedsOnly, rtr_no_room};
 
 use crate::answer::{ACCEPTED, RtrAnswer, stop_detail, stop_status};
 use rtr_wire::{IntoFault, Progress, normalise_for_into, normalise_into};
@@ -21,9 +21,9 @@ pub extern "C" fn rtr_normalise_slice(
     ensures told { (p : Progress) × (r : Result Unit IntoFault)
         × FillsInto everything limit r input.now output.old output.new p
         × Tells p r answer.new result }
-    ensures room { length input.now ≤ length output.old → result ≢ no_room }
-    ensures succeeds { CallSucceeds everything limit (length input.now) input.now output.old output.new
-        answer.new result }
+    ensures room { length input.now ≤ length output.old → result ≢ rtr_no_room }
+    ensures succeeds { CallSucceeds everything limit (length input.now)
+        input.now output.old output.new answer.new result }
     ensures succeeds_only { CallSucceedsOnly everything limit input.now output.old output.new
         answer.new result }
 {
@@ -44,11 +44,12 @@ pub extern "C" fn rtr_normalise_for_slice(
     ensures known { version ≤ 2 → (p : Progress) × (r : Result Unit IntoFault)
         × FillsInto (for_version version) limit r input.now output.old output.new p
         × Tells p r answer.new result }
-    ensures room { version ≤ 2 → length input.now + 12 ≤ length output.old → result ≢ no_room }
-    ensures succeeds { version ≤ 2 → CallSucceeds (for_version version) limit (length input.now + 12)
+    ensures room { version ≤ 2 → length input.now + 12 ≤ length output.old → result ≢ rtr_no_room }
+    ensures succeeds { version ≤ 2 →
+        CallSucceeds (for_version version) limit (length input.now + 12)
         input.now output.old output.new answer.new result }
-    ensures succeeds_only { CallSucceedsOnly (for_version version) limit input.now output.old output.new
-        answer.new result }
+    ensures succeeds_only { CallSucceedsOnly (for_version version) limit
+        input.now output.old output.new answer.new result }
     ensures unknown { 2 < version → (p : Progress) × (r : Result Unit IntoFault)
         × RefusesVersion version p r output.old output.new
         × Tells p r answer.new result }

@@ -100,7 +100,8 @@ fn form_named(word: &str) -> Option<Wanted>
 /// output once, and answers the status to end with: 0 where all that succeeded and no rule was
 /// found broken; 1 where one was, or at a fault of the input; 2 where there are words other than
 /// `--json` or `--check`; 3 where reading, writing, flushing or memory failed. At a fault and at
-/// statuses 2 and 3 there is a line on `faults`; one that can't be written changes nothing.
+/// statuses 2 and 3 there is a line on `faults`, and a second one where the flush failed after a
+/// fault whose status isn't 3. A line that can't be written changes nothing.
 pub fn run<R: Source, W: Sink, F: Write>(
     alloc: Global,
     args: &[String],
