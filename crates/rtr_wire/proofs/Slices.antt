@@ -33,7 +33,7 @@ use Rattle.rtr_views.specs.declared.view.UnitView.TheVariants as views
 use Rattle.rtr_views.proofs.Agreement.{view_means, form_meant}
 use Rattle.rtr_wire.specs.PrivateSteps.{StepTells, Steps, StopsStep, is_payload_unit, passed}
 use Rattle.rtr_units.specs.StopCauses.{by_cause}
-use Rattle.rtr_wire.specs.Run.{Run, Ends, IsPartOfForm, BlamesNobody, Normalises}
+use Rattle.rtr_wire.specs.Run.{Run, HasRun, Ends, IsPartOfForm, BlamesNobody, Normalises}
 use Rattle.rtr_wire.specs.Sequences.{AreUnits, everything, forms}
 use Rattle.rtr_wire.specs.declared.run.Passed.TheVariants as passes
 use Rattle.rtr_wire.specs.SliceRun.{view_cause, slice_answer, NormalisesSlice}
@@ -162,10 +162,6 @@ not_viewed TooMany r held h e = absurd e
 
 -- ---- the whole run
 
-is_ok_of : (u : List ℕ) (r : Result (ℕ × ℕ) ViewFault) (n : ℕ) → slice_answer u r ≡ Ok n → IsOk r
-is_ok_of u (Ok (m, k)) n e = refl
-is_ok_of u (Err f) n e = absurd cc
-
 pub normalises_slice : (limit : ℕ) (r : Result (ℕ × ℕ) ViewFault)
     (input took left wrote last : List ℕ) (old new : WriterState) → input ≡ took ++ left →
     Appends old.held new.held wrote →
@@ -184,10 +180,6 @@ normalises_slice limit r input took left wrote last old new parts writes run is 
       run = run;
       last_is = is;
       bytes = bytes;
-      succeeds = λ number some well.
-          is_ok_of last r number
-          (one_run everything limit (slice_answer last r) (Ok number) took left wrote some.taken
-          some.left some.written run some.run (sym parts ∙ some.parts) well tt).0;
       writer_failures = failed;
     }
 
@@ -311,6 +303,20 @@ pub view_writer_count : (S T : Type 0) (f : ViewFault) (first before after : ℕ
     after ≡ count_after first (not (is_view_writer_fault {T = T} (Err f)))
 view_writer_count S T f first before after e same =
     e ∙ (λ i. count_after (same i) (not (same_writer S T f i)))
+
+-- ---- a call over an input over which some run succeeds
+
+is_ok_of : (u : List ℕ) (r : Result (ℕ × ℕ) ViewFault) (n : ℕ) → slice_answer u r ≡ Ok n → IsOk r
+is_ok_of u (Ok (m, k)) n e = refl
+is_ok_of u (Err f) n e = absurd cc
+
+pub slice_answers : (limit : ℕ) (r : Result (ℕ × ℕ) ViewFault) (input : List ℕ)
+    (old new : WriterState) (p : NormalisesSlice limit r input old new) (number : ℕ) →
+    HasRun everything limit (Ok number) input → BlamesNobody (slice_answer p.last r) → IsOk r
+slice_answers limit r input old new p number some well =
+    is_ok_of p.last r number
+    (one_run everything limit (slice_answer p.last r) (Ok number) p.taken p.left p.written
+    some.taken some.left some.written p.run some.run (sym p.parts ∙ some.parts) well tt).0
 
 -- ---- both ways
 

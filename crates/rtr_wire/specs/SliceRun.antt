@@ -1,6 +1,6 @@
 -- What a run of `normalise_slice` reads, writes and answers: a run as one of `normalise`, over
 -- bytes that are known, for which neither a reader nor memory can fail.
-use Rattle.std.specs.Prelude.{◌≡◌, ℕ, not, List, ◌++◌, length, Result, Ok, Err, IfOk, IsOk}
+use Rattle.std.specs.Prelude.{◌≡◌, ℕ, not, List, ◌++◌, length, Result, Ok, Err, IfOk}
 use Rattle.std.specs.Io.KnownBytes.{Appends}
 use Rattle.rtr_units.specs.StopCauses.{short, unit_type, unit_version, too_long, unit_length}
 use Rattle.rtr_units.specs.StopCauses.{empty_providers, refused, Cause, by_writer, too_many, wrong}
@@ -12,7 +12,7 @@ use Rattle.rtr_views.specs.declared.fault.ViewFault.TheVariants.{Writer, Short, 
 use Rattle.rtr_views.specs.declared.fault.ViewFault.TheVariants.{UnitLength, TooLong}
 use Rattle.rtr_views.specs.declared.fault.ViewFault.TheVariants.{EmptyProviders, UnitVersion}
 use Rattle.rtr_views.specs.declared.fault.ViewFault.TheVariants.{Prefix, TooMany}
-use Rattle.rtr_wire.specs.Run.{HasRun, Run, BlamesNobody}
+use Rattle.rtr_wire.specs.Run.{Run}
 use Rattle.rtr_wire.specs.Sequences.{everything}
 
 -- the cause that a fault names; a part of the rule on prefix lengths names the report on the unit u
@@ -50,9 +50,5 @@ pub record NormalisesSlice (limit : ℕ) (result : Result (ℕ × ℕ) ViewFault
   pub last_is : last ≡ run.last
   -- a number comes with that of the bytes taken
   pub bytes : IfOk result (λ p. p.1 ≡ length taken)
-  -- an input over which some run succeeds is answered by numbers, unless the writer failed
-  pub succeeds :
-      (number : ℕ) → HasRun everything limit (Ok number) input →
-      BlamesNobody (slice_answer last result) → IsOk result
   -- the writer is blamed exactly where its count of failures rose
   pub writer_failures : new.failed ≡ count_after old.failed (not (is_view_writer_fault result))
