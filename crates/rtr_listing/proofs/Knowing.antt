@@ -14,7 +14,7 @@ use Rattle.rtr_units.specs.Header.{version_field}
 use Rattle.rtr_payload.specs.Meanings.{payload_of}
 use Rattle.rtr_payload.specs.Orders.{payload_cmp}
 use Rattle.rtr_payload.specs.UnitBytes.{unit_bytes, unit_fields, flags_in}
-use Rattle.rtr_payload.specs.Units.{Fields}
+use Rattle.rtr_payload.specs.UnitFields.{Fields}
 use Rattle.rtr_payload.specs.declared.payload.Payload.{Payload as Value}
 use Rattle.rtr_payload.specs.declared.pdu.payload.Payload.{Payload}
 use Rattle.rtr_payload.specs.declared.pdu.payload.Payload.TheVariants as units

@@ -12,7 +12,7 @@ use Rattle.rtr_payload.specs.FirstFault.{rule_of}
 use Rattle.rtr_payload.specs.Orders.{payload_cmp}
 use Rattle.rtr_payload.specs.Payloads.{Payload, origin, key, aspa}
 use Rattle.rtr_payload.specs.RouteOrigins.{meant_origin}
-use Rattle.rtr_payload.specs.Units.{Fields, prefix_unit, key_unit, aspa_unit}
+use Rattle.rtr_payload.specs.UnitFields.{Fields, prefix_unit, key_unit, aspa_unit}
 use Rattle.rtr_payload.specs.declared.pdu.prefix_rule.PrefixRule.{PrefixRule}
 use Rattle.rtr_session.specs.AnyFields.{AnyFields}
 use Rattle.rtr_session.specs.AnyFields.{cache_response, payload, end_of_data}

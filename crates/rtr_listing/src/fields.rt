@@ -2,7 +2,7 @@
 
 ghost use Rattle.std.specs.Prelude.{◌≡◌, drop, length, option_map};
 ghost use Rattle.rtr_payload.specs.UnitBytes.{unit_fields};
-ghost use Rattle.rtr_payload.specs.Units.{unit_list};
+ghost use Rattle.rtr_payload.specs.UnitFields.{unit_list};
 ghost use Rattle.rtr_session.specs.AnyFields.{any_list};
 ghost use Rattle.rtr_session.specs.AnyUnits.{any_fields};
 ghost use Rattle.rtr_listing.specs.ReportParts.{report_parts};

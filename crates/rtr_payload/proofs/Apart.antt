@@ -8,9 +8,11 @@ use Rattle.rtr_units.specs.End.{EndMeaning, IsEnd, end_list, timed_list}
 use Rattle.rtr_units.specs.Header.{type_field}
 use Rattle.rtr_units.specs.PrefixUnits.{prefix_type}
 use Rattle.rtr_payload.specs.Payloads.{Meaning}
-use Rattle.rtr_payload.specs.Units.{Fields, prefix_unit, key_unit, aspa_unit}
-use Rattle.rtr_payload.specs.Units.{unit_list, written_fields, IsUnit, form_of}
+use Rattle.rtr_payload.specs.UnitFields.{Fields, prefix_unit, key_unit, aspa_unit}
+use Rattle.rtr_payload.specs.UnitFields.{unit_list, written_fields}
+use Rattle.rtr_payload.specs.Units.{IsUnit, form_of}
 use Rattle.rtr_payload.specs.FirstFault.{BeginsUnit, BeginsEnd}
+use Rattle.rtr_payload.proofs.ByFields.{unit_fields_of, form_is}
 
 fields_type : (u : Fields) (r : List ℕ) → type_field (unit_list u ++ r) ≢ 7
 fields_type (prefix_unit u) r h = by_family u.origin.family h
@@ -27,8 +29,9 @@ timed_type v s q (Some t) r = refl
 
 pub unit_type : (r : List ℕ) → BeginsUnit r → type_field r ≢ 7
 unit_type r h e =
-    fields_type h.unit.fields h.rest
-    (ap (λ b. type_field (b ++ h.rest)) (sym h.unit.bytes) ∙ ap type_field (sym h.parts) ∙ e)
+    let unit = unit_fields_of h.bytes h.means h.unit in
+    fields_type unit.fields h.rest
+    (ap (λ b. type_field (b ++ h.rest)) (sym unit.bytes) ∙ ap type_field (sym h.parts) ∙ e)
 
 pub end_type : (r : List ℕ) → BeginsEnd r → type_field r ≡ 7
 end_type r h =
@@ -48,4 +51,5 @@ pub form_or_end : (m : Meaning) (e : EndMeaning) (r s : List ℕ) →
     form_of m ++ r ≡ end_list e ++ s → ⊥
 form_or_end m e r s eq =
     fields_type (written_fields m.version (flags_of m.action) m.payload) r
-    (ap type_field eq ∙ timed_type e.version e.session e.serial e.timing s)
+    (ap (λ b. type_field (b ++ r)) (sym (form_is m.version (flags_of m.action) m.payload))
+    ∙ ap type_field eq ∙ timed_type e.version e.session e.serial e.timing s)

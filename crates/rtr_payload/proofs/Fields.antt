@@ -16,13 +16,18 @@ use Rattle.rtr_units.proofs.Headers.{header_bytes}
 use Rattle.rtr_base.specs.Addresses.{v4, v6, width}
 use Rattle.rtr_payload.specs.Payloads.{Payload, origin, key, aspa, Meaning, IsPayload}
 use Rattle.rtr_base.specs.Actions.{act}
-use Rattle.rtr_payload.specs.Units.{Fields, prefix_unit, key_unit, aspa_unit, unit_list, Fit}
-use Rattle.rtr_payload.specs.Units.{WithinLimits, LengthsAgree, IsUnit}
-use Rattle.rtr_payload.specs.Units.{meaning, written_fields, form, form_of, stripped}
-use Rattle.rtr_payload.specs.AspaUnits.{AspaParts, IsAspa, AspaFields, aspa_list}
-use Rattle.rtr_payload.specs.AspaUnits.{named, HasProviders, meant_aspa}
-use Rattle.rtr_payload.specs.KeyUnits.{IsKey, KeyFields, key_list}
+use Rattle.rtr_payload.specs.UnitFields.{Fields, prefix_unit, key_unit, aspa_unit, unit_list, Fit}
+use Rattle.rtr_payload.specs.UnitFields.{WithinLimits, LengthsAgree, HasMeaning}
+use Rattle.rtr_payload.specs.Units.{IsUnit}
+use Rattle.rtr_payload.specs.UnitFields.{meaning, written_fields, stripped}
+use Rattle.rtr_payload.specs.Units.{form, form_of}
+use Rattle.rtr_payload.specs.Payloads.{AspaParts, IsAspa}
+use Rattle.rtr_payload.specs.AspaUnits.{AspaFields, aspa_list}
+use Rattle.rtr_payload.specs.AspaUnits.{meant_providers, HasProviders, meant_aspa}
+use Rattle.rtr_payload.specs.Payloads.{IsKey}
+use Rattle.rtr_payload.specs.KeyUnits.{KeyFields, key_list}
 use Rattle.rtr_payload.specs.RouteOrigins.{PrefixFits}
+use Rattle.rtr_payload.proofs.ByFields.{unit_fields_of, unit_of_fields, form_is}
 use Rattle.rtr_base.specs.Actions.{flags_of}
 
 -- where two lists go on from parts that are as long, the parts are equal and so is the rest
@@ -226,8 +231,10 @@ written_same v f w g p q e =
 pub form_same : (v f : ℕ) (p q : Payload) → IsPayload p → IsPayload q → form v f p ≡ form v f q →
     p ≡ q
 form_same v f p q hp hq e =
+    let lists = sym (form_is v f p) ∙ e ∙ form_is v f q in
     (written_same v f v f p q
-    (lists_same (written_fields v f p) (written_fields v f q) (Fit-written v f p hp) (Fit-written v f q hq) e)).2
+    (lists_same (written_fields v f p) (written_fields v f q) (Fit-written v f p hp)
+    (Fit-written v f q hq) lists)).2
 
 flags_same : (a b : Action) → flags_of a ≡ flags_of b → a ≡ b
 flags_same Announce Announce e = refl
@@ -237,9 +244,11 @@ flags_same a b e = absurd (omega arith)
 pub forms_same : (m n : Meaning) (r s : List ℕ) → IsPayload m.payload → IsPayload n.payload →
     form_of m ++ r ≡ form_of n ++ s → (m ≡ n) × (r ≡ s)
 forms_same m n r s hm hn e =
+    let lists = sym (ap (λ l. l ++ r) (form_is m.version (flags_of m.action) m.payload)) ∙ e
+    ∙ ap (λ l. l ++ s) (form_is n.version (flags_of n.action) n.payload) in
     let t = fields_same (written_fields m.version (flags_of m.action) m.payload)
     (written_fields n.version (flags_of n.action) n.payload) r s (Fit-written _ _ m.payload hm)
-    (Fit-written _ _ n.payload hn) e in
+    (Fit-written _ _ n.payload hn) lists in
     let w = written_same m.version (flags_of m.action) n.version (flags_of n.action) m.payload
     n.payload t.0 in
     let a = flags_same m.action n.action w.1 in
@@ -247,7 +256,9 @@ forms_same m n r s hm hn e =
 
 pub units_same : (a b r s : List ℕ) (m n : Meaning) → IsUnit a m → IsUnit b n → a ++ r ≡ b ++ s →
     (a ≡ b) × (m ≡ n) × (r ≡ s)
-units_same a b r s m n h j e =
+units_same a b r s m n unit other e =
+    let h = unit_fields_of a m unit in
+    let j = unit_fields_of b n other in
     let t = fields_same h.fields j.fields r s h.fits j.fits cc in
     (h.bytes ∙ ap unit_list t.0 ∙ sym j.bytes, h.means ∙ ap meaning t.0 ∙ sym j.means, t.1)
 
@@ -291,13 +302,14 @@ meaning_fits (key_unit u) h j = h
 meaning_fits (aspa_unit u) h j = IsAspa-named (act u.flags) u.aspa h
 
 pub unit_payload : (b : List ℕ) (m : Meaning) → IsUnit b m → IsPayload m.payload
-unit_payload b m h = rw h.means (meaning_fits h.fields h.fits h.lengths)
+unit_payload b m unit =
+    let h = unit_fields_of b m unit in rw h.means (meaning_fits h.fields h.fits h.lengths)
 
 act_again : (a : Action) → act (flags_of a) ≡ a
 act_again Announce = refl
 act_again Withdraw = refl
 
-named_again : (a : Action) (ps : List ℕ) → named a (named a ps) ≡ named a ps
+named_again : (a : Action) (ps : List ℕ) → meant_providers a (meant_providers a ps) ≡ meant_providers a ps
 named_again Announce ps = refl
 named_again Withdraw ps = refl
 
@@ -311,7 +323,7 @@ stripped_again (aspa_unit u) =
     (named_again (act u.flags) u.aspa.providers)
 
 HasProviders-named : (a : Action) (ps : List ℕ) → HasProviders a ps →
-    HasProviders (act (flags_of a)) (named a ps)
+    HasProviders (act (flags_of a)) (meant_providers a ps)
 HasProviders-named Announce ps h = h
 HasProviders-named Withdraw ps h = tt
 
@@ -368,22 +380,22 @@ form_bytes (key_unit u) h =
     (IsBytes-drop 4 (key_list u) h)
 form_bytes (aspa_unit u) h =
     let c = u.aspa.customer in
-    let qs = named (act u.flags) u.aspa.providers in
+    let qs = meant_providers (act u.flags) u.aspa.providers in
     let size = be (12 + 4 * length qs) 4 in
     let tail = IsBytes-append (be c 4) (words qs) (IsBytes-be c 4) (IsBytes-words qs) in
     cells_bytes u.version 11 (flags_of (act u.flags)) 0 (size ++ be c 4 ++ words qs) (h 0)
     (omega arith) (flags_byte (act u.flags)) (omega arith)
     (IsBytes-append size (be c 4 ++ words qs) (IsBytes-be (12 + 4 * length qs) 4) tail)
 
-pub form_is_unit : (b : List ℕ) (m : Meaning) → IsUnit b m → IsUnit (form_of m) m
-form_is_unit b m h = rw h.means (record {
+form_has : (b : List ℕ) (m : Meaning) → HasMeaning b m → HasMeaning (form_of m) m
+form_has b m h = rw h.means (record {
   fields =
       written_fields (meaning h.fields).version (flags_of (meaning h.fields).action)
       (meaning h.fields).payload;
   shape = record {
     fits = Fit-written _ _ _ (meaning_fits h.fields h.fits h.lengths);
     limits = limits_again h.fields h.limits;
-    bytes = refl;
+    bytes = form_is _ _ (meaning h.fields).payload;
     are_bytes = form_bytes h.fields (subst IsBytes h.bytes h.are_bytes);
   };
   lengths = lengths_again h.fields h.lengths;
@@ -391,3 +403,6 @@ form_is_unit b m h = rw h.means (record {
       sym (form_means (meaning h.fields) (meaning_fits h.fields h.fits h.lengths)
       (stripped_again h.fields));
 })
+
+pub form_is_unit : (b : List ℕ) (m : Meaning) → IsUnit b m → IsUnit (form_of m) m
+form_is_unit b m h = unit_of_fields (form_of m) m (form_has b m (unit_fields_of b m h))

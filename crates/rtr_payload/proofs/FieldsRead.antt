@@ -15,16 +15,20 @@ use Rattle.rtr_units.specs.PrefixUnits.{PrefixFields, prefix_type, prefix_size, 
 use Rattle.rtr_units.specs.PrefixUnits.{prefix_list, prefix_at}
 use Rattle.rtr_units.specs.Header.{version_field, type_field, session_field, length_field, header}
 use Rattle.rtr_units.proofs.Headers.{header_read, header_cells, session_fits}
+use Rattle.rtr_payload.proofs.ByFields.{form_is}
 use Rattle.rtr_payload.proofs.Fields.{address_below, Fit-written}
 use Rattle.rtr_payload.specs.Providers.{words_of}
-use Rattle.rtr_payload.specs.KeyUnits.{IsKey, KeyFields, key_list, key_at}
-use Rattle.rtr_payload.specs.AspaUnits.{IsAspa, AspaFields, aspa_list, aspa_at, HasProviders}
+use Rattle.rtr_payload.specs.Payloads.{IsKey}
+use Rattle.rtr_payload.specs.KeyUnits.{KeyFields, key_list, key_at}
+use Rattle.rtr_payload.specs.Payloads.{IsAspa}
+use Rattle.rtr_payload.specs.AspaUnits.{AspaFields, aspa_list, aspa_at, HasProviders}
 use Rattle.rtr_payload.specs.declared.payload.RouteOrigin.{RouteOrigin}
 use Rattle.rtr_payload.specs.Meanings.{origin_of}
 use Rattle.rtr_payload.specs.Payloads.{Payload, IsPayload}
 use Rattle.rtr_payload.specs.RouteOrigins.{PrefixFits}
-use Rattle.rtr_payload.specs.Units.{Fields, prefix_unit, key_unit, aspa_unit, fields_like}
-use Rattle.rtr_payload.specs.Units.{unit_list, Fit, HasFields, form, written_fields}
+use Rattle.rtr_payload.specs.UnitFields.{Fields, prefix_unit, key_unit, aspa_unit, fields_like}
+use Rattle.rtr_payload.specs.UnitFields.{unit_list, Fit, HasFields, written_fields}
+use Rattle.rtr_payload.specs.Units.{form}
 
 -- ---- the fields of a unit's list are those of the unit
 
@@ -85,7 +89,8 @@ fields_read (aspa_unit u) h = ap aspa_unit (aspa_read u h)
 pub form_fields : (u : List ℕ) (v f : ℕ) (p : Payload) → IsPayload p → u ≡ form v f p →
     fields_like (written_fields v f p) u ≡ written_fields v f p
 form_fields u v f p h e =
-    ap (fields_like (written_fields v f p)) e ∙ fields_read (written_fields v f p) (Fit-written v f p h)
+    ap (fields_like (written_fields v f p)) (e ∙ form_is v f p)
+    ∙ fields_read (written_fields v f p) (Fit-written v f p h)
 
 -- the parts of an origin are in their ranges
 pub IsOrigin-of : (o : RouteOrigin) → IsMaxLenPrefix o.prefix → o.asn < 2 ^ 32 →

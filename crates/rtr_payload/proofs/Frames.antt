@@ -21,8 +21,8 @@ use Rattle.rtr_units.proofs.Headers.{same_header}
 use Rattle.rtr_payload.specs.FirstFault.{header_fault, header_step, length_step, lengths_fault}
 use Rattle.rtr_payload.specs.FirstFault.{frame_fault, first_of, first_fault}
 use Rattle.rtr_payload.specs.FirstFault.{first_unit, rule_of, broken_rule, refuse}
-use Rattle.rtr_payload.specs.Units.{Fields, prefix_unit, key_unit, aspa_unit}
-use Rattle.rtr_payload.specs.Units.{unit_list, Fit, WithinLimits, HasFields}
+use Rattle.rtr_payload.specs.UnitFields.{Fields, prefix_unit, key_unit, aspa_unit}
+use Rattle.rtr_payload.specs.UnitFields.{unit_list, Fit, WithinLimits, HasFields}
 use Rattle.rtr_payload.specs.AspaUnits.{HasProviders, aspa_list}
 use Rattle.rtr_payload.specs.KeyUnits.{key_list}
 

@@ -6,7 +6,7 @@ use Rattle.rtr_base.specs.Addresses.{Family, v4, v6, width, cleared}
 use Rattle.rtr_base.specs.Bytes.{value}
 use Rattle.rtr_units.specs.PrefixUnits.{prefix_at, prefix_size, address_bytes}
 use Rattle.rtr_payload.specs.FirstFault.{broken_rule}
-use Rattle.rtr_payload.specs.Units.{prefix_unit}
+use Rattle.rtr_payload.specs.UnitFields.{prefix_unit}
 use Rattle.rtr_payload.specs.UnitBytes.{unit_bytes, unit_fields, MeansPayload}
 use Rattle.rtr_payload.specs.declared.payload.RouteOrigin.{RouteOrigin}
 use Rattle.rtr_payload.specs.declared.payload.Payload.TheVariants.{Origin}

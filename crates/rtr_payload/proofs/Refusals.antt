@@ -14,7 +14,7 @@ use Rattle.rtr_payload.specs.Refusals.{IsPartial, IsRefused}
 use Rattle.rtr_payload.specs.FirstFault.{header_fault, header_step, length_step, lengths_fault}
 use Rattle.rtr_payload.specs.FirstFault.{frame_fault, first_of, first_unit}
 use Rattle.rtr_payload.specs.FirstFault.{taken, rule_of, refuse, refusal_report}
-use Rattle.rtr_payload.specs.Units.{Fields, HasFields}
+use Rattle.rtr_payload.specs.UnitFields.{Fields, HasFields}
 use Rattle.rtr_payload.proofs.Frames.{Whole, after_header, same_step, shape_fault, shape_cut}
 
 -- ---- a list that ends too early

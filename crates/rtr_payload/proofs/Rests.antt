@@ -14,7 +14,9 @@ use Rattle.rtr_payload.specs.FirstFault.{header_fault, header_step, lengths_faul
 use Rattle.rtr_payload.specs.FirstFault.{first_fault, first_unit, BeginsShape, BeginsUnit}
 use Rattle.rtr_payload.specs.FirstFault.{BeginsEnd}
 use Rattle.rtr_payload.specs.FirstFault.{broken_rule, rule_of, refuse}
-use Rattle.rtr_payload.specs.Units.{Fields, prefix_unit, key_unit, aspa_unit, LengthsAgree, meaning}
+use Rattle.rtr_payload.specs.UnitFields.{Fields, prefix_unit, key_unit, aspa_unit, LengthsAgree}
+use Rattle.rtr_payload.specs.UnitFields.{meaning}
+use Rattle.rtr_payload.proofs.ByFields.{unit_fields_of, fields_unit}
 use Rattle.rtr_payload.proofs.Wholes.{whole_is}
 use Rattle.rtr_payload.proofs.Frames.{Whole, InFrame, none_in_frame, first_none}
 use Rattle.rtr_payload.proofs.Frames.{same_step, shape_fault, end_fault}
@@ -89,8 +91,9 @@ refuse_none b (Some f) e = absurd cc
 
 pub begins_unit_none : (r : List ℕ) → BeginsUnit r → first_fault r ≡ None
 begins_unit_none r h =
-    ap first_fault h.parts ∙ shape_fault h.bytes h.rest h.unit.fields h.unit.shape
-    ∙ ap (refuse h.bytes) (agree_kept h.unit.fields h.unit.lengths)
+    let unit = unit_fields_of h.bytes h.means h.unit in
+    ap first_fault h.parts ∙ shape_fault h.bytes h.rest unit.fields unit.shape
+    ∙ ap (refuse h.bytes) (agree_kept unit.fields unit.lengths)
 
 pub begins_end_none : (r : List ℕ) → BeginsEnd r → first_fault r ≡ None
 begins_end_none r h = ap first_fault h.parts ∙ end_fault h.bytes h.rest h.means h.end
@@ -107,12 +110,7 @@ none_begins r h e =
             bytes = b.bytes;
             means = meaning u;
             rest = b.rest;
-            unit = record {
-              fields = u;
-              shape = b.unit.shape;
-              lengths = agree_from u kept;
-              means = refl;
-            };
+            unit = fields_unit b.bytes u b.unit.shape (agree_from u kept);
             parts = b.parts;
           })
       | inr d ↦ inr d

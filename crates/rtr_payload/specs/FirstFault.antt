@@ -18,7 +18,8 @@ use Rattle.rtr_units.specs.StopCauses.{Refusal, short, unit_type, unit_version, 
 use Rattle.rtr_units.specs.StopCauses.{unit_length}
 use Rattle.rtr_units.specs.StopCauses.{empty_providers, refused}
 use Rattle.rtr_payload.specs.Payloads.{Meaning}
-use Rattle.rtr_payload.specs.Units.{Fields, prefix_unit, key_unit, aspa_unit, IsUnit, Shape}
+use Rattle.rtr_payload.specs.UnitFields.{Fields, prefix_unit, key_unit, aspa_unit, Shape}
+use Rattle.rtr_payload.specs.Units.{IsUnit}
 use Rattle.rtr_payload.specs.declared.pdu.prefix_rule.PrefixRule.{PrefixRule}
 use Rattle.rtr_payload.specs.declared.pdu.prefix_rule.PrefixRule.TheVariants.{LenOverflow}
 use Rattle.rtr_payload.specs.declared.pdu.prefix_rule.PrefixRule.TheVariants.{MaxOverflow}

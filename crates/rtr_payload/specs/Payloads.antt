@@ -1,11 +1,21 @@
 -- What a payload unit means, over all kinds (each by its RFC section; the order is this library's
 -- own).
-use Rattle.std.specs.Prelude.{ℕ}
+use Rattle.std.specs.Prelude.{◌≡◌, ℕ, ◌%◌, ◌-◌, ◌^◌, ◌<◌, ◌≤◌, List, length}
+use Rattle.rtr_base.specs.Addresses.{width}
 use Rattle.rtr_base.specs.declared.payload.Action.{Action}
 use Rattle.rtr_units.specs.PrefixUnits.{OriginParts}
-use Rattle.rtr_payload.specs.AspaUnits.{AspaParts, IsAspa}
-use Rattle.rtr_payload.specs.KeyUnits.{KeyParts, IsKey}
-use Rattle.rtr_payload.specs.RouteOrigins.{IsOrigin}
+use Rattle.rtr_payload.specs.Providers.{AreProviders}
+
+-- a router key (RFC 8210 section 5.10)
+pub record KeyParts : Type 0 where
+  pub identifier : List ℕ
+  pub asn : ℕ
+  pub info : List ℕ
+
+-- a customer and its providers, whose order counts (as in the Rust crate)
+pub record AspaParts : Type 0 where
+  pub customer : ℕ
+  pub providers : List ℕ
 
 -- a route origin (RFC 8210 sections 5.6 and 5.7), a router key (RFC 8210 section 5.10) or an ASPA
 -- (as in the Rust crate)
@@ -21,11 +31,40 @@ pub record Meaning : Type 0 where
   pub action : Action
   pub payload : Payload
 
+-- ---- the ranges of its parts
+
+-- the rule on the lengths of a prefix: the max length is not below the prefix length, nor above the
+-- number of bits of an address (RFC 8210 sections 5.1, 5.6 and 5.7)
+abbrev pub LengthsInOrder : OriginParts → Type 0
+LengthsInOrder o = (o.prefix_len ≤ o.max_len) × (o.max_len ≤ width o.family)
+
+-- The lengths are in order, and the bits of the address after the prefix length are clear. An
+-- address of 32 or 128 bits (RFC 8210 sections 5.6 and 5.7).
+pub record IsOrigin (o : OriginParts) : Type 0 where
+  pub lengths : LengthsInOrder o
+  pub address : o.address < 2 ^ width o.family
+  pub host_bits : o.address % 2 ^ (width o.family - o.prefix_len) ≡ 0
+  pub asn : o.asn < 2 ^ 32
+
+-- an identifier of 20 bytes, and key info whose length, with the 32 bytes before it, fits a length
+-- field of four bytes (RFC 8210 section 5.10)
+pub record IsKey (k : KeyParts) : Type 0 where
+  pub identifier : length k.identifier ≡ 20
+  pub asn : k.asn < 2 ^ 32
+  pub info : length k.info ≤ 4294967263
+
+-- a customer of four bytes, and providers (as in the Rust crate)
+pub record IsAspa (a : AspaParts) : Type 0 where
+  pub customer : a.customer < 2 ^ 32
+  pub providers : AreProviders a.providers
+
 -- its parts are in their ranges (RFC 8210 sections 5.6, 5.7 and 5.10; ASPAs as in the Rust crate)
 abbrev pub IsPayload : Payload → Type 0
 IsPayload (origin o) = IsOrigin o
 IsPayload (key k) = IsKey k
 IsPayload (aspa a) = IsAspa a
+
+-- ---- versions and order
 
 -- the smallest protocol version that has the payload (origins RFC 6810, router keys RFC 8210; ASPAs
 -- as in the Rust crate)

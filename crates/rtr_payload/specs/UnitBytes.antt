@@ -14,8 +14,9 @@ use Rattle.rtr_units.specs.declared.end.EndOfData.{EndOfData}
 use Rattle.rtr_payload.specs.AspaUnits.{aspa_at}
 use Rattle.rtr_payload.specs.KeyUnits.{key_at}
 use Rattle.rtr_payload.specs.FirstFault.{rule_of, refusal_report}
-use Rattle.rtr_payload.specs.Units.{Fields, prefix_unit, key_unit, aspa_unit, HasFields}
-use Rattle.rtr_payload.specs.Units.{LengthsAgree, form, meaning, written_fields}
+use Rattle.rtr_payload.specs.UnitFields.{Fields, prefix_unit, key_unit, aspa_unit, HasFields}
+use Rattle.rtr_payload.specs.UnitFields.{LengthsAgree, meaning, written_fields}
+use Rattle.rtr_payload.specs.Units.{form}
 use Rattle.rtr_payload.specs.Meanings.{payload_of}
 use Rattle.rtr_payload.specs.declared.pdu.prefix_rule.PrefixRule.{PrefixRule}
 use Rattle.rtr_payload.specs.declared.payload.Payload.{Payload as Value}

@@ -18,8 +18,9 @@ ghost use Rattle.rtr_payload.specs.UnitBytes.{HasNoPayload, IsPrefixUnit};
 ghost use Rattle.rtr_payload.specs.Meanings.{payload_of};
 ghost use Rattle.rtr_payload.specs.declared.payload.Payload.{Payload as Value};
 ghost use Rattle.rtr_payload.specs.declared.pdu.payload.Payload.{Payload as Unit};
-ghost use Rattle.rtr_payload.specs.Units.{Fields, fields_like, LengthsAgree, IsUnit, meaning};
-ghost use Rattle.rtr_payload.specs.Units.{form, form_of, written_fields, stripped};
+ghost use Rattle.rtr_payload.specs.UnitFields.{Fields, fields_like, LengthsAgree, HasMeaning};
+ghost use Rattle.rtr_payload.specs.UnitFields.{unit_list, meaning, written_fields, stripped};
+ghost use Rattle.rtr_payload.specs.Units.{IsUnit, form, form_of};
 
 use crate::pdu::{Aspa, ProviderAsns, RouterKey};
 use rtr_units::header::MAX_SIZE;
@@ -67,6 +68,13 @@ pub fn made_and_read()
     ensures kept { (v f : ℕ) (p : Payload) (u : Unit) (c : Cause) →
         IsPayload p → IsWritten v f p u → HasNoPayload u c →
         (c ≡ no_memory) × (IsPrefixUnit u → ⊥) }
+{}
+
+/// A unit of one kind and a unit by its fields are the same, and a form is the list of the fields
+/// that are written.
+pub fn units_by_fields()
+    ensures units { (b : List ℕ) (m : Meaning) → IsUnit b m ↔ HasMeaning b m }
+    ensures forms { (v f : ℕ) (p : Payload) → form v f p ≡ unit_list (written_fields v f p) }
 {}
 
 /// No unit begins another, and one list has one meaning.

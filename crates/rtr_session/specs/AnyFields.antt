@@ -5,7 +5,7 @@ use Rattle.rtr_base.specs.Bytes.{IsBytes}
 use Rattle.rtr_units.specs.End.{EndMeaning, IsEndMeaning, end_list}
 use Rattle.rtr_units.specs.Header.{header}
 use Rattle.rtr_units.specs.Queries.{bare_list, serial_list}
-use Rattle.rtr_payload.specs.Units.{Fields, Fit, WithinLimits, unit_list}
+use Rattle.rtr_payload.specs.UnitFields.{Fields, Fit, WithinLimits, unit_list}
 
 -- the fields of a unit as they stand in it
 pub data AnyFields : Type 0 where

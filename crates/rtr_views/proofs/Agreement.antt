@@ -11,9 +11,12 @@ use Rattle.rtr_payload.specs.Payloads.{Meaning}
 use Rattle.rtr_units.specs.PrefixUnits.{prefix_type, prefix_at}
 use Rattle.rtr_payload.specs.KeyUnits.{key_at}
 use Rattle.rtr_payload.specs.AspaUnits.{aspa_at}
-use Rattle.rtr_payload.specs.Units.{Fields, prefix_unit, key_unit, aspa_unit, HasFields, IsUnit}
-use Rattle.rtr_payload.specs.Units.{LengthsAgree, meaning, form_of, unit_list}
+use Rattle.rtr_payload.specs.UnitFields.{Fields, prefix_unit, key_unit, aspa_unit, HasFields}
+use Rattle.rtr_payload.specs.Units.{IsUnit}
+use Rattle.rtr_payload.specs.UnitFields.{LengthsAgree, meaning, unit_list}
+use Rattle.rtr_payload.specs.Units.{form_of}
 use Rattle.rtr_payload.specs.Meanings.{origin_of}
+use Rattle.rtr_payload.proofs.ByFields.{unit_fields_of, unit_of_fields}
 use Rattle.rtr_payload.proofs.Fields.{lists_same}
 use Rattle.rtr_views.specs.Origins.{IsOriginOf, origin_meaning}
 use Rattle.rtr_views.specs.Views.{IsViewOf, ViewMeans, view_form}
@@ -93,24 +96,24 @@ no_end (views.End e) b u h (is, end) = absurd (shape_or_end b u (end_meaning e) 
 
 pub view_means : (v : UnitView) (b : List ℕ) (m : Meaning) → IsViewOf v b → ViewMeans v m →
     IsUnit b m
-view_means (views.Origin v) b m (f, is) e = record {
+view_means (views.Origin v) b m (f, is) e = unit_of_fields b m (record {
   fields = prefix_unit (prefix_at f b);
   shape = is.shape;
   lengths = is.lengths;
   means = e ∙ origin_means f v b is;
-}
-view_means (views.RouterKey v) b m (is, shape) e = record {
+})
+view_means (views.RouterKey v) b m (is, shape) e = unit_of_fields b m (record {
   fields = key_unit (key_at b);
   shape = shape;
   lengths = tt;
   means = e ∙ ap (λ l. meaning (key_unit (key_at l))) is;
-}
-view_means (views.Aspa v) b m (is, shape) e = record {
+})
+view_means (views.Aspa v) b m (is, shape) e = unit_of_fields b m (record {
   fields = aspa_unit (aspa_at b);
   shape = shape;
   lengths = tt;
   means = e ∙ ap (λ l. meaning (aspa_unit (aspa_at l))) is;
-}
+})
 view_means (views.End d) b m is e = absurd e
 
 pub view_and_fields : (v : UnitView) (b : List ℕ) (u : Fields) → IsViewOf v b → HasFields b u →
@@ -122,7 +125,8 @@ view_and_fields v b u is h =
 
 pub view_meant : (v : UnitView) (b : List ℕ) (m : Meaning) → IsViewOf v b → IsUnit b m →
     ViewMeans v m
-view_meant v b m is h =
+view_meant v b m is unit =
+    let h = unit_fields_of b m unit in
     subst (ViewMeans v) (sym h.means) (view_and_fields v b h.fields is h.shape).1
 
 pub form_meant : (v : UnitView) (m : Meaning) → ViewMeans v m → view_form v ≡ form_of m

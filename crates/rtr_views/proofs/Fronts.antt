@@ -18,14 +18,14 @@ use Rattle.rtr_units.proofs.UnitsRead.{typed_is}
 use Rattle.rtr_units.specs.Reading.{IsWhole, of_type}
 use Rattle.rtr_units.specs.PrefixUnits.{prefix_at}
 use Rattle.rtr_payload.specs.declared.pdu.prefix_rule.PrefixRule.{PrefixRule}
-use Rattle.rtr_payload.specs.Units.{prefix_unit, key_unit, aspa_unit}
+use Rattle.rtr_payload.specs.UnitFields.{prefix_unit, key_unit, aspa_unit}
 use Rattle.rtr_payload.specs.KeyUnits.{key_at}
 use Rattle.rtr_payload.specs.AspaUnits.{aspa_at}
 use Rattle.rtr_payload.specs.FirstFault.{first_fault, first_of, first_unit, header_fault}
 use Rattle.rtr_payload.specs.FirstFault.{header_step}
 use Rattle.rtr_payload.specs.FirstFault.{length_step, lengths_fault, rule_of, refusal_report}
 use Rattle.rtr_payload.specs.UnitKinds.{variable_unit}
-use Rattle.rtr_payload.specs.Units.{HasFields}
+use Rattle.rtr_payload.specs.UnitFields.{HasFields}
 use Rattle.rtr_payload.proofs.FieldsRead.{prefix_has}
 use Rattle.rtr_payload.proofs.Frames.{after_header, eleven_in_order}
 use Rattle.rtr_payload.proofs.Variable.{aspa_short, aspa_uneven, aspa_empty}

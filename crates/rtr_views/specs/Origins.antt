@@ -5,7 +5,7 @@ use Rattle.rtr_base.specs.Addresses.{Family}
 use Rattle.rtr_payload.specs.Payloads.{Meaning}
 use Rattle.rtr_units.specs.PrefixUnits.{PrefixFields, prefix_at}
 use Rattle.rtr_payload.specs.RouteOrigins.{meant_origin}
-use Rattle.rtr_payload.specs.Units.{prefix_unit, HasFields, LengthsAgree}
+use Rattle.rtr_payload.specs.UnitFields.{prefix_unit, HasFields, LengthsAgree}
 use Rattle.rtr_payload.specs.Meanings.{origin_of}
 use Rattle.rtr_views.specs.declared.origin.OriginView.{OriginView}
 

@@ -8,7 +8,8 @@ use Rattle.rtr_units.specs.Header.{version_field}
 use Rattle.rtr_payload.specs.Payloads.{Meaning}
 use Rattle.rtr_payload.specs.AspaUnits.{aspa_at}
 use Rattle.rtr_payload.specs.KeyUnits.{key_at}
-use Rattle.rtr_payload.specs.Units.{key_unit, aspa_unit, HasFields, meaning, form_of}
+use Rattle.rtr_payload.specs.UnitFields.{key_unit, aspa_unit, HasFields, meaning}
+use Rattle.rtr_payload.specs.Units.{form_of}
 use Rattle.rtr_views.specs.Origins.{IsOriginOf, origin_meaning}
 use Rattle.rtr_views.specs.declared.view.UnitView.{UnitView}
 use Rattle.rtr_views.specs.declared.view.UnitView.TheVariants as views

@@ -3,7 +3,8 @@
 ghost use Rattle.std.specs.Prelude.{◌≡◌, ℕ, List};
 ghost use Rattle.rtr_units.specs.End.{EndMeaning, IsEnd};
 ghost use Rattle.rtr_payload.specs.Payloads.{Meaning};
-ghost use Rattle.rtr_payload.specs.Units.{HasFields, IsUnit, LengthsAgree, meaning, form_of};
+ghost use Rattle.rtr_payload.specs.UnitFields.{HasFields, LengthsAgree, meaning};
+ghost use Rattle.rtr_payload.specs.Units.{IsUnit, form_of};
 ghost use Rattle.rtr_payload.specs.UnitBytes.{unit_bytes, unit_fields};
 ghost use Rattle.rtr_payload.specs.declared.pdu.payload.Payload.{Payload};
 ghost use Rattle.rtr_views.specs.Views.{IsViewOf, ViewMeans, view_form};

@@ -6,7 +6,8 @@ ghost use Rattle.rtr_units.specs.Header.{version_field, type_field};
 ghost use Rattle.rtr_units.specs.Reading.{IsWhole, of_type};
 ghost use Rattle.rtr_payload.specs.KeyUnits.{key_at};
 ghost use Rattle.rtr_payload.specs.UnitKinds.{variable_unit};
-ghost use Rattle.rtr_payload.specs.Units.{key_unit, meaning, form_of};
+ghost use Rattle.rtr_payload.specs.UnitFields.{key_unit, meaning};
+ghost use Rattle.rtr_payload.specs.Units.{form_of};
 ghost use Rattle.rtr_views.specs.PrivateFirst.{IsFirstUnit};
 ghost use Rattle.rtr_views.specs.Faults.{IsFirstFault, PutsPiece, HoldsViewWriteError};
 

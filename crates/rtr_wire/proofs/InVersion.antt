@@ -10,8 +10,11 @@ use Rattle.rtr_base.proofs.Numbers.{IsBytes-cons}
 use Rattle.rtr_units.specs.End.{EndMeaning, end_list}
 use Rattle.rtr_units.proofs.Ends.{end_made}
 use Rattle.rtr_payload.specs.Payloads.{Meaning, smallest_version}
-use Rattle.rtr_payload.specs.Units.{Fields, prefix_unit, key_unit, aspa_unit, unit_list, HasFields}
-use Rattle.rtr_payload.specs.Units.{LengthsAgree, IsUnit, meaning, form_of}
+use Rattle.rtr_payload.specs.UnitFields.{Fields, prefix_unit, key_unit, aspa_unit, unit_list}
+use Rattle.rtr_payload.specs.UnitFields.{HasFields}
+use Rattle.rtr_payload.specs.UnitFields.{LengthsAgree, meaning}
+use Rattle.rtr_payload.specs.Units.{IsUnit, form_of}
+use Rattle.rtr_payload.proofs.ByFields.{unit_fields_of, unit_of_fields}
 use Rattle.rtr_payload.proofs.Fields.{form_is_unit}
 use Rattle.rtr_wire.specs.Run.{Run}
 use Rattle.rtr_wire.specs.Sequences.{AreUnits, IsSequence, everything, for_version, forms}
@@ -38,7 +41,7 @@ module _ (v : ℕ) (byte : v < 256) (b : List ℕ) (m : Meaning) where
       (c : List ℕ) × IsUnit c (in_version v m)
   by_fields (prefix_unit u) shape agree is = (
     unit_list (prefix_unit (record u { version = v })),
-    record {
+    unit_of_fields _ _ (record {
       fields = prefix_unit (record u { version = v });
       shape = record {
         fits = shape.fits;
@@ -48,11 +51,11 @@ module _ (v : ℕ) (byte : v < 256) (b : List ℕ) (m : Meaning) where
       };
       lengths = agree;
       means = ap (in_version v) is;
-    },
+    }),
   )
   by_fields (key_unit u) shape agree is = (
     unit_list (key_unit (record u { version = v })),
-    record {
+    unit_of_fields _ _ (record {
       fields = key_unit (record u { version = v });
       shape = record {
         fits = shape.fits;
@@ -62,11 +65,11 @@ module _ (v : ℕ) (byte : v < 256) (b : List ℕ) (m : Meaning) where
       };
       lengths = agree;
       means = ap (in_version v) is;
-    },
+    }),
   )
   by_fields (aspa_unit u) shape agree is = (
     unit_list (aspa_unit (record u { version = v })),
-    record {
+    unit_of_fields _ _ (record {
       fields = aspa_unit (record u { version = v });
       shape = record {
         fits = shape.fits;
@@ -76,11 +79,12 @@ module _ (v : ℕ) (byte : v < 256) (b : List ℕ) (m : Meaning) where
       };
       lengths = agree;
       means = ap (in_version v) is;
-    },
+    }),
   )
 
   pub form_in_version : IsUnit b m → IsUnit (form_of (in_version v m)) (in_version v m)
-  form_in_version h =
+  form_in_version whole =
+      let h = unit_fields_of b m whole in
       let (c, unit) = by_fields h.fields h.shape h.lengths h.means in
       form_is_unit c (in_version v m) unit
 

@@ -14,8 +14,10 @@ use Rattle.rtr_units.specs.End.{EndMeaning, IsEnd, end_list, timed_list}
 use Rattle.rtr_payload.specs.Payloads.{Meaning, Payload, origin, key, aspa, smallest_version}
 use Rattle.rtr_units.specs.PrefixUnits.{PrefixFields, prefix_list}
 use Rattle.rtr_payload.specs.AspaUnits.{aspa_list, meant_aspa}
-use Rattle.rtr_payload.specs.Units.{Fields, prefix_unit, key_unit, aspa_unit}
-use Rattle.rtr_payload.specs.Units.{IsUnit, unit_list, meaning, form_of}
+use Rattle.rtr_payload.specs.UnitFields.{Fields, prefix_unit, key_unit, aspa_unit}
+use Rattle.rtr_payload.specs.Units.{IsUnit, form_of}
+use Rattle.rtr_payload.specs.UnitFields.{unit_list, meaning}
+use Rattle.rtr_payload.proofs.ByFields.{unit_fields_of}
 use Rattle.rtr_base.specs.declared.payload.Timing.{Timing}
 use Rattle.rtr_wire.specs.Into.{LacksRoom, FillsInto}
 use Rattle.rtr_wire.specs.Sequences.{AreUnits, Output, everything, for_version}
@@ -51,7 +53,8 @@ form_fits (aspa_unit u) =
     u.aspa.providers
 
 unit_fits : (b : List ℕ) (m : Meaning) → IsUnit b m → length (form_of m) ≤ length b
-unit_fits b m h =
+unit_fits b m unit =
+    let h = unit_fields_of b m unit in
     omega (arith, form_fits h.fields, ap length h.bytes, ap (λ m. length (form_of m)) h.means)
 
 -- a version has one byte

@@ -11,7 +11,8 @@ use Rattle.rtr_units.specs.declared.end.EndOfData.{EndOfData}
 use Rattle.rtr_payload.specs.Payloads.{Meaning, smallest_version}
 use Rattle.rtr_payload.specs.KeyUnits.{key_at}
 use Rattle.rtr_payload.specs.AspaUnits.{aspa_at}
-use Rattle.rtr_payload.specs.Units.{key_unit, aspa_unit, IsUnit, meaning, form_of}
+use Rattle.rtr_payload.specs.UnitFields.{key_unit, aspa_unit, meaning}
+use Rattle.rtr_payload.specs.Units.{IsUnit, form_of}
 use Rattle.rtr_views.specs.Origins.{origin_meaning}
 use Rattle.rtr_views.specs.Placing.{Places}
 use Rattle.rtr_views.specs.Views.{IsViewOf, ViewMeans}

@@ -9,7 +9,8 @@ use Rattle.rtr_units.specs.StopCauses.{Cause, by_writer, no_memory, too_many, by
 use Rattle.rtr_units.specs.End.{EndMeaning}
 use Rattle.rtr_units.specs.HeaderBytes.{AreBytes}
 use Rattle.rtr_payload.specs.Payloads.{Meaning}
-use Rattle.rtr_payload.specs.Units.{IsUnit, LengthsAgree, meaning, form_of}
+use Rattle.rtr_payload.specs.Units.{IsUnit, form_of}
+use Rattle.rtr_payload.specs.UnitFields.{LengthsAgree, meaning}
 use Rattle.rtr_payload.specs.UnitBytes.{unit_fields, HasNoPayload}
 use Rattle.rtr_payload.specs.declared.pdu.payload.Payload.{Payload}
 use Rattle.rtr_views.specs.Faults.{IsFirstFault}

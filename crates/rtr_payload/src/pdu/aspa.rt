@@ -3,10 +3,12 @@
 ghost use Rattle.std.specs.Prelude.{◌≡◌, length, replicate, refl};
 ghost use Rattle.std.proofs.Common.{rules};
 ghost use Rattle.rtr_base.specs.Bytes.{words};
-ghost use Rattle.rtr_payload.specs.AspaUnits.{aspa_at, IsAspa};
+ghost use Rattle.rtr_payload.specs.AspaUnits.{aspa_at};
+ghost use Rattle.rtr_payload.specs.Payloads.{IsAspa};
 ghost use Rattle.rtr_payload.specs.Payloads.{aspa};
 ghost use Rattle.rtr_payload.specs.Providers.{AreProviders, AreProviderBytes};
-ghost use Rattle.rtr_payload.specs.Units.{aspa_unit, form};
+ghost use Rattle.rtr_payload.specs.UnitFields.{aspa_unit};
+ghost use Rattle.rtr_payload.specs.Units.{form};
 
 use super::framed::{Body, Framed};
 use super::providers::ProviderAsns;

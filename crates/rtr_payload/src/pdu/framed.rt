@@ -13,7 +13,7 @@ ghost use Rattle.rtr_units.specs.Stream.{PutsForm, HoldsReadError, HoldsWriteErr
 ghost use Rattle.rtr_units.specs.HeaderBytes.{header_bytes};
 ghost use Rattle.rtr_payload.specs.PrivateFrames.{IsRefusedBy};
 ghost use Rattle.rtr_payload.specs.UnitKinds.{variable_unit};
-ghost use Rattle.rtr_payload.specs.Units.{Fields, HasFields};
+ghost use Rattle.rtr_payload.specs.UnitFields.{Fields, HasFields};
 
 use super::frame::read_frame;
 use bytes::Bytes;

@@ -13,7 +13,7 @@ ghost use Rattle.rtr_payload.specs.declared.pdu.payload.Payload.{Payload};
 ghost use Rattle.rtr_payload.specs.declared.pdu.payload.Payload.TheVariants as units;
 ghost use Rattle.rtr_payload.specs.Payloads.{smallest_version};
 ghost use Rattle.rtr_payload.specs.UnitKinds.{payload_unit};
-ghost use Rattle.rtr_payload.specs.Units.{HasFields};
+ghost use Rattle.rtr_payload.specs.UnitFields.{HasFields};
 ghost use Rattle.rtr_payload.specs.UnitBytes.{unit_bytes, unit_fields, IsWritten, MeansPayload};
 ghost use Rattle.rtr_payload.specs.UnitBytes.{HasNoPayload, IsPrefixUnit, flags_in};
 ghost use Rattle.rtr_payload.specs.Meanings.{payload_of};

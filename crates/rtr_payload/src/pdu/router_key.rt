@@ -3,9 +3,11 @@
 ghost use Rattle.std.specs.Prelude.{◌≡◌, ◌≤◌, length, replicate, refl};
 ghost use Rattle.std.proofs.Common.{rules};
 ghost use Rattle.rtr_payload.specs.declared.pdu.key_info.TheConstants.{MAX_LEN as MOST};
-ghost use Rattle.rtr_payload.specs.KeyUnits.{key_at, IsKey};
+ghost use Rattle.rtr_payload.specs.KeyUnits.{key_at};
+ghost use Rattle.rtr_payload.specs.Payloads.{IsKey};
 ghost use Rattle.rtr_payload.specs.Payloads.{key};
-ghost use Rattle.rtr_payload.specs.Units.{form, key_unit};
+ghost use Rattle.rtr_payload.specs.Units.{form};
+ghost use Rattle.rtr_payload.specs.UnitFields.{key_unit};
 
 use super::framed::{Body, Framed};
 use super::key_info::{MAX_LEN, RouterKeyInfo};

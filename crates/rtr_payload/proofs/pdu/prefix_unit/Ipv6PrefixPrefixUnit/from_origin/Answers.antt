@@ -1,7 +1,7 @@
 use Rattle.std.proofs.Common.{sym, ap, ◌∙◌, rules}
 use Rattle.rtr_units.specs.PrefixUnits.{ipv6_bytes}
 use Rattle.rtr_units.specs.PrefixUnits.{prefix_at}
-use Rattle.rtr_payload.specs.Units.{prefix_unit}
+use Rattle.rtr_payload.specs.UnitFields.{prefix_unit}
 use Rattle.rtr_payload.specs.Meanings.{origin_of}
 use Rattle.rtr_payload.proofs.FieldsRead.{form_fields, IsOrigin-of}
 use Rattle.rtr_payload.proofs.pdu.prefix_unit.Ipv6PrefixPrefixUnit.from_origin.Goals as goal

@@ -2,7 +2,7 @@ use Rattle.std.proofs.Common.{◌≡◌, ◌+◌, take, drop, sym, ap, subst, �
 use Rattle.std.proofs.lemmas.List.{take_rest}
 use Rattle.rtr_base.specs.Bytes.{value}
 use Rattle.rtr_units.specs.PrefixUnits.{address_bytes, prefix_at}
-use Rattle.rtr_payload.specs.Units.{prefix_unit}
+use Rattle.rtr_payload.specs.UnitFields.{prefix_unit}
 use Rattle.rtr_payload.specs.UnitBytes.{MeansPayload}
 use Rattle.rtr_payload.specs.declared.payload.Payload.TheVariants.{Origin}
 use Rattle.rtr_payload.proofs.Origins.{asn_place, origin_means}
