@@ -10,7 +10,8 @@ use Rattle.rtr_units.specs.End.{EndMeaning, end_list}
 use Rattle.rtr_payload.specs.Payloads.{Meaning}
 use Rattle.rtr_payload.proofs.Apart.{begins_apart}
 use Rattle.rtr_payload.proofs.Fields.{units_same}
-use Rattle.rtr_payload.specs.FirstFault.{first_fault, first_unit, refusal_report}
+use Rattle.rtr_payload.specs.FirstFault.{first_fault, refusal_report}
+use Rattle.rtr_payload.specs.FaultSteps.{first_unit}
 use Rattle.rtr_views.specs.Faults.{IsFirstFault}
 use Rattle.rtr_views.specs.declared.fault.ViewFault.{ViewFault}
 use Rattle.rtr_views.specs.declared.fault.ViewFault.TheVariants as faults

@@ -10,7 +10,7 @@ use Rattle.rtr_base.specs.declared.payload.Action.TheVariants.{Announce, Withdra
 use Rattle.rtr_units.specs.Header.{type_field}
 use Rattle.rtr_units.specs.PrefixUnits.{OriginParts}
 use Rattle.rtr_payload.specs.AspaUnits.{AspaFields}
-use Rattle.rtr_payload.specs.FirstFault.{rule_of}
+use Rattle.rtr_payload.specs.FaultSteps.{rule_of}
 use Rattle.rtr_payload.specs.Payloads.{Payload}
 use Rattle.rtr_payload.specs.UnitFields.{Fields, prefix_unit, key_unit, aspa_unit}
 use Rattle.rtr_payload.specs.declared.pdu.prefix_rule.PrefixRule.{PrefixRule}

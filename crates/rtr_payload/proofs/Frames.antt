@@ -1,9 +1,9 @@
 -- The steps of a list of bytes by its front: what a header, a unit and an end of data say
 -- whatever follows them.
-use Rattle.std.proofs.Common.{◌≡◌, ◌≢◌, ℕ, ◌+◌, ◌*◌, ◌%◌, ◌≤◌, Bool, true, false, cond, ltb, eqb}
+use Rattle.std.proofs.Common.{◌≡◌, ◌≢◌, ℕ, ◌+◌, ◌*◌, ◌%◌, ◌<◌, ◌≤◌, Bool, true, false, cond, ltb, eqb}
 use Rattle.std.proofs.Common.{List, ◌++◌, length, Option, Some, None, refl, sym, ap, subst, ◌∙◌}
 use Rattle.std.proofs.Common.{arith, inl, inr}
-use Rattle.std.proofs.lemmas.Bool.{le-ltb, ltb-false, eq-eqb, cond-true}
+use Rattle.std.proofs.lemmas.Bool.{le-ltb, lt-ltb, ltb-false, eq-eqb, cond-true}
 use Rattle.std.proofs.lemmas.Bool.Decides.{nat_tests}
 use Rattle.std.proofs.lemmas.List.{length-append, take_at}
 use Rattle.rtr_base.specs.declared.payload.Action.{Action}
@@ -13,14 +13,20 @@ use Rattle.rtr_base.specs.Actions.{act}
 use Rattle.rtr_base.specs.Addresses.{Family, v4, v6, width}
 use Rattle.rtr_base.specs.Bytes.{be, value}
 use Rattle.rtr_base.proofs.Numbers.{length-words, value-be}
-use Rattle.rtr_units.specs.StopCauses.{Refusal, short}
+use Rattle.rtr_units.specs.StopCauses.{Refusal, short, refused}
+use Rattle.rtr_payload.specs.declared.pdu.prefix_rule.PrefixRule.{PrefixRule}
+use Rattle.std.specs.Option.{option_or}
+use Rattle.std.specs.Prelude.{option_map}
 use Rattle.rtr_units.specs.End.{EndMeaning, IsEnd, HasTimingOf, timed_list}
 use Rattle.rtr_units.specs.PrefixUnits.{PrefixFields, prefix_type, prefix_size, prefix_list}
 use Rattle.rtr_units.specs.Header.{type_field, length_field}
 use Rattle.rtr_units.proofs.Headers.{same_header}
-use Rattle.rtr_payload.specs.FirstFault.{header_fault, header_step, length_step, lengths_fault}
-use Rattle.rtr_payload.specs.FirstFault.{frame_fault, first_of, first_fault}
-use Rattle.rtr_payload.specs.FirstFault.{first_unit, rule_of, broken_rule, refuse}
+use Rattle.rtr_payload.specs.FirstFault.{header_fault, prefix_fault, refusal_report}
+use Rattle.rtr_payload.specs.FaultSteps.{header_step}
+use Rattle.rtr_payload.specs.FaultSteps.{frame_fault}
+use Rattle.rtr_payload.specs.FirstFault.{first_fault}
+use Rattle.rtr_payload.specs.FaultSteps.{first_unit, rule_of}
+use Rattle.rtr_payload.specs.FirstFault.{broken_rule}
 use Rattle.rtr_payload.specs.UnitFields.{Fields, prefix_unit, key_unit, aspa_unit}
 use Rattle.rtr_payload.specs.UnitFields.{unit_list, Fit, WithinLimits, HasFields}
 use Rattle.rtr_payload.specs.AspaUnits.{HasProviders, aspa_list}
@@ -33,11 +39,34 @@ guard_none : {A : Type 0} (b : Bool) (f : A) (o : Option A) → cond b (Some f) 
 guard_none true f o e = absurd cc
 guard_none false f o e = (refl, e)
 
-pub first_none : (a b : Option Refusal) → first_of a b ≡ None → (a ≡ None) × (b ≡ None)
+pub first_none : (a b : Option Refusal) → option_or a b ≡ None → (a ≡ None) × (b ≡ None)
 first_none None b e = (refl, e)
 first_none (Some f) b e = absurd cc
 
+-- the report on a unit whose prefix breaks this rule
+abbrev pub refuse : List ℕ → Option PrefixRule → Option Refusal
+refuse u rule = option_map (λ rule. refused (refusal_report u rule)) rule
+
+-- step 7
+abbrev length_step : List ℕ → Option Refusal
+length_step r = cond (ltb (length r) (length_field r)) (Some short) None
+
 -- ---- steps 1 to 7
+
+-- they come before step 8
+steps : (b c : Bool) (h p : Option Refusal) →
+    cond b (Some short) (option_or h (cond c (Some short) p)) ≡
+    option_or (cond b (Some short) (option_or h (cond c (Some short) None))) p
+steps true c h p = refl
+steps false c (Some f) p = refl
+steps false true None p = refl
+steps false false None p = refl
+
+pub steps_are : (r : List ℕ) →
+    first_fault r ≡ option_or (frame_fault r) (prefix_fault (type_field r) (first_unit r))
+steps_are r =
+    steps (ltb (length r) 8) (ltb (length r) (length_field r)) (header_step r)
+    (prefix_fault (type_field r) (first_unit r))
 
 -- a whole header is there, it is in order, and so much follows as it says
 pub record InFrame (r : List ℕ) : Type 0 where
@@ -47,7 +76,7 @@ pub record InFrame (r : List ℕ) : Type 0 where
 
 pub none_in_frame : (r : List ℕ) → frame_fault r ≡ None → InFrame r
 none_in_frame r e =
-    let a = guard_none (ltb (length r) 8) short (first_of (header_step r) (length_step r)) e in
+    let a = guard_none (ltb (length r) 8) short (option_or (header_step r) (length_step r)) e in
     let b = first_none (header_step r) (length_step r) a.1 in
     let c = guard_none (ltb (length r) (length_field r)) short None b.1 in
     record {
@@ -58,14 +87,38 @@ none_in_frame r e =
 
 -- after eight bytes the steps go on with the header
 pub after_header : (r : List ℕ) → 8 ≤ length r →
-    frame_fault r ≡ first_of (header_step r) (length_step r)
+    frame_fault r ≡ option_or (header_step r) (length_step r)
 after_header r l =
-    ap (λ b. cond b (Some short) (first_of (header_step r) (length_step r))) (le-ltb (length r) 8 l)
+    ap (λ b. cond b (Some short) (option_or (header_step r) (length_step r))) (le-ltb (length r) 8 l)
 
 pub in_frame_none : (r : List ℕ) → InFrame r → frame_fault r ≡ None
 in_frame_none r h =
-    after_header r h.whole_header ∙ ap (λ o. first_of o (length_step r)) h.in_order
+    after_header r h.whole_header ∙ ap (λ o. option_or o (length_step r)) h.in_order
     ∙ ap (λ (b : Bool). cond b (Some short) None) (le-ltb (length r) (length_field r) h.whole)
+
+-- what is wrong with the header comes first
+pub header_first : (r : List ℕ) (f : Refusal) → 8 ≤ length r → header_step r ≡ Some f →
+    first_fault r ≡ Some f
+header_first r f l e =
+    steps_are r
+    ∙ ap (λ o. option_or o (prefix_fault (type_field r) (first_unit r)))
+    (after_header r l ∙ ap (λ o. option_or o (length_step r)) e)
+
+-- then that there is too little
+pub length_next : (r : List ℕ) → 8 ≤ length r → header_step r ≡ None → length r < length_field r →
+    first_fault r ≡ Some short
+length_next r l e less =
+    steps_are r
+    ∙ ap (λ o. option_or o (prefix_fault (type_field r) (first_unit r)))
+    (after_header r l ∙ ap (λ o. option_or o (length_step r)) e
+    ∙ ap (λ (b : Bool). cond b (Some short) None) (lt-ltb (length r) (length_field r) less))
+
+-- and then what is wrong with a prefix
+pub in_frame_fault : (r : List ℕ) → InFrame r →
+    first_fault r ≡ prefix_fault (type_field r) (first_unit r)
+in_frame_fault r h =
+    steps_are r
+    ∙ ap (λ o. option_or o (prefix_fault (type_field r) (first_unit r))) (in_frame_none r h)
 
 -- what follows a header does not change what is wrong with it
 pub same_step : (h r : List ℕ) → 8 ≤ length h → header_step (h ++ r) ≡ header_step h
@@ -187,20 +240,21 @@ whole_front b r h =
     )
 
 -- and only step 8 is left
-step_eight : (b r : List ℕ) → Whole b → first_fault (b ++ r) ≡ lengths_fault (type_field b) b
+step_eight : (b r : List ℕ) → Whole b → first_fault (b ++ r) ≡ prefix_fault (type_field b) b
 step_eight b r w =
     let f = whole_front b r w in
     let same : type_field (b ++ r) ≡ type_field b = (same_header b r w.long).kind in
-    ap (λ o. first_of o (lengths_fault (type_field (b ++ r)) (first_unit (b ++ r)))) f.0
-    ∙ (λ i. lengths_fault (same i) (f.1 i))
+    steps_are (b ++ r)
+    ∙ ap (λ o. option_or o (prefix_fault (type_field (b ++ r)) (first_unit (b ++ r)))) f.0
+    ∙ (λ i. prefix_fault (same i) (f.1 i))
 
 -- which is the rule on the fields
 lengths_are : (u : Fields) →
-    lengths_fault (type_field (unit_list u)) (unit_list u) ≡ refuse (unit_list u) (rule_of u)
+    prefix_fault (type_field (unit_list u)) (unit_list u) ≡ refuse (unit_list u) (rule_of u)
 lengths_are (prefix_unit u) = by_family u.origin.family
   where
     by_family : (f : Family) →
-        lengths_fault (prefix_type f) (prefix_list u) ≡
+        prefix_fault (prefix_type f) (prefix_list u) ≡
         refuse (prefix_list u) (broken_rule (width f) u.origin.prefix_len u.origin.max_len)
     by_family v4 = refl
     by_family v6 = refl
@@ -211,7 +265,7 @@ lengths_are (aspa_unit u) = refl
 pub shape_fault : (b r : List ℕ) (u : Fields) → HasFields b u →
     first_fault (b ++ r) ≡ refuse b (rule_of u)
 shape_fault b r u h =
-    step_eight b r (shape_whole b u h) ∙ ap (λ c. lengths_fault (type_field c) c) h.bytes
+    step_eight b r (shape_whole b u h) ∙ ap (λ c. prefix_fault (type_field c) c) h.bytes
     ∙ lengths_are u ∙ ap (λ c. refuse c (rule_of u)) (sym h.bytes)
 
 -- a list with the shape of a unit, or an end of data, is framed and cut off by its length field
@@ -226,7 +280,7 @@ end_cut b r e h =
     (subst Whole (sym h.bytes) (end_whole e.version e.session e.serial e.timing h.fits.timing))
 
 end_lengths : (v s q : ℕ) (t : Option Timing) →
-    lengths_fault (type_field (timed_list v s q t)) (timed_list v s q t) ≡ None
+    prefix_fault (type_field (timed_list v s q t)) (timed_list v s q t) ≡ None
 end_lengths v s q None = refl
 end_lengths v s q (Some t) = refl
 
@@ -234,5 +288,5 @@ pub end_fault : (b r : List ℕ) (e : EndMeaning) → IsEnd b e → first_fault 
 end_fault b r e h =
     let w : Whole b =
     subst Whole (sym h.bytes) (end_whole e.version e.session e.serial e.timing h.fits.timing) in
-    step_eight b r w ∙ ap (λ c. lengths_fault (type_field c) c) h.bytes
+    step_eight b r w ∙ ap (λ c. prefix_fault (type_field c) c) h.bytes
     ∙ end_lengths e.version e.session e.serial e.timing

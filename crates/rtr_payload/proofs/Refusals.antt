@@ -11,11 +11,14 @@ use Rattle.rtr_units.specs.Header.{version_field, type_field, length_field}
 use Rattle.rtr_units.proofs.Headers.{same_header}
 use Rattle.rtr_payload.specs.declared.pdu.prefix_rule.PrefixRule.{PrefixRule}
 use Rattle.rtr_payload.specs.Refusals.{IsPartial, IsRefused}
-use Rattle.rtr_payload.specs.FirstFault.{header_fault, header_step, length_step, lengths_fault}
-use Rattle.rtr_payload.specs.FirstFault.{frame_fault, first_of, first_unit}
-use Rattle.rtr_payload.specs.FirstFault.{taken, rule_of, refuse, refusal_report}
+use Rattle.rtr_payload.specs.FirstFault.{header_fault}
+use Rattle.rtr_payload.specs.FaultSteps.{header_step}
+use Rattle.rtr_payload.specs.FaultSteps.{frame_fault, first_unit}
+use Rattle.rtr_payload.specs.FirstFault.{taken, refusal_report}
+use Rattle.rtr_payload.specs.FaultSteps.{rule_of}
 use Rattle.rtr_payload.specs.UnitFields.{Fields, HasFields}
-use Rattle.rtr_payload.proofs.Frames.{Whole, after_header, same_step, shape_fault, shape_cut}
+use Rattle.rtr_payload.proofs.Frames.{Whole, refuse, header_first, length_next}
+use Rattle.rtr_payload.proofs.Frames.{same_step, shape_fault, shape_cut}
 
 -- ---- a list that ends too early
 
@@ -24,12 +27,7 @@ header_short h l = grind (arith, nat_tests)
 
 pub unit_short : (h : List ℕ) → 8 ≤ length h → header_step h ≡ None → length h < length_field h →
     IsPartial h
-unit_short h l e less =
-    let tail = first_unit h in
-    let frame : frame_fault h ≡ Some short =
-    after_header h l ∙ ap (λ o. first_of o (length_step h)) e
-    ∙ ap (λ (b : Bool). cond b (Some short) None) (lt-ltb (length h) (length_field h) less) in
-    ap (λ o. first_of o (lengths_fault (type_field h) tail)) frame
+unit_short = length_next
 
 -- a whole unit or end of data, cut anywhere
 pub cut_short : (b : List ℕ) (n : ℕ) → Whole b → n < length b → IsPartial (take n b)
@@ -65,10 +63,8 @@ pub header_refused : (h : List ℕ) (f : Refusal) → length h ≡ 8 → header_
 header_refused h f l e = λ r.
     let all = h ++ r in
     let long : 8 ≤ length all = omega (arith, length-append h r) in
-    let step : header_step all ≡ Some f = same_step h r (omega arith) ∙ e in
-    let frame : frame_fault all ≡ Some f =
-    after_header all long ∙ ap (λ o. first_of o (length_step all)) step in (
-      ap (λ o. first_of o (lengths_fault (type_field all) (first_unit all))) frame,
+    let step : header_step all ≡ Some f = same_step h r (omega arith) ∙ e in (
+      header_first all f long step,
       header_takes (version_field all) (type_field all) (get_or all 2 0) (length_field all) f
           all step
           ∙ take_at h r 8 l,

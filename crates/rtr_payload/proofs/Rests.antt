@@ -10,15 +10,19 @@ use Rattle.rtr_base.proofs.Numbers.{IsBytes-take}
 use Rattle.rtr_units.specs.StopCauses.{Refusal}
 use Rattle.rtr_units.specs.Header.{version_field, type_field, length_field}
 use Rattle.rtr_units.proofs.Headers.{same_header}
-use Rattle.rtr_payload.specs.FirstFault.{header_fault, header_step, lengths_fault, frame_fault}
-use Rattle.rtr_payload.specs.FirstFault.{first_fault, first_unit, BeginsShape, BeginsUnit}
+use Rattle.rtr_payload.specs.FirstFault.{header_fault, prefix_fault}
+use Rattle.rtr_payload.specs.FaultSteps.{header_step, frame_fault}
+use Rattle.rtr_payload.specs.FirstFault.{first_fault, BeginsUnit}
+use Rattle.rtr_payload.specs.FaultSteps.{first_unit, BeginsShape}
 use Rattle.rtr_payload.specs.FirstFault.{BeginsEnd}
-use Rattle.rtr_payload.specs.FirstFault.{broken_rule, rule_of, refuse}
+use Rattle.rtr_payload.specs.FirstFault.{broken_rule}
+use Rattle.rtr_payload.specs.FaultSteps.{rule_of}
 use Rattle.rtr_payload.specs.UnitFields.{Fields, prefix_unit, key_unit, aspa_unit, LengthsAgree}
 use Rattle.rtr_payload.specs.UnitFields.{meaning}
 use Rattle.rtr_payload.proofs.ByFields.{unit_fields_of, fields_unit}
 use Rattle.rtr_payload.proofs.Wholes.{whole_is}
 use Rattle.rtr_payload.proofs.Frames.{Whole, InFrame, none_in_frame, first_none}
+use Rattle.rtr_payload.proofs.Frames.{refuse, steps_are}
 use Rattle.rtr_payload.proofs.Frames.{same_step, shape_fault, end_fault}
 
 -- ---- a rest that meets none of the steps 1 to 7
@@ -100,7 +104,8 @@ begins_end_none r h = ap first_fault h.parts ∙ end_fault h.bytes h.rest h.mean
 
 pub none_begins : (r : List ℕ) → IsBytes r → first_fault r ≡ None → BeginsUnit r ⊎ BeginsEnd r
 none_begins r h e =
-    let none = first_none (frame_fault r) (lengths_fault (type_field r) (first_unit r)) e in
+    let none = first_none (frame_fault r) (prefix_fault (type_field r) (first_unit r))
+    (sym (steps_are r) ∙ e) in
     elim (frame_begins r h none.0) [
       | inl b ↦
           let u = b.unit.fields in

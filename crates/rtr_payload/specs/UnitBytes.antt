@@ -13,7 +13,8 @@ use Rattle.rtr_units.specs.AnyEnd.{end_bytes, end_meaning}
 use Rattle.rtr_units.specs.declared.end.EndOfData.{EndOfData}
 use Rattle.rtr_payload.specs.AspaUnits.{aspa_at}
 use Rattle.rtr_payload.specs.KeyUnits.{key_at}
-use Rattle.rtr_payload.specs.FirstFault.{rule_of, refusal_report}
+use Rattle.rtr_payload.specs.FaultSteps.{rule_of}
+use Rattle.rtr_payload.specs.FirstFault.{refusal_report}
 use Rattle.rtr_payload.specs.UnitFields.{Fields, prefix_unit, key_unit, aspa_unit, HasFields}
 use Rattle.rtr_payload.specs.UnitFields.{LengthsAgree, meaning, written_fields}
 use Rattle.rtr_payload.specs.Units.{form}

@@ -4,7 +4,7 @@
 use Rattle.std.specs.Prelude.{ℕ, true, ◌||◌, slice_index, ◌==◌}
 use Rattle.rtr_units.specs.Header.{version_field, type_field, length_field}
 use Rattle.rtr_units.specs.Reading.{Kind}
-use Rattle.rtr_payload.specs.FirstFault.{header_fault, header_step}
+use Rattle.rtr_payload.specs.FirstFault.{header_fault}
 
 -- units that are taken for ones of type k, whatever type they name: 9 for router keys (RFC 8210
 -- section 5.10), 11 for ASPA units (as in the Rust crate)
@@ -17,6 +17,6 @@ variable_unit k = record {
 -- payload units of any type, and ends of data
 abbrev pub payload_unit : Kind
 payload_unit = record {
-  fault = header_step;
+  fault = λ u. header_fault (version_field u) (type_field u) (slice_index u 2) (length_field u);
   asks = λ u. (type_field u == 9) || (type_field u == 11);
 }

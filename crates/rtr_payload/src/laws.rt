@@ -2,8 +2,10 @@
 
 ghost use Rattle.std.specs.Prelude.{◌≡◌, ◌++◌, ◌↔◌, ◌<◌, ◌^◌, ◌⊎◌, ℕ, List, None, IsSome};
 ghost use Rattle.rtr_base.specs.Bytes.{IsBytes, words};
-ghost use Rattle.rtr_payload.specs.FirstFault.{BeginsShape, BeginsUnit, BeginsEnd, frame_fault};
-ghost use Rattle.rtr_payload.specs.FirstFault.{first_fault, rule_of};
+ghost use Rattle.rtr_payload.specs.FaultSteps.{BeginsShape, frame_fault};
+ghost use Rattle.rtr_payload.specs.FirstFault.{BeginsUnit, BeginsEnd};
+ghost use Rattle.rtr_payload.specs.FirstFault.{first_fault};
+ghost use Rattle.rtr_payload.specs.FaultSteps.{rule_of};
 ghost use Rattle.std.specs.Cmp.{IsTotalOrder};
 ghost use Rattle.std.specs.List.{AllByRecursion};
 ghost use Rattle.std.specs.declared.cmp.Ordering.TheVariants.{Equal};

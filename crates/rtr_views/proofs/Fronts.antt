@@ -21,13 +21,15 @@ use Rattle.rtr_payload.specs.declared.pdu.prefix_rule.PrefixRule.{PrefixRule}
 use Rattle.rtr_payload.specs.UnitFields.{prefix_unit, key_unit, aspa_unit}
 use Rattle.rtr_payload.specs.KeyUnits.{key_at}
 use Rattle.rtr_payload.specs.AspaUnits.{aspa_at}
-use Rattle.rtr_payload.specs.FirstFault.{first_fault, first_of, first_unit, header_fault}
-use Rattle.rtr_payload.specs.FirstFault.{header_step}
-use Rattle.rtr_payload.specs.FirstFault.{length_step, lengths_fault, rule_of, refusal_report}
+use Rattle.rtr_payload.specs.FirstFault.{first_fault, header_fault}
+use Rattle.rtr_payload.specs.FaultSteps.{first_unit}
+use Rattle.rtr_payload.specs.FaultSteps.{header_step}
+use Rattle.rtr_payload.specs.FirstFault.{refusal_report}
+use Rattle.rtr_payload.specs.FaultSteps.{rule_of}
 use Rattle.rtr_payload.specs.UnitKinds.{variable_unit}
 use Rattle.rtr_payload.specs.UnitFields.{HasFields}
 use Rattle.rtr_payload.proofs.FieldsRead.{prefix_has}
-use Rattle.rtr_payload.proofs.Frames.{after_header, eleven_in_order}
+use Rattle.rtr_payload.proofs.Frames.{header_first, eleven_in_order}
 use Rattle.rtr_payload.proofs.Variable.{aspa_short, aspa_uneven, aspa_empty}
 use Rattle.rtr_payload.proofs.Refusals.{prefix_refused}
 use Rattle.rtr_views.specs.PrivateFirst.{IsFirstUnit}
@@ -35,13 +37,6 @@ use Rattle.rtr_views.specs.Faults.{IsFirstFault}
 use Rattle.rtr_views.specs.declared.fault.ViewFault.{ViewFault}
 use Rattle.rtr_views.specs.declared.fault.ViewFault.TheVariants.{TooLong}
 use Rattle.rtr_views.proofs.Forms.{IsWholeKey, IsWholeAspa, whole_key, whole_aspa}
-
--- a fault of the header comes first
-pub header_shows : (r : List ℕ) (f : Refusal) → 8 ≤ length r → header_step r ≡ Some f →
-    first_fault r ≡ Some f
-header_shows r f l e =
-    ap (λ o. first_of o (lengths_fault (type_field r) (first_unit r)))
-    (after_header r l ∙ ap (λ o. first_of o (length_step r)) e)
 
 -- the unit at the front is cut
 pub cut_first : (r : List ℕ) → 8 ≤ length r → 8 ≤ length_field r → length_field r ≤ length r →
@@ -127,7 +122,7 @@ pub typed_shows : (r : List ℕ) (t : ℕ) (f : Refusal) → 8 ≤ length r → 
     header_fault (version_field r) t (get_or r 2 0) (length_field r) ≡ Some f →
     first_fault r ≡ Some f
 typed_shows r t f l kind e =
-    header_shows r f l
+    header_first r f l
     (ap (λ k. header_fault (version_field r) k (get_or r 2 0) (length_field r)) kind ∙ e)
 
 pub typed_in_order : (r : List ℕ) (t : ℕ) → type_field r ≡ t →

@@ -1,7 +1,7 @@
 -- What calls inside this crate leave. Only contracts of private functions cite these.
 use Rattle.std.specs.Prelude.{◌≡◌, ℕ, List, length, slice_index}
 use Rattle.rtr_units.specs.Header.{version_field, type_field, length_field}
-use Rattle.rtr_payload.specs.FirstFault.{first_unit}
+use Rattle.rtr_payload.specs.FaultSteps.{first_unit}
 
 -- u is the unit at the front of r, whole, and so its header is that of r
 pub record IsFirstUnit (r u : List ℕ) : Type 0 where

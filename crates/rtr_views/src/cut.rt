@@ -2,7 +2,7 @@
 
 ghost use Rattle.std.specs.Prelude.{◌≡◌, ◌≤◌, ◌<◌, None, length, IfOk, IfErr};
 ghost use Rattle.rtr_units.specs.Header.{length_field};
-ghost use Rattle.rtr_payload.specs.FirstFault.{header_step};
+ghost use Rattle.rtr_payload.specs.FaultSteps.{header_step};
 ghost use Rattle.rtr_views.specs.Faults.{IsFirstFault};
 ghost use Rattle.rtr_views.specs.PrivateFirst.{IsFirstUnit};
 

@@ -3,7 +3,7 @@
 ghost use Rattle.std.specs.Prelude.{◌≡◌, ◌≤◌, Some, length, IfOk, IfErr};
 ghost use Rattle.rtr_units.specs.Header.{type_field, length_field};
 ghost use Rattle.rtr_units.specs.PrefixUnits.{prefix_at, prefix_type, prefix_size};
-ghost use Rattle.rtr_payload.specs.FirstFault.{first_unit, rule_of};
+ghost use Rattle.rtr_payload.specs.FaultSteps.{first_unit, rule_of};
 ghost use Rattle.rtr_payload.specs.UnitFields.{prefix_unit, LengthsAgree};
 ghost use Rattle.rtr_payload.specs.Units.{form_of};
 ghost use Rattle.rtr_views.specs.Faults.{IsFirstFault, PutsPiece, HoldsViewWriteError};

@@ -18,7 +18,8 @@ use Rattle.rtr_payload.specs.Payloads.{Meaning}
 use Rattle.rtr_payload.specs.KeyUnits.{key_at}
 use Rattle.rtr_payload.specs.UnitFields.{key_unit, aspa_unit}
 use Rattle.rtr_payload.specs.AspaUnits.{aspa_at}
-use Rattle.rtr_payload.specs.FirstFault.{first_fault, first_unit, refusal_report, taken}
+use Rattle.rtr_payload.specs.FirstFault.{first_fault, refusal_report, taken}
+use Rattle.rtr_payload.specs.FaultSteps.{first_unit}
 use Rattle.rtr_payload.specs.UnitFields.{meaning}
 use Rattle.rtr_payload.specs.Units.{form_of}
 use Rattle.rtr_views.specs.Faults.{IsFirstFault, IsWriterFault, is_view_writer_fault}

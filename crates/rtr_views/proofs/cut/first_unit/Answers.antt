@@ -1,5 +1,5 @@
 use Rattle.std.proofs.Common.{◌≡◌, sym, ap, ◌∙◌, arith, take, subst}
-use Rattle.rtr_payload.specs.FirstFault.{first_unit}
+use Rattle.rtr_payload.specs.FaultSteps.{first_unit}
 use Rattle.rtr_payload.proofs.Rests.{eight_said}
 use Rattle.rtr_views.proofs.Fronts.{cut_first}
 use Rattle.rtr_views.specs.PrivateFirst.{IsFirstUnit}
