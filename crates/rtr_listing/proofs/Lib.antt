@@ -1,4 +1,5 @@
 mod Addresses
+pub mod Earlier
 mod EscapedTexts
 pub mod Knowing
 mod Pieces
