@@ -1,5 +1,4 @@
 mod Addresses
-pub mod Earlier
 mod EscapedTexts
 pub mod Knowing
 mod Pieces
