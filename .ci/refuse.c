@@ -1,7 +1,8 @@
-/* Refuses one growth of memory of a program that it is loaded into, for `.ci/growth`.
+/* Makes one allocation fail in a program that it is loaded into, for `.ci/growth`.
 
-   REFUSED is the number of the growth, counted from 1. MARK is 0, or the size of the growths between
-   which is counted. Where a growth is refused, one byte goes to the file that MET is the number of. */
+   REFUSED is the number of the allocation, counted from 1. MARK is 0, or the size of the two
+   allocations between which it counts. When the allocation fails, one byte goes to the file
+   descriptor MET. */
 typedef __SIZE_TYPE__ size_t;
 
 extern void *__libc_malloc(size_t);
@@ -16,7 +17,7 @@ static int number(const char *name)
     return text ? atoi(text) : 0;
 }
 
-/* Whether a growth of this size is the one. */
+/* Whether this is the allocation to fail. */
 static int is_refused(size_t size)
 {
     static int marks, growths;

@@ -1,13 +1,13 @@
-/* Times the archive for C beside the same jobs written by hand, over a sequence from standard
+/* Times the archive for C against the same jobs written by hand, over a sequence from standard
  * input.
  *
  * usage: archive < SEQUENCE, once `bindings/build` has made the archive:
  *
  *     cc -O3 -march=x86-64 -Ibindings/c -o archive bench/archive.c bindings/lib/x86_64/librtr_c.a
  *
- * Prints for each job the best of 41 runs each way, which take turns, in nanoseconds a unit, and
- * how many times as long the archive takes. It ends with status 1 where both ways don't agree, on
- * the input or with any bit of its front turned. */
+ * Prints for each job the best of 41 runs each way, interleaved, in nanoseconds a unit, and how
+ * many times as long the archive takes. It ends with status 1 if the two ways don't agree, on the
+ * input or with any bit of its front flipped. */
 #include <stdio.h>
 #include <stdlib.h>
 #include <string.h>
@@ -42,7 +42,7 @@ static inline void put64(uint8_t *at, uint64_t value)
     memcpy(at, &value, 8);
 }
 
-/* Clears the bits after so many of an address of so many bytes. */
+/* Clears the bits of an address after the first so many. */
 static inline void put_cleared(uint8_t *to, const uint8_t *from, unsigned size, unsigned bits)
 {
     if (size == 4) {
@@ -164,7 +164,7 @@ __attribute__((noinline)) static uint8_t normalise_by_hand(const uint8_t *in, si
     return status;
 }
 
-/* By hand: shows the unit at the front, as rtr_next. */
+/* By hand: decodes the unit at the front, as rtr_next. */
 __attribute__((noinline)) static uint8_t next_by_hand(const uint8_t *in, size_t left,
                                                       struct rtr_unit *unit)
 {
@@ -306,7 +306,7 @@ __attribute__((noinline)) static uint8_t write_by_hand(const struct rtr_unit *un
 
 typedef uint8_t next_call(const uint8_t *, size_t, struct rtr_unit *);
 
-/* Goes over all units by one of the two calls, and answers a sum of what it saw. */
+/* Goes over all units with one of the two calls, and answers a sum of what it saw. */
 static uint64_t sum_units(next_call *next, const uint8_t *in, size_t left)
 {
     struct rtr_unit unit;
@@ -325,7 +325,7 @@ static uint64_t sum_units(next_call *next, const uint8_t *in, size_t left)
 typedef uint8_t write_call(const struct rtr_unit *, const uint8_t *, size_t, uint8_t *, size_t,
                            size_t *);
 
-/* Writes the units of an input by one of the two calls, and answers how many bytes it wrote. */
+/* Writes the units of an input with one of the two calls, and answers how many bytes it wrote. */
 static size_t write_units(write_call *write, const struct rtr_unit *units, uint64_t count,
                           const uint8_t *in, uint8_t *out, size_t room)
 {
@@ -351,7 +351,7 @@ static struct rtr_unit *all_units(const uint8_t *in, size_t left, uint64_t count
     return all;
 }
 
-/* Whether both ways show a unit alike, and write it alike with any bit of its fields turned. */
+/* Whether both ways decode a unit alike, and write it alike with any bit of its fields flipped. */
 static int agree_on_unit(const uint8_t *in, size_t left)
 {
     static uint8_t out[2][65536];
@@ -372,7 +372,7 @@ static int agree_on_unit(const uint8_t *in, size_t left)
     return 1;
 }
 
-/* Whether both ways answer alike with any bit of the front of the input turned. */
+/* Whether both ways answer alike with any bit of the front of the input flipped. */
 static int agree_on_damaged(uint8_t *in, size_t left)
 {
     static uint8_t out[2][1024];

@@ -3,11 +3,13 @@
 
 usage: cases.py [--seed N] [--inputs N] > CASES
 
-The inputs are those of the table of whole runs in `.ci/runs`, and so many of the hostile ones of
-`fuzz/inputs.py`; each is asked for as it is, and in turn for one version. A case is one byte each
-for the version, or 255, for the status and the detail, then eight bytes each, the lowest first, for
-the payload units, the forms, the bytes taken, the length of the input and that of the form; then
-the input and the form.
+The inputs are those of the table of whole runs in `.ci/runs`, and N of the hostile ones of
+`fuzz/inputs.py`. Each is a case as it is, and a case for one version, which varies. A case is
+
+- one byte each for the version, or 255, the status and the detail;
+- eight bytes each, the lowest first, for the payload units, the forms, the bytes taken, the length
+  of the input and that of the form;
+- the input and the form.
 """
 import argparse
 import importlib.machinery
@@ -40,7 +42,7 @@ def runs():
 
 
 def detail(row, rest):
-    """What the status tells of: a type, a version, or the rule that a prefix breaks."""
+    """The detail of the status: a type, a version, or the rule that a prefix breaks."""
     if row in (2, 3):
         return rest[1 if row == 2 else 0]
     if row == 8:

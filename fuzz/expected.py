@@ -1,10 +1,10 @@
-"""What the program answers to an input, by docs/PROTOCOL.md.
+"""What the program has to answer to an input, by docs/PROTOCOL.md.
 
-To be read beside that page, whose words it uses. Nothing here is of the library.
+Read it beside that page: it uses the same words. It shares nothing with the library.
 """
 import struct
 
-# The types of payload units, each with the first version that has them.
+# The types of payload units, with the first version that has each.
 PAYLOAD_TYPES = {4: 0, 6: 0, 9: 1, 11: 2}
 
 # The width of an address.
@@ -22,20 +22,20 @@ ROWS = {
     8: "Refused",
 }
 
-# Those of them that only the end of the input tells.
+# Those of them that depend on where the input ends.
 SHORT_ROWS = [1, 7]
 
-# Refresh, retry and expire where an end of data has none.
+# Refresh, retry and expire for an end of data that has none.
 TIMINGS = struct.pack(">III", 3600, 600, 7200)
 
 
 def number(piece):
-    """The number that the bytes are, the highest byte first."""
+    """The number in the bytes, big-endian."""
     return int.from_bytes(piece, "big")
 
 
 def has_length(version, kind, length):
-    """Whether a unit of this type, and for an end of data of this version, can be so long."""
+    """Whether a unit of this type can be so long; for an end of data, one of this version."""
     if kind == 9:
         return length >= 32
     if kind == 11:
@@ -44,7 +44,7 @@ def has_length(version, kind, length):
 
 
 def when_refused(data):
-    """The number of the first row that holds of the bytes at hand and what is printed, or 0."""
+    """The number of the first row that applies to the bytes, or 0, and what is printed."""
     if len(data) < 8:
         return 1, "unexpected end of input"
     version, kind, flags, _, length = struct.unpack(">BBBBI", data[:8])
@@ -89,7 +89,7 @@ def end_for(end, version):
 def answer(data, wanted=None):
     """Output, status, line on standard error, and the row of the refusal, or 0.
 
-    With a version wanted, the sequence is written for it.
+    If `wanted` is a version, the sequence is written for it.
     """
     output = []
     data = memoryview(data)

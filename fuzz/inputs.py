@@ -1,11 +1,11 @@
 """Hostile inputs: sequences of units, with fields at their bounds, cut, joined and broken.
 
-`make` gives an input of a kind that it names. The same generator of random numbers gives the same
+`make` gives an input and the name of its kind. The same random number generator gives the same
 inputs.
 """
 import struct
 
-# Values for a length field, around the bounds of a type that sequences have.
+# Values for a length field, around the bounds of each type that sequences have.
 BOUNDS = {
     4: [16, 19, 20, 21, 32],
     6: [20, 31, 32, 33],
@@ -27,12 +27,12 @@ WIDTHS = {4: 32, 6: 128}
 MOST_KEY_INFO = 65503
 MOST_PROVIDERS = 16380
 
-# So many units are longer than the buffers of the program.
+# This many units are longer than the buffers of the program.
 MANY_UNITS = 2000
 
 
 def free(rng, bits):
-    """A number of so many bits, whatever it may be: zero, all ones or any."""
+    """A number of this many bits: zero, all ones or any."""
     return rng.choice([0, 2**bits - 1, rng.getrandbits(bits)])
 
 
@@ -42,18 +42,18 @@ def flags(rng):
 
 
 def count(rng, most):
-    """A small number, or now and then one up to the most."""
+    """A small number, or now and then one up to `most`."""
     small = [0, 1, 2, 3, 4, rng.randint(0, 40)]
     return rng.choice([most, most - 1, rng.randint(0, most)] if rng.random() < 0.004 else small)
 
 
 def unit(version, kind, session, body):
-    """A unit with the length that comes of its body."""
+    """A unit with the length of its body."""
     return struct.pack(">BBHI", version, kind, session, 8 + len(body)) + body
 
 
 def prefix(rng, kind):
-    """A prefix with soiled free bytes and host bits."""
+    """A prefix with random free bytes and host bits."""
     width = WIDTHS[kind]
     length = rng.choice([0, width, rng.randint(0, width), rng.randint(0, width)])
     max_length = rng.choice([length, width, rng.randint(length, width)])
@@ -63,7 +63,7 @@ def prefix(rng, kind):
 
 
 def router_key(rng):
-    """A router key with a soiled free byte."""
+    """A router key with a random free byte."""
     session = flags(rng) << 8 | free(rng, 8)
     return unit(rng.choice(VERSIONS), 9, session, rng.randbytes(24 + count(rng, MOST_KEY_INFO)))
 
@@ -78,7 +78,7 @@ def aspa(rng):
 
 
 def end_of_data(rng):
-    """An end of data of a version that there is."""
+    """An end of data of a known version."""
     version = rng.randint(0, 2)
     return unit(version, 7, free(rng, 16), rng.randbytes(4 if version == 0 else 16))
 
@@ -92,7 +92,7 @@ def payload_unit(rng):
 
 
 def other_unit(rng):
-    """A unit that no sequence has: of another type, or an ASPA announced without providers."""
+    """A unit that no sequence has: one of another type, or an ASPA announced without providers."""
     kind = rng.choice([0, 1, 2, 3, 5, 8, 10, 11, 11, 11, 12, 255])
     if kind == 11:
         return unit(rng.choice(VERSIONS), kind, (flags(rng) | 1) << 8, rng.randbytes(4))
@@ -115,12 +115,12 @@ def stray(rng):
 
 
 def put(data, place, piece):
-    """The bytes with a piece put over those at a place."""
+    """The bytes, overwritten with a piece at a place."""
     return data[:place] + piece + data[place + len(piece) :]
 
 
 def length_for(rng, kind):
-    """A length at some bound, mostly of this type."""
+    """A length at a bound, mostly one of this type."""
     return rng.choice(BOUNDS[kind] if kind in BOUNDS and rng.random() < 0.7 else LENGTHS)
 
 
@@ -134,7 +134,7 @@ def with_length(rng, one):
 
 
 def with_prefix_lengths(rng, one):
-    """The unit with other bytes where a prefix has its lengths."""
+    """The unit with other prefix lengths."""
     length = rng.choice(PREFIX_LENGTHS)
     near = [max(0, length - 1), length, min(255, length + 1)]
     return put(one, 9, bytes([length, rng.choice([*near, *PREFIX_LENGTHS])]))
@@ -156,7 +156,7 @@ def with_altered_field(rng, one):
 
 
 def whole(rng):
-    """A sequence, soiled where bytes are free."""
+    """A sequence with random free bytes."""
     return b"".join(sequence(rng)) + stray(rng)
 
 
@@ -176,7 +176,7 @@ def cut(rng):
 
 
 def joined(rng):
-    """Units and parts of units one after the other, in no order."""
+    """Units and parts of units in any order."""
     makers = rng.choices([payload_unit, end_of_data, other_unit], [8, 2, 1], k=rng.randint(1, 6))
     pieces = [maker(rng) for maker in makers]
     if rng.random() < 0.3:
@@ -195,7 +195,7 @@ def headers(rng):
 
 
 def broken(rng, data):
-    """The bytes with one bit turned, or a byte more or less."""
+    """The bytes with one bit flipped, or a byte more or less."""
     place = rng.randrange(len(data))
     deed = rng.choice(["bit", "more", "less"])
     if deed == "bit":
@@ -206,7 +206,7 @@ def broken(rng, data):
 
 
 def mutated(rng):
-    """A recording of a sequence with a few bits or bytes broken."""
+    """A recording of a sequence with a few broken bits or bytes."""
     data = whole(rng)
     for _ in range(rng.choice([1, 1, 2, 4])):
         data = broken(rng, data) or b"\0"
@@ -223,7 +223,7 @@ def long(rng):
     return data[: rng.randrange(len(data))] if deed == "cut" else data
 
 
-# Each kind of input, and how many of a thousand are of it.
+# Each kind of input, and how many of a thousand inputs are of that kind.
 KINDS = {
     whole: 200,
     altered: 328,

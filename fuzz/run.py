@@ -3,14 +3,15 @@
 
 usage: run.py [--seconds N] [--seed N] [--program PATH] [--version V] [--workers N] [--input N]
 
-Output, status and the line on standard error are compared with what `expected.py` answers. Where
-that needs no end of the input, the input mostly stays open, and the program has to end by itself.
+Output, status and the line on standard error are compared with the answer of `expected.py`. If that
+doesn't depend on where the input ends, small inputs are kept open, and the program has to end by
+itself.
 
 The inputs of a seed are numbered, and each is always the same: --input tries one of them alone.
-With --version the program is asked for a sequence for that version of the protocol.
+With --version the program is asked to write for that version of the protocol.
 
-At a difference the input is written to a file as hex, and the status is 1. It is 1 too where a
-run of 20 seconds or more met no input for some row of the table of refusals. Else it is 0.
+At a difference the input is written to a file as hex, and the status is 1. It is also 1 if a run of
+20 seconds or more met no input for some row of the table of refusals. Otherwise it is 0.
 """
 import argparse
 import collections
@@ -29,16 +30,16 @@ import inputs
 TOP = os.path.join(os.path.dirname(os.path.abspath(__file__)), "..")
 PROGRAM = os.path.join(TOP, "crates", "rtr_normalise", "out", "rtr_normalise")
 
-# The program is stopped after so many seconds on one input.
+# The program is stopped after this many seconds on one input.
 LIMIT = 10
 
-# So many bytes go into a pipe before anyone reads it.
+# This many bytes go into a pipe before anyone reads it.
 PIPE_SIZE = 4096
 
-# A run of so many seconds has to meet each row.
+# A run of this many seconds has to meet each row.
 WHOLE_RUN = 20
 
-# Set where some worker found a difference.
+# Set when a worker has found a difference.
 FOUND = threading.Event()
 
 
@@ -48,7 +49,7 @@ def input_of(seed, number):
 
 
 def run_on_open(command, data):
-    """Runs the program on an input that doesn't end."""
+    """Runs the program on an input that is kept open."""
     reading, writing = os.pipe()
     try:
         os.write(writing, data)
@@ -59,7 +60,7 @@ def run_on_open(command, data):
 
 
 def program_answer(args, data, row):
-    """Output, status and line of the program. A small input that isn't short stays open."""
+    """Output, status and line of the program. A small input that isn't short is kept open."""
     command = [args.program]
     if args.version is not None:
         command += ["--version", str(args.version)]
@@ -98,7 +99,7 @@ def difference(args, number, data, got, wanted):
 
 
 def try_input(args, number):
-    """The kind of an input, the row that refuses it or 0, and what differs, if anything does."""
+    """The kind of an input, the row that refuses it or 0, and the difference, if there is one."""
     kind, data = input_of(args.seed, number)
     *wanted, row = expected.answer(data, args.version)
     got = program_answer(args, data, row)
@@ -134,7 +135,7 @@ def totals(seen, seconds):
 
 
 def run(args):
-    """Tries inputs side by side for as long as asked, and answers the status to end with."""
+    """Tries inputs in parallel for as long as asked, and answers the exit status."""
     start = time.monotonic()
     with concurrent.futures.ThreadPoolExecutor(args.workers) as pool:
         numbers = range(args.workers)

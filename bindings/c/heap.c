@@ -1,10 +1,10 @@
-/* What rtr_same_meaning asks for memory: the allocator of the program. */
+/* The allocator of rtr_same_meaning: that of the program. */
 #include <stdalign.h>
 #include <stdbool.h>
 #include <stddef.h>
 #include <stdlib.h>
 
-/* Whether there was memory, and where; elsewhere a place that is not null. */
+/* Whether there was memory, and where; without memory a pointer that is not null. */
 struct rattle_tried {
     bool granted;
     void *block;
@@ -12,10 +12,10 @@ struct rattle_tried {
 
 static char nowhere;
 
-/* How malloc aligns a block that is no shorter than this. */
+/* The alignment that malloc gives to blocks at least this long. */
 static const size_t kept_alignment = alignof(max_align_t);
 
-/* What the archive was seen to ask for. */
+/* The alignment that the archive was seen to ask for. */
 _Static_assert(alignof(max_align_t) >= 8, "malloc aligns to 8 bytes");
 
 static struct rattle_tried tried(void *block)
@@ -23,7 +23,8 @@ static struct rattle_tried tried(void *block)
     return (struct rattle_tried){block != NULL, block ? block : &nowhere};
 }
 
-/* A block of at least its alignment, which malloc keeps then; an alignment above is refused. */
+/* A block at least as long as its alignment, so that malloc aligns it so; a greater alignment is
+ * refused. */
 struct rattle_tried rattle_alloc(size_t size, size_t align)
 {
     return tried(align > kept_alignment ? NULL : malloc(size > align ? size : align));

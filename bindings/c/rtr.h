@@ -4,31 +4,30 @@
  * Copyright (c) 2018, NLnet Labs
  * BSD 3-Clause License: see the file LICENSE at the top of the repository.
  *
- * The functions are proved: the contracts stand in crates/rtr_c, and docs/PROTOCOL.md says in
- * prose what is accepted, in which order faults come, and what the written form is. This header is
- * not proved; `.ci/bindings` checks its layout and runs its examples. All lengths are in bytes.
+ * The functions are proved: their contracts are in crates/rtr_c. docs/PROTOCOL.md says in prose
+ * what is accepted, in which order faults are checked, and what the written form is. This header
+ * is not proved; `.ci/bindings` checks its layout and runs its examples. All lengths are in bytes.
  *
- * What the caller owes, for each call:
- *   - a slice crosses as a pointer and its length: as many bytes can be read there, or written in
- *     an output. No pointer is null, even with length 0, where any other one will do;
- *   - an output, and what the last pointer points at, overlap nothing else that the call is given.
- *     What is only read may overlap;
- *   - until the call returns, no other thread writes to what it is given, nor reads an output or
- *     what the last pointer points at;
+ * Preconditions of every call:
+ *   - a slice is passed as a pointer and a length: that many bytes can be read there, or written if
+ *     it is an output. No pointer is null; with length 0 any other pointer will do;
+ *   - an output, and what the last pointer points at, overlap nothing else that is passed. What is
+ *     only read may overlap;
+ *   - until the call returns, no other thread writes to anything that was passed, nor reads an
+ *     output or what the last pointer points at;
  *   - for rtr_same_meaning alone: malloc, realloc and free are those of one allocator, and it is
  *     called neither from a signal handler nor in a forked child of a process with threads.
- * Outputs and what the last pointer points at needn't be set before. Then no call crashes, reads or
- * writes a byte outside of what it is given, or keeps a pointer or a state of its own. Several
- * threads may call at once. All calls but rtr_same_meaning ask for no memory, and wait for nothing;
- * rtr_same_meaning calls malloc, realloc and free, and waits where they do, for a lock of theirs.
+ * Outputs and what the last pointer points at needn't be initialized.
  *
- * ASPA units are read in one layout (docs/PROTOCOL.md): the flags in byte 2, whose lowest bit
- * announces; byte 3 zero, though it is read whatever it holds; the length in bytes 4 to 7; the
- * customer AS in bytes 8 to 11; the providers from byte 12 on, 4 bytes each. Caches of older drafts
- * differ: stayrtr 0.5.1 sends zeros in bytes 2 and 3, flags, an address family and a count of
- * providers in bytes 8 to 11, the customer AS in bytes 12 to 15, and then the providers. No unit
- * says which of the two it has, so that such a one is misread, without a fault: an announcement by
- * AS65010 with two providers is read as a withdrawal by AS16777218 with three.
+ * If these hold, no call crashes, reads or writes a byte outside of what was passed, or keeps a
+ * pointer or any state. Several threads may call at once. rtr_same_meaning calls malloc, realloc
+ * and free, and may wait for their lock. All other calls allocate nothing and wait for nothing.
+ *
+ * ASPA units are read in one layout: the flags in byte 2, of which the lowest bit announces; byte
+ * 3, whose value is ignored; the length in bytes 4 to 7; the customer AS in bytes 8 to 11; the
+ * providers from byte 12 on, 4 bytes each. ASPA units of older drafts, such as stayrtr 0.5.1 sends,
+ * have another layout and are misread without a fault: docs/PROTOCOL.md shows it, and how an
+ * announcement by AS65010 with two providers reads as a withdrawal by AS16777218 with three.
  */
 #ifndef FISHREEF_RTR_H
 #define FISHREEF_RTR_H
@@ -37,18 +36,17 @@
 #include <stddef.h>
 #include <stdint.h>
 
-/* The version of this header and of the archive that was made with it, as CHANGELOG.md numbers
- * them. */
+/* The version of this header and of the archive built with it, as in CHANGELOG.md. */
 #define RTR_WIRE_VERSION "0.2.0"
 
 #ifdef __cplusplus
 extern "C" {
 #endif
 
-/* How a call ended; each call below names those that it answers. The faults of a unit are 1 to 7,
- * and come in the order of docs/PROTOCOL.md. */
+/* How a call ended; each call below names the statuses that it can answer. The faults of a unit
+ * are 1 to 7, and are checked in the order of docs/PROTOCOL.md. */
 enum rtr_status {
-    RTR_OK = 0,              /* the call did all that it is for */
+    RTR_OK = 0,              /* the call succeeded */
     RTR_SHORT = 1,           /* the input ends inside a unit, or before one */
     RTR_UNIT_TYPE = 2,       /* `detail` is a type that is not allowed here */
     RTR_UNIT_VERSION = 3,    /* `detail` is a version that is not allowed here */
@@ -57,14 +55,14 @@ enum rtr_status {
     RTR_EMPTY_PROVIDERS = 6, /* an ASPA that is announced without providers */
     RTR_PREFIX = 7,          /* `detail`, an rtr_prefix_rule, is broken by a prefix */
     RTR_TOO_MANY = 8,        /* `limit` units were taken, and no end of data was among them */
-    RTR_NO_ROOM = 9,         /* the output has no room for what is to be written next */
-    RTR_NO_FORM = 10,        /* rtr_write_unit: an action, a family or a part that is none */
-    RTR_NO_MEMORY = 11       /* rtr_same_meaning: malloc refused */
+    RTR_NO_ROOM = 9,         /* the output is too short for what comes next */
+    RTR_NO_FORM = 10,        /* rtr_write_unit: no such action, family or part */
+    RTR_NO_MEMORY = 11       /* rtr_same_meaning: out of memory */
 };
 
 enum rtr_prefix_rule {
     RTR_LENGTH_OVER = 1,     /* the prefix length is above 32 for IPv4 or 128 for IPv6 */
-    RTR_MAX_LENGTH_OVER = 2, /* the max length is */
+    RTR_MAX_LENGTH_OVER = 2, /* the max length is above that */
     RTR_MAX_LENGTH_UNDER = 3 /* the max length is below the prefix length */
 };
 
@@ -77,14 +75,15 @@ enum rtr_kind {
     RTR_ASPA = 11
 };
 
-/* How a call that normalises came out. */
+/* The result of a call that normalises. */
 struct rtr_answer {
     uint64_t units; /* payload units that were taken from the input, without the end of data */
-    uint64_t forms; /* those of them that were written; fewer than `units` only for one version */
+    uint64_t forms; /* how many of them were written; fewer than `units` only for one version */
     size_t taken;   /* bytes of the input that were taken: whole units, and the end of data */
     size_t written; /* bytes of the output that were written, from its front */
     uint8_t status; /* an rtr_status, as the call returns it */
-    uint8_t detail; /* with RTR_UNIT_TYPE, RTR_UNIT_VERSION and RTR_PREFIX: see there; else 0 */
+    uint8_t detail; /* as enum rtr_status says of RTR_UNIT_TYPE, RTR_UNIT_VERSION and RTR_PREFIX;
+                       else 0 */
 };
 
 /* A payload unit or an end of data. Fields that its kind doesn't have are 0. */
@@ -92,7 +91,7 @@ struct rtr_unit {
     size_t size;        /* bytes of the unit in the input, header included */
     size_t part_start;  /* where the key info of a router key, or the providers of an ASPA, begin:
                            counted from the front of the unit */
-    size_t part_length; /* how many bytes they have; a provider has 4, in network order */
+    size_t part_length; /* their length in bytes; a provider has 4, in network order */
     uint32_t asn;       /* of a prefix or a router key */
     uint32_t customer;  /* of an ASPA */
     uint32_t serial;    /* of an end of data */
@@ -106,66 +105,67 @@ struct rtr_unit {
     uint8_t family;     /* 4 or 6 for a prefix */
     uint8_t prefix_length;
     uint8_t max_length;
-    uint8_t address[16];        /* in network order, the bits after the prefix length clear; the
-                                   first 4 bytes in IPv4 */
+    uint8_t address[16];        /* in network order, the bits after the prefix length zero; for
+                                   IPv4 the first 4 bytes */
     uint8_t key_identifier[20]; /* the subject key identifier of a router key */
-    uint8_t detail;             /* where rtr_next refuses, as in an rtr_answer; else 0 */
+    uint8_t detail;             /* if rtr_next refuses, as in an rtr_answer; else 0 */
 };
 
 /* Normalises the sequence that the input begins with: reads payload units up to an end of data,
  * and writes the form of what each means, and the end of data, to the front of the output.
  *
- * At most `limit` units are taken, the end of data included; UINT64_MAX allows all. RTR_OK comes
- * exactly where the input begins with fewer than `limit` acceptable payload units and an end of
- * data, and the output is at least as long as their form: then all of that was taken and its form
- * was written, and what follows in the input is left.
+ * At most `limit` units are taken, the end of data included; UINT64_MAX allows all. The call
+ * answers RTR_OK exactly if the input begins with fewer than `limit` acceptable payload units and
+ * an end of data, and the output is at least as long as their form. Then all of these were taken
+ * and their form was written. What follows in the input isn't taken.
  *
- * Else the call stopped before a unit, none of whose bytes count as taken: output[0 .. written) is
- * the form of input[0 .. taken), whole units. RTR_TOO_MANY comes first, then RTR_SHORT to
- * RTR_PREFIX, then RTR_NO_ROOM. After RTR_NO_ROOM with more room, and after RTR_SHORT with more
- * input, a caller goes on at input + taken with the limit less by `units`; after RTR_TOO_MANY with
- * another limit.
+ * Otherwise the call stopped before a unit, of which no byte counts as taken: output[0 .. written)
+ * is the form of input[0 .. taken), whole units. RTR_TOO_MANY is checked first, then RTR_SHORT to
+ * RTR_PREFIX, then RTR_NO_ROOM. To go on, call again at input + taken:
+ *   - after RTR_NO_ROOM with more room, and after RTR_SHORT with more input, with `units`
+ *     subtracted from the limit;
+ *   - after RTR_TOO_MANY with another limit.
  *
- * The rest of the output is as it was. The output always suffices where it is at least as long as
- * the input: RTR_NO_ROOM doesn't come then. Two sequences have the same form exactly where they
- * mean the same. */
+ * The rest of the output is unchanged. An output at least as long as the input always suffices:
+ * then the call never answers RTR_NO_ROOM. Two sequences have the same form exactly if they mean
+ * the same. */
 uint8_t rtr_normalise_slice(const uint8_t *input, size_t input_length,
                             uint8_t *output, size_t output_length,
                             uint64_t limit, struct rtr_answer *answer);
 
-/* The same for clients of one version of the protocol: units that the version doesn't have are
- * checked and counted in `units` but not written, and all others, and the end of data, are written
- * in this version. Version 0 has prefixes, version 1 router keys too, version 2 ASPAs too.
+/* The same for clients of one version of the protocol. Units that the version doesn't have are
+ * checked and counted in `units` but not written. All others, and the end of data, are written in
+ * this version. Version 0 has prefixes, version 1 also router keys, version 2 also ASPAs.
  *
- * An end of data has 12 bytes in version 0 and 24 in versions 1 and 2, so that one that came in
- * version 0 grows: the output always suffices where it is at least 12 bytes longer than the input.
+ * An end of data has 12 bytes in version 0 and 24 in versions 1 and 2, so one that came in version
+ * 0 grows. An output at least 12 bytes longer than the input always suffices.
  *
- * RTR_UNIT_VERSION comes first for a version above 2, which `detail` is then, with nothing taken or
- * written. */
+ * For a version above 2 the call answers RTR_UNIT_VERSION before anything else, with that version
+ * as `detail` and nothing taken or written. */
 uint8_t rtr_normalise_for_slice(const uint8_t *input, size_t input_length,
                                 uint8_t *output, size_t output_length,
                                 uint64_t limit, uint8_t version, struct rtr_answer *answer);
 
-/* Shows the payload unit or the end of data that the input begins with. The next one begins `size`
- * bytes later; what follows doesn't count. Nothing is copied but fixed fields: key info and
- * providers are input[part_start .. part_start + part_length), as they stand, on a withdrawal too.
+/* Decodes the payload unit or the end of data that the input begins with. The next one begins
+ * `size` bytes later; what follows doesn't matter. Only fixed fields are copied: key info and
+ * providers are input[part_start .. part_start + part_length), unchanged, on a withdrawal too.
  *
- * RTR_OK; or, with all fields 0 but `detail`, RTR_SHORT to RTR_PREFIX. */
+ * RTR_OK; or, with all fields 0 except `detail`, RTR_SHORT to RTR_PREFIX. */
 uint8_t rtr_next(const uint8_t *input, size_t input_length, struct rtr_unit *unit);
 
 /* Writes the written form of the unit to the front of the output, and its length to `written`: at
- * most 65535. Key info and providers are input[part_start .. part_start + part_length); for other
- * kinds the input isn't looked at. An address is written with the bits after the prefix length
- * clear, a withdrawn ASPA without providers, and an end of data of version 0 without timings.
- * `size`, `detail` and what the kind doesn't have are not looked at.
+ * most 65535. Key info and providers are input[part_start .. part_start + part_length). An address
+ * is written with the bits after the prefix length zero, a withdrawn ASPA without providers, and an
+ * end of data of version 0 without timings. Ignored are `size`, `detail`, what the kind doesn't
+ * have, and the input unless the kind has key info or providers.
  *
  * RTR_OK; or, with nothing written and `written` 0, in this order:
- *   RTR_UNIT_TYPE        `kind` is none
+ *   RTR_UNIT_TYPE        `kind` is no rtr_kind
  *   RTR_NO_FORM          `action` is above 1, or above 0 for an end of data; `family` isn't that
  *                        of the kind; key info or providers lie outside of the input
- *   RTR_PREFIX           the lengths of a prefix break their rule; which part isn't told
+ *   RTR_PREFIX           the lengths of a prefix break their rule; which part isn't reported
  *   RTR_TOO_LONG         more than 65503 bytes of key info or, announced, 65520 of providers
- *   RTR_UNIT_LENGTH      providers, announced, that aren't 4 bytes each
+ *   RTR_UNIT_LENGTH      announced providers that aren't 4 bytes each
  *   RTR_EMPTY_PROVIDERS  an ASPA is announced without providers
  *   RTR_UNIT_VERSION     an end of data of a version above 2
  *   RTR_NO_ROOM          the output is shorter than the form */
@@ -173,17 +173,17 @@ uint8_t rtr_write_unit(const struct rtr_unit *unit, const uint8_t *input, size_t
                        uint8_t *output, size_t output_length, size_t *written);
 
 /* Whether both inputs begin with sequences that mean the same, of fewer than `limit` payload units
- * each. It asks malloc for the room of both forms, for each router key and ASPA, and for a report
- * on a refused prefix, and gives it all back.
+ * each. It allocates both forms, each router key and ASPA, and a report on a refused prefix with
+ * malloc, and frees them all.
  *
- * RTR_OK with the answer in `same`. Else `same` is as it was: RTR_SHORT to RTR_PREFIX, without a
- * detail, or RTR_TOO_MANY of the left input, or of the right one where the left is accepted; or
- * RTR_NO_MEMORY. */
+ * RTR_OK with the answer in `same`. Otherwise `same` is unchanged, and the status is RTR_NO_MEMORY,
+ * or RTR_SHORT to RTR_PREFIX (without a detail) or RTR_TOO_MANY: that of the left input, or if the
+ * left one is accepted, that of the right one. */
 uint8_t rtr_same_meaning(const uint8_t *left, size_t left_length,
                          const uint8_t *right, size_t right_length,
                          uint64_t limit, bool *same);
 
-/* A text for a status: for any number, and never null. */
+/* A text for a status, never null; any number may be passed. */
 static inline const char *rtr_status_text(uint8_t status)
 {
     static const char *const texts[] = {

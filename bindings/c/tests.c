@@ -1,7 +1,7 @@
 /* Calls each function over the cases of a file that `bindings/cases.py` wrote, in eight threads at
- * once, and over a few units by hand. No sanitizer sees what the archive reads and writes, which
- * isn't instrumented: each input and output lies between two pages that can't be touched, once at
- * the front of what is between them and once at its end.
+ * once, and over a few units by hand. No sanitizer sees what the archive reads and writes, since it
+ * isn't instrumented. So each input and output lies between two inaccessible pages, once right
+ * after the first and once right before the second.
  *
  * usage: tests CASES */
 #define _DEFAULT_SOURCE /* MAP_ANONYMOUS */
@@ -26,7 +26,7 @@ static void check(int holds, const char *what, int line)
     }
 }
 
-/* What heap.c answers, and how often this thread asked it: linked with --wrap=rattle_alloc and
+/* What heap.c answers, and how often this thread called it: linked with --wrap=rattle_alloc and
  * --wrap=rattle_realloc. */
 struct rattle_tried {
     bool granted;
@@ -90,10 +90,10 @@ static struct test_case next_case(const uint8_t **at)
     return one;
 }
 
-/* As many bytes as an input or an output has at most. */
+/* The most bytes of an input or an output. */
 #define MOST ((size_t)1 << 19)
 
-/* Whole pages between two that can't be touched. */
+/* Whole pages between two inaccessible ones. */
 struct fenced {
     uint8_t *front, *end;
 };
@@ -118,7 +118,7 @@ static struct place new_place(void)
     return (struct place){false, fence(MOST), fence(MOST), fence(MOST), fence(1), fence(1)};
 }
 
-/* So many bytes, right after the one page that can't be touched or right before the other. */
+/* So many bytes, right after the first inaccessible page or right before the second. */
 static void *lie(const struct place *place, struct fenced fenced, size_t length)
 {
     CHECK(length <= (size_t)(fenced.end - fenced.front));
@@ -133,7 +133,7 @@ static uint8_t *copied(const struct place *place, struct fenced fenced, const ui
     return copy;
 }
 
-/* What the last pointer points at, filled with what no call answers. */
+/* What the last pointer points at, filled with bytes that no call answers. */
 #define FILLED(fenced, type) ((type *)memset(lie(place, fenced, sizeof(type)), 0xa5, sizeof(type)))
 
 static uint8_t normalised(const struct test_case *one, const uint8_t *input, uint8_t *output,
@@ -147,7 +147,7 @@ static uint8_t normalised(const struct test_case *one, const uint8_t *input, uin
     return status;
 }
 
-/* Whole, with as much room as always suffices. */
+/* In one call, with as much room as always suffices. */
 static void check_whole(const struct place *place, const struct test_case *one,
                         const uint8_t *input)
 {
@@ -180,7 +180,7 @@ static void check_room(const struct place *place, const struct test_case *one,
     }
 }
 
-/* In turns, with little room and few units each time: going on gives the same. */
+/* In steps, with little room and few units each time: the result is the same. */
 static void check_in_turns(const struct place *place, const struct test_case *one,
                            const uint8_t *input, size_t room)
 {
@@ -207,7 +207,7 @@ static void check_in_turns(const struct place *place, const struct test_case *on
     CHECK(taken == one->taken && written == one->form_length && units == one->units);
 }
 
-/* A unit is written again as this part of the form, of which this gives the length. */
+/* A unit is written again as this part of the form. Gives the length of that. */
 static size_t check_unit(const struct place *place, const struct rtr_unit *unit,
                          const uint8_t *bytes, const uint8_t *form, size_t most)
 {
@@ -329,7 +329,7 @@ static void check_ipv4(const struct place *place)
 }
 
 /* An ASPA in the layout of an older draft, with flags, an address family and a count after the
- * length: AS65010 is announced there with two providers. It is read as what rtr.h says. */
+ * length: it announces AS65010 with two providers. It is read as rtr.h says. */
 static void check_older_aspa(const struct place *place)
 {
     static const uint8_t older[] = {2, 11, 0, 0, 0, 0, 0, 24, 1, 0, 0, 2, 0, 0, 0xfd, 0xf2,
@@ -388,7 +388,7 @@ static void check_refused(const struct place *place)
     }
 }
 
-/* Slices of no bytes, a limit of 0, and versions that there aren't. */
+/* Empty slices, a limit of 0, and versions that don't exist. */
 static void check_bounds(const struct place *place)
 {
     const uint8_t *none = lie(place, place->input, 0);
@@ -411,7 +411,7 @@ static void check_bounds(const struct place *place)
         CHECK(rtr_status_text((uint8_t)status)[0] != '\0');
 }
 
-/* heap.c keeps each alignment that malloc has, for blocks of any length, and refuses others. */
+/* heap.c gives each alignment that malloc can, for blocks of any length, and refuses others. */
 static void check_heap(void)
 {
     for (size_t align = 1; align <= alignof(max_align_t); align *= 2)

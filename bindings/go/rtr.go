@@ -1,9 +1,9 @@
 // Package rtr reads and writes units and sequences of the RPKI to Router protocol (RFC 6810, RFC 8210)
 // in memory, over the proved library rtr_c. What the functions promise is proved; this package is not.
 //
-// Slices may be nil or empty. What is written to must not overlap what is read, and no other goroutine
-// may write to what a call is given, or read its output, before the call returns. SameMeaning alone asks
-// C's malloc for memory. Several goroutines may call at once.
+// Slices may be nil or empty. What is written must not overlap what is read. Until a call returns, no other
+// goroutine may write to its arguments or read its output. Only SameMeaning calls C's malloc. Several
+// goroutines may call at once.
 //
 // Copyright (c) 2026, the authors of Fishreef; copyright (c) 2018, NLnet Labs. BSD 3-Clause License: see the
 // file LICENSE at the top of the repository.
@@ -22,8 +22,8 @@ import (
 	"unsafe"
 )
 
-// Status says how a call ended; each but OK is an error, which calls give within a Fault. Those of a unit
-// are Short to PrefixRule, and come in the order of docs/PROTOCOL.md.
+// Status says how a call ended. Each but OK is an error, which calls return in a Fault. Those of a unit are
+// Short to PrefixRule, and are checked in the order of docs/PROTOCOL.md.
 type Status uint8
 
 // The numbers are those of rtr.h.
@@ -37,9 +37,9 @@ const (
 	EmptyProviders        // an ASPA is announced without providers
 	PrefixRule            // a prefix breaks its rule: its length (1) or its max length (2) is above that of an address, or the max length below the length (3)
 	TooMany               // as many units as were allowed were taken
-	NoRoom                // the output has no room for what is to be written next
+	NoRoom                // the output is too short for what comes next
 	NoForm                // no unit has these fields
-	NoMemory              // memory was refused
+	NoMemory              // out of memory
 )
 
 // Error is the text of the status.
@@ -52,11 +52,11 @@ func (s Status) String() string {
 	return s.Error()
 }
 
-// Fault is an error with what it tells of: a type, a version or a rule on prefix lengths, else 0.
+// Fault is an error with its detail: a type, a version or a rule on prefix lengths, else 0.
 type Fault struct {
 	Status Status
 	Detail uint8
-	bare   bool // the call tells no detail
+	bare   bool // the call reports no detail
 }
 
 func (f *Fault) Error() string {
@@ -70,7 +70,7 @@ func (f *Fault) Error() string {
 	return text
 }
 
-// Unwrap gives the status, so that errors.Is(err, NoRoom) asks for it.
+// Unwrap gives the status, so that errors.Is(err, NoRoom) works.
 func (f *Fault) Unwrap() error {
 	return f.Status
 }
@@ -82,7 +82,7 @@ func fault(status, detail C.uint8_t) error {
 	return &Fault{Status: Status(status), Detail: uint8(detail)}
 }
 
-// bareFault is the fault of a call that tells no detail.
+// bareFault is the fault of a call that reports no detail.
 func bareFault(status C.uint8_t) error {
 	if status == 0 {
 		return nil
@@ -90,16 +90,15 @@ func bareFault(status C.uint8_t) error {
 	return &Fault{Status: Status(status), bare: true}
 }
 
-// Progress says how far a call came that normalises: whole units, and the end of data where it was
-// accepted.
+// Progress says how far a call that normalises got: whole units, and the end of data if it was accepted.
 type Progress struct {
 	Units   uint64 // payload units that were taken from the input
-	Forms   uint64 // those of them that were written
+	Forms   uint64 // how many of them were written
 	Taken   int    // bytes of the input that were taken
 	Written int    // bytes of the output that were written
 }
 
-// The place of a slice, which is never nil, and its length.
+// The address of a slice, which is never nil, and its length.
 func place(b []byte) (*C.uint8_t, C.size_t) {
 	if len(b) == 0 {
 		var none [1]byte
@@ -116,13 +115,13 @@ func progress(a *C.struct_rtr_answer) Progress {
 // and writes the form of what each means, and the end of data, to the front of output. At most limit
 // units are taken, the end of data included.
 //
-// It succeeds exactly where input begins with fewer than limit acceptable payload units and an end of
-// data, and output is at least as long as their form, as one as long as the input always is. What follows
-// in the input is left.
+// It succeeds exactly if input begins with fewer than limit acceptable payload units and an end of data,
+// and output is at least as long as their form. An output as long as the input always is. What follows in
+// the input isn't taken.
 //
 // Errors, in this order: TooMany; Short to PrefixRule; NoRoom. Then Progress says which whole units were
-// taken before, whose form is written; a caller goes on after them with more room, more input or another
-// limit.
+// taken before the error; their form is written. A caller goes on after them with more room, more input or
+// another limit.
 func Normalise(input, output []byte, limit uint64) (Progress, error) {
 	var a C.struct_rtr_answer
 	in, n := place(input)
@@ -131,12 +130,12 @@ func Normalise(input, output []byte, limit uint64) (Progress, error) {
 	return progress(&a), fault(status, a.detail)
 }
 
-// NormaliseFor is Normalise for clients of one protocol version: units that the version doesn't have are
-// checked and counted in Units but not written, and all others, and the end of data, are written in this
+// NormaliseFor is Normalise for clients of one protocol version. Units that the version doesn't have are
+// checked and counted in Units but not written. All others, and the end of data, are written in this
 // version. An output 12 bytes longer than the input always suffices, since an end of data has 12 bytes in
 // version 0 and 24 in versions 1 and 2.
 //
-// UnitVersion comes first for a version above 2, with nothing taken or written.
+// For a version above 2 the error is UnitVersion before any other, with nothing taken or written.
 func NormaliseFor(input, output []byte, limit uint64, version uint8) (Progress, error) {
 	var a C.struct_rtr_answer
 	in, n := place(input)
@@ -146,8 +145,8 @@ func NormaliseFor(input, output []byte, limit uint64, version uint8) (Progress, 
 }
 
 // SameMeaning says whether both inputs begin with sequences that mean the same, of fewer than limit payload
-// units each. The error is that of left, or that of right where left is accepted: Short to TooMany, whose
-// Detail is 0; or NoMemory.
+// units each. The error is NoMemory, or one of Short to TooMany, whose Detail is 0: that of left, or if left
+// is accepted, that of right.
 func SameMeaning(left, right []byte, limit uint64) (bool, error) {
 	var same C.bool
 	l, n := place(left)
@@ -170,7 +169,7 @@ type Unit struct {
 	Kind, Version           uint8
 	Announce                bool // else the payload is withdrawn
 	PrefixLength, MaxLength uint8
-	// The address in network order, the bits after the prefix length clear; the first 4 bytes in IPv4.
+	// The address in network order, the bits after the prefix length zero; for IPv4 the first 4 bytes.
 	Address       [16]byte
 	ASN           uint32 // of a prefix or a router key
 	Customer      uint32 // of an ASPA
@@ -183,7 +182,7 @@ type Unit struct {
 	Part []byte
 }
 
-// Next gives the unit that input begins with, and what follows it. Nothing is copied but fixed fields.
+// Next gives the unit that input begins with, and what follows it. Only fixed fields are copied.
 //
 // Errors: Short to PrefixRule, with the whole input.
 func Next(input []byte) (Unit, []byte, error) {
@@ -211,8 +210,8 @@ func Next(input []byte) (Unit, []byte, error) {
 
 // Write writes the written form of the unit to the front of output, and gives its length in bytes, at most
 // 65535. The bits of an address after the prefix length are cleared, a withdrawn ASPA is written without
-// providers, and an end of data of version 0 without timings. Nothing is written at an error, whose Detail
-// is 0.
+// providers, and an end of data of version 0 without timings. If there is an error, nothing is written and
+// its Detail is 0.
 //
 // Errors, in this order: UnitType; NoForm for an end of data with Announce; PrefixRule; TooLong for more
 // than 65503 bytes of key info or, announced, 65520 of providers; UnitLength for announced providers that

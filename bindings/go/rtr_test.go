@@ -26,7 +26,7 @@ func TestMain(m *testing.M) {
 	os.Exit(m.Run())
 }
 
-// The cases of the file that RTR_CASES names; a test that wants them is skipped where it names none.
+// The cases of the file that RTR_CASES names; without it tests that need cases are skipped.
 func cases(t *testing.T) []testCase {
 	path := os.Getenv("RTR_CASES")
 	if path == "" {
@@ -59,7 +59,7 @@ func told(err error) (uint8, uint8) {
 	return uint8(fault.Status), fault.Detail
 }
 
-// normalised calls Normalise, or NormaliseFor where the case is for one version.
+// normalised calls Normalise, or NormaliseFor if the case is for one version.
 func (one *testCase) normalised(input, output []byte, limit uint64) (Progress, error) {
 	if one.version == 255 {
 		return Normalise(input, output, limit)
@@ -75,7 +75,7 @@ func (one *testCase) room() int {
 	return len(one.input) + 12
 }
 
-// whole says what is wrong with the case as one call.
+// whole says what is wrong if the case is one call.
 func (one *testCase) whole() error {
 	output := make([]byte, one.room())
 	progress, err := one.normalised(one.input, output, 1<<32)
@@ -117,7 +117,7 @@ func TestGoroutines(t *testing.T) {
 	running.Wait()
 }
 
-// In turns, with little room and few units each time: going on gives the same.
+// In steps, with little room and few units each time: the result is the same.
 func TestInTurns(t *testing.T) {
 	for _, one := range cases(t) {
 		if len(one.input) >= 1<<16 {
@@ -304,7 +304,7 @@ func TestTexts(t *testing.T) {
 			t.Fatalf("%x: %v", one.input, err)
 		}
 	}
-	// This call tells no type.
+	// This call reports no type.
 	_, err := SameMeaning([]byte{1, 0, 0, 0, 0, 0, 0, 12}, nil, 1)
 	if err == nil || err.Error() != "unit type is not allowed here" {
 		t.Fatal(err)

@@ -1,7 +1,7 @@
 //! Units and sequences of the RPKI to Router protocol (RFC 6810, RFC 8210) in memory, over the
 //! proved library `rtr_c`.
 //!
-//! What the functions promise is proved; this wrapper and the declarations in it are not.
+//! What the archive's functions promise is proved; this wrapper and its declarations are not.
 #![deny(unsafe_op_in_unsafe_fn)]
 
 mod sys;
@@ -9,7 +9,7 @@ mod sys;
 use std::fmt;
 use std::net::{IpAddr, Ipv4Addr, Ipv6Addr};
 
-/// Why a call was refused, in the order in which faults of a unit come.
+/// Why a call failed, in the order in which the faults of a unit are checked.
 #[derive(Clone, Copy, Debug, PartialEq, Eq)]
 pub enum Fault {
     /// The input ends inside a unit, or before one.
@@ -20,7 +20,7 @@ pub enum Fault {
     UnitVersion(u8),
     /// A router key or an ASPA has more than 65535 bytes.
     TooLong,
-    /// The length does not suit the type of the unit.
+    /// The unit's type doesn't allow this length.
     UnitLength,
     /// An ASPA is announced without providers.
     EmptyProviders,
@@ -28,11 +28,11 @@ pub enum Fault {
     Prefix(PrefixRule),
     /// As many units as were allowed were taken.
     TooMany,
-    /// The output has no room for what is to be written next.
+    /// The output is too short for what comes next.
     NoRoom,
     /// No unit has these fields.
     NoForm,
-    /// Memory was refused.
+    /// Out of memory.
     Memory,
 }
 
@@ -90,12 +90,12 @@ impl fmt::Display for Fault {
 
 impl std::error::Error for Fault {}
 
-/// How far a call came that normalises: whole units, and the end of data where it was accepted.
+/// How far a call that normalises got: whole units, and the end of data if it was accepted.
 #[derive(Clone, Copy, Debug, Default, PartialEq, Eq)]
 pub struct Progress {
     /// Payload units that were taken from the input.
     pub units: u64,
-    /// Those of them that were written.
+    /// How many of them were written.
     pub forms: u64,
     /// Bytes of the input that were taken.
     pub taken: usize,
@@ -103,7 +103,7 @@ pub struct Progress {
     pub written: usize,
 }
 
-/// A call that normalises stopped before an end of data: how far it came, and why.
+/// A call that normalises stopped before an end of data: how far it got, and why.
 #[derive(Clone, Copy, Debug, PartialEq, Eq)]
 pub struct Stopped {
     /// What was taken and written until then.
@@ -122,25 +122,26 @@ impl std::error::Error for Stopped {}
 
 /// Normalises the sequence that the input begins with: reads payload units up to an end of data,
 /// and writes the form of what each means, and the end of data, to the front of the output. At most
-/// `limit` units are taken, the end of data included. It asks for no memory.
+/// `limit` units are taken, the end of data included. It allocates nothing.
 ///
-/// It succeeds exactly where the input begins with fewer than `limit` acceptable payload units and
-/// an end of data, and the output is at least as long as their form, as one as long as the input
-/// always is. What follows in the input is left.
+/// It succeeds exactly if the input begins with fewer than `limit` acceptable payload units and an
+/// end of data, and the output is at least as long as their form. An output as long as the input
+/// always is. What follows in the input isn't taken.
 ///
 /// Faults, in this order: `TooMany`; `Short` to `Prefix`; `NoRoom`. Then `progress` says which
-/// whole units were taken before, whose form is written; a caller goes on after them with more
-/// room, more input or another limit.
+/// whole units were taken before the fault; their form is written. A caller goes on after them with
+/// more room, more input or another limit.
 pub fn normalise(input: &[u8], output: &mut [u8], limit: u64) -> Result<Progress, Stopped> {
     sys::normalise(input, output, limit)
 }
 
-/// As `normalise`, for clients of one protocol version: units that the version doesn't have are
-/// checked and counted in `units` but not written, and all others, and the end of data, are written
-/// in this version. An output 12 bytes longer than the input always suffices, since an end of data
-/// has 12 bytes in version 0 and 24 in versions 1 and 2.
+/// As `normalise`, for clients of one protocol version. Units that the version doesn't have are
+/// checked and counted in `units` but not written. All others, and the end of data, are written in
+/// this version. An output 12 bytes longer than the input always suffices, since an end of data has
+/// 12 bytes in version 0 and 24 in versions 1 and 2.
 ///
-/// `UnitVersion` comes first for a version above 2, with nothing taken or written.
+/// For a version above 2 the fault is `UnitVersion` before any other, with nothing taken or
+/// written.
 pub fn normalise_for(
     input: &[u8],
     output: &mut [u8],
@@ -151,14 +152,14 @@ pub fn normalise_for(
 }
 
 /// Whether both inputs begin with sequences that mean the same, of fewer than `limit` payload
-/// units each. It asks C's `malloc` for the room of both forms, for each router key and ASPA, and
-/// for a report on a refused prefix, and gives it all back.
+/// units each. It allocates both forms, each router key and ASPA, and a report on a refused prefix
+/// with C's `malloc`, and frees them all.
 ///
-/// The fault is that of the left input, or of the right one where the left is accepted: `Short` to
-/// `TooMany`; or `Memory`.
+/// The fault is `Memory`, or one of `Short` to `TooMany`: that of the left input, or if the left
+/// one is accepted, that of the right one.
 pub fn same_meaning(left: &[u8], right: &[u8], limit: u64) -> Result<bool, Fault> {
-    // A call tells no more than the status, so the type, the version or the broken rule is looked
-    // up: no unit before it is refused.
+    // The call reports the status alone. So look for the first fault, which has the type, the
+    // version or the broken rule.
     let first_fault = |input| Units::new(input).find_map(Result::err);
     sys::same_meaning(left, right, limit).map_err(|fault| match fault {
         Fault::UnitType(_) | Fault::UnitVersion(_) | Fault::Prefix(_) => first_fault(left)
@@ -176,7 +177,7 @@ pub struct Timing {
     pub expire: u32,
 }
 
-/// What a unit says. Key info and providers are lent from the input.
+/// What a unit says. Key info and providers are borrowed from the input.
 #[derive(Clone, Copy, Debug, PartialEq, Eq)]
 pub enum Content<'a> {
     /// A route origin (RFC 8210 sections 5.6 and 5.7), its address with the host bits cleared.
@@ -218,8 +219,8 @@ pub struct Unit<'a> {
 }
 
 impl<'a> Unit<'a> {
-    /// The unit that the input begins with, and what follows it. Nothing is copied but fixed
-    /// fields, and it asks for no memory.
+    /// The unit that the input begins with, and what follows it. Only fixed fields are copied, and
+    /// nothing is allocated.
     ///
     /// Faults: `Short` to `Prefix`.
     pub fn first(input: &'a [u8]) -> Result<(Self, &'a [u8]), Fault> {
@@ -236,11 +237,11 @@ impl<'a> Unit<'a> {
 
     /// Writes the written form to the front of the output, and answers its length in bytes, at most
     /// 65535. Host bits of an address are cleared, a withdrawn ASPA is written without providers,
-    /// and an end of data of version 0 without timings; one of a later version that says none gets
-    /// those that RFC 8210 section 6 recommends.
+    /// and an end of data of version 0 without timings. One of a later version that has no timings
+    /// gets those that RFC 8210 section 6 recommends.
     ///
     /// Faults, in this order: `Prefix`, `TooLong`, `UnitLength`, `EmptyProviders`, `UnitVersion`
-    /// for an end of data; at last `NoRoom`. Nothing is written then.
+    /// for an end of data, `NoRoom`. Then nothing is written.
     pub fn write(&self, output: &mut [u8]) -> Result<usize, Fault> {
         let (said, part) = self.said();
         sys::write(&said, part, output)
@@ -323,8 +324,7 @@ const END_OF_DATA: u8 = 7;
 const ROUTER_KEY: u8 = 9;
 const ASPA: u8 = 11;
 
-/// The timings that an end of data is written with that is to have some and says none (RFC 8210
-/// section 6).
+/// The timings of an end of data that has to have some and was given none (RFC 8210 section 6).
 const RECOMMENDED: Timing = Timing {
     refresh: 3600,
     retry: 600,
@@ -332,7 +332,7 @@ const RECOMMENDED: Timing = Timing {
 };
 
 impl<'a> Content<'a> {
-    /// What a unit of these bytes says that is shown so.
+    /// What these numbers say of the unit with these bytes.
     fn of(shown: &sys::Unit, bytes: &'a [u8]) -> Self {
         let announce = shown.action == 1;
         let part = &bytes[shown.part_start..shown.part_start + shown.part_length];
@@ -374,8 +374,8 @@ impl<'a> Content<'a> {
     }
 }
 
-/// The units of an input, one after the other, up to and with the end of data; or to the first
-/// fault.
+/// The units of an input, one after the other, up to and including the end of data, or up to the
+/// first fault.
 #[derive(Clone, Debug)]
 pub struct Units<'a> {
     rest: &'a [u8],

@@ -2,7 +2,7 @@
 
 use crate::{Fault, Progress, Stopped};
 
-/// How a call that normalises came out.
+/// The result of a call that normalises.
 #[repr(C)]
 #[derive(Default)]
 pub(crate) struct Answer {
@@ -141,8 +141,8 @@ pub(crate) fn next(input: &[u8]) -> Result<Unit, Fault> {
     }
 }
 
-/// `part` is the key info or the providers. Of a broken prefix rule the C call doesn't tell the
-/// part, so the caller says what it is.
+/// `part` is the key info or the providers. The C call doesn't report which prefix rule is broken,
+/// so that is found here.
 pub(crate) fn write(unit: &Unit, part: &[u8], output: &mut [u8]) -> Result<usize, Fault> {
     let mut written = 0;
     // SAFETY: all slices are live and of these lengths, and the output and the count overlap
@@ -163,7 +163,7 @@ pub(crate) fn write(unit: &Unit, part: &[u8], output: &mut [u8]) -> Result<usize
     }
 }
 
-/// What a status of `rtr_write_unit` tells of: the type, the version or the broken rule of the
+/// The detail of a status of `rtr_write_unit`: the type, the version or the broken rule of the
 /// unit.
 fn refused(unit: &Unit, status: u8) -> u8 {
     let width = if unit.family == 4 { 32 } else { 128 };
@@ -177,7 +177,7 @@ fn refused(unit: &Unit, status: u8) -> u8 {
     }
 }
 
-/// The fault is told without the type, the version or the broken rule.
+/// The fault comes without the type, the version or the broken rule.
 pub(crate) fn same_meaning(left: &[u8], right: &[u8], limit: u64) -> Result<bool, Fault> {
     let mut same = false;
     // SAFETY: both slices are live and of these lengths, and `same` overlaps nothing.
@@ -228,7 +228,7 @@ mod tests {
             assert_eq!(write(&unit, &[], &mut output), Err(fault));
             assert_eq!(output, [0xa5; 40]);
         }
-        // A part that lies outside of the input.
+        // Key info or providers outside of the input.
         let unit = Unit {
             kind: 9,
             version: 1,

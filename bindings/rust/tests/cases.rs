@@ -1,5 +1,5 @@
 //! The cases that `bindings/cases.py` writes, read from the file that `RTR_CASES` names, and what
-//! the wrapper adds. Without that file, tests that want it are ignored.
+//! the wrapper adds. Without that file, tests that need it are ignored.
 
 use rtr_wire::{
     normalise, normalise_for, same_meaning, Content, Fault, PrefixRule, Progress, Stopped, Unit,
@@ -68,7 +68,7 @@ fn numbers(fault: Fault) -> (u8, u8) {
 }
 
 impl Case {
-    /// Calls `normalise`, or `normalise_for` where the case is for one version.
+    /// Calls `normalise`, or `normalise_for` if the case is for one version.
     fn normalised(&self, input: &[u8], output: &mut [u8], limit: u64) -> Result<Progress, Stopped> {
         match self.version {
             None => normalise(input, output, limit),
@@ -81,7 +81,7 @@ impl Case {
         self.input.len() + self.version.map_or(0, |_| 12)
     }
 
-    /// The case as one call.
+    /// Runs the case as one call.
     fn check_whole(&self) {
         let mut output = vec![0; self.room()];
         let (progress, told) = match self.normalised(&self.input, &mut output, u32::MAX.into()) {
@@ -94,7 +94,7 @@ impl Case {
         assert_eq!(output[..progress.written], self.form);
     }
 
-    /// In turns, with little room and few units each time: going on gives the same.
+    /// In steps, with little room and few units each time: the result is the same.
     fn check_in_turns(&self) {
         let (mut form, mut units, mut taken, mut room) = (Vec::new(), 0, 0, 16);
         let told = loop {
@@ -119,8 +119,8 @@ impl Case {
         assert_eq!(form, self.form);
     }
 
-    /// An output as long as the form suffices, and one that is a byte shorter doesn't; nor does a
-    /// limit of as many units as there are.
+    /// An output as long as the form suffices, and one that is a byte shorter doesn't. A limit of
+    /// as many units as there are doesn't suffice either.
     fn check_bounds(&self) {
         let mut output = vec![0; self.form.len()];
         let short = self.form.len() - 1;
@@ -275,7 +275,7 @@ fn versions_that_there_are_not() {
     assert_eq!(output, [0; 24]);
 }
 
-/// Keys and providers that are too long, or that don't suit.
+/// Keys and providers that are too long or malformed.
 #[test]
 fn parts_that_have_no_form() {
     let bytes = [0; 65524];
@@ -308,7 +308,7 @@ fn parts_that_have_no_form() {
     assert_eq!(aspa(65520).write(&mut output), Ok(65532));
 }
 
-/// An end of data that says no timings has those of RFC 8210 section 6, where it is to have some.
+/// An end of data given without timings gets those of RFC 8210 section 6 if it has to have some.
 #[test]
 fn timings_that_are_not_said() {
     let end = |version| Unit {
