@@ -81,7 +81,7 @@ def first_difference(left, right):
 
 
 def difference(args, number, data, got, wanted):
-    """What differs, and where the input stands."""
+    """What differs, and where the input is kept."""
     path = os.path.join(tempfile.gettempdir(), f"rtr_normalise-{args.seed}-{number}.hex")
     with open(path, "w", encoding="ascii") as file:
         file.write(data.hex("\n", -32) + "\n")

@@ -1,4 +1,4 @@
-/* The sizes and offsets that crates/rtr_c states, where a size_t has eight bytes. */
+/* The sizes and offsets that crates/rtr_c states, if a size_t has eight bytes. */
 #include "rtr.h"
 
 #define AT(type, field, offset) \

@@ -215,7 +215,7 @@ func Next(input []byte) (Unit, []byte, error) {
 //
 // Errors, in this order: UnitType; NoForm for an end of data with Announce; PrefixRule; TooLong for more
 // than 65503 bytes of key info or, announced, 65520 of providers; UnitLength for announced providers that
-// aren't 4 bytes each; EmptyProviders where there are none; UnitVersion for an end of data of a version
+// aren't 4 bytes each; EmptyProviders if there are none; UnitVersion for an end of data of a version
 // above 2; NoRoom.
 func (unit *Unit) Write(output []byte) (int, error) {
 	u := C.struct_rtr_unit{

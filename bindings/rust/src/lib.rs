@@ -195,7 +195,7 @@ pub enum Content<'a> {
         asn: u32,
         key_info: &'a [u8],
     },
-    /// An ASPA. The providers stand as they came, four bytes each, on a withdrawal too.
+    /// An ASPA. The providers are as in the input, four bytes each, on a withdrawal too.
     Aspa {
         announce: bool,
         customer: u32,

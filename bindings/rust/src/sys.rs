@@ -238,7 +238,7 @@ mod tests {
         assert_eq!(write(&unit, &[], &mut [0; 40]), Err(Fault::NoForm));
     }
 
-    /// The layout that `crates/rtr_c` states, where a `usize` has eight bytes.
+    /// The layout that `crates/rtr_c` states, if a `usize` has eight bytes.
     #[test]
     #[cfg(target_pointer_width = "64")]
     fn layout() {

@@ -110,7 +110,7 @@ impl Prefix {
         Prefix::from_v4_bits(addr.to_bits(), len)
     }
 
-    /// As `new_v4_relaxed`, of the address as a number.
+    /// As `new_v4_relaxed`, with the address as a number.
     #[inline(always)]
     pub fn from_v4_bits(bits: u32, len: u8) -> Result<Self, PrefixError>
         ensures ok { IfOk result (λ p. p ≡
@@ -157,7 +157,7 @@ impl Prefix {
         Prefix::from_v6_bits(addr.to_bits(), len)
     }
 
-    /// As `new_v6_relaxed`, of the address as a number.
+    /// As `new_v6_relaxed`, with the address as a number.
     #[inline(always)]
     pub fn from_v6_bits(bits: u128, len: u8) -> Result<Self, PrefixError>
         ensures ok { IfOk result (λ p. p ≡
@@ -242,7 +242,7 @@ impl PartialOrd for Prefix {
     }
 }
 
-/// IPv4 comes before IPv6, then the address decides as a number, then the length.
+/// Ordered by family, IPv4 first, then by the address as a number, then by the length.
 impl Ord for Prefix {
     ghost cmp = { prefix_cmp };
 
@@ -261,8 +261,7 @@ impl Ord for Prefix {
     }
 }
 
-/// A prefix of IP addresses, and the longest prefix length that is meant with it, where one was
-/// given.
+/// A prefix of IP addresses and, if one was given, the longest prefix length that is meant with it.
 #[derive(Clone, Copy, Debug)]
 pub struct MaxLenPrefix {
     prefix: Prefix,
@@ -372,7 +371,7 @@ impl MaxLenPrefix {
         self.prefix.len()
     }
 
-    /// The max length, where one was given.
+    /// The max length, if one was given.
     #[inline(always)]
     pub fn max_len(self) -> Option<u8>
         ensures max_len { result ≡ self.max_len }
@@ -381,7 +380,7 @@ impl MaxLenPrefix {
         self.max_len
     }
 
-    /// The longest prefix length that is meant: the max length, and where none was given the prefix
+    /// The longest prefix length that is meant: the max length, or if none was given the prefix
     /// length.
     #[inline(always)]
     pub fn resolved_max_len(self) -> u8

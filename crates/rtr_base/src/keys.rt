@@ -27,7 +27,7 @@ impl KeyIdentifier {
         self.0
     }
 
-    /// The 20 bytes, lent.
+    /// The 20 bytes, borrowed.
     #[inline(always)]
     pub fn as_slice(&self) -> &[u8]
         ensures bytes { result.now ≡ self.now }

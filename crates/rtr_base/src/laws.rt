@@ -36,14 +36,14 @@ pub fn error_codes()
     ensures ordering_error { ErrorCode.ORDERING_ERROR.0 ≡ 11 }
 {}
 
-/// Prefixes are totally ordered, and equal in that order are exactly equal prefixes.
+/// Prefixes are totally ordered, and two compare as equal exactly if they are equal.
 pub fn prefix_order()
     ensures total { IsTotalOrder prefix_cmp }
     ensures exact { (p q : PrefixParts) → (prefix_cmp p q ≡ Equal) ↔ (p ≡ q) }
 {}
 
-/// Turned about, the order of two serial numbers is reversed. There is none exactly at half the
-/// circle, and equal are exactly equal numbers.
+/// Swapping two serial numbers reverses their order. They have none exactly if they are half the
+/// circle apart, and compare as equal exactly if they are equal.
 pub fn serial_reversed()
     ensures reversed { (a b : ℕ) → a < 2 ^ 32 → b < 2 ^ 32 →
         serial_cmp a b ≡ reversed (serial_cmp b a) }

@@ -40,7 +40,7 @@ impl FromStr for Asn {
     }
 }
 
-/// The text after `AS` or `as`, where it begins so.
+/// The text after `AS` or `as`, if it begins with one of them.
 fn without_as(text: &str) -> &str
     ensures { IsWithoutAs text.now result.now }
 {
@@ -55,9 +55,9 @@ fn without_as(text: &str) -> &str
 pub enum ParsePrefixError {
     /// There is no slash.
     MissingLen,
-    /// What stands before the first slash isn't an address.
+    /// What is before the first slash isn't an address.
     Addr(AddrParseError),
-    /// What stands after the first slash isn't a number, or is over 255.
+    /// What is after the first slash isn't a number, or is over 255.
     Len(ParseIntError),
     /// The length is too great for the address, or the address has bits after it.
     Prefix(PrefixError),
@@ -105,9 +105,9 @@ impl FromStr for Prefix {
 /// Why a text isn't a prefix with a max length.
 #[derive(Clone, Debug, Drop, PartialEq, Eq)]
 pub enum ParseMaxLenPrefixError {
-    /// What stands before the first dash, or the whole text where there is none, isn't a prefix.
+    /// What is before the first dash, or the whole text if there is none, isn't a prefix.
     Prefix(ParsePrefixError),
-    /// What stands after the first dash isn't a number, or is over 255.
+    /// What is after the first dash isn't a number, or is over 255.
     MaxLen(ParseIntError),
     /// The max length doesn't go with the prefix.
     Value(MaxLenError),
@@ -125,7 +125,7 @@ impl fmt::Display for ParseMaxLenPrefixError {
 
 impl Error for ParseMaxLenPrefixError {}
 
-/// Reads a prefix, and where a dash follows a max length.
+/// Reads a prefix and, if a dash follows, a max length.
 impl FromStr for MaxLenPrefix {
     type Err = ParseMaxLenPrefixError;
 
@@ -156,7 +156,7 @@ impl FromStr for MaxLenPrefix {
 /// Why a text isn't the identifier of a key.
 #[derive(Clone, Copy, Debug, PartialEq, Eq)]
 pub enum ParseKeyIdentifierError {
-    /// The text has not 40 bytes.
+    /// The text doesn't have 40 bytes.
     Length,
     /// A character isn't a hex digit.
     Digit,

@@ -34,7 +34,7 @@ impl Action {
         matches!(self, Action::Withdraw)
     }
 
-    /// The action that the flags of a unit say: only their lowest bit counts.
+    /// The action that the flags of a unit mean: only their lowest bit counts.
     #[inline(always)]
     pub fn from_flags(flags: u8) -> Self
         ensures { result ≡ act flags }
@@ -46,7 +46,7 @@ impl Action {
         }
     }
 
-    /// The flags that say the action: 1 or 0.
+    /// The flags of the action: 1 or 0.
     #[inline(always)]
     pub fn into_flags(self) -> u8
         ensures flags { result ≡ flags_of self }
@@ -118,7 +118,7 @@ impl Afi {
     }
 }
 
-/// Writes `ipv4` or `ipv6`, whatever width and fill are asked for.
+/// Writes `ipv4` or `ipv6`; width and fill are ignored.
 impl fmt::Display for Afi {
     ghost use Rattle.std.specs.Prelude.{Some};
     ghost use Rattle.rtr_base.specs.Texts.{afi_text};

@@ -43,7 +43,7 @@ impl Serial {
         self.0
     }
 
-    /// The number that is `other` further on; after the greatest comes 0 (RFC 1982 section 3.1).
+    /// The number `other` after this one; after the greatest comes 0 (RFC 1982 section 3.1).
     pub fn add(self, other: u32) -> Self
         requires { other ≤ 2147483647 }
         ensures { result.0 ≡ (self.0 + other) % 2 ^ 32 }
@@ -51,7 +51,8 @@ impl Serial {
         Serial(self.0.wrapping_add(other))
     }
 
-    /// The order of two serial numbers (RFC 1982 section 3.2). There is none at half the circle.
+    /// The order of two serial numbers (RFC 1982 section 3.2): none if they are half the circle
+    /// apart.
     pub fn partial_cmp(&self, other: &Serial) -> Option<Ordering>
         ensures { result ≡ serial_cmp self.now.0 other.now.0 }
     {
@@ -97,7 +98,7 @@ impl FromStr for Serial {
     }
 }
 
-/// Writes the number in decimal, whatever width and fill are asked for.
+/// Writes the number in decimal; width and fill are ignored.
 impl fmt::Display for Serial {
     ghost use Rattle.std.specs.Prelude.{Some};
     ghost use Rattle.std.specs.Fmt.{decimal};

@@ -1,4 +1,4 @@
-//! Texts of plain values. Width and fill that are asked for count for nothing.
+//! Texts of plain values. Width and fill are ignored.
 
 ghost use Rattle.std.specs.Prelude.{◌≡◌, List, ℕ, Some};
 ghost use Rattle.std.specs.Option.{option_copied};
@@ -22,7 +22,7 @@ impl fmt::Display for Asn {
     }
 }
 
-/// Writes the address and the length, as in `192.0.2.0/23`, an IPv6 address as RFC 5952 says.
+/// Writes the address and the length, as in `192.0.2.0/23`; an IPv6 address as in RFC 5952.
 impl fmt::Display for Prefix {
     ghost output = { λ prefix. Some (prefix_text prefix) };
 
@@ -31,7 +31,7 @@ impl fmt::Display for Prefix {
     }
 }
 
-/// Writes the prefix, and where a max length was given a dash and that length: `192.0.2.0/23-26`.
+/// Writes the prefix and, if a max length was given, a dash and that length: `192.0.2.0/23-26`.
 impl fmt::Display for MaxLenPrefix {
     ghost output = { λ prefix. Some (max_len_text prefix) };
 
@@ -69,8 +69,8 @@ impl fmt::Display for Action {
 }
 
 impl ErrorCode {
-    /// The name of the code: of codes up to 8 as in RFC 8210 section 12, and of 9, 10 and 11 as in
-    /// the Rust crate `rpki`. Other codes have none.
+    /// The name of the code: up to 8 as in RFC 8210 section 12, for 9, 10 and 11 as in the Rust
+    /// crate `rpki`. Other codes have none.
     #[tactic(auto, unfolding(crate::specs::PlainTexts::code_name))]
     pub fn name(self) -> Option<&'static str>
         ensures { option_copied result ≡ code_name self.0 }
@@ -93,7 +93,7 @@ impl ErrorCode {
     }
 }
 
-/// Writes the number, and after it the name where the code has one: `2 (No Data Available)`.
+/// Writes the number and, if the code has one, its name: `2 (No Data Available)`.
 impl fmt::Display for ErrorCode {
     ghost output = { λ code. Some (error_code_text code.0) };
 

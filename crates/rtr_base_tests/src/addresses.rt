@@ -16,7 +16,7 @@ fn parts(text: &str) -> Option<(IpAddr, u8)> {
     Some((address.parse().ok()?, len.parse().ok()?))
 }
 
-/// The address, the length and the family of a prefix, or by what name it is refused.
+/// The address, the length and the family of a prefix, or the name of the error.
 fn shown(alloc: Global, made: Result<Prefix, PrefixError>) -> Option<String> {
     match made {
         Ok(prefix) => {
@@ -140,7 +140,7 @@ fn refused_max_lengths(rt: HostRuntime) {
     expect_refused(&rt, long, 129, MaxLenError::Overflow);
 }
 
-/// Prefixes in ascending order, each with all.
+/// Prefixes in ascending order, each compared with all.
 const ORDERS: &str = "\
 10.0.0.0/8 and 10.0.0.0/8 -> Equal
 10.0.0.0/8 and 10.0.0.0/16 -> Less
@@ -166,7 +166,7 @@ fn order(alloc: Global, text: &str) -> Option<String> {
     named(alloc, &order)
 }
 
-/// How two prefixes compare, where all comparisons say the same.
+/// How two prefixes compare, if all comparisons agree.
 fn compared(left: Prefix, right: Prefix) -> Option<Ordering> {
     let order = left.cmp(&right);
     let is_same = left.partial_cmp(&right) == Some(order);

@@ -1,10 +1,10 @@
-//! What rows of tables are asked.
+//! What the rows of tables test.
 
 use std::alloc::Global;
 use std::fmt::{Debug, Display};
 use std::str::FromStr;
 
-/// What is written of a value, if that is the same whatever width and fill are asked for.
+/// The text of a value, if it is the same with any width and fill.
 pub fn written<T: Display>(alloc: Global, value: &T) -> Option<String> {
     let plain = format!(in alloc; "{value}").ok()?;
     let wide = format!(in alloc; "{value:>90}").ok()?;
@@ -12,7 +12,7 @@ pub fn written<T: Display>(alloc: Global, value: &T) -> Option<String> {
     (wide == plain && filled == plain).then_some(plain)
 }
 
-/// What is written of the value that the text between quotes stands for, or how it is refused.
+/// The text of the value that the text between quotes is parsed to, or the error.
 pub fn read<T: FromStr + Display + Drop>(alloc: Global, text: &str) -> Option<String>
 where
     T::Err: Debug + Drop,
@@ -28,7 +28,7 @@ pub fn named<T: Debug>(alloc: Global, value: &T) -> Option<String> {
     format!(in alloc; "{value:?}").ok()
 }
 
-/// The text between the quotes that stand round it.
+/// The text without the quotes around it.
 fn unquoted(text: &str) -> Option<&str> {
     text.strip_prefix('\'')?.strip_suffix('\'')
 }

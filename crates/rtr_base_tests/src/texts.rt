@@ -125,7 +125,7 @@ fe80::/10 -> fe80::/10
 0:0:0:0:0:ffff:c000:0200/120 -> ::ffff:192.0.2.0/120
 ";
 
-/// What is written of the prefix that a text stands for, if the same prefix is read from that.
+/// The text of the prefix that a text is parsed to, if it is parsed to the same prefix again.
 fn rewritten(alloc: Global, text: &str) -> Option<String> {
     let prefix: Prefix = text.parse().ok()?;
     let shown = written(alloc, &prefix)?;
@@ -214,7 +214,7 @@ fn texts_of_refusals(rt: HostRuntime) -> Result<(), Fail> {
     check_rows(rt.alloc(), REFUSALS, refusal)
 }
 
-/// Asserts what is written of a value, whatever width is asked for.
+/// Asserts the text of a value, with any width.
 fn expect_text<T: Display + Drop>(rt: &impl Abort, alloc: Global, value: T, want: &str) {
     let text = written(alloc, &value);
     expect_equal(rt, text.as_deref(), Some(want));

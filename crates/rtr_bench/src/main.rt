@@ -1,7 +1,7 @@
-//! Times `normalise` and `normalise_slice` over memory: reads a sequence from standard input,
-//! normalises it 21 times in each way, and prints the best time of each on standard error, in
-//! nanoseconds a unit and megabytes a second; or the fault, where there is one. It ends with status
-//! 0; or 1 where the input is refused, 3 where reading, printing, the clock or memory failed.
+//! Times `normalise` and `normalise_slice` over memory. It reads a sequence from standard input and
+//! normalises it 21 times in each way. On standard error it prints the best time of each, in
+//! nanoseconds a unit and megabytes a second, or the fault if there is one. It ends with status 0;
+//! 1 if the input is refused; 3 if reading, printing, the clock or memory failed.
 #![tactic(auto)]
 
 use rtr_wire::pdu::{Counted, Fault, SliceSource, ViewFault};
@@ -14,7 +14,7 @@ use std::time::Instant;
 /// How often the sequence is normalised in each way.
 const RUNS: u32 = 21;
 
-/// What was measured of one way.
+/// What was measured for one way.
 #[derive(Clone, Copy)]
 struct Best {
     units: u64,
@@ -22,7 +22,7 @@ struct Best {
     nanos: u128,
 }
 
-/// The status to end with at a fault of `normalise`.
+/// The exit status at a fault of `normalise`.
 fn status_of(fault: &Fault) -> u8 {
     match fault {
         Fault::Reader(_) | Fault::Writer(_) | Fault::Memory => 3,
@@ -30,7 +30,7 @@ fn status_of(fault: &Fault) -> u8 {
     }
 }
 
-/// The status to end with at a fault of `normalise_slice`.
+/// The exit status at a fault of `normalise_slice`.
 fn slice_status_of(fault: &ViewFault) -> u8 {
     match fault {
         ViewFault::Writer(_) => 3,
@@ -89,7 +89,7 @@ fn time_slice(rt: &HostRuntime, input: &[u8]) -> io::Result<Result<Best, ViewFau
     }))
 }
 
-/// Prints what was measured of a way.
+/// Prints what was measured for a way.
 fn print(rt: &HostRuntime, way: &str, best: &Best) -> io::Result<()> {
     let nanos = best.nanos;
     writeln!(
@@ -102,7 +102,7 @@ fn print(rt: &HostRuntime, way: &str, best: &Best) -> io::Result<()> {
     )
 }
 
-/// Times both ways, prints their best times or the fault, and answers the status to end with.
+/// Times both ways, prints their best times or the fault, and answers the exit status.
 fn measure(rt: &HostRuntime) -> io::Result<u8> {
     let mut input: Vec<u8> = Vec::new(rt.alloc());
     rt.stdin().read_to_end(&mut input)?;

@@ -7,7 +7,7 @@ ghost use Rattle.rtr_c.specs.Answers.{stop_status, stop_detail};
 use rtr_wire::IntoFault;
 use rtr_wire::pdu::{PrefixRule, ViewFault};
 
-/// The call did all that it is for.
+/// The call succeeded.
 pub(crate) const ACCEPTED: u8 = 0;
 /// The input ended inside a unit, or before one.
 pub(crate) const SHORT: u8 = 1;
@@ -25,22 +25,22 @@ pub(crate) const EMPTY_PROVIDERS: u8 = 6;
 pub(crate) const PREFIX: u8 = 7;
 /// As many units as were allowed were taken.
 pub(crate) const TOO_MANY: u8 = 8;
-/// The output has no room for what is to be written next.
+/// The output is too short for what comes next.
 pub(crate) const NO_ROOM: u8 = 9;
-/// What is to be written has no form.
+/// What should be written has no form.
 pub(crate) const NO_FORM: u8 = 10;
-/// A growth of memory was refused.
+/// Memory ran out.
 pub(crate) const NO_MEMORY: u8 = 11;
-/// A reader or a writer failed, as none here does.
+/// A reader or a writer failed; none here does.
 pub(crate) const WRITER: u8 = 255;
 
-/// How a call ended that writes.
+/// How a call that writes ended.
 #[repr(C)]
 #[derive(Drop)]
 pub struct RtrAnswer {
     /// Payload units that were taken.
     pub units: u64,
-    /// Those of them that were written.
+    /// How many of them were written.
     pub forms: u64,
     /// Bytes of the input that were taken.
     pub taken: usize,
@@ -48,9 +48,9 @@ pub struct RtrAnswer {
     pub written: usize,
     /// How the call ended.
     pub status: u8,
-    /// With `UNIT_TYPE` the type and with `UNIT_VERSION` the version that is refused; with
-    /// `PREFIX` 1 where the prefix length is above that of an address, 2 where the max length is,
-    /// 3 where the max length is below the prefix length; else 0.
+    /// With `UNIT_TYPE` the refused type, with `UNIT_VERSION` the refused version. With `PREFIX` 1
+    /// if the prefix length is above that of an address, 2 if the max length is, and 3 if the max
+    /// length is below the prefix length. Otherwise 0.
     pub detail: u8,
 }
 
@@ -85,7 +85,7 @@ pub(crate) fn fault_status(fault: &ViewFault) -> u8
     }
 }
 
-/// The type, the version or the broken rule that a fault tells of, or 0.
+/// The type, the version or the broken rule of a fault, or 0.
 pub(crate) fn fault_detail(fault: &ViewFault) -> u8
     ensures { result ≡ fault_detail fault.now }
 {

@@ -13,7 +13,7 @@ use crate::answer::{
 use rtr_wire::pdu::Fault;
 use std::alloc::Global;
 
-/// As `rtr_wire::same_meaning`. Where both inputs are accepted, `same` says whether they mean the
+/// As `rtr_wire::same_meaning`. If both inputs are accepted, `same` says whether they mean the
 /// same.
 #[unsafe(no_mangle)]
 pub extern "C" fn rtr_same_meaning(

@@ -1,8 +1,8 @@
-//! What programs in C, Go and Rust call: units and sequences in memory. `rtr_same_meaning` alone
-//! asks for memory.
+//! What programs in C, Go and Rust call: units and sequences in memory. Only `rtr_same_meaning`
+//! allocates.
 //!
-//! Each call reads and writes the slices that it is given, and nothing else. What it answers
-//! crosses as numbers; `bindings/c/rtr.h` says what each means.
+//! Each call reads and writes the slices that it is given, and nothing else. Its answers are
+//! numbers; `bindings/c/rtr.h` says what each means.
 #![tactic(auto)]
 
 mod answer;

@@ -33,7 +33,7 @@ pub extern "C" fn rtr_next(input: &[u8], unit: &mut RtrUnit) -> u8
     }
 }
 
-/// Shows a view of this size in a unit of no kind.
+/// Puts a view of this size into a unit of no kind.
 #[inline(always)]
 fn show(view: &UnitView<'_>, size: usize, unit: &mut RtrUnit)
     ensures { unit.old ≡ none → unit.new ≡ shown view.now size }

@@ -59,7 +59,7 @@ pub extern "C" fn rtr_normalise_for_slice(
     answer.status
 }
 
-/// The answer that tells of a run.
+/// The answer of a run.
 #[inline(always)]
 fn answer_of(progress: Progress, end: Result<(), IntoFault>) -> RtrAnswer
     ensures { Tells progress end result result.status }

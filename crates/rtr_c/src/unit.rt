@@ -11,7 +11,7 @@ pub struct RtrUnit {
     pub size: usize,
     /// Where the key info of a router key or the providers of an ASPA begin in the input.
     pub part_start: usize,
-    /// How many bytes they have: four for each provider.
+    /// Their length in bytes: four for each provider.
     pub part_length: usize,
     /// The autonomous system of a prefix or a router key.
     pub asn: u32,
@@ -32,7 +32,7 @@ pub struct RtrUnit {
     pub kind: u8,
     /// The version of the protocol.
     pub version: u8,
-    /// 1 where the payload is announced, 0 where it is withdrawn, and 0 for an end of data.
+    /// 1 if the payload is announced, 0 if it is withdrawn, and 0 for an end of data.
     pub action: u8,
     /// 4 for IPv4 and 6 for IPv6.
     pub family: u8,
@@ -40,12 +40,11 @@ pub struct RtrUnit {
     pub prefix_length: u8,
     /// The max length.
     pub max_length: u8,
-    /// The address, whose first four bytes count in IPv4. The bits after the prefix length are
-    /// clear.
+    /// The address; for IPv4 the first four bytes. The bits after the prefix length are zero.
     pub address: [u8; 16],
     /// The subject key identifier of a router key.
     pub key_identifier: [u8; 20],
-    /// Where a unit is refused, what the status tells of.
+    /// If a unit is refused, the detail of the status.
     pub detail: u8,
 }
 

@@ -20,20 +20,24 @@ use rtr_wire::payload::{RouteOrigin, Timing};
 use rtr_wire::pdu::{Aspa, EndOfData, Ipv4Prefix, Ipv6Prefix, ProviderAsns, RouterKey, Unit};
 use rtr_wire::state::{Serial, State};
 
-/// The most bytes of key info with which a router key is read.
+/// The most bytes of key info in a router key that is read.
 const MAX_KEY_INFO: usize = MAX_SIZE as usize - RouterKey::FIXED;
-/// The most bytes of providers that an ASPA unit has.
+/// The most bytes of providers in an ASPA unit.
 const MAX_PROVIDERS: usize = 4 * ProviderAsns::MAX_COUNT;
 
-/// Writes the written form of the unit to the front of the output; key info and providers stand in
-/// the input, where the unit says.
+/// Writes the written form of the unit to the front of the output. Key info and providers are in
+/// the input, at the place that the unit says.
 ///
-/// Statuses, in this order: `UNIT_TYPE` for no kind of unit; `NO_FORM` for an action above 1, of an
-/// end of data above 0, a family that isn't that of the kind, or key info or providers outside the
-/// input; then `PREFIX`; `TOO_LONG` for more than 65503 bytes of key info or, announced, 65520 of
-/// providers; `UNIT_LENGTH` for announced providers that aren't four bytes each, and
-/// `EMPTY_PROVIDERS` where there are none; `UNIT_VERSION` for an end of data of a version above 2;
-/// at last `NO_ROOM`. Nothing is written then.
+/// Statuses, in this order, with nothing written:
+/// - `UNIT_TYPE` for an unknown kind of unit;
+/// - `NO_FORM` for an action above 1, or above 0 for an end of data, a family that isn't that of
+///   the kind, or key info or providers outside the input;
+/// - `PREFIX`;
+/// - `TOO_LONG` for more than 65503 bytes of key info or, announced, 65520 of providers;
+/// - `UNIT_LENGTH` for announced providers that aren't four bytes each;
+/// - `EMPTY_PROVIDERS` for an announcement without providers;
+/// - `UNIT_VERSION` for an end of data of a version above 2;
+/// - `NO_ROOM`.
 #[unsafe(no_mangle)]
 pub extern "C" fn rtr_write_unit(
     unit: &RtrUnit,
@@ -120,7 +124,7 @@ fn write_key(unit: &RtrUnit, input: &[u8], output: &mut [u8]) -> Result<usize, u
     )
 }
 
-/// What the form of a router key of this size has before the key info.
+/// What comes before the key info in the form of a router key of this size.
 fn key_front(unit: &RtrUnit, size: u32) -> [u8; RouterKey::FIXED]
     ensures { result ≡ (unit.now.version ∷ 9 ∷ unit.now.action ∷ 0 ∷ be size 4)
         ++ (unit.now.key_identifier ++ be unit.now.asn 4) }
@@ -163,7 +167,7 @@ fn write_aspa(unit: &RtrUnit, input: &[u8], output: &mut [u8]) -> Result<usize, 
     )
 }
 
-/// What the form of an ASPA unit of this size has before the providers.
+/// What comes before the providers in the form of an ASPA unit of this size.
 fn aspa_front(unit: &RtrUnit, size: u32) -> [u8; Aspa::FIXED]
     ensures { result ≡ unit.now.version ∷ 11 ∷ unit.now.action ∷ 0 ∷ be size 4
         ++ be unit.now.customer 4 }
@@ -175,7 +179,7 @@ fn aspa_front(unit: &RtrUnit, size: u32) -> [u8; Aspa::FIXED]
     front
 }
 
-/// The key info or the providers, where they lie in the input.
+/// The key info or the providers, if they lie in the input.
 fn part_of<'a>(unit: &RtrUnit, input: &'a [u8]) -> Option<&'a [u8]>
     ensures part { option_copied result ≡ part_said unit.now input.now }
     ensures bytes { IfSome result (λ part. IsBytes part.now) }
@@ -186,7 +190,7 @@ fn part_of<'a>(unit: &RtrUnit, input: &'a [u8]) -> Option<&'a [u8]>
     Some(&input[unit.part_start..unit.part_start + unit.part_length])
 }
 
-/// Writes the two pieces, or nothing where there is no room for them.
+/// Writes the two pieces, or nothing if there is no room for both.
 #[inline(always)]
 fn placed(front: &[u8], back: &[u8], output: &mut [u8]) -> Result<usize, u8>
     ensures { Writes (Ok (front.now ++ back.now)) result output.old output.new }

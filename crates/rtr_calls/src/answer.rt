@@ -6,7 +6,7 @@ use std::fmt::Display;
 use std::io;
 use std::io::ErrorKind;
 
-/// Words with spaces between them. Bytes are hex, and all that follow one another are one word.
+/// Words with spaces between them. Bytes are hex; consecutive bytes are one word.
 #[derive(Drop)]
 pub struct Answer {
     alloc: Global,
@@ -47,7 +47,7 @@ impl Answer {
         self.ends_in_bytes = true;
     }
 
-    /// Appends a text, after a space where it is neither the first nor goes on with bytes.
+    /// Appends a text, after a space unless it is the first or goes on with bytes.
     fn append(&mut self, text: &str) {
         if !self.text.is_empty() && !self.ends_in_bytes && self.text.push_str(" ").is_err() {
             self.is_cut = true;
@@ -62,7 +62,7 @@ impl Answer {
         self.text == other.text && !self.is_cut && !other.is_cut
     }
 
-    /// The words, where there was memory for all of them.
+    /// The words, if there was memory for all of them.
     pub fn into_text(self) -> Result<String, AllocError> {
         if self.is_cut {
             return Err(AllocError);
@@ -70,8 +70,8 @@ impl Answer {
         Ok(self.text)
     }
 
-    /// Appends the name of a fault. The errors of readers and writers are interruptions, as those
-    /// that the table's readers and writers give.
+    /// Appends the name of a fault. The errors of readers and writers are interruptions, since the
+    /// table's readers and writers give these.
     pub fn fault(&mut self, fault: &Fault) {
         match fault {
             Fault::Reader(error) => self.error("Reader", error),
@@ -110,7 +110,7 @@ impl Answer {
         self.word(format_args!("{name}({number})"))
     }
 
-    /// Appends the name of a fault that holds an error, and whether the library made that itself.
+    /// Appends the name of a fault that holds an error, and whether the library made that error.
     fn error(&mut self, name: &str, error: &io::Error) {
         match error.kind() {
             ErrorKind::Interrupted => self.word(name),

@@ -4,7 +4,7 @@ use crate::answer::Answer;
 use crate::row::{Row, Way};
 use crate::{fixed, into, meanings, parts, payloads, sequences, session, variable, views};
 
-/// Makes the call of a row in one way, and answers what it gave, if there is such a call.
+/// Makes the call of a row in one way, and answers its result, if there is such a call.
 pub fn call(row: &Row<'_>, way: Way) -> Option<Answer> {
     sequences::answer(row, way)
         .or_else(|| into::answer(row))

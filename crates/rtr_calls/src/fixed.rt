@@ -10,7 +10,7 @@ use rtr_wire::pdu::{
     SliceSource, Unit,
 };
 
-/// Makes the call of a row where it is one of these: of a unit `TYPE::read`, `TYPE::try_read`,
+/// Makes the call of a row if it is one of these: for a unit `TYPE::read`, `TYPE::try_read`,
 /// `TYPE::read_payload` or `TYPE::write`, and calls of headers and ends of data.
 pub fn answer(row: &Row<'_>, way: Way) -> Option<Answer> {
     let (kind, call) = row.call.split_once("::")?;
@@ -42,7 +42,7 @@ fn unit<U: Unit>(row: &Row<'_>, way: Way, call: &str) -> Option<Answer> {
     }
 }
 
-/// Tells how many bytes a reader gave, and whether it was asked again after its end.
+/// Appends how many bytes a reader gave, and whether it was asked again after its end.
 pub fn tell_taken(seen: &mut Answer, reader: &Pieces<'_>) {
     seen.word("taken");
     seen.word(reader.taken());
@@ -51,7 +51,7 @@ pub fn tell_taken(seen: &mut Answer, reader: &Pieces<'_>) {
     }
 }
 
-/// Tells a unit, or the fault.
+/// Appends a unit, or the fault.
 fn tell<U: Unit>(seen: &mut Answer, answer: &Result<U, Fault>) {
     match answer {
         Ok(unit) => {
@@ -107,7 +107,7 @@ fn read_payload<U: Unit>(row: &Row<'_>, way: Way) -> Answer {
     seen
 }
 
-/// Tells `Ok` or the fault, and what was written.
+/// Appends `Ok` or the fault, and what was written.
 pub fn told_put(row: &Row<'_>, answer: &Result<(), Fault>, writer: &Recorder) -> Answer {
     let mut seen = row.answer();
     match answer {
@@ -133,14 +133,14 @@ fn write<U: Unit>(row: &Row<'_>, way: Way) -> Answer {
     told_put(row, &answer, &writer.into_inner())
 }
 
-/// Puts bytes in place of those from a place on, as far as there are.
+/// Overwrites bytes from a place on, as far as there are.
 fn put_bytes(bytes: &mut [u8], place: usize, new: &[u8]) {
     for (old, new) in bytes.iter_mut().skip(place).zip(new.iter()) {
         *old = *new;
     }
 }
 
-/// Puts bytes in place of those of a prefix unit from a place on.
+/// Overwrites the bytes of a prefix unit from a place on.
 pub fn alter(unit: &mut Payload, place: usize, new: &[u8]) {
     match unit {
         Payload::V4(prefix) => put_bytes(prefix.as_mut(), place, new),

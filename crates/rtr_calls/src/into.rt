@@ -10,8 +10,8 @@ const LIMIT: u64 = 4294967295;
 /// What the output holds before a call.
 const FILL: u8 = 0xee;
 
-/// Makes the call of a row where it is one of these. The setting `room` says how many bytes the
-/// output has, or else it has those of the input and 12 more.
+/// Makes the call of a row if it is one of these. The setting `room` says how many bytes the
+/// output has; without it, 12 more than the input.
 pub fn answer(row: &Row<'_>) -> Option<Answer> {
     match row.call {
         "normalise_into" => Some(normalised(row, None)),
@@ -20,7 +20,7 @@ pub fn answer(row: &Row<'_>) -> Option<Answer> {
     }
 }
 
-/// An output of so many bytes, each `FILL`.
+/// An output of this many bytes, each `FILL`.
 fn output(row: &Row<'_>) -> Option<Vec<u8>> {
     let room = match row.setting("room") {
         Some(_) => row.place("room"),
@@ -29,7 +29,7 @@ fn output(row: &Row<'_>) -> Option<Vec<u8>> {
     Vec::from_elem(row.alloc, FILL, room).ok()
 }
 
-/// `normalise_into`, or `normalise_for_into` where there is a version.
+/// `normalise_into`, or `normalise_for_into` if there is a version.
 fn normalised(row: &Row<'_>, version: Option<u8>) -> Answer {
     let limit = row.number("limit", LIMIT);
     let Some(mut output) = output(row) else {
@@ -46,7 +46,7 @@ fn normalised(row: &Row<'_>, version: Option<u8>) -> Answer {
     seen
 }
 
-/// Tells how a run ended.
+/// Appends how a run ended.
 fn tell_end(seen: &mut Answer, end: &Result<(), IntoFault>) {
     match end {
         Ok(()) => seen.word("Ok"),
@@ -59,8 +59,8 @@ fn tell_end(seen: &mut Answer, end: &Result<(), IntoFault>) {
     }
 }
 
-/// Tells the numbers of units, of forms, of bytes taken and of bytes written; what was written; and
-/// `spoilt` where another byte of the output isn't as it was.
+/// Appends the numbers of units, of forms, of bytes taken and of bytes written; what was written;
+/// and `spoilt` if another byte of the output has changed.
 fn tell_progress(seen: &mut Answer, progress: &Progress, output: &[u8]) {
     let (units, forms) = (progress.units, progress.forms);
     let (taken, written) = (progress.taken, progress.written);

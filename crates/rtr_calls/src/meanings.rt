@@ -7,7 +7,7 @@ use rtr_wire::payload::{self, Action, RouteOrigin};
 use rtr_wire::pdu::{Fault, Payload};
 use std::alloc::AllocError;
 
-/// Makes the call of a row where it is one of these.
+/// Makes the call of a row if it is one of these.
 pub fn answer(row: &Row<'_>) -> Option<Answer> {
     match row.call {
         "to_payload" => Some(to_payload(row)),
@@ -22,7 +22,7 @@ pub fn answer(row: &Row<'_>) -> Option<Answer> {
     }
 }
 
-/// Tells an origin: address, prefix length, max length, ASN.
+/// Appends an origin: address, prefix length, max length, ASN.
 pub fn tell_origin(seen: &mut Answer, origin: &RouteOrigin) {
     let prefix = origin.prefix;
     seen.word(format_args!("{}/{}", prefix.addr(), prefix.prefix_len()));
@@ -33,7 +33,7 @@ pub fn tell_origin(seen: &mut Answer, origin: &RouteOrigin) {
     seen.word(origin.asn.into_u32())
 }
 
-/// Tells a payload.
+/// Appends a payload.
 fn tell_payload(seen: &mut Answer, payload: &payload::Payload) {
     match payload {
         payload::Payload::Origin(origin) => {
@@ -53,7 +53,7 @@ fn tell_payload(seen: &mut Answer, payload: &payload::Payload) {
     }
 }
 
-/// Tells a meaning: action and payload, or the fault with the report.
+/// Appends a meaning: action and payload, or the fault with the report.
 fn tell_meaning(seen: &mut Answer, answer: &Result<(Action, payload::Payload), Fault>) {
     match answer {
         Ok((action, payload)) => {
@@ -105,7 +105,7 @@ fn meaning(row: &Row<'_>) -> Option<payload::Payload> {
     Some(payload)
 }
 
-/// Tells a clone of the row's meaning, and that meaning as it is then.
+/// Appends a clone of the row's meaning, and that meaning as it is then.
 fn told_clone(
     row: &Row<'_>,
     payload: &payload::Payload,
@@ -173,7 +173,7 @@ fn withdraw(row: &Row<'_>) -> Answer {
     seen
 }
 
-/// Tells a unit that was made, or that there was no memory for it.
+/// Appends a unit that was made, or that there was no memory for it.
 fn tell_made(seen: &mut Answer, row: &Row<'_>, made: &Result<Payload, AllocError>) {
     match made {
         Ok(unit) => tell_unit(seen, row, unit),

@@ -8,7 +8,7 @@ use rtr_wire::pdu::{
     Counted, Error, KeyInfoVecError, ProviderAsns, ProviderIterError, RouterKeyInfo, fill, put,
 };
 
-/// Makes the call of a row where it is one of these.
+/// Makes the call of a row if it is one of these.
 pub fn answer(row: &Row<'_>, way: Way) -> Option<Answer> {
     match row.call {
         "fill" => Some(filled(row, way)),
@@ -80,7 +80,7 @@ fn skipped(row: &Row<'_>, way: Way) -> Answer {
 /// The most bytes that a part of a row's report has.
 const MOST_BYTES: usize = 1000000;
 
-/// The report of a row on the left bytes, with the right ones as its text, or none where there was
+/// The report of a row about the left bytes, with the right ones as its text, or none if there was
 /// no memory for it.
 fn made(row: &Row<'_>) -> Option<Error> {
     let (version, code) = (row.byte("version", 1), row.short("code"));
@@ -102,7 +102,7 @@ fn report(row: &Row<'_>) -> Answer {
     seen
 }
 
-/// Tells a report's clone, and the report as it is then.
+/// Appends a report's clone, and the report as it is then.
 fn told_clone(row: &Row<'_>, report: &Error) -> Answer {
     row.ready();
     let copy = report.clone();
@@ -121,7 +121,7 @@ fn told_clone(row: &Row<'_>, report: &Error) -> Answer {
     seen
 }
 
-/// `Error::clone` of the report of the row, which is made with no growth refused.
+/// `Error::clone` of the report of the row, which is made without failing allocations.
 fn clone_report(row: &Row<'_>) -> Answer {
     match made(row) {
         Some(report) => told_clone(row, &report),
@@ -221,7 +221,7 @@ fn clone_key_info(row: &Row<'_>) -> Answer {
     seen
 }
 
-/// Tells providers: their number, length and bytes, and each that the iterator gives.
+/// Appends providers: their number, length and bytes, and each that the iterator gives.
 fn tell_providers(seen: &mut Answer, providers: &ProviderAsns) {
     seen.word(format_args!("{} {}", providers.asn_count(), providers.len()));
     seen.bytes(providers.as_slice());

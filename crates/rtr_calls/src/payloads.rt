@@ -6,7 +6,7 @@ use crate::views::tell_end;
 use rtr_support::{Recorder, hash_of};
 use rtr_wire::pdu::{Counted, Payload, SliceSource};
 
-/// Makes the call of a row where it is one of these.
+/// Makes the call of a row if it is one of these.
 pub fn answer(row: &Row<'_>, way: Way) -> Option<Answer> {
     match row.call {
         "read" => Some(read_any(row, way)),
@@ -26,8 +26,8 @@ fn unit_of(row: &Row<'_>, bytes: &[u8]) -> Option<Payload> {
     }
 }
 
-/// The payload unit that the row's bytes begin with, altered: `set=3` puts the right side's bytes
-/// in place of those from the third on, where it is a prefix unit.
+/// The payload unit that the row's bytes begin with, altered: if it is a prefix unit, `set=3`
+/// overwrites its bytes from the third on with the right side's.
 pub fn read(row: &Row<'_>) -> Option<Payload> {
     let mut unit = unit_of(row, &row.left)?;
     if row.setting("set").is_some() {
@@ -37,7 +37,7 @@ pub fn read(row: &Row<'_>) -> Option<Payload> {
     Some(unit)
 }
 
-/// Tells a unit: its kind, version, flags and bytes.
+/// Appends a unit: its kind, version, flags and bytes.
 pub fn tell_unit(seen: &mut Answer, row: &Row<'_>, unit: &Payload) {
     let kind = match unit {
         Payload::V4(_) => "V4",

@@ -12,7 +12,7 @@ pub struct Setting<'a> {
 }
 
 impl Setting<'_> {
-    /// Whether calls know a setting of this key, and its value is of its kind.
+    /// Whether calls know a setting of this key, and its value is of the right kind.
     pub fn is_known(&self) -> bool {
         let most = match self.key {
             "by" => return matches!(self.value, "1" | "123" | "whole"),
@@ -36,11 +36,11 @@ pub struct Row<'a> {
     pub settings: Vec<Setting<'a>>,
     pub left: Vec<u8>,
     pub right: Vec<u8>,
-    /// The size of the growths that mark the call, or 0.
+    /// The size of the allocations that mark the call, or 0.
     pub mark: usize,
 }
 
-/// How a reader gives its bytes, and how many a writer takes a call.
+/// How many bytes a reader gives, and how many a writer takes, a call.
 #[derive(Clone, Copy, Drop)]
 pub struct Way {
     pub sizes: &'static [usize],
@@ -53,14 +53,14 @@ const READERS: &[&[usize]] = &[ONES, STEPS, WHOLE];
 /// One byte a call; seven; all that is there.
 const WRITERS: &[usize] = &[1, 7, usize::MAX];
 
-/// A growth of this size. It stands apart, so that no compiler leaves it out.
+/// An allocation of this size, in a function of its own, so that no compiler leaves it out.
 #[inline(never)]
 fn growth(alloc: Global, size: usize) -> Result<Vec<u8>, AllocError> {
     Vec::with_capacity(alloc, size)
 }
 
 impl<'a> Row<'a> {
-    /// What the setting of this key says.
+    /// The value of the setting of this key.
     pub fn setting(&self, key: &str) -> Option<&'a str> {
         for setting in &self.settings {
             if setting.key == key {
@@ -70,7 +70,7 @@ impl<'a> Row<'a> {
         None
     }
 
-    /// The number that the setting of this key says, or else the one given.
+    /// The number in the setting of this key, or else the one given.
     pub fn number(&self, key: &str, otherwise: u64) -> u64 {
         match self.setting(key) {
             Some(value) => value.parse::<u64>().unwrap_or(otherwise),
@@ -83,22 +83,22 @@ impl<'a> Row<'a> {
         u8::try_from(self.number(key, u64::from(otherwise))).unwrap_or(otherwise)
     }
 
-    /// The number of a setting as one of 16 bits, or 0.
+    /// The number of a setting in 16 bits, or 0.
     pub fn short(&self, key: &str) -> u16 {
         u16::try_from(self.number(key, 0)).unwrap_or(0)
     }
 
-    /// The number of a setting as one of 32 bits, or 0.
+    /// The number of a setting in 32 bits, or 0.
     pub fn long(&self, key: &str) -> u32 {
         u32::try_from(self.number(key, 0)).unwrap_or(0)
     }
 
-    /// The number of a setting as one of a place or a call, or 0.
+    /// The number of a setting as a place or a count of calls, or 0.
     pub fn place(&self, key: &str) -> usize {
         usize::try_from(self.number(key, 0)).unwrap_or(0)
     }
 
-    /// The sizes of the readers that the row is made with: that of `by`, or all.
+    /// The sizes of the readers that the row is run with: that of `by`, or all.
     pub fn readers(&self) -> &'static [&'static [usize]] {
         if self.mark > 0 {
             return &[WHOLE];
@@ -111,7 +111,7 @@ impl<'a> Row<'a> {
         }
     }
 
-    /// The sizes of the writers that the row is made with: that of `to`, or all.
+    /// The sizes of the writers that the row is run with: that of `to`, or all.
     pub fn writers(&self) -> &'static [usize] {
         if self.mark > 0 {
             return &[usize::MAX];
@@ -133,8 +133,8 @@ impl<'a> Row<'a> {
         Pieces::failing(&self.left, way.sizes, self.place("fails"))
     }
 
-    /// A writer that asks for no growth for a form of the row's bytes, where there is memory. With
-    /// `breaks` its call of that number fails, with `stops` it takes nothing.
+    /// A writer with room for a form of the row's bytes, so that it allocates nothing later; if
+    /// there is memory. With `breaks` its call of that number fails, with `stops` it takes nothing.
     pub fn writer(&self, way: Way) -> Recorder {
         let room = self.left.len().saturating_add(64);
         let mut writer = Recorder::with_room(self.alloc, way.size, room);
@@ -142,20 +142,20 @@ impl<'a> Row<'a> {
         writer
     }
 
-    /// Marks that the call comes next.
+    /// Marks where the call begins.
     pub fn ready(&self) {
         if self.mark > 0 {
             let _ = growth(self.alloc, self.mark);
         }
     }
 
-    /// Marks that the call is over, and begins its answer.
+    /// Marks where the call ends, and begins its answer.
     pub fn answer(&self) -> Answer {
         self.ready();
         Answer::new(self.alloc)
     }
 
-    /// The answer where the row's bytes are no unit.
+    /// The answer if the row's bytes are no unit.
     pub fn no_unit(&self) -> Answer {
         let mut seen = Answer::new(self.alloc);
         seen.word("no unit");

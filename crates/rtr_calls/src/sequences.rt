@@ -9,7 +9,7 @@ use rtr_wire::{normalise, normalise_for, normalise_slice, same_meaning};
 /// More units than any row has.
 const LIMIT: u64 = 4294967295;
 
-/// Makes the call of a row where it is one of these.
+/// Makes the call of a row if it is one of these.
 pub fn answer(row: &Row<'_>, way: Way) -> Option<Answer> {
     match row.call {
         "normalise" => Some(normalised(row, way)),
@@ -22,8 +22,8 @@ pub fn answer(row: &Row<'_>, way: Way) -> Option<Answer> {
     }
 }
 
-/// Tells an answer of `normalise`: the number of units or the fault, how many bytes were taken, or
-/// `unasked` where the reader was never called, what was written, and the report.
+/// Appends an answer of `normalise`: the number of units or the fault, how many bytes were taken,
+/// or `unasked` if the reader was never called, what was written, and the report.
 fn tell(seen: &mut Answer, answer: &Result<u64, Fault>, reader: &Pieces<'_>, writer: &Recorder) {
     match answer {
         Ok(units) => seen.word(format_args!("Ok({units})")),
@@ -45,8 +45,8 @@ fn tell(seen: &mut Answer, answer: &Result<u64, Fault>, reader: &Pieces<'_>, wri
     }
 }
 
-/// `normalise`, and `normalise_slice` where the row's reader gives all bytes: its answer follows
-/// where it differs.
+/// `normalise`, and `normalise_slice` if the row's reader gives all bytes; the answer of that
+/// follows if it differs.
 fn normalised(row: &Row<'_>, way: Way) -> Answer {
     let limit = row.number("limit", LIMIT);
     let mut reader = Counted::new(row.reader(way));
@@ -84,7 +84,7 @@ fn rule_text(rule: PrefixRule) -> &'static [u8] {
     }
 }
 
-/// Tells the answer of `normalise_slice` where it isn't that of `normalise`.
+/// Appends the answer of `normalise_slice` if it isn't that of `normalise`.
 fn tell_slice(
     seen: &mut Answer,
     row: &Row<'_>,
@@ -108,8 +108,8 @@ fn tell_slice(
     }
 }
 
-/// Tells an answer of `normalise_slice`: the numbers of units and bytes, or the fault, and what was
-/// written.
+/// Appends an answer of `normalise_slice`: the numbers of units and bytes, or the fault, and what
+/// was written.
 fn tell_sliced(seen: &mut Answer, answer: &Result<(u64, usize), ViewFault>, writer: &Recorder) {
     match answer {
         Ok((units, taken)) => seen.word(format_args!("Ok({units}) {taken}")),

@@ -7,7 +7,7 @@ use rtr_session::{AnyUnit, Report};
 use rtr_support::Recorder;
 use rtr_wire::pdu::{Counted, Fault, Payload, SliceSource};
 
-/// Makes the call of a row where it is one of these.
+/// Makes the call of a row if it is one of these.
 pub fn answer(row: &Row<'_>, way: Way) -> Option<Answer> {
     match row.call {
         "AnyUnit::read" => Some(read_any(row, way)),
@@ -37,7 +37,7 @@ fn kind(unit: &AnyUnit) -> &'static str {
     }
 }
 
-/// Tells a unit of any type: its kind, version, size and bytes, or the fault.
+/// Appends a unit of any type: its kind, version, size and bytes, or the fault.
 fn tell_any(seen: &mut Answer, row: &Row<'_>, answer: &Result<AnyUnit, Fault>) {
     match answer {
         Ok(unit) => {
@@ -53,7 +53,7 @@ fn tell_any(seen: &mut Answer, row: &Row<'_>, answer: &Result<AnyUnit, Fault>) {
     }
 }
 
-/// Tells an error report: its version, code, size and bytes, or the fault.
+/// Appends an error report: its version, code, size and bytes, or the fault.
 fn tell_report(seen: &mut Answer, answer: &Result<Report, Fault>) {
     match answer {
         Ok(report) => {
@@ -65,7 +65,7 @@ fn tell_report(seen: &mut Answer, answer: &Result<Report, Fault>) {
     }
 }
 
-/// `AnyUnit::read`, where there is a unit, and how many bytes were taken.
+/// `AnyUnit::read`, if there is a unit, and how many bytes were taken.
 fn read_any(row: &Row<'_>, way: Way) -> Answer {
     let mut reader = Counted::new(row.reader(way));
     row.ready();

@@ -13,7 +13,7 @@ struct Named {
     bytes: Vec<u8>,
 }
 
-/// What the lines up to here said.
+/// What the lines so far have defined.
 #[derive(Drop)]
 pub struct Table {
     alloc: Global,
@@ -21,14 +21,14 @@ pub struct Table {
     mark: usize,
 }
 
-/// What a row is printed as, and whether that differs from what it says.
+/// What is printed for a row, and whether the row expects something else.
 #[derive(Drop)]
 pub struct Seen {
     pub text: String,
     pub is_other: bool,
 }
 
-/// The setting of this key and value, which calls have to know.
+/// The setting of this key and value. Calls have to know it.
 fn setting<'a>(key: &'a str, value: &'a str) -> Result<Setting<'a>, Fail> {
     let setting = Setting { key, value };
     if setting.is_known() {
@@ -39,7 +39,7 @@ fn setting<'a>(key: &'a str, value: &'a str) -> Result<Setting<'a>, Fail> {
 }
 
 impl Table {
-    /// No lines. Calls are marked by mark of that many bytes, if that is any.
+    /// No lines. Calls are marked by allocations of `mark` bytes, unless that is 0.
     pub fn new(alloc: Global, mark: usize) -> Table {
         Table {
             alloc,
@@ -48,7 +48,7 @@ impl Table {
         }
     }
 
-    /// Goes through a line. Answers what is to be printed of it.
+    /// Goes through a line. Answers what to print for it.
     pub fn line(&mut self, line: &str) -> Result<Option<Seen>, Fail> {
         let line = line.split("//").next().unwrap_or("").trim();
         if line.is_empty() {
@@ -64,7 +64,7 @@ impl Table {
         Ok(None)
     }
 
-    /// A text that differs from what a row says.
+    /// A text that differs from what a row expects.
     fn other(&self, text: &str) -> Result<Option<Seen>, Fail> {
         let text = String::from_str(self.alloc, text)?;
         Ok(Some(Seen {
@@ -91,8 +91,8 @@ impl Table {
         Ok(())
     }
 
-    /// Appends the bytes that a word stands for, `WORD*N` being N times those of the word. Answers
-    /// whether it stands for some.
+    /// Appends the bytes that a word stands for; for `WORD*N` N times those of the word. Answers
+    /// whether the word stands for bytes.
     fn append(&self, word: &str, bytes: &mut Vec<u8>) -> Result<bool, Fail> {
         let (word, times) = match word.split_once("*") {
             Some((word, times)) => (word, times.parse::<u32>()?),
@@ -127,8 +127,8 @@ impl Table {
         Ok(true)
     }
 
-    /// The call of a row. Words with a `=` are settings, all others stand for bytes, and `|` parts
-    /// these.
+    /// The call of a row. Words with a `=` are settings, all others stand for bytes, and `|`
+    /// separates the two sides of these.
     fn given<'a>(&self, given: &'a str) -> Result<Row<'a>, Fail> {
         let (call, words) = given.split_once(" ").unwrap_or((given, ""));
         let mut row = Row {
@@ -159,7 +159,7 @@ impl Table {
         Ok(row)
     }
 
-    /// An answer with all that stands for bytes as hex.
+    /// An answer, with each word that stands for bytes replaced by hex.
     fn spelled(&self, answer: &str) -> Result<String, Fail> {
         let mut spelled = Answer::new(self.alloc);
         for word in answer.split_ascii_whitespace() {
@@ -173,7 +173,7 @@ impl Table {
         Ok(spelled.into_text()?)
     }
 
-    /// Makes a row's call in each of its ways, until it answers something else.
+    /// Makes a row's call in each of its ways, until an answer isn't the expected one.
     fn row(&self, given: &str, answers: &str) -> Result<Option<Seen>, Fail> {
         let (whole, refused) = answers.split_once("=>").unwrap_or((answers, ""));
         let whole = self.spelled(whole)?;
@@ -196,7 +196,7 @@ impl Table {
         Ok(None)
     }
 
-    /// Which of the answers the call gave, where a growth may have been refused.
+    /// Which of the answers the call gave, if an allocation may have failed.
     fn refused(&self, seen: String, whole: String, refused: &str) -> Result<Option<Seen>, Fail> {
         if seen == whole {
             let text = String::from_str(self.alloc, "whole")?;

@@ -6,7 +6,7 @@ use crate::row::{Row, Way};
 use rtr_support::Recorder;
 use rtr_wire::pdu::{Aspa, Counted, Fault, RouterKey, SliceSource};
 
-/// Makes the call of a row where it is one of these.
+/// Makes the call of a row if it is one of these.
 pub fn answer(row: &Row<'_>, way: Way) -> Option<Answer> {
     match row.call {
         "RouterKey::read" => Some(read_key(row, way)),
@@ -21,7 +21,7 @@ pub fn answer(row: &Row<'_>, way: Way) -> Option<Answer> {
     }
 }
 
-/// Tells a router key: its size and bytes, or the fault.
+/// Appends a router key: its size and bytes, or the fault.
 fn tell_key(seen: &mut Answer, row: &Row<'_>, answer: &Result<RouterKey, Fault>) {
     match answer {
         Ok(unit) => {
@@ -36,7 +36,7 @@ fn tell_key(seen: &mut Answer, row: &Row<'_>, answer: &Result<RouterKey, Fault>)
     }
 }
 
-/// Tells an ASPA unit: its size and bytes, or the fault.
+/// Appends an ASPA unit: its size and bytes, or the fault.
 fn tell_aspa(seen: &mut Answer, row: &Row<'_>, answer: &Result<Aspa, Fault>) {
     match answer {
         Ok(unit) => {

@@ -5,7 +5,7 @@ use crate::meanings::tell_origin;
 use crate::row::{Row, Way};
 use rtr_wire::pdu::{AspaView, Counted, EndOfData, OriginView, RouterKeyView, UnitView};
 
-/// Makes the call of a row where it is one of these.
+/// Makes the call of a row if it is one of these.
 pub fn answer(row: &Row<'_>, way: Way) -> Option<Answer> {
     match row.call {
         "first" => Some(first(row)),
@@ -34,13 +34,13 @@ fn first(row: &Row<'_>) -> Answer {
     seen
 }
 
-/// Tells a prefix: version, flags, origin.
+/// Appends a prefix: version, flags, origin.
 fn tell_origin_view(seen: &mut Answer, view: &OriginView) {
     seen.word(format_args!("Origin {} {}", view.version(), view.flags()));
     tell_origin(seen, &view.origin())
 }
 
-/// Tells a router key: version, flags, ASN, identifier, key info.
+/// Appends a router key: version, flags, ASN, identifier, key info.
 fn tell_key_view(seen: &mut Answer, view: &RouterKeyView<'_>) {
     let (version, flags) = (view.version(), view.flags());
     seen.word(format_args!("RouterKey {version} {flags} {}", view.asn().into_u32()));
@@ -49,14 +49,14 @@ fn tell_key_view(seen: &mut Answer, view: &RouterKeyView<'_>) {
     seen.bytes(view.key_info())
 }
 
-/// Tells an ASPA unit: version, flags, customer, providers.
+/// Appends an ASPA unit: version, flags, customer, providers.
 fn tell_aspa_view(seen: &mut Answer, view: &AspaView<'_>) {
     let (version, flags) = (view.version(), view.flags());
     seen.word(format_args!("Aspa {version} {flags} {}", view.customer().into_u32()));
     seen.bytes(view.providers())
 }
 
-/// Tells an end of data: version, session, serial number, and its timings or none.
+/// Appends an end of data: version, session, serial number, and its timings or none.
 pub fn tell_end(seen: &mut Answer, end: &EndOfData) {
     let (version, session) = (end.version(), end.session());
     seen.word(format_args!("End {version} {session} {}", end.serial()));

@@ -7,10 +7,10 @@ use std::env;
 use std::io::{BufReader, BufWriter, Stderr, Stdin, Stdout};
 use std::process::ExitCode;
 
-/// Bytes of standard input that are read at once, and of output that are written at once.
+/// How many bytes of standard input are read at once, and of output written at once.
 const BUFFER_SIZE: usize = 65536;
 
-/// Standard input, unbuffered where there is no memory for a buffer.
+/// Standard input, unbuffered if there is no memory for a buffer.
 fn buffered_input(rt: &HostRuntime) -> BufReader<Stdin> {
     match BufReader::with_capacity(rt.alloc(), BUFFER_SIZE, rt.stdin()) {
         Ok(reader) => reader,
@@ -18,7 +18,7 @@ fn buffered_input(rt: &HostRuntime) -> BufReader<Stdin> {
     }
 }
 
-/// Standard output, unbuffered where there is no memory for a buffer.
+/// Standard output, unbuffered if there is no memory for a buffer.
 fn buffered_output(rt: &HostRuntime) -> BufWriter<Stdout> {
     match BufWriter::with_capacity(rt.alloc(), BUFFER_SIZE, rt.stdout()) {
         Ok(writer) => writer,
@@ -26,7 +26,7 @@ fn buffered_output(rt: &HostRuntime) -> BufWriter<Stdout> {
     }
 }
 
-/// The words that the program was started with, its name first, or none where they can't be had as
+/// The words that the program was started with, its name first, or none if they can't be had as
 /// texts.
 fn words(rt: &HostRuntime) -> Option<Vec<String>> {
     env::args(rt).ok()?.collect(rt.alloc()).ok()

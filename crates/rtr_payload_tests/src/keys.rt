@@ -22,8 +22,8 @@ fn key_info_debug(rt: HostRuntime) -> Result<(), Fail> {
     Ok(())
 }
 
-/// How many zero bytes, and how many digits their text has, each of them `A`: four for three bytes,
-/// and then two for one byte or three for two (RFC 4648 sections 4 and 5, unpadded).
+/// Numbers of zero bytes, and how many digits their text has, each of them `A`: four for three
+/// bytes, then two for one more byte or three for two (RFC 4648 sections 4 and 5, unpadded).
 const ZEROS: &[(usize, usize)] = &[
     (299, 399),
     (300, 400),

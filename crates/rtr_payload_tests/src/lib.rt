@@ -1,5 +1,5 @@
-//! Tests of the units of `rtr_payload`, what they hold and what they mean: whether the clauses say
-//! what is meant, and what no clause says; and that equal meanings are one member of std's sets.
+//! Tests of the units of `rtr_payload`, their parts and meanings: that the clauses say what is
+//! meant, what no clause says, and that equal meanings are one member of std's sets.
 #![tactic(auto)]
 
 #[cfg(test)]
@@ -30,14 +30,14 @@ use std::hash::Hash;
 #[cfg(test)]
 use std::process::Abort;
 
-/// Asserts that the two are equal. A test that calls it is proved sooner than one in which the
-/// macro stands.
+/// Asserts that the two are equal. A test that calls this is proved faster than one that uses the
+/// macro.
 #[cfg(test)]
 fn expect_equal<T: PartialEq + Debug + Drop>(rt: &impl Abort, left: T, right: T) {
     assert_eq!(rt; left, right);
 }
 
-/// Asserts that the two are equal, and so their hashes.
+/// Asserts that the two are equal, and have equal hashes.
 #[cfg(test)]
 fn expect_same<T: Eq + Hash>(rt: &impl Abort, left: &T, right: &T) {
     assert!(rt; left == right);

@@ -27,7 +27,7 @@ aspa 0 1 0
 aspa 0 256
 aspa 1";
 
-/// The next word, as a value of its type.
+/// The next word, parsed as a value.
 fn next<T: FromStr>(words: &mut SplitAsciiWhitespace<'_>) -> Result<T, Fail>
 where
     T::Err: Debug + Drop,
@@ -46,7 +46,7 @@ fn prefix(words: &mut SplitAsciiWhitespace<'_>) -> Result<Prefix, Fail> {
     }
 }
 
-/// An origin of an ASN, a prefix, and the max length where one is given.
+/// An origin of an ASN, a prefix, and the max length if one is given.
 pub fn origin(text: &str) -> Result<RouteOrigin, Fail> {
     let words = &mut text.split_ascii_whitespace();
     let asn = Asn::from_u32(next(words)?);
@@ -64,7 +64,7 @@ pub fn key_info(alloc: Global, text: &str) -> Result<RouterKeyInfo, Fail> {
     Ok(RouterKeyInfo::from_vec(alloc, info)?)
 }
 
-/// A key of an ASN, the first byte of its identifier, and the key info where it isn't empty.
+/// A key of an ASN, the first byte of its identifier, and the key info unless it is empty.
 pub fn key(alloc: Global, text: &str) -> Result<RouterKey, Fail> {
     let words = &mut text.split_ascii_whitespace();
     let asn = Asn::from_u32(next(words)?);

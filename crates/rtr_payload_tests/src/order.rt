@@ -13,8 +13,8 @@ fn compared<T: Ord>(left: &T, right: &T) -> (Ordering, Option<Ordering>, bool) {
     (left.cmp(right), left.partial_cmp(right), left == right)
 }
 
-/// Asserts how the payload at this place of an ascending list compares with each of the list, and
-/// so when both are lent.
+/// Asserts how the payload at this place of an ascending list compares with each of the list, also
+/// when both are borrowed.
 fn expect_place(rt: &impl Abort, payloads: &[Payload], i: usize, left: &Payload) {
     for (j, right) in payloads.iter().enumerate() {
         let want = (i.cmp(&j), Some(i.cmp(&j)), i == j);

@@ -1,4 +1,4 @@
-//! Parts of payloads, lent and cloned.
+//! Parts of payloads, borrowed and cloned.
 
 use crate::made::{ASCENDING, aspa, key, origin, payload, payloads};
 use crate::{expect_at, expect_equal, expect_same};
@@ -6,7 +6,7 @@ use rtr_payload::payload::{Aspa, Payload, PayloadRef, PayloadType, RouteOrigin, 
 use std::process::Abort;
 use std::test::Fail;
 
-/// The payload's part, lent.
+/// The payload's part, borrowed.
 fn lent(payload: &Payload) -> PayloadRef<'_> {
     match payload {
         Payload::Origin(origin) => PayloadRef::from(origin),
@@ -34,7 +34,7 @@ fn origins_are_lent(rt: HostRuntime) -> Result<(), Fail> {
     Ok(())
 }
 
-/// Asserts what a payload is made of: its type, and the one part that it has.
+/// Asserts the type of a payload, and the one part that it has.
 fn expect_parts(
     rt: &impl Abort,
     payload: &Payload,

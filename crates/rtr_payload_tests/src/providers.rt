@@ -9,7 +9,8 @@ use std::cell::Cell;
 use std::cmp::Ordering;
 use std::test::Fail;
 
-/// So many ASNs, and how many were asked for. Its hint is the whole number.
+/// An iterator over this many ASNs, which counts how many were taken. Its size hint is their
+/// number.
 #[derive(Drop)]
 struct Asns<'a> {
     left: u32,
@@ -37,7 +38,7 @@ impl<'a> Iterator for Asns<'a> {
     }
 }
 
-/// What providers are made of so many ASNs: their number, or the text of the error.
+/// The providers made from this many ASNs: their number, or the text of the error.
 fn count_answer(alloc: Global, asns: Asns<'_>) -> Result<String, Fail> {
     match ProviderAsns::try_from_iter(alloc, asns) {
         Ok(made) => Ok(made.asn_count().to_string(alloc)?),
@@ -93,7 +94,7 @@ fn providers_debug(rt: HostRuntime) -> Result<(), Fail> {
     Ok(())
 }
 
-/// The text is that of a list of the items, all of them.
+/// The text is that of a list of all items.
 #[test]
 fn many_providers_debug(rt: HostRuntime) -> Result<(), Fail> {
     let alloc = rt.alloc();

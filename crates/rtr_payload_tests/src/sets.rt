@@ -8,7 +8,7 @@ use std::collections::{BTreeSet, HashSet};
 use std::hash::Hash;
 use std::test::Fail;
 
-/// How many members sets have of these keys.
+/// How many members sets of these keys have.
 fn members<K: Ord + Hash + Drop>(
     alloc: Global,
     for_tree: Vec<K>,
@@ -25,7 +25,7 @@ fn members<K: Ord + Hash + Drop>(
     Ok((tree.len(), table.len()))
 }
 
-/// How many members sets have of these, lent.
+/// How many members sets of these have, borrowed.
 fn lent_members<'a, T, K: Ord + Hash + Drop + From<&'a T>>(
     alloc: Global,
     parts: &'a [T],

@@ -8,7 +8,7 @@ use std::fmt::Display;
 use std::process::Abort;
 use std::test::Fail;
 
-/// Asserts what is written of a value, whatever width is asked for.
+/// Asserts the text of a value, with any width.
 fn expect_text<T: Display>(
     rt: &impl Abort,
     alloc: Global,
@@ -22,7 +22,7 @@ fn expect_text<T: Display>(
     Ok(())
 }
 
-/// The same of what is written of the payload's part.
+/// The same for the payload's part.
 fn expect_part_text(
     rt: &impl Abort,
     alloc: Global,

@@ -33,7 +33,7 @@ fn written_key(alloc: Global, unit: &RouterKey) -> Result<Vec<u8>, Fail> {
     Ok(writer.into_inner().into_held())
 }
 
-/// Asserts that the key is written as these bytes, and read back of them.
+/// Asserts that the key is written as these bytes, and read back from them.
 fn expect_key(rt: &impl Abort, alloc: Global, unit: &RouterKey, text: &str) -> Result<(), Fail> {
     let want = bytes(alloc, &[text])?;
     expect_equal(rt, written_key(alloc, unit)?.as_slice(), want.as_slice());
@@ -42,7 +42,7 @@ fn expect_key(rt: &impl Abort, alloc: Global, unit: &RouterKey, text: &str) -> R
     Ok(())
 }
 
-/// The same of an ASPA.
+/// The same for an ASPA.
 fn expect_aspa(rt: &impl Abort, alloc: Global, unit: &Aspa, text: &str) -> Result<(), Fail> {
     let want = bytes(alloc, &[text])?;
     let mut writer = Counted::new(Recorder::new(alloc, usize::MAX));

@@ -1,12 +1,16 @@
-//! Makes the calls that the rows of a table name, and prints what differs from what the rows say.
+//! Makes the calls in the rows of a table, and prints each answer that differs from its row.
 //!
-//! The table is standard input, one row a line. `//` begins a comment. `NAME = WORDS` gives bytes a
-//! name, and `CALL WORDS => ANSWER` is a call with bytes and settings `KEY=VALUE`, and its answer.
-//! Words that stand for bytes are names, hex digits, `..N` for N bytes that count up, and `WORD*N`
-//! for N times those of a word. A second `=>` says which answers come where a growth is refused, in
-//! their order and with `;` between; with none after it the call asks for no growth.
-//! With an argument the program marks each call by a growth of that many bytes before it and after
-//! it, so that `.ci/growth` can refuse the growths between. Then each row prints `whole`, or
+//! The table is standard input, one row a line:
+//! - `//` begins a comment;
+//! - `NAME = WORDS` gives bytes a name;
+//! - `CALL WORDS => ANSWER` is a call with bytes and settings `KEY=VALUE`, and its answer. Words
+//!   for bytes are names, hex digits, `..N` for N bytes that count up, and `WORD*N` for N times
+//!   those of a word;
+//! - a second `=>` is followed by the answers that come if an allocation fails, in order and with
+//!   `;` between. With none after it the call allocates nothing.
+//!
+//! With an argument the program marks each call by an allocation of that many bytes before it and
+//! one after it, so that `.ci/growth` can make those between fail. Then each row prints `whole`, or
 //! `refused` and which of its answers that is.
 #![tactic(auto)]
 
@@ -16,7 +20,7 @@ use std::io::Read;
 use std::process::ExitCode;
 use std::test::Fail;
 
-/// The number that the program's argument is, or 0 without one.
+/// The program's argument as a number, or 0 without one.
 fn mark(rt: &HostRuntime) -> Result<usize, Fail> {
     let words: Vec<String> = env::args(rt)?.collect(rt.alloc())?;
     match words.get(1) {

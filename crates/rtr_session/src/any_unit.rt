@@ -22,7 +22,7 @@ use std::alloc::Global;
 /// A unit of any type.
 #[derive(Debug, Drop, PartialEq, Eq, Hash)]
 pub enum AnyUnit {
-    /// The cache tells that it has new data (RFC 8210 section 5.2).
+    /// The cache says that it has new data (RFC 8210 section 5.2).
     SerialNotify(SerialNotify),
     /// A router asks for what is new since a state (RFC 8210 section 5.3).
     SerialQuery(SerialQuery),
@@ -45,10 +45,10 @@ impl AnyUnit {
     ghost use Rattle.rtr_session.specs.AnyReading.{ReadsAny, ReadsAnyAfter};
     ghost use Rattle.rtr_session.specs.AnyUnits.{any_bytes, any_fields};
 
-    /// Reads the next unit, or none where not a byte was left.
+    /// Reads the next unit, or none if no byte was left.
     ///
     /// Faults, in this order: `Short` or `Reader` inside the header; those of `read_payload`.
-    /// `Short` has taken a byte at least. `UnitType`, `UnitVersion`, `TooLong`, `UnitLength` and
+    /// `Short` has taken at least one byte. `UnitType`, `UnitVersion`, `TooLong`, `UnitLength` and
     /// `EmptyProviders` take the header alone.
     pub fn read<R: Source>(alloc: Global, reader: &mut R) -> Result<Option<Self>, Fault>
         ensures bytes { ReadsAny result (R.state reader.old) (R.state reader.new) }
@@ -62,12 +62,14 @@ impl AnyUnit {
 
     /// Reads what follows the header, which is kept as it is.
     ///
-    /// Faults, in this order: `UnitType` for a type that no unit has; `UnitVersion` for an end of
-    /// data of a version above 2; `TooLong` for a router key, an ASPA unit or an error report of
-    /// more than 65535 bytes; `UnitLength`; `EmptyProviders` for an ASPA that is announced without
-    /// providers, all these with nothing read and no memory asked for; `Memory` for a router key,
-    /// an ASPA unit or an error report, with nothing read, and for the first two also after the
-    /// last byte; `Short` or `Reader` inside the unit.
+    /// Faults, in this order:
+    /// - with nothing read and nothing allocated, `UnitType` for a type that no unit has;
+    ///   `UnitVersion` for an end of data of a version above 2; `TooLong` for a router key, an ASPA
+    ///   unit or an error report of more than 65535 bytes; `UnitLength`; `EmptyProviders` for an
+    ///   ASPA that is announced without providers;
+    /// - `Memory` for a router key, an ASPA unit or an error report, with nothing read, and for the
+    ///   first two also after the last byte;
+    /// - `Short` or `Reader` inside the unit.
     pub fn read_payload<R: Source>(
         alloc: Global,
         header: Header,
@@ -144,8 +146,8 @@ impl AnyUnit {
         }
     }
 
-    /// The session, of the units that name one: serial notify, serial query, cache response and end
-    /// of data. The others have something else at that place.
+    /// The session, for the units that have one: serial notify, serial query, cache response and
+    /// end of data. The others have something else at that place.
     pub fn session(&self) -> Option<u16>
         ensures { result ≡ any_session (any_fields self.now) }
     {
@@ -182,7 +184,7 @@ impl AnyUnit {
     }
 }
 
-/// The next header, or none where not a byte was left.
+/// The next header, or none if no byte was left.
 fn next_header<R: Source>(reader: &mut R) -> Result<Option<Header>, Fault>
     ensures bytes { ReadsHeader result (R.state reader.old) (R.state reader.new) }
     ensures error { IfErr result (HoldsReadError (R.fails reader.new)) }

@@ -16,7 +16,7 @@ pub fn type_and_limits()
     ensures most { MAX_SIZE ≡ 65535 }
 {}
 
-/// The units are the lists of bytes whose header is in order and says their length.
+/// The units are the lists of bytes whose header is valid and has their length.
 pub fn units_by_their_headers()
     ensures whole { (b : List ℕ) (f : AnyFields) → HasAnyFields b f → IsWhole session_unit b }
     ensures unit { (b : List ℕ) → IsWhole session_unit b → (f : AnyFields) × HasAnyFields b f }
@@ -28,7 +28,7 @@ pub fn any_self_delimiting()
         a ++ r ≡ b ++ s → (a ≡ b) × (r ≡ s) }
 {}
 
-/// An error report speaks of one unit and has one text, where its lengths fit.
+/// An error report is about one unit and has one text, if its lengths fit.
 pub fn one_unit_and_text()
     ensures { (u p t q s : List ℕ) → IsReport u → HasParts u p t → HasParts u q s →
         (p ≡ q) × (t ≡ s) }

@@ -32,8 +32,8 @@ use std::marker::Model;
 /// The bytes of the smallest report: a header and two lengths.
 pub(crate) const MIN_SIZE: u32 = 16;
 
-/// An error report that was read, seen as the list of its bytes: 16 to 65535, as many as its length
-/// field says.
+/// An error report that was read, which contracts see as the list of its bytes: 16 to 65535, as
+/// many as its length field says.
 #[derive(Debug, Drop)]
 pub struct Report {
     bytes: Vec<u8>,
@@ -69,9 +69,9 @@ impl Report {
 
     /// Reads what follows the header, which is kept as it is.
     ///
-    /// Faults, in this order: `UnitType` where its type isn't 10, `TooLong` above length 65535 and
-    /// `UnitLength` below 16, with nothing read and no memory asked for; `Memory`, with nothing
-    /// read; `Short` or `Reader` inside the unit.
+    /// Faults, in this order: `UnitType` if its type isn't 10, `TooLong` above length 65535 and
+    /// `UnitLength` below 16, with nothing read and nothing allocated; `Memory`, with nothing read;
+    /// `Short` or `Reader` inside the unit.
     pub fn read_payload<R: Source>(
         alloc: Global,
         header: Header,
@@ -115,9 +115,9 @@ impl Report {
         ErrorCode(u16_at(self.bytes.as_slice(), 2))
     }
 
-    /// The unit that the report speaks of, of no bytes where it speaks of none.
+    /// The unit that the report is about; empty if it is about none.
     ///
-    /// None where the two lengths inside the report don't fit: a length of four bytes, that unit, a
+    /// None if the two lengths inside the report don't fit: a length of four bytes, that unit, a
     /// length of four bytes and the text have to fill the report exactly.
     pub fn pdu(&self) -> Option<&[u8]>
         ensures { MatchOption result ((p t : List ℕ) → HasParts self.now p t → ⊥)
@@ -127,7 +127,7 @@ impl Report {
         Some(pdu)
     }
 
-    /// The text, which may have no bytes and need not be UTF-8. None where `pdu` answers none.
+    /// The text, which may be empty and need not be UTF-8. None if `pdu` answers none.
     pub fn text(&self) -> Option<&[u8]>
         ensures { MatchOption result ((p t : List ℕ) → HasParts self.now p t → ⊥)
             (λ t. (p : List ℕ) × HasParts self.now p t.now) }
@@ -159,7 +159,7 @@ impl Report {
         put(writer, self.as_ref())
     }
 
-    /// The unit that the report speaks of and the text, where their lengths fill the report.
+    /// The unit that the report is about and the text, if their lengths fill the report.
     fn parts(&self) -> Option<(&[u8], &[u8])>
         ensures { MatchOption result ((p t : List ℕ) → HasParts self.now p t → ⊥)
             (λ r. HasParts self.now r.0.now r.1.now) }
@@ -175,7 +175,7 @@ impl Report {
     }
 }
 
-/// As many bytes as a length of four bytes says, which stands before them, and what follows them.
+/// Splits off a length of four bytes and as many bytes as it says: these, and what follows them.
 fn counted(bytes: &[u8]) -> Option<(&[u8], &[u8])>
     ensures { MatchOption result (IsCutShort bytes.now)
         (λ r. IsCounted bytes.now r.0.now r.1.now) }

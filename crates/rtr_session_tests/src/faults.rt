@@ -33,7 +33,7 @@ const REFUSED: &[(&str, &str)] = &[
     ("02 0b 01 00 00 00 00 0c", "ASPA unit has no providers"),
 ];
 
-/// Asserts that the next unit is refused with this text. `at` says which it is.
+/// Asserts that the next unit is refused with this text. `at` says which unit it is.
 fn expect_refusal(
     rt: &impl Abort,
     alloc: Global,
@@ -46,7 +46,7 @@ fn expect_refusal(
     Ok(())
 }
 
-/// The header and bytes that could follow it.
+/// The header, and bytes that could follow it.
 fn with_rest(alloc: Global, header: &str) -> Result<Vec<u8>, Fail> {
     let mut input = bytes(alloc, &[header])?;
     input.extend_from_slice(&filler(alloc, 40)?)?;

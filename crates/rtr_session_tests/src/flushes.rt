@@ -1,4 +1,4 @@
-//! How often the program `rtr_list` flushes its output: no clause says that it does.
+//! How often the program `rtr_list` flushes its output, which no clause says.
 
 use rtr_listing::program;
 use rtr_support::{IPV4, KEY, ONES, Pieces, Recorder, WHOLE, bytes};
@@ -30,7 +30,7 @@ fn flushes<R: Source>(
     output.into_inner().flushes()
 }
 
-/// Asserts that a run with these words over these bytes flushes so often.
+/// Asserts how often a run with these words over these bytes flushes.
 fn expect_flushes(
     rt: &impl Abort,
     alloc: Global,

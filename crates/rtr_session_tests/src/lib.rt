@@ -1,4 +1,4 @@
-//! Tests of units of any type, of error reports and of the program that lists them: whether the
+//! Tests of units of any type, of error reports and of the program that lists them: that the
 //! clauses say what is meant, and what no clause says.
 #![tactic(auto)]
 
@@ -24,8 +24,8 @@ use std::process::Abort;
 #[cfg(test)]
 use std::test::Fail;
 
-/// Asserts that the two are equal. A test that calls it is proved sooner than one in which the
-/// macro stands.
+/// Asserts that the two are equal. A test that calls this is proved faster than one that uses the
+/// macro.
 #[cfg(test)]
 fn expect_equal<T: PartialEq + Debug + Drop>(rt: &impl Abort, left: T, right: T) {
     assert_eq!(rt; left, right);
@@ -37,7 +37,7 @@ fn said(alloc: Global, fault: &Fault) -> Result<String, Fail> {
     Ok(format!(in alloc; "{fault}")?)
 }
 
-/// What a call that reads a unit answers: by a name, or the text of the fault.
+/// The answer of a call that reads a unit, as a name or the text of the fault.
 #[cfg(test)]
 fn outcome(alloc: Global, answer: Result<Option<AnyUnit>, Fault>) -> Result<String, Fail> {
     match answer {

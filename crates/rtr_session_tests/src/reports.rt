@@ -1,4 +1,4 @@
-//! Error reports: the unit that they speak of, and their text.
+//! Error reports: the unit that they are about, and their text.
 
 use crate::{expect_equal, said};
 use rtr_base::pdu::ErrorCode;
@@ -10,15 +10,15 @@ use std::alloc::Global;
 use std::process::Abort;
 use std::test::Fail;
 
-/// A report, the unit that it speaks of, and its text.
+/// A report, the unit that it is about, and its text.
 type Row = (&'static str, Option<&'static str>, Option<&'static str>);
 
-/// A report of version 0 that speaks of a unit of type 5, with a text of two bytes.
+/// A report of version 0 about a unit of type 5, with a text of two bytes.
 const ON_TYPE_5: &str =
     "00 0a 00 03 00 00 00 1a 00 00 00 08 01 05 00 00 00 00 00 08 00 00 00 02 6e ff";
 
-/// Reports whose lengths fill them, then such whose first or second length is too great, is cut, or
-/// leaves bytes over.
+/// Reports whose lengths fill them, then reports whose first or second length is too great, is cut,
+/// or leaves bytes over.
 #[rattlefmt::skip]
 const ROWS: &[Row] = &[
     ("00 0a 00 03 00 00 00 10 00 00 00 00 00 00 00 00", Some(""), Some("")),
@@ -32,7 +32,7 @@ const ROWS: &[Row] = &[
     ("00 0a 00 03 00 00 00 12 00 00 00 00 00 00 00 03 6e 6f", None, None),
 ];
 
-/// Asserts that the part has the bytes that the text stands for, or is none where there is no text.
+/// Asserts that the part has the bytes of the text, or is none if there is no text.
 fn expect_part(
     rt: &impl Abort,
     alloc: Global,
@@ -50,7 +50,7 @@ fn expect_part(
     Ok(())
 }
 
-/// Asserts that the report is read again of its own bytes.
+/// Asserts that the report is read again from its own bytes.
 fn expect_again(rt: &impl Abort, alloc: Global, report: &Report) -> Result<(), Fail> {
     let again = Report::read(alloc, &mut SliceSource::new(report.as_ref()))?;
     assert!(rt; *report == again);

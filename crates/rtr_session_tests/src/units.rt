@@ -69,7 +69,7 @@ fn kind(unit: &AnyUnit) -> &'static str {
     }
 }
 
-/// Asserts what a row says of its unit, which has these bytes and is written as these.
+/// Asserts what a row says of its unit, which has these bytes and is written as them.
 fn expect_row(
     rt: &impl Abort,
     alloc: Global,
@@ -156,8 +156,8 @@ fn session(alloc: Global) -> Result<(Vec<u8>, Vec<usize>), Fail> {
     Ok((all, ends))
 }
 
-/// What is to be answered to the call that reads the unit which ends there, where so many bytes are
-/// left of the session's bytes up to a cut.
+/// The expected answer of the call that reads the unit with this end, if the session's bytes are
+/// cut and this many of them are left.
 fn wanted(left: usize, cut: usize, end: usize) -> &'static str {
     if cut >= end {
         "a unit"
@@ -168,8 +168,8 @@ fn wanted(left: usize, cut: usize, end: usize) -> &'static str {
     }
 }
 
-/// Reads all units of a session that is cut: those that are whole, and then a clean end where the
-/// cut lies between two units.
+/// Reads all units of a session that is cut: those that are whole, and then a clean end if the cut
+/// lies between two units.
 fn read_cut(rt: &impl Abort, alloc: Global, cut: &[u8], ends: &[usize]) -> Result<(), Fail> {
     let mut reader = SliceSource::new(cut);
     for end in ends {

@@ -41,8 +41,7 @@ pub const END_1: &str = "01 07 12 34 00 00 00 18 de ad be ef 00 00 0e 10 00 00 0
 /// What follows the version in `END_1`.
 pub const END_REST: &str = "07 12 34 00 00 00 18 de ad be ef 00 00 0e 10 00 00 02 58 00 00 1c 20";
 
-/// The bytes that the texts stand for, one text after the other: pairs of hex digits between
-/// spaces.
+/// The bytes of the texts, one text after the other: pairs of hex digits between spaces.
 pub fn bytes(alloc: Global, texts: &[&str]) -> Result<Vec<u8>, Fail> {
     let mut all = Vec::new(alloc);
     for text in texts {
@@ -51,7 +50,7 @@ pub fn bytes(alloc: Global, texts: &[&str]) -> Result<Vec<u8>, Fail> {
     Ok(all)
 }
 
-/// Appends the bytes that the text stands for.
+/// Appends the bytes of the text.
 fn add(alloc: Global, all: &mut Vec<u8>, text: &str) -> Result<(), Fail> {
     for word in text.split_ascii_whitespace() {
         let piece = hex::decode(alloc, word)?;
@@ -60,7 +59,7 @@ fn add(alloc: Global, all: &mut Vec<u8>, text: &str) -> Result<(), Fail> {
     Ok(())
 }
 
-/// So many bytes that differ from their neighbours.
+/// This many bytes, each of which differs from its neighbours.
 pub fn filler(alloc: Global, count: usize) -> Result<Vec<u8>, Fail> {
     let mut all = Vec::with_capacity(alloc, count)?;
     for i in 0..count {
@@ -69,7 +68,7 @@ pub fn filler(alloc: Global, count: usize) -> Result<Vec<u8>, Fail> {
     Ok(all)
 }
 
-/// The first bytes, at most so many.
+/// The first bytes, at most this many.
 pub fn front(bytes: &[u8], count: usize) -> &[u8] {
     let (front, _) = bytes.split_at(count.min(bytes.len()));
     front
@@ -82,8 +81,7 @@ pub fn hash_of<T: Hash>(x: &T) -> u64 {
     state.finish()
 }
 
-/// Fails at the first row of a table, `INPUT -> ANSWER`, to whose input another answer is given, or
-/// none.
+/// Fails at the first row of a table, `INPUT -> ANSWER`, whose input gets another answer or none.
 pub fn check_rows(
     alloc: Global,
     rows: &str,
@@ -98,7 +96,7 @@ pub fn check_rows(
     Ok(())
 }
 
-/// Fails if the answer to the input of a row is another, or none.
+/// Fails if the input of a row gets another answer or none.
 fn check_row(row: &str, answer: Option<String>, want: &str) -> Result<(), Fail> {
     match answer {
         Some(text) if text.as_str() == want => Ok(()),
@@ -116,11 +114,11 @@ pub const STEPS: &[usize] = &[1, 2, 3];
 /// The sizes of a reader that gives all that is asked for.
 pub const WHOLE: &[usize] = &[usize::MAX];
 
-/// A call that doesn't come.
+/// A call that is never made.
 pub const NEVER: usize = 0;
 
-/// A reader over bytes in memory, that gives at most the sizes of a pattern in turn. Its errors are
-/// interruptions, which nobody is to retry.
+/// A reader over bytes in memory that gives at most the sizes of a pattern in turn. Its errors are
+/// interruptions, which the library must not retry.
 #[derive(Drop)]
 pub struct Pieces<'a> {
     rest: &'a [u8],
@@ -169,7 +167,7 @@ impl<'a> Pieces<'a> {
         self.calls
     }
 
-    /// How many calls gave nothing where something was asked for.
+    /// How many calls gave nothing though something was asked for.
     pub fn ends(&self) -> usize {
         self.ends
     }
@@ -211,7 +209,7 @@ impl<'a> Read for Pieces<'a> {
     }
 }
 
-/// A writer that keeps what it takes, at most so many bytes a call. Its errors are interruptions
+/// A writer that keeps what it takes, at most this many bytes a call. Its errors are interruptions
 /// too.
 #[derive(Drop)]
 pub struct Recorder {
@@ -236,7 +234,8 @@ impl Recorder {
         }
     }
 
-    /// The same, which asks for no growth later for so many bytes in all, where there is memory.
+    /// The same, with room for this many bytes, so that it allocates nothing later; if there is
+    /// memory.
     pub fn with_room(alloc: Global, size: usize, room: usize) -> Recorder {
         let mut writer = Recorder::new(alloc, size);
         if let Ok(held) = Vec::with_capacity(alloc, room) {

@@ -1,4 +1,4 @@
-//! Arrays of bytes that are lent whole.
+//! Arrays of bytes that are borrowed whole.
 
 ghost use Rattle.std.specs.Prelude.{◌≡◌, length};
 ghost use Rattle.std.specs.Borrow.{sem};

@@ -2,14 +2,14 @@
 
 ghost use Rattle.std.specs.Prelude.{◌≡◌, length};
 
-/// The most bytes of a piece whose first four are copied apart.
+/// The longest piece whose first four bytes are copied separately.
 const SHORT: usize = 64;
 
-/// Copies all bytes. The first four go apart where the piece is longer than a header, and short.
+/// Copies all bytes; the first four separately if the piece is longer than a header, but short.
 ///
-/// What follows the header of a prefix unit is a word of four bytes, an address and an ASN. The
-/// address then is stored as one. Where it is stored in two parts, its load waits for both, which
-/// takes half of the time of an IPv6 prefix.
+/// A prefix unit has a word of four bytes after its header, and then an address and an ASN. This
+/// way the address is stored in one piece. Stored in two, its load would wait for both, which takes
+/// half of the time of an IPv6 prefix.
 #[inline(always)]
 pub(crate) fn copy(piece: &mut [u8], bytes: &[u8])
     requires { length piece.old ≡ length bytes.now }

@@ -23,10 +23,9 @@ use rtr_base::state::{Serial, State};
 /// An end of data of any version.
 #[derive(Clone, Copy, Debug, PartialEq, Eq, Hash)]
 pub enum EndOfData {
-    /// That of version 0, without timing parameters. It counts as version 0 whatever its version
-    /// field says.
+    /// Version 0, without timing parameters. It counts as version 0 whatever its version field is.
     V0(EndOfDataV0),
-    /// That of a later version.
+    /// A later version.
     V1(EndOfDataV1),
 }
 
@@ -37,7 +36,7 @@ impl EndOfData {
     pub const PDU: u8 = EndOfDataV0::PDU;
 
     /// The end of data in this state. Version 0 has no place for the timing parameters. The version
-    /// is not checked: above version 2 it is one that reading refuses.
+    /// is not checked; reading refuses versions above 2.
     #[inline(always)]
     pub fn new(version: u8, state: State, timing: Timing) -> Self
         ensures zero { version ≡ 0 → end_bytes result ≡ serial_list 0 7 state.session state.serial }
@@ -55,10 +54,14 @@ impl EndOfData {
 
     /// Reads what follows the header, which is kept as it is. Its type is not checked.
     ///
-    /// `UnitVersion` is answered above version 2, and then `UnitLength` unless the length field is
-    /// 12 in version 0 and 24 in versions 1 and 2, with nothing read; then `Short` or `Reader`
-    /// inside the unit. This order, and that versions above 2 are refused, is this library's own;
-    /// version 2 is as in the Rust crate `rpki`.
+    /// Faults, in this order:
+    /// - `UnitVersion` above version 2, with nothing read;
+    /// - `UnitLength` unless the length field is 12 in version 0, or 24 in versions 1 and 2, with
+    ///   nothing read;
+    /// - `Short` or `Reader` inside the unit.
+    ///
+    /// This order, and that versions above 2 are refused, is this library's own; version 2 is as in
+    /// the Rust crate `rpki`.
     #[inline(always)]
     pub fn read_payload<R: Source>(header: Header, reader: &mut R) -> Result<Self, Fault>
         ensures bytes { ReadsAfter end_unit (header_bytes header) (by_bytes end_bytes result)
@@ -82,7 +85,7 @@ impl EndOfData {
         }
     }
 
-    /// The version of the protocol: 0 where there are no timing parameters.
+    /// The version of the protocol: 0 if there are no timing parameters.
     #[inline(always)]
     pub fn version(&self) -> u8
         ensures { result ≡ (end_meaning self.now).version }
@@ -160,7 +163,7 @@ impl EndOfData {
         }
     }
 
-    /// All bytes of the unit, to be changed in place. It stays of its kind.
+    /// All bytes of the unit, to be changed in place. Its variant stays the same.
     #[inline(always)]
     pub fn as_mut(&mut self) -> &mut [u8]
         ensures* writes_back { sem 𝓛 (LendsEnd self.entry result) }

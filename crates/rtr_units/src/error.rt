@@ -20,7 +20,7 @@ use std::alloc::{AllocError, Global};
 use std::hash::{Hash, Hasher};
 use std::marker::Model;
 
-/// An error report, seen as the list of its bytes.
+/// An error report, which contracts see as the list of its bytes.
 #[derive(Drop, Debug)]
 pub struct Error {
     bytes: Vec<u8>,
@@ -40,7 +40,7 @@ impl Error {
     /// The type of an error report.
     pub const PDU: u8 = 10;
 
-    /// The report with this version, error code, unit that it speaks of (or none) and text.
+    /// The report with this version and error code, the unit that it is about (or none), and text.
     pub fn new(
         alloc: Global,
         version: u8,
@@ -71,11 +71,11 @@ impl Error {
         }
     }
 
-    /// Reads past what follows the header, whatever its type. No byte after the unit is asked for.
+    /// Skips what follows the header, whatever its type. No byte after the unit is asked for.
     ///
-    /// `TooLong` is answered for a length field over 65535, and then `UnitLength` for one under 8,
-    /// with nothing read; then `Short` or `Reader` inside the unit. This order is this library's
-    /// own.
+    /// Faults, in this order: `TooLong` for a length field over 65535 and `UnitLength` for one
+    /// under 8, with nothing read; `Short` or `Reader` inside the unit. This order is this
+    /// library's own.
     pub fn skip_payload<R: Source>(header: Header, reader: &mut R) -> Result<(), Fault>
         ensures bytes { (u : List ℕ) × ReadsAfter any_unit (header_bytes header)
             (by_bytes (λ _. u) result) (R.state reader.old) (R.state reader.new) }
@@ -114,7 +114,7 @@ impl Error {
         self.bytes.as_mut_slice()
     }
 
-    /// A report of the same bytes.
+    /// A report with the same bytes.
     pub fn clone(&self) -> Result<Self, AllocError>
         ensures { IfOk result (λ e. e ≡ self.now) }
     {
@@ -123,7 +123,7 @@ impl Error {
     }
 }
 
-/// Reads past this many bytes.
+/// Skips this many bytes.
 fn skip<R: Source>(reader: &mut R, size: usize) -> Result<(), Fault>
     ensures bytes { (t : List ℕ) × FillsPiece size (by_bytes (λ _. t) result)
         (R.state reader.old) (R.state reader.new) }

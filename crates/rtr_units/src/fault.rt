@@ -35,21 +35,21 @@ pub enum Fault {
     /// A unit of this protocol version is not allowed here.
     #[error("version {0} is not supported here")]
     UnitVersion(u8),
-    /// The lengths of a prefix break their rule, of which the report tells.
+    /// The lengths of a prefix break their rule: the report on it.
     #[error("prefix fields are not allowed")]
     Refused(Error),
     /// As many units as were allowed were read.
     #[error("too many units")]
     TooMany,
-    /// A growth was refused.
+    /// Memory ran out.
     #[error("out of memory")]
     Memory,
 }
 
 impl Fault {
-    /// The error code of RFC 8210 section 12 that the peer is to be told, which closes the session;
-    /// for an ASPA without providers that of the Rust crate `rpki`. None for what isn't the peer's
-    /// fault: reading, writing, a limit of the caller's, and memory.
+    /// The error code to report to the peer, which closes the session: one of RFC 8210 section 12,
+    /// and for an ASPA without providers that of the Rust crate `rpki`. None for what isn't the
+    /// peer's fault: reading, writing, a limit of the caller's, and memory.
     pub fn code(&self) -> Option<ErrorCode>
         ensures { option_map (λ c. c.0) result ≡ code_of self.now }
     {

@@ -94,7 +94,7 @@ impl Ipv4Prefix {
         Ipv4Prefix::from_bits(version, flags, prefix_len, max_len, prefix.to_bits(), asn)
     }
 
-    /// As `new`, of the address as a number.
+    /// As `new`, with the address as a number.
     #[inline]
     pub fn from_bits(
         version: u8,
@@ -144,7 +144,7 @@ impl Ipv4Prefix {
         self.as_ref()[9]
     }
 
-    /// The greatest length of a prefix that is meant.
+    /// The max length: the longest prefix length that is meant.
     #[inline(always)]
     pub fn max_len(&self) -> u8
         ensures { result ≡ (prefix_at v4 (ipv4_bytes self.now)).origin.max_len }
@@ -255,7 +255,7 @@ impl Ipv6Prefix {
         Ipv6Prefix::from_bits(version, flags, prefix_len, max_len, prefix.to_bits(), asn)
     }
 
-    /// As `new`, of the address as a number.
+    /// As `new`, with the address as a number.
     #[inline]
     pub fn from_bits(
         version: u8,
@@ -305,7 +305,7 @@ impl Ipv6Prefix {
         self.as_ref()[9]
     }
 
-    /// The greatest length of a prefix that is meant.
+    /// The max length: the longest prefix length that is meant.
     #[inline(always)]
     pub fn max_len(&self) -> u8
         ensures { result ≡ (prefix_at v6 (ipv6_bytes self.now)).origin.max_len }

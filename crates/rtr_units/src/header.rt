@@ -16,12 +16,12 @@ use crate::numbers::{u16_at, u32_at};
 use crate::piece::{fill, put};
 use crate::source::{Sink, Source};
 
-/// The most bytes that a unit of no fixed size has that is read or read past, header included (as
-/// in the Rust crate `rpki`).
+/// The most bytes of a unit of no fixed size that is read or skipped, header included (as in the
+/// Rust crate `rpki`).
 pub const MAX_SIZE: u32 = 65535;
 
-/// The last version of the protocol that is known. Of later ones no end of data is read and no
-/// sequence written, which is this library's own.
+/// The last known version of the protocol. No end of data of a later version is read, and no
+/// sequence is written in one, which is this library's own.
 pub const LAST_VERSION: u8 = 2;
 
 /// The header that each unit begins with: eight bytes.
@@ -56,8 +56,8 @@ impl Header {
         }
     }
 
-    /// Reads a header: eight bytes, which are not checked. `Short` and `Reader` are answered with
-    /// the bytes taken that came before.
+    /// Reads a header: eight bytes, which are not checked. At `Short` and `Reader` the bytes that
+    /// came before are taken.
     #[inline(always)]
     pub fn read<R: Source>(reader: &mut R) -> Result<Self, Fault>
         ensures bytes { FillsPiece 8 (by_bytes header_bytes result)
@@ -114,8 +114,8 @@ impl Header {
         u32_at(self.as_ref(), 4)
     }
 
-    /// The length field as a size in memory. Each fits one here, so that the `UnitLength` of the
-    /// Rust crate never comes.
+    /// The length field as a size in memory. It always fits, so the `UnitLength` of the Rust crate
+    /// never comes.
     pub fn pdu_len(&self) -> Result<usize, Fault>
         ensures ok { IsOk result }
         ensures length { IfOk result (λ n. n ≡ length_field (header_bytes self.now)) }

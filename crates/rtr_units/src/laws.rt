@@ -10,8 +10,8 @@ use crate::header::LAST_VERSION;
 use crate::session::{CacheReset, CacheResponse, ResetQuery, SerialNotify, SerialQuery};
 use crate::unit::Unit;
 
-/// The type of each unit, and its size in bytes where it is fixed (RFC 8210 sections 5.2 to 5.9 and
-/// 5.11, RFC 6810 section 5.8); the last version of the protocol that is known.
+/// The type of each unit, and its size in bytes if it is fixed (RFC 8210 sections 5.2 to 5.9 and
+/// 5.11, RFC 6810 section 5.8); the last known version of the protocol.
 pub fn types_and_sizes()
     ensures serial_notify { (⟦<SerialNotify as Unit>⟧.PDU ≡ 0) ×
         (⟦<SerialNotify as Unit>⟧.LENGTH ≡ 12) }

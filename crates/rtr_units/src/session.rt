@@ -21,7 +21,7 @@ use crate::source::{Sink, Source};
 use crate::unit::Unit;
 use rtr_base::state::{Serial, State};
 
-/// The cache tells that it has new data (section 5.2): 12 bytes.
+/// The cache says that it has new data (section 5.2): 12 bytes.
 #[derive(Clone, Copy, Debug, PartialEq, Eq, Hash)]
 pub struct SerialNotify {
     cells: Cells<12>,
@@ -201,7 +201,7 @@ impl Default for SerialQueryPayload {
 impl SerialQueryPayload {
     ghost use Rattle.rtr_units.specs.LendingUnits.{LendsQueryPayload};
 
-    /// The serial number as it stands after the header.
+    /// The serial number as it is after the header.
     #[inline(always)]
     pub fn new(serial: Serial) -> Self
         ensures { query_payload_bytes result ≡ be serial.0 4 }
@@ -211,7 +211,7 @@ impl SerialQueryPayload {
         }
     }
 
-    /// Reads four bytes. `Short` and `Reader` are answered with the bytes taken that came before.
+    /// Reads four bytes. At `Short` and `Reader` the bytes that came before are taken.
     #[inline(always)]
     pub fn read<R: Source>(reader: &mut R) -> Result<Self, Fault>
         ensures bytes { FillsPiece 4 (by_bytes query_payload_bytes result)
@@ -312,7 +312,7 @@ impl Default for ResetQuery {
 }
 
 impl ResetQuery {
-    /// The reset query with this version. Its session field, which says nothing, is zero.
+    /// The reset query with this version. Its session field, which means nothing, is zero.
     #[inline(always)]
     pub fn new(version: u8) -> Self
         ensures { reset_query_bytes result ≡ bare_list version 2 0 }
@@ -385,7 +385,7 @@ impl CacheResponse {
     }
 }
 
-/// The cache can't tell what is new since the state asked for (section 5.9): 8 bytes.
+/// The cache can't say what is new since the state asked for (section 5.9): 8 bytes.
 #[derive(Clone, Copy, Debug, PartialEq, Eq, Hash)]
 pub struct CacheReset {
     cells: Cells<8>,
@@ -435,7 +435,7 @@ impl Default for CacheReset {
 }
 
 impl CacheReset {
-    /// The cache reset with this version. Its session field, which says nothing, is zero.
+    /// The cache reset with this version. Its session field, which means nothing, is zero.
     #[inline(always)]
     pub fn new(version: u8) -> Self
         ensures { cache_reset_bytes result ≡ bare_list version 8 0 }
@@ -446,7 +446,7 @@ impl CacheReset {
     }
 }
 
-/// The serial number that stands after the header of a unit.
+/// The serial number after the header of a unit.
 #[inline(always)]
 pub(crate) fn serial_after_header(bytes: &[u8]) -> Serial
     requires { 12 ≤ length bytes.now }

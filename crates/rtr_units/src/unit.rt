@@ -21,7 +21,7 @@ use crate::numbers::u16_at;
 use crate::piece::{fill, put};
 use crate::source::{Sink, Source};
 
-/// A unit of a fixed size, seen as the list of its bytes.
+/// A unit of a fixed size, which contracts see as the list of its bytes.
 pub trait Unit: Drop + Copy {
     /// The bytes of a unit.
     ghost bytes: { Self → List ℕ };
@@ -105,8 +105,8 @@ pub trait Unit: Drop + Copy {
         Self::read_payload(header, reader)
     }
 
-    /// Reads a unit as `read` does. An error report in its place gives back its header, and is not
-    /// read further.
+    /// Reads a unit as `read` does. If an error report comes instead, it answers the header of
+    /// that, and reads no further.
     #[inline(always)]
     final fn try_read<R: Source>(reader: &mut R) -> Result<Result<Self, Header>, Fault>
         ensures bytes { MatchResult result
@@ -134,7 +134,7 @@ pub trait Unit: Drop + Copy {
 
     /// Reads what follows the header, which is kept as it is. Its type is not checked.
     ///
-    /// `UnitLength` is answered with nothing read, `Short` and `Reader` inside the unit.
+    /// Faults: `UnitLength`, with nothing read; `Short` or `Reader` inside the unit.
     #[inline(always)]
     final fn read_payload<R: Source>(header: Header, reader: &mut R) -> Result<Self, Fault>
         ensures bytes { ReadsAfter (of_size LENGTH) (header_bytes header) (by_bytes bytes result)
@@ -148,7 +148,7 @@ pub trait Unit: Drop + Copy {
 
     /// Reads what follows the header as `read_payload` does, into this unit.
     ///
-    /// After `UnitLength` the unit is as it was. After `Short` and `Reader` it begins with the
+    /// After `UnitLength` the unit is unchanged. After `Short` and `Reader` it begins with the
     /// header and then the bytes that were taken.
     #[inline(always)]
     final fn read_rest<R: Source>(&mut self, header: Header, reader: &mut R) -> Result<(), Fault>

@@ -1,4 +1,4 @@
-//! What tests say of answers, and the texts of faults.
+//! How tests write answers, and the texts of faults.
 
 use crate::expect_equal;
 use rtr_base::state::{Serial, State};

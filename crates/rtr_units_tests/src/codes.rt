@@ -1,4 +1,4 @@
-//! The error codes that peers are told.
+//! The error codes that are reported to peers.
 
 use crate::expect_equal;
 use rtr_base::pdu::ErrorCode;

@@ -48,7 +48,7 @@ fn ends_of_later_versions(rt: HostRuntime) -> Result<(), Fail> {
     Ok(())
 }
 
-/// Reading keeps a version that no end of data of 12 bytes has.
+/// Reading keeps a version, though no end of data of 12 bytes has it.
 #[test]
 fn ends_of_stray_versions(rt: HostRuntime) -> Result<(), Fail> {
     let odd = bytes(rt.alloc(), &["05 07 12 34 00 00 00 0c de ad be ef"])?;
@@ -69,7 +69,7 @@ fn ends_of_changed_versions(rt: HostRuntime) -> Result<(), Fail> {
     Ok(())
 }
 
-/// Asserts that the first and the last byte of the end of data of a version are what is put there.
+/// Asserts that the end of data of a version has the first and the last byte that are put there.
 fn expect_altered(rt: &impl Abort, alloc: Global, version: u8, text: &str) -> Result<(), Fail> {
     let mut end = EndOfData::new(version, state(), Timing::default());
     if let Some(byte) = end.as_mut().first_mut() {

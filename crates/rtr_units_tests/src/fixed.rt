@@ -31,7 +31,7 @@ const IPV6_HOST: &str =
     "01 06 00 00 00 00 00 20 01 17 1a 00 20 01 0d b8 00 00 00 02 00 0a 00 00 de ad be ef \
      00 01 00 0f";
 
-/// The unit has these bytes, is written as them, and read back of them, equal with its hash.
+/// The unit has these bytes, is written as them, and is read back from them, with the same hash.
 fn passes<U: Unit + Eq + Hash>(
     rt: &impl Abort,
     alloc: Global,

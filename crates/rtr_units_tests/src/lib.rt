@@ -21,8 +21,8 @@ use std::fmt::Debug;
 #[cfg(test)]
 use std::process::Abort;
 
-/// Asserts that the two are equal. A test that calls it is proved sooner than one in which the
-/// macro stands.
+/// Asserts that the two are equal. A test that calls this is proved faster than one that uses the
+/// macro.
 #[cfg(test)]
 fn expect_equal<T: PartialEq + Debug + Drop>(rt: &impl Abort, left: T, right: T) {
     assert_eq!(rt; left, right);

@@ -1,4 +1,4 @@
-//! Uses of `rtr_wire` as a caller writes them, with no other library beside std and no proofs:
+//! Uses of `rtr_wire` as a caller would write them, with no other library than std and no proofs.
 //! `docs/CALLING.md` shows them.
 #![tactic(auto)]
 
@@ -19,10 +19,10 @@ use std::io::{self, BufReader, BufWriter};
 #[cfg(test)]
 mod tests;
 
-/// The most units that these functions read of one sequence.
+/// The most units that these functions read from one sequence.
 pub const MOST_UNITS: u64 = 4_294_967_295;
 
-/// Bytes of a file that are read or written at once.
+/// How many bytes of a file are read or written at once.
 const BUFFER_SIZE: usize = 65536;
 
 /// The words that the program was started with, its name first.
@@ -30,7 +30,7 @@ pub fn words(rt: &HostRuntime) -> io::Result<Vec<String>> {
     Ok(env::args(rt)?.collect(rt.alloc())?)
 }
 
-/// Writes the form of the sequence in one file to another one. Answers the number of payload units.
+/// Writes the form of the sequence in one file to another. Answers the number of payload units.
 pub fn normalise_file(rt: &HostRuntime, from: &str, to: &str) -> Result<u64, Fault> {
     let input = File::open(rt, from).map_err(Fault::Reader)?;
     let output = File::create(rt, to).map_err(Fault::Writer)?;
@@ -55,7 +55,7 @@ pub fn take_response<R: Source, W: Sink>(
     Ok((response.session(), count))
 }
 
-/// Takes a cache response, or in its place the code of an error report, whose rest is passed over.
+/// Takes a cache response, or instead the code of an error report, of which the rest is skipped.
 pub fn response_or_code<R: Source>(
     reader: &mut R,
 ) -> Result<Result<CacheResponse, ErrorCode>, Fault> {
@@ -91,7 +91,7 @@ impl Data {
     }
 
     /// Applies the next sequence to the data, up to its end of data. After a fault the units before
-    /// it are applied.
+    /// it have been applied.
     pub fn apply<R: Source>(&mut self, alloc: Global, reader: &mut R) -> Result<EndOfData, Fault> {
         for _ in 0..MOST_UNITS {
             match pdu::Payload::read(alloc, reader)? {
@@ -106,8 +106,8 @@ impl Data {
         Err(Fault::TooMany)
     }
 
-    /// Announces or withdraws a payload. An ASPA takes the place of the one of its customer before,
-    /// and a withdrawal names the customer alone.
+    /// Announces or withdraws a payload. An ASPA replaces the one that its customer had, and its
+    /// withdrawal names the customer alone.
     fn change(&mut self, action: Action, payload: Payload) -> Result<(), AllocError> {
         match (action, payload) {
             (Action::Announce, Payload::Aspa(aspa)) => {
@@ -127,7 +127,7 @@ impl Data {
     }
 }
 
-/// Reads a reset query and answers it with the payloads that its version has, all announced.
+/// Reads a reset query and announces all payloads that its version has.
 pub fn answer_reset<R: Source, W: Sink>(
     reader: &mut R,
     writer: &mut W,
@@ -157,8 +157,8 @@ pub fn withdrawal(alloc: Global, aspa: &Aspa) -> Result<pdu::Payload, AllocError
     Ok(pdu::Payload::from_payload(LAST_VERSION, Action::Withdraw.into_flags(), withdrawn))
 }
 
-/// The report that tells the peer of a fault in the unit with this header, or none where the fault
-/// isn't the peer's.
+/// The report to the peer on a fault in the unit with this header, or none if the fault isn't the
+/// peer's.
 pub fn report_on(
     alloc: Global,
     header: Header,
@@ -174,7 +174,7 @@ pub fn report_on(
     }
 }
 
-/// Writes a line for each unit of a sequence that lies in memory, and asks for none.
+/// Writes a line for each unit of a sequence in memory, and allocates nothing.
 pub fn list<W: io::Write>(input: &[u8], lines: &mut W) -> Result<(), Unlisted> {
     let mut rest = input;
     for _ in 0..input.len() {

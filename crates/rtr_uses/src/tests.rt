@@ -149,7 +149,7 @@ fn data_follow_their_cache(rt: HostRuntime) -> Result<(), Fail> {
     Ok(())
 }
 
-/// How many providers are known of AS64496.
+/// How many providers AS64496 is known to have.
 fn providers(data: &Data) -> Option<u16> {
     let aspa = data.aspas.get(&Asn::from_u32(64496))?;
     Some(aspa.providers.asn_count())

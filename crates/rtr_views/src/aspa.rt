@@ -54,7 +54,7 @@ impl<'a> AspaView<'a> {
         Asn::from_u32(u32_at(self.unit, 8))
     }
 
-    /// The providers, as they stand in the input: four bytes each, on a withdrawal too.
+    /// The providers, as in the input: four bytes each, on a withdrawal too.
     #[inline(always)]
     pub fn providers(&self) -> &'a [u8]
         ensures { result.now ≡ drop 12 self.now.unit.now }
@@ -63,7 +63,7 @@ impl<'a> AspaView<'a> {
         providers
     }
 
-    /// The bytes of the whole unit, as they stand in the input.
+    /// The bytes of the whole unit, as in the input.
     #[inline(always)]
     pub(crate) fn unit(&self) -> &'a [u8]
         ensures { result.now ≡ self.now.unit.now }
@@ -96,7 +96,7 @@ impl<'a> AspaView<'a> {
         }
     }
 
-    /// Writes the form of what the unit means: of a withdrawal without its providers.
+    /// Writes the form of what the unit means: a withdrawal without its providers.
     #[inline(always)]
     pub(crate) fn write_form<W: Sink>(&self, writer: &mut W) -> Result<(), ViewFault>
         ensures bytes { PutsPiece result (W.state writer.old) (W.state writer.new)

@@ -9,7 +9,7 @@ ghost use Rattle.rtr_views.specs.PrivateFirst.{IsFirstUnit};
 use crate::fault::ViewFault;
 use rtr_units::numbers::u16_at;
 
-/// The size that the header at the front of the input says, or `TooLong` where it is above 65535.
+/// The size in the header at the front of the input, or `TooLong` if it is above 65535.
 #[inline(always)]
 pub fn size_at(input: &[u8]) -> Result<usize, ViewFault>
     requires { 8 ≤ length input.now }
@@ -23,7 +23,7 @@ pub fn size_at(input: &[u8]) -> Result<usize, ViewFault>
     Ok(usize::from(u16_at(input, 6)))
 }
 
-/// The unit at the front of the input, whose header says that it has `size` bytes, or `Short`.
+/// The unit at the front of the input, which has `size` bytes by its header, or `Short`.
 #[inline(always)]
 pub fn first_unit(input: &[u8], size: usize) -> Result<&[u8], ViewFault>
     requires header { 8 ≤ length input.now }

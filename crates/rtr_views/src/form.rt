@@ -27,8 +27,8 @@ pub fn put_piece<W: Sink>(writer: &mut W, piece: &[u8]) -> Result<(), ViewFault>
     }
 }
 
-/// Writes a router key or an ASPA unit: a header that is made of the fields, and then what follows
-/// it, `rest`.
+/// Writes a router key or an ASPA unit: a header made from the fields, and then what follows it,
+/// `rest`.
 #[inline(always)]
 pub fn put_flagged<W: Sink>(
     writer: &mut W,
@@ -50,8 +50,8 @@ pub fn put_flagged<W: Sink>(
     }
 }
 
-/// Writes the bytes of the end of data. It is out of line, so that what writes units stays small
-/// enough to be inlined: only one end comes in a sequence.
+/// Writes the bytes of the end of data. It is out of line, so that the code that writes units stays
+/// small enough to be inlined: a sequence has only one end.
 pub fn put_end<W: Sink>(writer: &mut W, end: &EndOfData) -> Result<(), ViewFault>
     ensures bytes { PutsPiece result (W.state writer.old) (W.state writer.new)
         (end_bytes end.now) }

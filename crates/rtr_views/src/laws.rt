@@ -21,7 +21,7 @@ pub fn views_of_units()
         IsViewOf v b → IsEnd b e → view_form v ≡ b }
 {}
 
-/// The view of a payload unit and the unit that was read from the same bytes mean the same.
+/// The view of a payload unit and the unit read from the same bytes mean the same.
 pub fn views_and_units()
     ensures { (v : UnitView) (u : Payload) →
         IsViewOf v (unit_bytes u) → HasFields (unit_bytes u) (unit_fields u) →

@@ -47,7 +47,7 @@ impl OriginView {
         self.flags
     }
 
-    /// The origin. Host bits of its address are cleared, and its max length is given.
+    /// The origin. Host bits of its address are cleared, and it has a max length.
     #[inline(always)]
     pub fn origin(&self) -> RouteOrigin
         ensures { result ≡ self.now.origin }

@@ -22,8 +22,7 @@ use rtr_units::fixed::{Ipv4Prefix, Ipv6Prefix};
 use rtr_units::unit::Unit;
 
 /// Writes two pieces to the front of the output, the second after the first, and answers their
-/// length in bytes. Where the output is shorter it answers nothing and leaves the output as it
-/// was.
+/// length in bytes. If the output is shorter, it answers none and leaves the output unchanged.
 #[inline(always)]
 pub fn place(front: &[u8], back: &[u8], output: &mut [u8]) -> Option<usize>
     ensures { Places result (front.now ++ back.now) output.old output.new }
@@ -37,7 +36,7 @@ pub fn place(front: &[u8], back: &[u8], output: &mut [u8]) -> Option<usize>
     Some(size)
 }
 
-/// The header of a router key or an ASPA unit, which holds flags where others have a session.
+/// The header of a router key or an ASPA unit, which has flags where others have a session.
 #[inline(always)]
 pub fn flagged_header(version: u8, pdu: u8, flags: u8, size: u32) -> [u8; 8]
     ensures { result ≡ version ∷ pdu ∷ flags ∷ 0 ∷ be size 4 }
@@ -48,8 +47,8 @@ pub fn flagged_header(version: u8, pdu: u8, flags: u8, size: u32) -> [u8; 8]
     header
 }
 
-/// Writes a router key or an ASPA unit: a header that is made of the fields, and then `rest`,
-/// which is what follows the header.
+/// Writes a router key or an ASPA unit: a header made from the fields, and then `rest`, which
+/// follows the header.
 #[inline(always)]
 fn place_flagged(
     version: u8,
@@ -101,7 +100,7 @@ impl<'a> RouterKeyView<'a> {
 }
 
 impl<'a> AspaView<'a> {
-    /// Writes the form of what the unit means: of a withdrawal without its providers.
+    /// Writes the form of what the unit means: a withdrawal without its providers.
     #[inline(always)]
     fn place_form(&self, output: &mut [u8]) -> Option<usize>
         ensures { Places result (form_of (meaning (aspa_unit (aspa_at self.now.unit.now))))
@@ -133,8 +132,8 @@ impl<'a> UnitView<'a> {
     }
 
     /// Writes the form to the front of the output, as `write_form` does to a writer, and answers
-    /// its length in bytes. Where the output is shorter it answers nothing and leaves the output
-    /// as it was.
+    /// its length in bytes. If the output is shorter, it answers none and leaves the output
+    /// unchanged.
     #[inline(always)]
     pub fn place_form(&self, output: &mut [u8]) -> Option<usize>
         ensures { Places result (view_form self.now) output.old output.new }

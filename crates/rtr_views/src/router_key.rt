@@ -64,7 +64,7 @@ impl<'a> RouterKeyView<'a> {
         Asn::from_u32(u32_at(self.unit, 28))
     }
 
-    /// The key info, as it stands in the input.
+    /// The key info, as in the input.
     #[inline(always)]
     pub fn key_info(&self) -> &'a [u8]
         ensures { result.now ≡ (key_at self.now.unit.now).key.info }
@@ -73,7 +73,7 @@ impl<'a> RouterKeyView<'a> {
         key_info
     }
 
-    /// The bytes of the whole unit, as they stand in the input.
+    /// The bytes of the whole unit, as in the input.
     #[inline(always)]
     pub(crate) fn unit(&self) -> &'a [u8]
         ensures { result.now ≡ self.now.unit.now }

@@ -16,7 +16,8 @@ use rtr_units::fixed::{Ipv4Prefix, Ipv6Prefix};
 use rtr_units::source::Sink;
 use rtr_units::unit::Unit;
 
-/// A payload unit or an end of data that lies in a slice. Key info and providers are lent from it.
+/// A payload unit or an end of data that lies in a slice. Key info and providers are borrowed from
+/// it.
 #[derive(Clone, Copy, Debug)]
 pub enum UnitView<'a> {
     /// An IPv4 or IPv6 prefix (RFC 8210 sections 5.6 and 5.7).
@@ -31,12 +32,12 @@ pub enum UnitView<'a> {
 
 impl<'a> UnitView<'a> {
     /// The view of the payload unit or the end of data that the input begins with, and its length
-    /// in bytes. It asks for no memory.
+    /// in bytes. It allocates nothing.
     ///
     /// Faults, in this order: `Short` inside the header; `UnitType`; `UnitVersion` for an end of
     /// data of a version above 2; `TooLong` for a key or an ASPA unit of more than 65535 bytes;
     /// `UnitLength`; `EmptyProviders` for an ASPA that is announced without providers; `Short`
-    /// inside the unit; `Prefix` where the lengths of a prefix break their rule.
+    /// inside the unit; `Prefix` if the lengths of a prefix break their rule.
     #[inline(always)]
     pub fn first(input: &'a [u8]) -> Result<(UnitView<'a>, usize), ViewFault>
         ensures view { IfOk result (λ p. IsViewOf p.0 (take p.1 input.now)) }
@@ -72,10 +73,10 @@ impl<'a> UnitView<'a> {
     }
 
     /// Writes the written form of what the unit means: all free bytes are zero, and a withdrawn
-    /// ASPA has no providers. Of an end of data it writes the bytes. It asks for no memory and
+    /// ASPA has no providers. For an end of data it writes the bytes. It allocates nothing and
     /// doesn't flush.
     ///
-    /// `Writer` alone; a part of the form was written then.
+    /// The only fault is `Writer`; then a part of the form was written.
     #[inline(always)]
     pub fn write_form<W: Sink>(&self, writer: &mut W) -> Result<(), ViewFault>
         ensures bytes { PutsPiece result (W.state writer.old) (W.state writer.new)

@@ -1,4 +1,4 @@
-//! Debug texts: all types of values have one. What it says is told of units of no fixed size alone.
+//! Debug texts: all types of values have one. Only those of units of no fixed size are compared.
 
 use crate::{expect_equal, unit};
 use rtr_support::{ASPA_NAMED, IPV4, IPV6, KEY, bytes};
@@ -73,7 +73,7 @@ fn units_without_a_state(rt: HostRuntime) {
     expect_shown(&rt, alloc, &Header::default());
 }
 
-/// Asserts that the unit of these bytes has a debug text, and so what it means.
+/// Asserts that the unit of these bytes has a debug text, and that its meaning has one.
 fn expect_unit_shown(rt: &impl Abort, alloc: Global, text: &str) -> Result<(), Fail> {
     let input = bytes(alloc, &[text])?;
     let read = Payload::read(alloc, &mut SliceSource::new(&input))?;

@@ -1,4 +1,4 @@
-//! Units of a fixed size, made, written and read with what the crate shows.
+//! Units of a fixed size, made, written and read with what the crate exports.
 
 use crate::expect_equal;
 use rtr_support::bytes;

@@ -1,5 +1,5 @@
-//! Tests of `rtr_wire`: whole sequences, and what the crate shows. No other library of the
-//! repository is used but `rtr_support`, so that a user of `rtr_wire` needs none.
+//! Tests of `rtr_wire`: whole sequences, and what the crate exports. They use no other library of
+//! the repository than `rtr_support`, to show that a user of `rtr_wire` needs none.
 #![tactic(auto)]
 
 #[cfg(test)]
@@ -22,8 +22,8 @@ use std::process::Abort;
 #[cfg(test)]
 use std::test::Fail;
 
-/// Asserts that the two are equal. A test that calls it is proved sooner than one in which the
-/// macro stands.
+/// Asserts that the two are equal. A test that calls this is proved faster than one that uses the
+/// macro.
 #[cfg(test)]
 fn expect_equal<T: PartialEq + Debug + Drop>(rt: &impl Abort, left: T, right: T) {
     assert_eq!(rt; left, right);

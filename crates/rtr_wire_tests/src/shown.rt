@@ -1,10 +1,10 @@
-//! What the crate shows to its users.
+//! What the crate exports.
 
 use rtr_wire::{base, laws, payload, pdu, state};
 use std::mem::size_of;
 use std::process::Abort;
 
-/// Laws of each layer are called: a call does nothing.
+/// Calls laws of each layer; a call does nothing.
 #[test]
 fn laws_are_shown() {
     laws::prefix_order();
@@ -17,7 +17,7 @@ fn laws_are_shown() {
     laws::idempotent();
 }
 
-/// Asserts that each size is one of a value of few words.
+/// Asserts that each size is that of a value of a few words.
 fn expect_small(rt: &impl Abort, sizes: &[usize]) {
     for size in sizes {
         assert!(rt; *size <= 128);

@@ -8,7 +8,7 @@ use std::fmt::Display;
 use std::io::{Error, ErrorKind};
 use std::process::Abort;
 
-/// Asserts what is written of a value.
+/// Asserts the text of a value.
 fn expect_text<T: Display + Drop>(rt: &impl Abort, alloc: Global, value: T, want: &str) {
     let text = value.to_string(alloc).expect(rt, "memory");
     expect_equal(rt, text.as_str(), want);
@@ -59,7 +59,7 @@ fn texts_of_refused_units(rt: HostRuntime) {
     expect_text(&rt, alloc, prefix, "prefix fields are not allowed");
 }
 
-/// Why a call into a slice stopped: with the text of the view's fault where one refused.
+/// Why a call into a slice stopped, with the text of the view's fault if that was the reason.
 #[test]
 fn texts_of_stops(rt: HostRuntime) {
     let alloc = rt.alloc();

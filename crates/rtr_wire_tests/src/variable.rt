@@ -1,5 +1,5 @@
 //! Router keys, ASPA units and payload units of any kind, made, written and read with what the
-//! crate shows.
+//! crate exports.
 
 use crate::expect_equal;
 use rtr_support::{IPV4, KEY, bytes};
