@@ -11,8 +11,7 @@ use Rattle.rtr_base.specs.Actions.{act}
 use Rattle.rtr_base.specs.Addresses.{Family, v4, v6}
 use Rattle.rtr_base.specs.PlainTexts.{action_text, address_text, asn_text, error_code_text}
 use Rattle.rtr_units.specs.PrefixUnits.{OriginParts}
-use Rattle.rtr_payload.specs.Payloads.{AspaParts}
-use Rattle.rtr_payload.specs.Payloads.{KeyParts}
+use Rattle.rtr_payload.specs.Payloads.{AspaParts, KeyParts}
 use Rattle.rtr_payload.specs.PayloadTexts.{each_text}
 use Rattle.rtr_payload.specs.UnitFields.{Fields, prefix_unit, key_unit, aspa_unit}
 use Rattle.rtr_session.specs.AnyFields.{AnyFields, serial_notify, serial_query, reset_query}

@@ -8,8 +8,8 @@ use Rattle.rtr_units.specs.End.{EndMeaning, IsEnd, end_list, timed_list}
 use Rattle.rtr_units.specs.Header.{type_field}
 use Rattle.rtr_units.specs.PrefixUnits.{prefix_type}
 use Rattle.rtr_payload.specs.Payloads.{Meaning}
-use Rattle.rtr_payload.specs.UnitFields.{Fields, prefix_unit, key_unit, aspa_unit}
-use Rattle.rtr_payload.specs.UnitFields.{unit_list, written_fields}
+use Rattle.rtr_payload.specs.UnitFields.{Fields, prefix_unit, key_unit, aspa_unit, unit_list}
+use Rattle.rtr_payload.specs.UnitFields.{written_fields}
 use Rattle.rtr_payload.specs.Units.{IsUnit, form_of}
 use Rattle.rtr_payload.specs.FirstFault.{BeginsUnit, BeginsEnd}
 use Rattle.rtr_payload.proofs.ByFields.{unit_fields_of, form_is}

@@ -14,17 +14,15 @@ use Rattle.rtr_units.specs.PrefixUnits.{PrefixFields, prefix_type, prefix_size, 
 use Rattle.rtr_units.specs.PrefixUnits.{prefix_list}
 use Rattle.rtr_units.proofs.Headers.{header_bytes}
 use Rattle.rtr_base.specs.Addresses.{v4, v6, width}
-use Rattle.rtr_payload.specs.Payloads.{Payload, origin, key, aspa, Meaning, IsPayload}
+use Rattle.rtr_payload.specs.Payloads.{Payload, origin, key, aspa, Meaning, IsPayload, AspaParts}
+use Rattle.rtr_payload.specs.Payloads.{IsAspa, IsKey}
 use Rattle.rtr_base.specs.Actions.{act}
 use Rattle.rtr_payload.specs.UnitFields.{Fields, prefix_unit, key_unit, aspa_unit, unit_list, Fit}
-use Rattle.rtr_payload.specs.UnitFields.{WithinLimits, LengthsAgree, HasMeaning}
-use Rattle.rtr_payload.specs.Units.{IsUnit}
-use Rattle.rtr_payload.specs.UnitFields.{meaning, written_fields, stripped}
-use Rattle.rtr_payload.specs.Units.{form, form_of}
-use Rattle.rtr_payload.specs.Payloads.{AspaParts, IsAspa}
-use Rattle.rtr_payload.specs.AspaUnits.{AspaFields, aspa_list}
-use Rattle.rtr_payload.specs.AspaUnits.{meant_providers, HasProviders, meant_aspa}
-use Rattle.rtr_payload.specs.Payloads.{IsKey}
+use Rattle.rtr_payload.specs.UnitFields.{WithinLimits, LengthsAgree, HasMeaning, meaning}
+use Rattle.rtr_payload.specs.UnitFields.{written_fields, stripped}
+use Rattle.rtr_payload.specs.Units.{IsUnit, form, form_of}
+use Rattle.rtr_payload.specs.AspaUnits.{AspaFields, aspa_list, meant_providers, HasProviders}
+use Rattle.rtr_payload.specs.AspaUnits.{meant_aspa}
 use Rattle.rtr_payload.specs.KeyUnits.{KeyFields, key_list}
 use Rattle.rtr_payload.specs.RouteOrigins.{PrefixFits}
 use Rattle.rtr_payload.proofs.ByFields.{unit_fields_of, unit_of_fields, form_is}

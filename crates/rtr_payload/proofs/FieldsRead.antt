@@ -18,13 +18,11 @@ use Rattle.rtr_units.proofs.Headers.{header_read, header_cells, session_fits}
 use Rattle.rtr_payload.proofs.ByFields.{form_is}
 use Rattle.rtr_payload.proofs.Fields.{address_below, Fit-written}
 use Rattle.rtr_payload.specs.Providers.{words_of}
-use Rattle.rtr_payload.specs.Payloads.{IsKey}
+use Rattle.rtr_payload.specs.Payloads.{IsKey, IsAspa, Payload, IsPayload}
 use Rattle.rtr_payload.specs.KeyUnits.{KeyFields, key_list, key_at}
-use Rattle.rtr_payload.specs.Payloads.{IsAspa}
 use Rattle.rtr_payload.specs.AspaUnits.{AspaFields, aspa_list, aspa_at, HasProviders}
 use Rattle.rtr_payload.specs.declared.payload.RouteOrigin.{RouteOrigin}
 use Rattle.rtr_payload.specs.Meanings.{origin_of}
-use Rattle.rtr_payload.specs.Payloads.{Payload, IsPayload}
 use Rattle.rtr_payload.specs.RouteOrigins.{PrefixFits}
 use Rattle.rtr_payload.specs.UnitFields.{Fields, prefix_unit, key_unit, aspa_unit, fields_like}
 use Rattle.rtr_payload.specs.UnitFields.{unit_list, Fit, HasFields, written_fields}

@@ -21,14 +21,11 @@ use Rattle.rtr_units.specs.End.{EndMeaning, IsEnd, HasTimingOf, timed_list}
 use Rattle.rtr_units.specs.PrefixUnits.{PrefixFields, prefix_type, prefix_size, prefix_list}
 use Rattle.rtr_units.specs.Header.{type_field, length_field}
 use Rattle.rtr_units.proofs.Headers.{same_header}
-use Rattle.rtr_payload.specs.FirstFault.{header_fault, prefix_fault, refusal_report}
-use Rattle.rtr_payload.specs.FaultSteps.{header_step}
-use Rattle.rtr_payload.specs.FaultSteps.{frame_fault}
-use Rattle.rtr_payload.specs.FirstFault.{first_fault}
-use Rattle.rtr_payload.specs.FaultSteps.{first_unit, rule_of}
+use Rattle.rtr_payload.specs.FirstFault.{header_fault, prefix_fault, refusal_report, first_fault}
 use Rattle.rtr_payload.specs.FirstFault.{broken_rule}
-use Rattle.rtr_payload.specs.UnitFields.{Fields, prefix_unit, key_unit, aspa_unit}
-use Rattle.rtr_payload.specs.UnitFields.{unit_list, Fit, WithinLimits, HasFields}
+use Rattle.rtr_payload.specs.FaultSteps.{header_step, frame_fault, first_unit, rule_of}
+use Rattle.rtr_payload.specs.UnitFields.{Fields, prefix_unit, key_unit, aspa_unit, unit_list, Fit}
+use Rattle.rtr_payload.specs.UnitFields.{WithinLimits, HasFields}
 use Rattle.rtr_payload.specs.AspaUnits.{HasProviders, aspa_list}
 use Rattle.rtr_payload.specs.KeyUnits.{key_list}
 

@@ -9,8 +9,8 @@ use Rattle.rtr_units.specs.StopCauses.{by_writer, too_many, no_memory, wrong}
 use Rattle.rtr_units.specs.Header.{version_field}
 use Rattle.rtr_payload.specs.Payloads.{Payload, origin, key, aspa, Meaning, IsPayload}
 use Rattle.rtr_payload.specs.FaultSteps.{rule_of}
-use Rattle.rtr_payload.specs.UnitFields.{Fields, prefix_unit, key_unit, aspa_unit}
-use Rattle.rtr_payload.specs.UnitFields.{LengthsAgree, meaning, written_fields, stripped}
+use Rattle.rtr_payload.specs.UnitFields.{Fields, prefix_unit, key_unit, aspa_unit, LengthsAgree}
+use Rattle.rtr_payload.specs.UnitFields.{meaning, written_fields, stripped}
 use Rattle.rtr_payload.specs.UnitBytes.{IsWritten, unit_bytes, unit_fields, flags_in, MeansPayload}
 use Rattle.rtr_payload.specs.UnitBytes.{NeedsMemory, HasNoPayload, IsPrefixUnit}
 use Rattle.rtr_payload.specs.Meanings.{payload_of}

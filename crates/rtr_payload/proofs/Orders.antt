@@ -10,9 +10,7 @@ use Rattle.std.specs.Ordering.{eq_by_cmp, nat_cmp, ordering_then}
 use Rattle.rtr_base.specs.Addresses.{ip_version}
 use Rattle.rtr_base.proofs.Prefixes.{same_version}
 use Rattle.rtr_units.specs.PrefixUnits.{OriginParts}
-use Rattle.rtr_payload.specs.Payloads.{AspaParts}
-use Rattle.rtr_payload.specs.Payloads.{KeyParts}
-use Rattle.rtr_payload.specs.Payloads.{Payload, origin, key, aspa}
+use Rattle.rtr_payload.specs.Payloads.{AspaParts, KeyParts, Payload, origin, key, aspa}
 use Rattle.rtr_payload.specs.Orders.{list_cmp, parts, payload_cmp}
 
 then_equal : (o : Ordering) → ordering_then o Equal ≡ o

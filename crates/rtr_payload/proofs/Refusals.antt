@@ -11,11 +11,8 @@ use Rattle.rtr_units.specs.Header.{version_field, type_field, length_field}
 use Rattle.rtr_units.proofs.Headers.{same_header}
 use Rattle.rtr_payload.specs.declared.pdu.prefix_rule.PrefixRule.{PrefixRule}
 use Rattle.rtr_payload.specs.Refusals.{IsPartial, IsRefused}
-use Rattle.rtr_payload.specs.FirstFault.{header_fault}
-use Rattle.rtr_payload.specs.FaultSteps.{header_step}
-use Rattle.rtr_payload.specs.FaultSteps.{frame_fault, first_unit}
-use Rattle.rtr_payload.specs.FirstFault.{taken, refusal_report}
-use Rattle.rtr_payload.specs.FaultSteps.{rule_of}
+use Rattle.rtr_payload.specs.FirstFault.{header_fault, taken, refusal_report}
+use Rattle.rtr_payload.specs.FaultSteps.{header_step, frame_fault, first_unit, rule_of}
 use Rattle.rtr_payload.specs.UnitFields.{Fields, HasFields}
 use Rattle.rtr_payload.proofs.Frames.{Whole, refuse, header_first, length_next}
 use Rattle.rtr_payload.proofs.Frames.{same_step, shape_fault, shape_cut}

@@ -10,13 +10,9 @@ use Rattle.rtr_base.proofs.Numbers.{IsBytes-take}
 use Rattle.rtr_units.specs.StopCauses.{Refusal}
 use Rattle.rtr_units.specs.Header.{version_field, type_field, length_field}
 use Rattle.rtr_units.proofs.Headers.{same_header}
-use Rattle.rtr_payload.specs.FirstFault.{header_fault, prefix_fault}
-use Rattle.rtr_payload.specs.FaultSteps.{header_step, frame_fault}
-use Rattle.rtr_payload.specs.FirstFault.{first_fault, BeginsUnit}
-use Rattle.rtr_payload.specs.FaultSteps.{first_unit, BeginsShape}
-use Rattle.rtr_payload.specs.FirstFault.{BeginsEnd}
-use Rattle.rtr_payload.specs.FirstFault.{broken_rule}
-use Rattle.rtr_payload.specs.FaultSteps.{rule_of}
+use Rattle.rtr_payload.specs.FirstFault.{header_fault, prefix_fault, first_fault, BeginsUnit}
+use Rattle.rtr_payload.specs.FirstFault.{BeginsEnd, broken_rule}
+use Rattle.rtr_payload.specs.FaultSteps.{header_step, frame_fault, first_unit, BeginsShape, rule_of}
 use Rattle.rtr_payload.specs.UnitFields.{Fields, prefix_unit, key_unit, aspa_unit, LengthsAgree}
 use Rattle.rtr_payload.specs.UnitFields.{meaning}
 use Rattle.rtr_payload.proofs.ByFields.{unit_fields_of, fields_unit}

@@ -17,11 +17,10 @@ use Rattle.rtr_units.specs.PrefixUnits.{prefix_type, prefix_size}
 use Rattle.rtr_units.specs.Header.{version_field, type_field, length_field}
 use Rattle.rtr_units.proofs.EndsRead.{untimed_has, timed_has}
 use Rattle.rtr_units.specs.PrefixUnits.{prefix_at}
-use Rattle.rtr_payload.specs.UnitFields.{prefix_unit, key_unit, aspa_unit}
+use Rattle.rtr_payload.specs.UnitFields.{prefix_unit, key_unit, aspa_unit, Fields, HasFields}
 use Rattle.rtr_payload.specs.KeyUnits.{key_at}
 use Rattle.rtr_payload.specs.AspaUnits.{aspa_at}
 use Rattle.rtr_payload.specs.FirstFault.{header_fault}
-use Rattle.rtr_payload.specs.UnitFields.{Fields, HasFields}
 use Rattle.rtr_payload.proofs.FieldsRead.{prefix_has, key_has, aspa_has}
 use Rattle.rtr_payload.proofs.Frames.{Whole}
 

@@ -26,11 +26,8 @@ pub record IsKeyUnit (b : List ℕ) (m : Meaning) : Type 0 where
   pub bytes : b ≡ key_list unit
   pub ranges : IsKey unit.key
   pub limit : length unit.key.info ≤ 65503
-  pub means : m ≡ record {
-    version = unit.version;
-    action = act unit.flags;
-    payload = key unit.key;
-  }
+  pub means : m ≡
+      record { version = unit.version; action = act unit.flags; payload = key unit.key }
 
 -- the fields of a unit, read off its bytes at their places, whatever its type and length say (RFC
 -- 8210 section 5.10)

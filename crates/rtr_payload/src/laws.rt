@@ -2,10 +2,8 @@
 
 ghost use Rattle.std.specs.Prelude.{◌≡◌, ◌++◌, ◌↔◌, ◌<◌, ◌^◌, ◌⊎◌, ℕ, List, None, IsSome};
 ghost use Rattle.rtr_base.specs.Bytes.{IsBytes, words};
-ghost use Rattle.rtr_payload.specs.FaultSteps.{BeginsShape, frame_fault};
-ghost use Rattle.rtr_payload.specs.FirstFault.{BeginsUnit, BeginsEnd};
-ghost use Rattle.rtr_payload.specs.FirstFault.{first_fault};
-ghost use Rattle.rtr_payload.specs.FaultSteps.{rule_of};
+ghost use Rattle.rtr_payload.specs.FaultSteps.{BeginsShape, frame_fault, rule_of};
+ghost use Rattle.rtr_payload.specs.FirstFault.{BeginsUnit, BeginsEnd, first_fault};
 ghost use Rattle.std.specs.Cmp.{IsTotalOrder};
 ghost use Rattle.std.specs.List.{AllByRecursion};
 ghost use Rattle.std.specs.declared.cmp.Ordering.TheVariants.{Equal};
@@ -15,6 +13,9 @@ ghost use Rattle.rtr_base.specs.Actions.{act};
 ghost use Rattle.rtr_base.specs.declared.payload.Action.{Action};
 ghost use Rattle.rtr_units.specs.StopCauses.{Cause, no_memory};
 ghost use Rattle.rtr_units.specs.Header.{version_field};
+ghost use Rattle.rtr_units.specs.Reading.{AsksAfter};
+ghost use Rattle.rtr_payload.specs.Refusals.{MayAskMemory};
+ghost use Rattle.rtr_payload.specs.UnitKinds.{payload_unit};
 ghost use Rattle.rtr_payload.specs.UnitBytes.{IsWritten, unit_bytes, flags_in, MeansPayload};
 ghost use Rattle.rtr_payload.specs.UnitBytes.{HasNoPayload, IsPrefixUnit};
 ghost use Rattle.rtr_payload.specs.Meanings.{payload_of};
@@ -95,6 +96,11 @@ pub fn exactly_one()
     ensures unit { (r : List ℕ) → BeginsUnit r → first_fault r ≡ None }
     ensures end { (r : List ℕ) → BeginsEnd r → first_fault r ≡ None }
     ensures apart { (r : List ℕ) → BeginsUnit r → BeginsEnd r → ⊥ }
+{}
+
+/// Where reading a payload unit may ask for memory, said by what was read.
+pub fn memory_places()
+    ensures { (h : List ℕ) → AsksAfter payload_unit h ↔ MayAskMemory h }
 {}
 
 /// The rule on the lengths of a prefix that is computed, with the part of it that is broken, is the

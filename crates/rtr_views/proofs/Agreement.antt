@@ -12,9 +12,8 @@ use Rattle.rtr_units.specs.PrefixUnits.{prefix_type, prefix_at}
 use Rattle.rtr_payload.specs.KeyUnits.{key_at}
 use Rattle.rtr_payload.specs.AspaUnits.{aspa_at}
 use Rattle.rtr_payload.specs.UnitFields.{Fields, prefix_unit, key_unit, aspa_unit, HasFields}
-use Rattle.rtr_payload.specs.Units.{IsUnit}
 use Rattle.rtr_payload.specs.UnitFields.{LengthsAgree, meaning, unit_list}
-use Rattle.rtr_payload.specs.Units.{form_of}
+use Rattle.rtr_payload.specs.Units.{IsUnit, form_of}
 use Rattle.rtr_payload.specs.Meanings.{origin_of}
 use Rattle.rtr_payload.proofs.ByFields.{unit_fields_of, unit_of_fields}
 use Rattle.rtr_payload.proofs.Fields.{lists_same}

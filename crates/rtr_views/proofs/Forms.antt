@@ -13,10 +13,9 @@ use Rattle.rtr_units.specs.StopCauses.{Refusal}
 use Rattle.rtr_units.specs.Header.{version_field, type_field, length_field}
 use Rattle.rtr_units.specs.Reading.{IsWhole, of_type}
 use Rattle.rtr_payload.specs.KeyUnits.{key_at}
-use Rattle.rtr_payload.specs.UnitFields.{key_unit, aspa_unit}
+use Rattle.rtr_payload.specs.UnitFields.{key_unit, aspa_unit, HasFields, meaning}
 use Rattle.rtr_payload.specs.AspaUnits.{AspaFields, aspa_list, aspa_at, meant_aspa}
 use Rattle.rtr_payload.specs.Providers.{words_of}
-use Rattle.rtr_payload.specs.UnitFields.{HasFields, meaning}
 use Rattle.rtr_payload.specs.Units.{form, form_of}
 use Rattle.rtr_payload.specs.FirstFault.{header_fault}
 use Rattle.rtr_payload.specs.UnitKinds.{variable_unit}

@@ -18,16 +18,12 @@ use Rattle.rtr_units.proofs.UnitsRead.{typed_is}
 use Rattle.rtr_units.specs.Reading.{IsWhole, of_type}
 use Rattle.rtr_units.specs.PrefixUnits.{prefix_at}
 use Rattle.rtr_payload.specs.declared.pdu.prefix_rule.PrefixRule.{PrefixRule}
-use Rattle.rtr_payload.specs.UnitFields.{prefix_unit, key_unit, aspa_unit}
+use Rattle.rtr_payload.specs.UnitFields.{prefix_unit, key_unit, aspa_unit, HasFields}
 use Rattle.rtr_payload.specs.KeyUnits.{key_at}
 use Rattle.rtr_payload.specs.AspaUnits.{aspa_at}
-use Rattle.rtr_payload.specs.FirstFault.{first_fault, header_fault}
-use Rattle.rtr_payload.specs.FaultSteps.{first_unit}
-use Rattle.rtr_payload.specs.FaultSteps.{header_step}
-use Rattle.rtr_payload.specs.FirstFault.{refusal_report}
-use Rattle.rtr_payload.specs.FaultSteps.{rule_of}
+use Rattle.rtr_payload.specs.FirstFault.{first_fault, header_fault, refusal_report}
+use Rattle.rtr_payload.specs.FaultSteps.{first_unit, header_step, rule_of}
 use Rattle.rtr_payload.specs.UnitKinds.{variable_unit}
-use Rattle.rtr_payload.specs.UnitFields.{HasFields}
 use Rattle.rtr_payload.proofs.FieldsRead.{prefix_has}
 use Rattle.rtr_payload.proofs.Frames.{header_first, eleven_in_order}
 use Rattle.rtr_payload.proofs.Variable.{aspa_short, aspa_uneven, aspa_empty}

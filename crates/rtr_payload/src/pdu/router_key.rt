@@ -4,8 +4,7 @@ ghost use Rattle.std.specs.Prelude.{◌≡◌, ◌≤◌, length, replicate, ref
 ghost use Rattle.std.proofs.Common.{rules};
 ghost use Rattle.rtr_payload.specs.declared.pdu.key_info.TheConstants.{MAX_LEN as MOST};
 ghost use Rattle.rtr_payload.specs.KeyUnits.{key_at};
-ghost use Rattle.rtr_payload.specs.Payloads.{IsKey};
-ghost use Rattle.rtr_payload.specs.Payloads.{key};
+ghost use Rattle.rtr_payload.specs.Payloads.{IsKey, key};
 ghost use Rattle.rtr_payload.specs.Units.{form};
 ghost use Rattle.rtr_payload.specs.UnitFields.{key_unit};
 
