@@ -1,8 +1,8 @@
 -- Where reading a unit stops: lists that end too early, headers and prefix
 -- lengths that are refused.
-use Rattle.std.proofs.Common.{◌≡◌, ℕ, ◌<◌, ◌≤◌, Bool, cond, List, ◌++◌, length, take, drop, inl}
+use Rattle.std.proofs.Common.{◌≡◌, ℕ, ◌<◌, ◌≤◌, List, ◌++◌, length, take, drop, inl}
 use Rattle.std.proofs.Common.{inr, Some, None, refl, sym, ap, ◌∙◌, arith, get_or}
-use Rattle.std.proofs.lemmas.Bool.{cases_lt, lt-ltb}
+use Rattle.std.proofs.lemmas.Bool.{cases_lt}
 use Rattle.std.proofs.lemmas.Bool.Decides.{nat_tests}
 use Rattle.std.proofs.lemmas.List.{length-append, length-take-le, take-append-drop, take_at}
 use Rattle.rtr_units.specs.StopCauses.{Refusal, short, unit_type, unit_version}
@@ -12,7 +12,7 @@ use Rattle.rtr_units.proofs.Headers.{same_header}
 use Rattle.rtr_payload.specs.declared.pdu.prefix_rule.PrefixRule.{PrefixRule}
 use Rattle.rtr_payload.specs.Refusals.{IsPartial, IsRefused}
 use Rattle.rtr_payload.specs.FirstFault.{header_fault, taken, refusal_report}
-use Rattle.rtr_payload.specs.FaultSteps.{header_step, frame_fault, first_unit, rule_of}
+use Rattle.rtr_payload.specs.FaultSteps.{header_step, rule_of}
 use Rattle.rtr_payload.specs.UnitFields.{Fields, HasFields}
 use Rattle.rtr_payload.proofs.Frames.{Whole, refuse, header_first, length_next}
 use Rattle.rtr_payload.proofs.Frames.{same_step, shape_fault, shape_cut}
