@@ -12,7 +12,7 @@ use Rattle.rtr_units.specs.declared.fault.Fault.{Fault}
 use Rattle.rtr_units.specs.declared.fault.Fault.TheVariants.{Memory}
 use Rattle.rtr_units.specs.StopCauses.{Cause, by_reader, by_writer, too_many, no_memory, wrong}
 use Rattle.rtr_units.specs.StopCauses.{cause_of}
-use Rattle.rtr_units.specs.Stream.{WriterState}
+use Rattle.rtr_units.specs.StopCauses.{WriterState}
 use Rattle.rtr_listing.specs.FindingTexts.{finding_of}
 use Rattle.rtr_listing.specs.Lines.{written_line}
 use Rattle.rtr_listing.specs.Listing.{BreaksOff, finding_lines}

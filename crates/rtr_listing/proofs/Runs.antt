@@ -14,11 +14,12 @@ use Rattle.rtr_units.specs.declared.fault.Fault.TheVariants.{TooMany}
 use Rattle.rtr_units.specs.StopCauses.{Cause, by_reader, by_writer, too_many, no_memory, wrong}
 use Rattle.rtr_units.specs.StopCauses.{cause_of}
 use Rattle.rtr_units.specs.Reading.{Takes}
-use Rattle.rtr_units.specs.Stream.{ReaderState, WriterState, reader_count, writer_count}
+use Rattle.rtr_units.specs.StopCauses.{ReaderState, WriterState, reader_count, writer_count}
 use Rattle.rtr_session.specs.AnyFields.{AnyFields, HasAnyFields, any_list}
 use Rattle.rtr_session.specs.AnyReading.{HasEnded, StopsInAny}
 use Rattle.rtr_listing.specs.PrivateFollowing.{HasSeen}
-use Rattle.rtr_listing.specs.Listing.{AreAnyUnits, BreaksOff, ListingEnds, Lists, Printed, UnitLines}
+use Rattle.rtr_listing.specs.Listing.{AreAnyUnits, BreaksOff, ListingEnds, Lists, Printed}
+use Rattle.rtr_listing.specs.Listing.{UnitLines}
 use Rattle.rtr_listing.specs.Listing.{offset_of, tells_broken, units_bytes}
 use Rattle.rtr_listing.specs.PrivateLines.{HasChecked, PrintsBytes, offset_after}
 use Rattle.rtr_listing.specs.declared.check.Checker.{Checker}

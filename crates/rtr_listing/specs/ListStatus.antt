@@ -3,7 +3,8 @@ use Rattle.std.specs.Prelude.{◌≡◌, ℕ, Bool, true, false, Result, Ok, Err
 use Rattle.rtr_units.specs.declared.fault.Fault.{Fault}
 use Rattle.rtr_units.specs.StopCauses.{Cause, by_reader, by_writer, too_many, no_memory, wrong}
 use Rattle.rtr_units.specs.StopCauses.{by_cause}
-use Rattle.rtr_units.specs.Stream.{ReaderState, WriterState, Flushes}
+use Rattle.rtr_units.specs.Stream.{Flushes}
+use Rattle.rtr_units.specs.StopCauses.{ReaderState, WriterState}
 use Rattle.rtr_listing.specs.Listing.{Lists}
 use Rattle.rtr_listing.specs.declared.run.Wanted.{Wanted}
 

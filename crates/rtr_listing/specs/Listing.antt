@@ -12,7 +12,7 @@ use Rattle.std.specs.List.{AllByRecursion, concat}
 use Rattle.rtr_units.specs.declared.fault.Fault.{Fault}
 use Rattle.rtr_units.specs.StopCauses.{Cause, by_reader, by_writer, too_many, no_memory, wrong}
 use Rattle.rtr_units.specs.StopCauses.{by_cause}
-use Rattle.rtr_units.specs.Stream.{ReaderState, WriterState, reader_count, writer_count}
+use Rattle.rtr_units.specs.StopCauses.{ReaderState, WriterState, reader_count, writer_count}
 use Rattle.rtr_session.specs.AnyFields.{AnyFields, HasAnyFields, any_list}
 use Rattle.rtr_session.specs.AnyReading.{StopsInAny}
 use Rattle.rtr_listing.specs.FindingTexts.{finding_of}

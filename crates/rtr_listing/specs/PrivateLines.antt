@@ -6,7 +6,7 @@ use Rattle.std.specs.Io.KnownBytes.{Appends}
 use Rattle.std.specs.List.{concat}
 use Rattle.rtr_units.specs.declared.fault.Fault.{Fault}
 use Rattle.rtr_units.specs.StopCauses.{Cause, by_writer, no_memory, by_cause, cause_of}
-use Rattle.rtr_units.specs.Stream.{WriterState, writer_count}
+use Rattle.rtr_units.specs.StopCauses.{WriterState, writer_count}
 use Rattle.rtr_session.specs.AnyFields.{AnyFields}
 use Rattle.rtr_listing.specs.PrivateFollowing.{HasSeen}
 use Rattle.rtr_listing.specs.Lines.{written_line}

@@ -2,7 +2,7 @@
 
 ghost use Rattle.std.specs.Prelude.{◌≡◌, ◌≢◌, ℕ, List, [], ◌∷◌, ◌++◌, Err, OnOk, OnErr};
 ghost use Rattle.rtr_units.specs.StopCauses.{by_cause, by_reader};
-ghost use Rattle.rtr_units.specs.Stream.{WriterState};
+ghost use Rattle.rtr_units.specs.StopCauses.{WriterState};
 ghost use Rattle.rtr_session.specs.AnyFields.{AnyFields};
 ghost use Rattle.rtr_session.specs.AnyUnits.{any_bytes, any_fields};
 ghost use Rattle.rtr_listing.specs.FindingTexts.{finding_of};

@@ -1,5 +1,6 @@
 -- Where memory may be asked for, said by the first fault.
-use Rattle.std.proofs.Common.{◌≡◌, ◌⊎◌, ℕ, ◌<◌, List, length, Option, Some, None, refl, sym, ap, ◌∙◌}
+use Rattle.std.proofs.Common.{◌≡◌, ◌⊎◌, ℕ, ◌<◌, List, length, Option, Some, None, refl, sym, ap}
+use Rattle.std.proofs.Common.{◌∙◌}
 use Rattle.std.proofs.Common.{arith, get_or, inl, inr}
 use Rattle.std.proofs.lemmas.Bool.Decides.{nat_tests}
 use Rattle.rtr_units.specs.Header.{version_field, type_field, length_field}
@@ -7,7 +8,7 @@ use Rattle.rtr_units.specs.Reading.{AsksAfter}
 use Rattle.rtr_units.specs.StopCauses.{Refusal, short}
 use Rattle.rtr_payload.specs.FaultSteps.{first_unit, frame_fault, header_step}
 use Rattle.rtr_payload.specs.FirstFault.{header_fault, prefix_fault}
-use Rattle.rtr_payload.specs.Refusals.{IsPartial, MayAskMemory}
+use Rattle.rtr_payload.specs.FirstFault.{IsPartial, MayAskMemory}
 use Rattle.rtr_payload.specs.UnitKinds.{payload_unit}
 use Rattle.rtr_payload.proofs.Frames.{InFrame, steps_are, first_none, none_in_frame}
 use Rattle.rtr_payload.proofs.Frames.{header_first, length_next, in_frame_fault}

@@ -8,7 +8,8 @@ use Rattle.std.proofs.KnownBytes.{Appends-trans}
 use Rattle.std.proofs.lemmas.List.{drop-append-le, take-append-le, take-append-drop, length-drop}
 use Rattle.std.proofs.Math.Seq.{drop-append-add}
 use Rattle.rtr_units.specs.declared.fault.Fault.{Fault}
-use Rattle.rtr_units.specs.Stream.{PutsForm, StopsWriting, WriterState, WritesPart, writer_count}
+use Rattle.rtr_units.specs.Stream.{PutsForm, StopsWriting, WritesPart}
+use Rattle.rtr_units.specs.StopCauses.{WriterState, writer_count}
 use Rattle.rtr_units.specs.StopCauses.{by_cause}
 
 -- a piece of the fixed part

@@ -9,7 +9,8 @@ use Rattle.std.specs.Iterator.{Yields}
 use Rattle.rtr_base.specs.Bytes.{be, value, words, IsBytes}
 use Rattle.rtr_base.proofs.Numbers.{length-words, slice_cmp-words}
 use Rattle.rtr_payload.specs.Providers.{words_of}
-use Rattle.rtr_payload.specs.Providers.{AreProviders, AreProviderBytes}
+use Rattle.rtr_payload.specs.Providers.{AreProviderBytes}
+use Rattle.rtr_payload.specs.Payloads.{AreProviders}
 use Rattle.rtr_payload.proofs.FieldsRead.{words_of-words, below_push, is_words}
 
 pub words-push : (ps : List ℕ) (p : ℕ) → words (ps ++ p ∷ []) ≡ words ps ++ be p 4

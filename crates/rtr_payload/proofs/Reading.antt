@@ -14,13 +14,13 @@ use Rattle.rtr_units.specs.Header.{version_field, type_field, length_field}
 use Rattle.rtr_units.specs.Reading.{of_size, IsPart, AsksAfter, Reads, ReadsAfter, by_bytes}
 use Rattle.rtr_units.specs.declared.fault.Fault.{Fault}
 use Rattle.rtr_units.proofs.UnitsRead.{AlikeAfter, reads_alike, at_header}
-use Rattle.rtr_units.specs.Stream.{ReaderState}
+use Rattle.rtr_units.specs.StopCauses.{ReaderState}
 use Rattle.rtr_units.specs.HeaderBytes.{AreBytes}
 use Rattle.rtr_units.proofs.Headers.{same_header}
 use Rattle.rtr_payload.specs.UnitKinds.{variable_unit, payload_unit}
 use Rattle.rtr_units.specs.PrefixUnits.{prefix_at}
 use Rattle.rtr_payload.specs.UnitFields.{prefix_unit, Fields, HasFields}
-use Rattle.rtr_payload.specs.Refusals.{IsPartial, IsRefused}
+use Rattle.rtr_payload.specs.FirstFault.{IsPartial, IsRefused}
 use Rattle.rtr_payload.specs.UnitBytes.{unit_bytes, unit_fields}
 use Rattle.rtr_payload.specs.declared.pdu.payload.Payload.{Payload}
 use Rattle.std.specs.Prelude.{IfOk, IsTrue}

@@ -10,7 +10,7 @@ use Rattle.rtr_units.specs.StopCauses.{too_long, unit_length, empty_providers, r
 use Rattle.rtr_units.specs.Header.{version_field, type_field, length_field}
 use Rattle.rtr_units.proofs.Headers.{same_header}
 use Rattle.rtr_payload.specs.declared.pdu.prefix_rule.PrefixRule.{PrefixRule}
-use Rattle.rtr_payload.specs.Refusals.{IsPartial, IsRefused}
+use Rattle.rtr_payload.specs.FirstFault.{IsPartial, IsRefused}
 use Rattle.rtr_payload.specs.FirstFault.{header_fault, taken, refusal_report}
 use Rattle.rtr_payload.specs.FaultSteps.{header_step, rule_of}
 use Rattle.rtr_payload.specs.UnitFields.{Fields, HasFields}

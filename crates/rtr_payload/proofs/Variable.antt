@@ -14,7 +14,7 @@ use Rattle.rtr_units.specs.Header.{length_field}
 use Rattle.rtr_units.specs.HeaderBytes.{AreBytes}
 use Rattle.rtr_units.proofs.Headers.{same_header}
 use Rattle.rtr_units.specs.Reading.{IsWhole, AsksAfter, Stops, Reads}
-use Rattle.rtr_units.specs.Stream.{ReaderState}
+use Rattle.rtr_units.specs.StopCauses.{ReaderState}
 use Rattle.rtr_units.proofs.UnitsRead.{ByHeader, rest_stops, rest_whole, at_header}
 use Rattle.rtr_payload.specs.PrivateFrames.{StopsInFrame, IsRefusedBy}
 use Rattle.rtr_payload.specs.UnitKinds.{variable_unit}

@@ -11,8 +11,9 @@
 --   6  an ASPA is announced and its length leaves no room for a provider (as in the Rust crate)
 --   7  there are fewer bytes than the length field says (section 5.1)
 --   8  the lengths of a prefix break their rule (sections 5.1, 5.6 and 5.7)
-use Rattle.std.specs.Prelude.{codes, ◌≡◌, ℕ, ◌%◌, Bool, false, not, ◌&&◌, ◌||◌, List, ◌++◌, length}
-use Rattle.std.specs.Prelude.{take, slice_index, Option, Some, None, option_map, nat_lt, nat_le}
+use Rattle.std.specs.Prelude.{codes, ◌≡◌, ◌⊎◌, ℕ, ◌%◌, Bool, false, not, ◌&&◌, ◌||◌, List, ◌++◌}
+use Rattle.std.specs.Prelude.{length, take, slice_index, Option, Some, None, option_map, nat_lt}
+use Rattle.std.specs.Prelude.{nat_le}
 use Rattle.std.specs.Prelude.{◌==◌, if◌then◌else◌}
 use Rattle.std.specs.Option.{option_or}
 use Rattle.rtr_units.specs.Header.{version_field, type_field, length_field}
@@ -114,3 +115,19 @@ pub record BeginsEnd (r : List ℕ) : Type 0 where
   pub rest : List ℕ
   pub end : IsEnd bytes means
   pub parts : r ≡ bytes ++ rest
+
+-- ---- what the front of a list shows of the unit that it begins, whatever follows it
+
+-- h is less than a whole unit, and nothing is wrong but that
+abbrev pub IsPartial : List ℕ → Type 0
+IsPartial h = first_fault h ≡ Some short
+
+-- whatever follows h, it is refused by f, and just h is taken
+abbrev pub IsRefused : List ℕ → Refusal → Type 0
+IsRefused h f = (r : List ℕ) → (first_fault (h ++ r) ≡ Some f) × (taken f (h ++ r) ≡ h)
+
+-- after h memory may be asked for: h is the header of a router key or an ASPA unit, with nothing
+-- wrong, or all of such a unit
+abbrev pub MayAskMemory : List ℕ → Type 0
+MayAskMemory h = ((type_field h ≡ 9) ⊎ (type_field h ≡ 11)) ×
+    ((IsPartial h × (length h ≡ 8)) ⊎ ((first_fault h ≡ None) × (length h ≡ length_field h)))

@@ -1,10 +1,10 @@
 -- What a payload unit means, over all kinds (each by its RFC section; the order is this library's
 -- own).
 use Rattle.std.specs.Prelude.{◌≡◌, ℕ, ◌%◌, ◌-◌, ◌^◌, ◌<◌, ◌≤◌, List, length}
+use Rattle.std.specs.List.{AllByRecursion}
 use Rattle.rtr_base.specs.Addresses.{width}
 use Rattle.rtr_base.specs.declared.payload.Action.{Action}
 use Rattle.rtr_units.specs.PrefixUnits.{OriginParts}
-use Rattle.rtr_payload.specs.Providers.{AreProviders}
 
 -- a router key (RFC 8210 section 5.10)
 pub record KeyParts : Type 0 where
@@ -52,6 +52,12 @@ pub record IsKey (k : KeyParts) : Type 0 where
   pub identifier : length k.identifier ≡ 20
   pub asn : k.asn < 2 ^ 32
   pub info : length k.info ≤ 4294967263
+
+-- as many numbers as an ASPA may name, each of four bytes: with them its unit has 65532 bytes (as
+-- in the Rust crate)
+pub record AreProviders (ps : List ℕ) : Type 0 where
+  pub count : length ps ≤ 16380
+  pub each : AllByRecursion (λ p. p < 2 ^ 32) ps
 
 -- a customer of four bytes, and providers (as in the Rust crate)
 pub record IsAspa (a : AspaParts) : Type 0 where

@@ -3,7 +3,8 @@ use Rattle.std.specs.Prelude.{◌≡◌, ◌⊎◌, ℕ, List, [], length, Optio
 use Rattle.std.specs.Io.KnownBytes.{Consumes}
 use Rattle.rtr_units.specs.StopCauses.{Refusal, Cause, no_memory, wrong, refused}
 use Rattle.rtr_units.specs.Reading.{Takes}
-use Rattle.rtr_units.specs.Stream.{FallsShort, ReaderState, reader_count}
+use Rattle.rtr_units.specs.Stream.{FallsShort}
+use Rattle.rtr_units.specs.StopCauses.{ReaderState, reader_count}
 
 -- Why reading a frame of n bytes, what follows the header of a variable unit, stopped where t of
 -- them had come. Memory is refused before the first byte, or after the last one.

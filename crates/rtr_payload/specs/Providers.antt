@@ -1,8 +1,8 @@
 -- The providers of an ASPA (as in the Rust crate).
-use Rattle.std.specs.Prelude.{◌≡◌, ℕ, ◌^◌, ◌<◌, ◌≤◌, List, [], ◌∷◌, length, Option}
+use Rattle.std.specs.Prelude.{◌≡◌, ℕ, List, [], ◌∷◌, length, Option}
 use Rattle.std.specs.Iterator.{Yields}
-use Rattle.std.specs.List.{AllByRecursion}
 use Rattle.rtr_base.specs.Bytes.{value, words}
+use Rattle.rtr_payload.specs.Payloads.{AreProviders}
 use Rattle.rtr_payload.specs.declared.pdu.providers.ProviderIterError.{ProviderIterError}
 use Rattle.rtr_payload.specs.declared.pdu.providers.ProviderIterError.TheVariants.{Count, Memory}
 
@@ -10,12 +10,6 @@ use Rattle.rtr_payload.specs.declared.pdu.providers.ProviderIterError.TheVariant
 abbrev pub words_of : List ℕ → List ℕ
 words_of (a ∷ b ∷ c ∷ d ∷ bs) = value (a ∷ b ∷ c ∷ d ∷ []) ∷ words_of bs
 words_of bs = []
-
--- as many numbers as an ASPA may name, each of four bytes: with them its unit has 65532 bytes (as
--- in the Rust crate)
-pub record AreProviders (ps : List ℕ) : Type 0 where
-  pub count : length ps ≤ 16380
-  pub each : AllByRecursion (λ p. p < 2 ^ 32) ps
 
 -- bytes are those of providers, four to each (as in the Rust crate)
 pub record AreProviderBytes (bytes : List ℕ) : Type 0 where

@@ -14,7 +14,7 @@ ghost use Rattle.rtr_base.specs.declared.payload.Action.{Action};
 ghost use Rattle.rtr_units.specs.StopCauses.{Cause, no_memory};
 ghost use Rattle.rtr_units.specs.Header.{version_field};
 ghost use Rattle.rtr_units.specs.Reading.{AsksAfter};
-ghost use Rattle.rtr_payload.specs.Refusals.{MayAskMemory};
+ghost use Rattle.rtr_payload.specs.FirstFault.{MayAskMemory};
 ghost use Rattle.rtr_payload.specs.UnitKinds.{payload_unit};
 ghost use Rattle.rtr_payload.specs.UnitBytes.{IsWritten, unit_bytes, flags_in, MeansPayload};
 ghost use Rattle.rtr_payload.specs.UnitBytes.{HasNoPayload, IsPrefixUnit};
@@ -40,7 +40,8 @@ pub fn types_and_limits() -> (u8, u8)
     (RouterKey::PDU, Aspa::PDU)
 }
 
-/// The bytes of the fixed part of a router key (RFC 8210 section 5.10) and of an ASPA unit (as in the
+/// The bytes of the fixed part of a router key (RFC 8210 section 5.10) and of an ASPA unit (as in
+/// the
 /// Rust crate `rpki`), which are answered.
 pub fn fixed_sizes() -> (usize, usize)
     ensures router_key { result.0 ≡ 32 }

@@ -13,7 +13,8 @@ use Rattle.rtr_units.specs.AnyEnd.{end_unit}
 use Rattle.rtr_units.specs.Header.{version_field, type_field, length_field}
 use Rattle.rtr_units.specs.Reading.{Kind, exact_length, least_length}
 use Rattle.rtr_units.specs.Reading.{of_size, ReadsAfter, Stops}
-use Rattle.rtr_units.specs.Stream.{FallsShort, ReaderState}
+use Rattle.rtr_units.specs.Stream.{FallsShort}
+use Rattle.rtr_units.specs.StopCauses.{ReaderState}
 use Rattle.rtr_units.proofs.Headers.{same_header}
 use Rattle.rtr_units.proofs.UnitsRead.{AlikeAfter, alike_stops, header_stops, at_header, typed_is}
 use Rattle.rtr_payload.specs.FirstFault.{header_fault}

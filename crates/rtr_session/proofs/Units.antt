@@ -13,7 +13,7 @@ use Rattle.rtr_units.specs.Queries.{bare_list, serial_list, serial_field}
 use Rattle.rtr_units.specs.PrefixUnits.{prefix_type, prefix_size, prefix_at}
 use Rattle.rtr_units.specs.Header.{header, version_field, type_field, session_field, length_field}
 use Rattle.rtr_units.specs.Reading.{Kind, of_size, Takes, ReadsAfter}
-use Rattle.rtr_units.specs.Stream.{ReaderState}
+use Rattle.rtr_units.specs.StopCauses.{ReaderState}
 use Rattle.rtr_units.proofs.UnitsRead.{sized_from}
 use Rattle.rtr_units.specs.HeaderBytes.{AreBytes}
 use Rattle.rtr_units.proofs.Headers.{header_read, header_bytes, same_header, session_fits}

@@ -6,7 +6,7 @@ use Rattle.std.specs.Io.KnownBytes.{Consumes, IsAtEnd}
 use Rattle.rtr_units.specs.declared.fault.Fault.{Fault}
 use Rattle.rtr_units.specs.StopCauses.{short, Cause, wrong, cause_of, by_cause}
 use Rattle.rtr_units.specs.Reading.{Stops, Takes}
-use Rattle.rtr_units.specs.Stream.{ReaderState, reader_count}
+use Rattle.rtr_units.specs.StopCauses.{ReaderState, reader_count}
 use Rattle.rtr_session.specs.AnyFields.{HasAnyFields}
 use Rattle.rtr_session.specs.SessionKinds.{session_unit}
 use Rattle.rtr_session.specs.AnyUnits.{any_bytes, any_fields}

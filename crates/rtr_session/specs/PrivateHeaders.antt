@@ -5,7 +5,7 @@ use Rattle.std.specs.Io.KnownBytes.{Consumes}
 use Rattle.rtr_base.specs.Bytes.{value}
 use Rattle.rtr_units.specs.StopCauses.{by_cause, cause_of}
 use Rattle.rtr_units.specs.Reading.{Takes}
-use Rattle.rtr_units.specs.Stream.{ReaderState, reader_count}
+use Rattle.rtr_units.specs.StopCauses.{ReaderState, reader_count}
 use Rattle.rtr_units.specs.HeaderBytes.{header_bytes}
 use Rattle.rtr_units.specs.declared.fault.Fault.{Fault}
 use Rattle.rtr_units.specs.declared.header.Header.{Header}

@@ -19,7 +19,8 @@ use Rattle.rtr_units.specs.AnyEnd.{end_unit}
 use Rattle.rtr_units.specs.Header.{version_field, type_field, length_field}
 use Rattle.rtr_units.specs.Reading.{Kind, of_size, of_type, any_unit, IsWhole, IsPart, Stops}
 use Rattle.rtr_units.specs.Reading.{FillsPiece, Reads, ReadsAfter, ReadsBytes, by_bytes}
-use Rattle.rtr_units.specs.Stream.{FallsShort, ReaderState, reader_count}
+use Rattle.rtr_units.specs.Stream.{FallsShort}
+use Rattle.rtr_units.specs.StopCauses.{ReaderState, reader_count}
 use Rattle.rtr_units.proofs.Headers.{same_header}
 
 -- ---- kinds

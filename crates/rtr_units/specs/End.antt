@@ -4,7 +4,7 @@ use Rattle.std.specs.Prelude.{◌≡◌, ℕ, ◌^◌, ◌<◌, ◌⊎◌, List,
 use Rattle.rtr_base.specs.declared.payload.Timing.{Timing}
 use Rattle.rtr_base.specs.Bytes.{be, value}
 use Rattle.rtr_units.specs.Header.{header, version_field, session_field}
-use Rattle.rtr_units.specs.Queries.{serial_list, serial_field}
+use Rattle.rtr_units.specs.Queries.{serial_field}
 use Rattle.rtr_units.specs.declared.fixed.EndOfDataV0.{EndOfDataV0}
 use Rattle.rtr_units.specs.declared.fixed.EndOfDataV1.{EndOfDataV1}
 
@@ -17,7 +17,7 @@ pub record EndMeaning : Type 0 where
 
 -- its list of bytes
 abbrev pub timed_list : ℕ → ℕ → ℕ → Option Timing → List ℕ
-timed_list v s q None = serial_list v 7 s q
+timed_list v s q None = header v 7 s 12 ++ be q 4
 timed_list v s q (Some t) = header v 7 s 24 ++
     (be q 4 ++ be t.refresh 4 ++ be t.retry 4 ++ be t.expire 4)
 

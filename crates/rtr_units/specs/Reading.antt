@@ -10,7 +10,8 @@ use Rattle.rtr_units.specs.StopCauses.{Refusal, short, unit_type, too_long, unit
 use Rattle.rtr_units.specs.StopCauses.{Cause, by_reader, by_writer, too_many, no_memory, wrong}
 use Rattle.rtr_units.specs.StopCauses.{cause_of}
 use Rattle.rtr_units.specs.Header.{type_field, length_field}
-use Rattle.rtr_units.specs.Stream.{BeginsWithTaken, FallsShort, ReaderState, reader_count}
+use Rattle.rtr_units.specs.Stream.{BeginsWithTaken, FallsShort}
+use Rattle.rtr_units.specs.StopCauses.{ReaderState, reader_count}
 use Rattle.rtr_units.specs.HeaderBytes.{AreBytes}
 use Rattle.rtr_units.specs.declared.fault.Fault.{Fault}
 

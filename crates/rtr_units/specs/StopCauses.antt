@@ -1,5 +1,11 @@
--- Why a call on units stopped, apart from how the code keeps it. The causes are this library's own.
-use Rattle.std.specs.Prelude.{ℕ, List, Result, Ok, Err}
+-- Why a call on units stopped, apart from how the code keeps it, and what it shows of its reader
+-- and
+-- its writer. The causes and the counts are this library's own.
+use Rattle.std.specs.Prelude.{◌≡◌, ℕ, ◌+◌, ◌-◌, ◌^◌, min, Bool, false, cond, List, Option}
+use Rattle.std.specs.Prelude.{Result, Ok, Err, ⊤, ◌⊎◌}
+use Rattle.std.specs.declared.io.Error.{Error}
+use Rattle.std.specs.declared.io.ErrorKind.TheVariants.{WriteZero}
+use Rattle.std.specs.IoError.{error_kind}
 use Rattle.rtr_units.specs.declared.fault.Fault.{Fault}
 use Rattle.rtr_units.specs.declared.fault.Fault.TheVariants.{Reader, Writer, Short, UnitType}
 use Rattle.rtr_units.specs.declared.fault.Fault.TheVariants.{UnitLength, TooLong, EmptyProviders}
@@ -44,3 +50,43 @@ cause_of Memory = no_memory
 abbrev pub by_cause : {T : Type 0} → Result T Fault → Result T Cause
 by_cause (Ok x) = Ok x
 by_cause (Err f) = Err (cause_of f)
+
+-- ---- readers and writers
+
+-- a count of failures, which stays at the greatest u64
+abbrev pub count_after : ℕ → Bool → ℕ
+count_after n well = cond well n (min (n + 1) (2 ^ 64 - 1))
+
+-- What a reader has left to give, where that is known, and how often it has failed, up to 2^64 - 1.
+pub record ReaderState : Type 0 where
+  pub left : Option (List ℕ)
+  pub failed : ℕ
+
+-- What a writer holds, where that is known, and how often it has failed, up to 2^64 - 1.
+pub record WriterState : Type 0 where
+  pub held : Option (List ℕ)
+  pub failed : ℕ
+
+-- the reader's count of failures after a call with this answer, where it was n before
+abbrev pub reader_count : {T : Type 0} → Result T Cause → ℕ → ℕ
+reader_count (Err by_reader) n = count_after n false
+reader_count answer n = n
+
+-- and the writer's
+abbrev pub writer_count : {T : Type 0} → Result T Cause → ℕ → ℕ
+writer_count (Err by_writer) n = count_after n false
+writer_count answer n = n
+
+-- the error in a reader's fault is one that the last read may have given
+abbrev pub HoldsReadError : (Error → Type 0) → Fault → Type 0
+HoldsReadError fails (Reader e) = fails e
+HoldsReadError fails _ = ⊤
+
+-- the error is one that the last write may have given, or says that this write took nothing
+abbrev pub IsWriteError : (Error → Type 0) → Type 0 → Error → Type 0
+IsWriteError fails Stalls e = fails e ⊎ ((error_kind e ≡ WriteZero) × Stalls)
+
+-- the error in a writer's fault is one of the last write
+abbrev pub HoldsWriteError : (Error → Type 0) → Type 0 → Fault → Type 0
+HoldsWriteError fails Stalls (Writer e) = IsWriteError fails Stalls e
+HoldsWriteError fails Stalls _ = ⊤

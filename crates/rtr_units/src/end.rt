@@ -9,7 +9,8 @@ ghost use Rattle.rtr_units.specs.AnyEnd.{end_bytes, end_meaning, end_unit, is_ti
 ghost use Rattle.rtr_units.specs.Header.{version_field, type_field};
 ghost use Rattle.rtr_units.specs.Queries.{serial_list};
 ghost use Rattle.rtr_units.specs.Reading.{ReadsAfter, by_bytes};
-ghost use Rattle.rtr_units.specs.Stream.{PutsForm, HoldsReadError, HoldsWriteError};
+ghost use Rattle.rtr_units.specs.Stream.{PutsForm};
+ghost use Rattle.rtr_units.specs.StopCauses.{HoldsReadError, HoldsWriteError};
 ghost use Rattle.rtr_units.specs.HeaderBytes.{header_bytes};
 
 use crate::fault::Fault;

@@ -9,7 +9,8 @@ ghost use Rattle.std.specs.Cmp.Rules.{hashing};
 ghost use Rattle.std.specs.Hash as fed;
 ghost use Rattle.rtr_units.specs.Reading.{FillsPiece, ReadsAfter, any_unit, by_bytes};
 ghost use Rattle.rtr_units.specs.Report.{report};
-ghost use Rattle.rtr_units.specs.Stream.{PutsForm, HoldsReadError, HoldsWriteError};
+ghost use Rattle.rtr_units.specs.Stream.{PutsForm};
+ghost use Rattle.rtr_units.specs.StopCauses.{HoldsReadError, HoldsWriteError};
 ghost use Rattle.rtr_units.specs.HeaderBytes.{header_bytes};
 
 use crate::fault::Fault;

@@ -7,7 +7,8 @@ ghost use Rattle.rtr_base.specs.Bytes.{IsBytes};
 ghost use Rattle.rtr_units.specs.Header.{header, version_field, type_field, session_field};
 ghost use Rattle.rtr_units.specs.Header.{length_field};
 ghost use Rattle.rtr_units.specs.Reading.{FillsPiece, by_bytes};
-ghost use Rattle.rtr_units.specs.Stream.{PutsForm, HoldsReadError, HoldsWriteError};
+ghost use Rattle.rtr_units.specs.Stream.{PutsForm};
+ghost use Rattle.rtr_units.specs.StopCauses.{HoldsReadError, HoldsWriteError};
 ghost use Rattle.rtr_units.specs.HeaderBytes.{header_bytes, AreBytes};
 
 use crate::cells::Cells;

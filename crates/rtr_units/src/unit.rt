@@ -11,7 +11,8 @@ ghost use Rattle.rtr_units.specs.StopCauses.{by_cause, cause_of};
 ghost use Rattle.rtr_units.specs.Header.{version_field, type_field, session_field};
 ghost use Rattle.rtr_units.specs.Reading.{LeavesUnit, Reads, ReadsAfter, ReadsBytes, Stops};
 ghost use Rattle.rtr_units.specs.Reading.{Takes, by_bytes, of_size, of_type};
-ghost use Rattle.rtr_units.specs.Stream.{PutsForm, reader_count, HoldsReadError, HoldsWriteError};
+ghost use Rattle.rtr_units.specs.Stream.{PutsForm};
+ghost use Rattle.rtr_units.specs.StopCauses.{reader_count, HoldsReadError, HoldsWriteError};
 ghost use Rattle.rtr_units.specs.HeaderBytes.{header_bytes, AreBytes};
 
 use crate::error::Error;

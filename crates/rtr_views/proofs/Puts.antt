@@ -6,7 +6,8 @@ use Rattle.std.specs.Io.KnownBytes.{Appends}
 use Rattle.std.proofs.KnownBytes.{Appends-trans}
 use Rattle.std.proofs.lemmas.List.{length-append}
 use Rattle.rtr_views.specs.declared.fault.ViewFault.{ViewFault}
-use Rattle.rtr_units.specs.Stream.{WriterState, WritesPart, count_after}
+use Rattle.rtr_units.specs.Stream.{WritesPart}
+use Rattle.rtr_units.specs.StopCauses.{WriterState, count_after}
 use Rattle.rtr_views.specs.Faults.{IsWriterFault, PutsPiece, is_view_writer_fault}
 
 pub same_put : {T : Type 0} (r : Result T ViewFault) (old new : WriterState) (a form : List ℕ) →

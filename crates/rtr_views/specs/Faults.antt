@@ -5,7 +5,8 @@ use Rattle.std.specs.Io.KnownBytes.{Appends}
 use Rattle.std.specs.declared.io.Error.{Error}
 use Rattle.rtr_units.specs.StopCauses.{short, unit_type, unit_version, too_long, unit_length}
 use Rattle.rtr_units.specs.StopCauses.{empty_providers, refused}
-use Rattle.rtr_units.specs.Stream.{WriterState, WritesPart, IsWriteError, count_after}
+use Rattle.rtr_units.specs.Stream.{WritesPart}
+use Rattle.rtr_units.specs.StopCauses.{WriterState, IsWriteError, count_after}
 use Rattle.rtr_payload.specs.FirstFault.{first_fault, refusal_report}
 use Rattle.rtr_payload.specs.FaultSteps.{first_unit}
 use Rattle.rtr_views.specs.declared.fault.ViewFault.{ViewFault}

@@ -13,7 +13,8 @@ use Rattle.rtr_units.specs.StopCauses.{unit_length}
 use Rattle.rtr_units.specs.StopCauses.{empty_providers, refused, Cause, by_reader}
 use Rattle.rtr_units.specs.StopCauses.{by_writer, too_many, no_memory, wrong}
 use Rattle.rtr_units.specs.AnyEnd.{end_meaning}
-use Rattle.rtr_units.specs.Stream.{ReaderState, WriterState, WritesPart, count_after}
+use Rattle.rtr_units.specs.Stream.{WritesPart}
+use Rattle.rtr_units.specs.StopCauses.{ReaderState, WriterState, count_after}
 use Rattle.rtr_payload.specs.Payloads.{Meaning}
 use Rattle.rtr_payload.specs.KeyUnits.{key_at}
 use Rattle.rtr_payload.specs.UnitFields.{key_unit, aspa_unit}

@@ -4,7 +4,7 @@ use Rattle.std.specs.Prelude.{◌≡◌, ℕ, not, List, ◌++◌, length, Resul
 use Rattle.std.specs.Io.KnownBytes.{Appends}
 use Rattle.rtr_units.specs.StopCauses.{short, unit_type, unit_version, too_long, unit_length}
 use Rattle.rtr_units.specs.StopCauses.{empty_providers, refused, Cause, by_writer, too_many, wrong}
-use Rattle.rtr_units.specs.Stream.{WriterState, count_after}
+use Rattle.rtr_units.specs.StopCauses.{WriterState, count_after}
 use Rattle.rtr_payload.specs.FirstFault.{refusal_report}
 use Rattle.rtr_views.specs.Faults.{is_view_writer_fault}
 use Rattle.rtr_views.specs.declared.fault.ViewFault.{ViewFault}

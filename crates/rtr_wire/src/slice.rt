@@ -1,7 +1,7 @@
 //! Runs over sequences that lie in a slice.
 
 ghost use Rattle.std.specs.Prelude.{◌≡◌, Ok, Some, IfOk, IfErr, not};
-ghost use Rattle.rtr_units.specs.Stream.{count_after};
+ghost use Rattle.rtr_units.specs.StopCauses.{count_after};
 ghost use Rattle.rtr_views.specs.Faults.{is_view_writer_fault, HoldsViewWriteError};
 ghost use Rattle.rtr_wire.specs.PrivateSteps.{Steps, StopsStep, is_payload_unit, passed};
 ghost use Rattle.rtr_wire.specs.Sequences.{everything};

@@ -2,7 +2,7 @@
 
 ghost use Rattle.std.specs.Prelude.{◌≡◌, ℕ, List, Some, Result, Ok, IsOk};
 ghost use Rattle.rtr_units.specs.declared.fault.Fault.{Fault};
-ghost use Rattle.rtr_units.specs.Stream.{ReaderState, WriterState};
+ghost use Rattle.rtr_units.specs.StopCauses.{ReaderState, WriterState};
 ghost use Rattle.rtr_views.specs.declared.fault.ViewFault.{ViewFault};
 ghost use Rattle.rtr_units.specs.StopCauses.{by_cause};
 ghost use Rattle.rtr_wire.specs.Run.{HasRun, BlamesNobody, Normalises};

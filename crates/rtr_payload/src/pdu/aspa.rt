@@ -5,7 +5,8 @@ ghost use Rattle.std.proofs.Common.{rules};
 ghost use Rattle.rtr_base.specs.Bytes.{words};
 ghost use Rattle.rtr_payload.specs.AspaUnits.{aspa_at};
 ghost use Rattle.rtr_payload.specs.Payloads.{IsAspa, aspa};
-ghost use Rattle.rtr_payload.specs.Providers.{AreProviders, AreProviderBytes};
+ghost use Rattle.rtr_payload.specs.Providers.{AreProviderBytes};
+ghost use Rattle.rtr_payload.specs.Payloads.{AreProviders};
 ghost use Rattle.rtr_payload.specs.UnitFields.{aspa_unit};
 ghost use Rattle.rtr_payload.specs.Units.{form};
 

@@ -4,7 +4,7 @@ ghost use Rattle.std.specs.Prelude.{IfOk, IfErr};
 ghost use Rattle.rtr_base.specs.Bytes.{IsBytes};
 ghost use Rattle.rtr_units.specs.Reading.{by_bytes};
 ghost use Rattle.rtr_payload.specs.PrivateFrames.{ReadsFrame};
-ghost use Rattle.rtr_units.specs.Stream.{HoldsReadError};
+ghost use Rattle.rtr_units.specs.StopCauses.{HoldsReadError};
 
 use bytes::Bytes;
 use rtr_units::fault::Fault;

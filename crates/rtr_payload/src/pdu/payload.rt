@@ -6,7 +6,8 @@ ghost use Rattle.rtr_base.specs.Actions.{act};
 ghost use Rattle.rtr_units.specs.StopCauses.{by_cause, by_writer, cause_of};
 ghost use Rattle.rtr_units.specs.Header.{type_field, version_field};
 ghost use Rattle.rtr_units.specs.Reading.{Reads, ReadsAfter, by_bytes};
-ghost use Rattle.rtr_units.specs.Stream.{PutsForm, HoldsReadError, HoldsWriteError};
+ghost use Rattle.rtr_units.specs.Stream.{PutsForm};
+ghost use Rattle.rtr_units.specs.StopCauses.{HoldsReadError, HoldsWriteError};
 ghost use Rattle.rtr_units.specs.Report.{report};
 ghost use Rattle.rtr_units.specs.HeaderBytes.{header_bytes};
 ghost use Rattle.rtr_payload.specs.Payloads.{smallest_version as smallest};
@@ -52,8 +53,10 @@ impl Payload {
     ghost use Rattle.rtr_payload.specs.UnitBytes.{IsOriginRef};
     ghost use Rattle.rtr_payload.specs.UnitBytes.{IsSupported};
 
-    /// The unit of this version and these flags that has the payload. Free bytes are zero. The bytes
-    /// of keys and ASPAs are shared: no memory is asked for, and `AllocError` says that the count of
+    /// The unit of this version and these flags that has the payload. Free bytes are zero. The
+    /// bytes
+    /// of keys and ASPAs are shared: no memory is asked for, and `AllocError` says that the count
+    /// of
     /// those that share them is full.
     ///
     /// All providers of an ASPA are written, with even flags too: a withdrawal is made of
@@ -227,7 +230,8 @@ impl Payload {
     /// bytes say. The bytes of keys and ASPAs are shared.
     ///
     /// `Refused` holds the report on a prefix that breaks the rule on its lengths. `Memory` says
-    /// that there was none for that report, or that the count of those that share the bytes is full.
+    /// that there was none for that report, or that the count of those that share the bytes is
+    /// full.
     pub fn to_payload(&self, alloc: Global) -> Result<(Action, payload::Payload), Fault>
         ensures ok { IfOk result (λ m. MeansPayload self.now m.0 m.1) }
         ensures err { IfErr result (λ e. HasNoPayload self.now (cause_of e)) }

@@ -8,7 +8,7 @@ ghost use Rattle.rtr_units.specs.StopCauses.{by_cause, by_writer, cause_of};
 ghost use Rattle.rtr_units.specs.PrefixUnits.{prefix_at, prefix_type, prefix_size, address_bytes};
 ghost use Rattle.rtr_units.specs.Header.{type_field};
 ghost use Rattle.rtr_units.specs.Reading.{LeavesUnit, ReadsAfter, by_bytes};
-ghost use Rattle.rtr_units.specs.Stream.{HoldsReadError};
+ghost use Rattle.rtr_units.specs.StopCauses.{HoldsReadError};
 ghost use Rattle.rtr_units.specs.HeaderBytes.{header_bytes};
 ghost use Rattle.rtr_payload.specs.declared.payload.Payload.TheVariants as payloads;
 ghost use Rattle.rtr_payload.specs.declared.pdu.payload.Payload.{Payload};

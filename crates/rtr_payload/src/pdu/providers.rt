@@ -11,7 +11,8 @@ ghost use Rattle.std.specs.Hash as fed;
 ghost use Rattle.std.specs.Iterator.{Drains, YieldsFirst, item_count};
 ghost use Rattle.std.specs.Ordering.{nat_cmp};
 ghost use Rattle.rtr_base.specs.Bytes.{words};
-ghost use Rattle.rtr_payload.specs.Providers.{AreProviders, StopsTaking};
+ghost use Rattle.rtr_payload.specs.Providers.{StopsTaking};
+ghost use Rattle.rtr_payload.specs.Payloads.{AreProviders};
 
 use bytes::{BufMut, Bytes, BytesMut};
 use rtr_base::asn::Asn;

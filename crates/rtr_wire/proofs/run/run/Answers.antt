@@ -1,7 +1,7 @@
 use Rattle.std.proofs.lemmas.Result.{err_from_is_err_and}
 use Rattle.std.proofs.Common.{ℕ, Err, ◌∙◌, ap, rules, refl, arith}
 use Rattle.rtr_units.specs.StopCauses.{cause_of}
-use Rattle.rtr_units.specs.Stream.{reader_count, writer_count}
+use Rattle.rtr_units.specs.StopCauses.{reader_count, writer_count}
 use Rattle.rtr_wire.proofs.Calls.{normalises}
 use Rattle.rtr_wire.proofs.Stepping.{starts, goes_on, leaves_out, finishes, breaks, reaches_limit}
 use Rattle.rtr_wire.proofs.run.run.Goals.{in-Written, in-LeftOut}

@@ -2,7 +2,7 @@ use Rattle.std.proofs.Common.{◌++◌, ◌∙◌, Err, ap}
 use Rattle.std.proofs.lemmas.Result.{err_from_is_err_and}
 use Rattle.std.proofs.KnownBytes.{Consumes-trans}
 use Rattle.rtr_units.specs.StopCauses.{cause_of}
-use Rattle.rtr_units.specs.Stream.{reader_count}
+use Rattle.rtr_units.specs.StopCauses.{reader_count}
 use Rattle.rtr_units.specs.HeaderBytes.{header_bytes}
 use Rattle.rtr_session.specs.declared.any_unit.AnyUnit.{AnyUnit}
 use Rattle.rtr_session.proofs.any_unit.AnyUnit.read.Goals as goal
