@@ -7,4 +7,5 @@ pub mod ProviderOrder
 pub mod ReportFields
 mod Runs
 mod Shown
+mod Tokens
 pub mod TextTests

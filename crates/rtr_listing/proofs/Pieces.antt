@@ -10,10 +10,8 @@ use Rattle.rtr_base.specs.declared.payload.Timing.{Timing}
 use Rattle.rtr_listing.specs.TextLines.{report_words, timing_words}
 use Rattle.rtr_base.specs.Bytes.{words}
 use Rattle.rtr_base.proofs.Numbers.{length-words}
-use Rattle.std.proofs.lemmas.List.{flat_map_more, take_more, map-append}
+use Rattle.std.proofs.lemmas.List.{flat_map_more, take_more}
 use Rattle.std.specs.Char.Escape.{escape_ascii}
-use Rattle.json.specs.Token.{Token, number}
-use Rattle.rtr_listing.specs.JsonLines.{number_tokens}
 
 -- the escape of one byte more
 pub escape_more : (t xs : List ℕ) (i : ℕ) → i < length xs →
@@ -22,20 +20,6 @@ pub escape_more : (t xs : List ℕ) (i : ℕ) → i < length xs →
 escape_more t xs i h =
     flat_map_more escape_ascii t (take i xs) (get_or xs i 0)
     ∙ ap (λ l. t ++ flat_map escape_ascii l) (sym (take_more xs i 0 h))
-
--- the token of one number more
-pub number_more : (t : List Token) (ns : List ℕ) (n : ℕ) →
-    (t ++ number_tokens ns) ++ number (decimal n) ∷ [] ≡ t ++ number_tokens (ns ++ n ∷ [])
-number_more t ns n =
-    append_assoc t (number_tokens ns) (number (decimal n) ∷ [])
-    ∙ ap (λ l. t ++ l) (sym (map-append (λ k. number (decimal k)) ns (n ∷ [])))
-
-pub number_more_at : (t : List Token) (ns : List ℕ) (i : ℕ) → i < length ns →
-    (t ++ number_tokens (take i ns)) ++ number (decimal (get_or ns i 0)) ∷ []
-    ≡ t ++ number_tokens (take (i + 1) ns)
-number_more_at t ns i h =
-    number_more t (take i ns) (get_or ns i 0)
-    ∙ ap (λ l. t ++ number_tokens l) (sym (take_more ns i 0 h))
 
 -- the bytes of providers, four to each
 pub words_size : (ps : List ℕ) → length (words ps) ≡ 4 * length ps

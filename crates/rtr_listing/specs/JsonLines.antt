@@ -142,14 +142,19 @@ own_tokens (cache_reset version session) = numbers_field (codes "zero") (session
 own_tokens (error_report version code body) =
     number_field (codes "error_code") code ++ report_tokens (report_parts body)
 
--- the object of a unit that stands after so many bytes
-abbrev pub tokens_of : ℕ → AnyFields → List Token
-tokens_of offset fields =
-    begin_object ∷ (
+-- the fields that all units have, of a unit that stands after so many bytes
+abbrev pub common_tokens : ℕ → AnyFields → List Token
+common_tokens offset fields =
     number_field (codes "offset") offset
     ++ number_field (codes "length") (length (any_list fields))
     ++ text_field (codes "kind") (kind_name fields)
     ++ number_field (codes "version") (fields_version fields)
+
+-- its object
+unfoldable pub tokens_of : ℕ → AnyFields → List Token
+tokens_of offset fields =
+    begin_object ∷ (
+    common_tokens offset fields
     ++ session_tokens (any_session fields)
     ++ own_tokens fields
     ++ end_object ∷ [])

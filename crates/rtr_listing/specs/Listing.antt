@@ -16,6 +16,7 @@ use Rattle.rtr_units.specs.StopCauses.{ReaderState, WriterState, reader_count, w
 use Rattle.rtr_session.specs.AnyFields.{AnyFields, HasAnyFields, any_list}
 use Rattle.rtr_session.specs.AnyReading.{StopsInAny}
 use Rattle.rtr_listing.specs.FindingTexts.{finding_of}
+use Rattle.rtr_listing.specs.JsonLines.{unit_json}
 use Rattle.rtr_listing.specs.Lines.{written_line}
 use Rattle.rtr_listing.specs.Rules.{findings}
 use Rattle.rtr_listing.specs.TextLines.{unit_text}
@@ -44,12 +45,11 @@ offset_of units = min (length (units_bytes units)) (2 ^ 64 - 1)
 abbrev pub finding_lines : ℕ → List Finding → List (List ℕ)
 finding_lines offset broken = map (λ finding. written_line (finding_of offset finding)) broken
 
--- what is printed of a unit at this offset that comes after those before: its line for people, one
+-- what is printed of a unit at this offset that comes after those before: its line for people, its
 -- line of JSON, or a line of each rule that it breaks
 abbrev pub UnitLines : Wanted → ℕ → List AnyFields → AnyFields → List (List ℕ) → Type 0
 UnitLines Text offset before unit lines = lines ≡ written_line (unit_text offset unit) ∷ []
-UnitLines Json offset before unit lines =
-    (text : List ℕ) × (lines ≡ written_line text ∷ [])
+UnitLines Json offset before unit lines = lines ≡ written_line (unit_json offset unit) ∷ []
 UnitLines Findings offset before unit lines =
     lines ≡ finding_lines offset (findings before unit)
 

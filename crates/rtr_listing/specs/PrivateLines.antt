@@ -34,10 +34,6 @@ abbrev pub PutsLine : List ℕ → Result (Unit {0}) Fault → WriterState → W
 PutsLine text r old new =
     PutsLineBytes text r old.held new.held × (new.failed ≡ writer_count (by_cause r) old.failed)
 
--- the line of some text
-abbrev pub PutsSome : Result (Unit {0}) Fault → WriterState → WriterState → Type 0
-PutsSome r old new = (text : List ℕ) × PutsLine text r old new
-
 -- ---- one unit
 
 -- these lines of one unit were printed, with whether they tell of a broken rule, or printing

@@ -7,10 +7,11 @@ ghost use Rattle.rtr_session.specs.AnyFields.{AnyFields};
 ghost use Rattle.rtr_session.specs.AnyUnits.{any_bytes, any_fields};
 ghost use Rattle.rtr_listing.specs.FindingTexts.{finding_of};
 ghost use Rattle.rtr_listing.specs.PrivateFollowing.{HasSeen};
+ghost use Rattle.rtr_listing.specs.JsonLines.{unit_json};
 ghost use Rattle.rtr_listing.specs.Lines.{written_line};
 ghost use Rattle.rtr_listing.specs.Listing.{finding_lines};
 ghost use Rattle.rtr_listing.specs.PrivateLines.{HasChecked, Prints, PrintsUnit, PutsLine};
-ghost use Rattle.rtr_listing.specs.PrivateLines.{PutsSome, offset_after};
+ghost use Rattle.rtr_listing.specs.PrivateLines.{offset_after};
 ghost use Rattle.rtr_listing.specs.TextLines.{unit_text};
 ghost use Rattle.rtr_listing.specs.declared.run.Wanted.TheVariants.{Text, Json, Findings};
 
@@ -124,7 +125,8 @@ impl Printer {
     }
 
     fn print_json<W: Sink>(&mut self, unit: &AnyUnit, output: &mut W) -> Result<(), Fault>
-        ensures line { PutsSome result (W.state output.old) (W.state output.new) }
+        ensures line { PutsLine (unit_json self.old.offset (any_fields unit.now)) result
+            (W.state output.old) (W.state output.new) }
         ensures no_reader { by_cause result ≢ Err by_reader }
         ensures offset { self.new.offset ≡ self.old.offset }
     {
