@@ -105,8 +105,10 @@ fn many_providers_debug(rt: HostRuntime) -> Result<(), Fail> {
             items.push(Asn::from_u32(i))?;
         }
         let shown = format!(in alloc; "{named:?}")?;
+        let left = format!(in alloc; "{:?}", named.iter())?;
         let wanted = format!(in alloc; "{:?}", items.as_slice())?;
-        expect_equal(&rt, shown, wanted);
+        expect_equal(&rt, shown.as_str(), wanted.as_str());
+        expect_equal(&rt, left, wanted);
     }
     Ok(())
 }
