@@ -4,6 +4,7 @@ use Rattle.std.proofs.Common.{Result, Ok, Err, refl, sym, ap, subst}
 use Rattle.std.proofs.Common.{◌∙◌, append_assoc, arith, inl, inr}
 use Rattle.std.proofs.lemmas.Bool.{cases_lt}
 use Rattle.std.proofs.lemmas.List.{length-append}
+use Rattle.std.proofs.lemmas.List.Elements.{filter_map-append}
 use Rattle.rtr_units.specs.StopCauses.{Refusal, short, unit_type, unit_version}
 use Rattle.rtr_units.specs.StopCauses.{too_long, unit_length, empty_providers, refused}
 use Rattle.rtr_units.specs.End.{EndMeaning, end_list}
@@ -17,13 +18,14 @@ use Rattle.rtr_views.specs.declared.fault.ViewFault.{ViewFault}
 use Rattle.rtr_views.specs.declared.fault.ViewFault.TheVariants as faults
 use Rattle.rtr_wire.specs.Into.{FillsInto, RefusesVersion}
 use Rattle.rtr_wire.specs.Sequences.{AreUnits, Accepts, Output, forms, sequence_form}
+use Rattle.rtr_wire.specs.Sequences.{form_written, written_units}
 use Rattle.rtr_wire.specs.declared.into.IntoFault.{IntoFault}
 use Rattle.rtr_wire.specs.declared.into.IntoFault.TheVariants.{NoRoom, TooMany, Refused}
 use Rattle.rtr_wire.specs.declared.into.Progress.{Progress}
 use Rattle.rtr_wire.proofs.OneAnswer.{begins_end, no_unit, no_end}
 use Rattle.rtr_wire.proofs.Push.{forms_append, units_push}
 use Rattle.rtr_wire.proofs.Runs.{accepted_same, after as then, goes_on, kept_accepted}
-use Rattle.rtr_wire.proofs.Stepping.{Joins}
+use Rattle.rtr_wire.proofs.Written.{forms_one_more}
 use Rattle.rtr_c.specs.Answers.{Tells, TellsSequence, CallSucceeds, CallSucceedsOnly}
 use Rattle.rtr_c.specs.Answers.{fault_status, stop_status, run_status}
 use Rattle.rtr_c.specs.declared.answer.RtrAnswer.{RtrAnswer}
@@ -67,7 +69,7 @@ only what limit (Err g) input before after p a code f t zero =
     absurd (stop_some g (sym t.answered ∙ zero))
 only what limit (Ok done) input before after p a code f t zero =
     let (e, last, left, parts, end, below, taken, written) = f.ends in
-    let wrote : p.written ≡ length (sequence_form (what.units f.ms) (what.end e)) =
+    let wrote : p.written ≡ length (sequence_form (written_units what f.ms) (what.end e)) =
     f.written ∙ ap length written in (
       f.us ++ last,
       f.ms,
@@ -145,36 +147,34 @@ front_of a r c s (m ∷ ms) (n ∷ ns) h j e l =
     (more, λ i. sym f.1 i ∷ is i)
 
 -- the form of units is as long as that of some of them, of one more and of the others
-longer : (what : Output) → Joins what → (ns : List Meaning) (m : Meaning)
-    (more ms : List Meaning) → ms ≡ (ns ++ m ∷ []) ++ more →
-    length (forms (what.units ns)) + length (forms (what.units (m ∷ []))) ≤
-    length (forms (what.units ms))
-longer what joins ns m more ms is =
-    let some = what.units ns in
-    let one = what.units (m ∷ []) in
-    let others = what.units more in
-    let all : what.units ms ≡ (some ++ one) ++ others =
-    ap what.units is ∙ joins (ns ++ m ∷ []) more ∙ ap (λ l. l ++ others) (joins ns (m ∷ [])) in
-    let joined : forms (what.units ms) ≡ (forms some ++ forms one) ++ forms others =
-    ap forms all ∙ forms_append (some ++ one) others
-    ∙ ap (λ l. l ++ forms others) (forms_append some one) in
+longer : (what : Output) (ns : List Meaning) (m : Meaning) (more ms : List Meaning) →
+    ms ≡ (ns ++ m ∷ []) ++ more →
+    length (forms (written_units what ns)) + length (form_written (what.unit m)) ≤
+    length (forms (written_units what ms))
+longer what ns m more ms is =
+    let front = written_units what (ns ++ m ∷ []) in
+    let others = written_units what more in
+    let joined : forms (written_units what ms) ≡ forms front ++ forms others =
+    ap (λ l. forms (written_units what l)) is
+    ∙ ap forms (filter_map-append what.unit (ns ++ m ∷ []) more) ∙ forms_append front others in
     omega (
       arith,
       ap length joined,
-      length-append (forms some ++ forms one) (forms others),
-      length-append (forms some) (forms one),
+      length-append (forms front) (forms others),
+      ap length (forms_one_more what ns m),
+      length-append (forms (written_units what ns)) (form_written (what.unit m)),
     )
 
 -- an output as long as the form doesn't lack room
-fitting : (what : Output) → Joins what → (limit : ℕ) (input before after : List ℕ) (p : Progress) →
+fitting : (what : Output) (limit : ℕ) (input before after : List ℕ) (p : Progress) →
     FillsInto what limit (Err NoRoom) input before after p → (b : List ℕ) (ms : List Meaning)
     (e : EndMeaning) → Accepts input b ms e →
-    length (sequence_form (what.units ms) (what.end e)) ≤ length before → ⊥
-fitting what joins limit input before after p f b ms e acc enough =
+    length (sequence_form (written_units what ms) (what.end e)) ≤ length before → ⊥
+fitting what limit input before after p f b ms e acc enough =
     let (next, left, parts, why) = f.ends.2.1 in
     let s = acc.sequence in
-    let size = length-append (forms (what.units ms)) (end_list (what.end e)) in
-    let before_it : p.written ≡ length (forms (what.units f.ms)) = f.written ∙ ap length f.ends.1 in
+    let size = length-append (forms (written_units what ms)) (end_list (what.end e)) in
+    let before_it : p.written ≡ length (forms (written_units what f.ms)) = f.written ∙ ap length f.ends.1 in
     let both : (f.us ++ next) ++ left ≡ s.front ++ (s.last ++ acc.rest) =
     append_assoc f.us next left ∙ ap (λ r. f.us ++ r) (sym parts) ∙ sym f.parts ∙ acc.parts
     ∙ then b s.front s.last acc.rest s.parts in
@@ -192,7 +192,7 @@ fitting what joins limit input before after p f b ms e acc enough =
                 (f.ms ++ m ∷ []) ms units s.units both le in
                 omega (
                   arith,
-                  longer what joins f.ms m more ms is,
+                  longer what f.ms m more ms is,
                   less,
                   enough,
                   size,
@@ -211,7 +211,7 @@ fitting what joins limit input before after p f b ms e acc enough =
           accepted_same input (f.us ++ next) b f.ms ms d e whole acc in
           omega (
             arith,
-            ap (λ ms. length (forms (what.units ms))) meanings,
+            ap (λ ms. length (forms (written_units what ms))) meanings,
             ap (λ e. length (end_list (what.end e))) ends,
             less,
             enough,
@@ -226,12 +226,12 @@ fitting what joins limit input before after p f b ms e acc enough =
 abbrev NotNoRoom : Result Unit IntoFault → Type 0
 NotNoRoom r = r ≢ Err NoRoom
 
-pub accepted : (what : Output) → Joins what → (limit enough : ℕ) (r : Result Unit IntoFault)
+pub accepted : (what : Output) (limit enough : ℕ) (r : Result Unit IntoFault)
     (input before after : List ℕ) (p : Progress) (a : RtrAnswer) (code : ℕ) →
     FillsInto what limit r input before after p → Tells p r a code →
     (enough ≤ length before → r ≢ Err NoRoom) →
     CallSucceeds what limit enough input before after a code
-accepted what joins limit enough (Err g) input before after p a code f t always b ms e acc
+accepted what limit enough (Err g) input before after p a code f t always b ms e acc
     few room =
     absurd (stopped what limit g input before after p f (by_room g f always) b ms e acc few)
   where
@@ -239,11 +239,11 @@ accepted what joins limit enough (Err g) input before after p a code f t always 
         (enough ≤ length before → NotNoRoom (Err g)) → g ≢ NoRoom
     by_room NoRoom f always is = elim room [
       | inl long ↦ always long refl
-      | inr fits ↦ fitting what joins limit input before after p f b ms e acc fits
+      | inr fits ↦ fitting what limit input before after p f b ms e acc fits
     ]
     by_room TooMany f always is = absurd cc
     by_room (Refused e) f always is = absurd cc
-accepted what joins limit enough (Ok done) input before after p a code f t always b ms e acc
+accepted what limit enough (Ok done) input before after p a code f t always b ms e acc
     few room =
     let (c, ns, d, found, below, told) =
     only what limit (Ok done) input before after p a code f t t.answered in

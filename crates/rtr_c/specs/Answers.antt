@@ -13,7 +13,7 @@ use Rattle.rtr_views.specs.declared.fault.ViewFault.TheVariants.{UnitLength, Too
 use Rattle.rtr_views.specs.declared.fault.ViewFault.TheVariants.{EmptyProviders, UnitVersion}
 use Rattle.rtr_views.specs.declared.fault.ViewFault.TheVariants.{Prefix}
 use Rattle.rtr_views.specs.declared.fault.ViewFault.TheVariants as faults
-use Rattle.rtr_wire.specs.Sequences.{Accepts, Output, sequence_form}
+use Rattle.rtr_wire.specs.Sequences.{Accepts, Output, sequence_form, written_units}
 use Rattle.rtr_wire.specs.declared.into.IntoFault.{IntoFault}
 use Rattle.rtr_wire.specs.declared.into.IntoFault.TheVariants.{NoRoom, TooMany, Refused}
 use Rattle.rtr_wire.specs.declared.into.Progress.{Progress}
@@ -122,11 +122,11 @@ pub record Tells (p : Progress) (r : Result Unit IntoFault) (a : RtrAnswer) (cod
 pub record TellsSequence (what : Output) (b : List ℕ) (ms : List Meaning) (e : EndMeaning)
     (before after : List ℕ) (a : RtrAnswer) (code : ℕ) : Type 0 where
   pub units : a.units ≡ length ms
-  pub forms : a.forms ≡ length (what.units ms)
+  pub forms : a.forms ≡ length (written_units what ms)
   pub taken : a.taken ≡ length b
-  pub written : a.written ≡ length (sequence_form (what.units ms) (what.end e))
+  pub written : a.written ≡ length (sequence_form (written_units what ms) (what.end e))
   pub fits : a.written ≤ length before
-  pub output : after ≡ sequence_form (what.units ms) (what.end e) ++ drop a.written before
+  pub output : after ≡ sequence_form (written_units what ms) (what.end e) ++ drop a.written before
   pub status : a.status ≡ rtr_ok
   pub detail : a.detail ≡ 0
   pub answered : code ≡ rtr_ok
@@ -139,7 +139,7 @@ abbrev pub CallSucceeds : Output → (limit enough : ℕ) → (input before afte
 CallSucceeds what limit enough input before after a code =
     (b : List ℕ) (ms : List Meaning) (e : EndMeaning) → Accepts input b ms e → length ms < limit →
     (enough ≤ length before)
-    ⊎ (length (sequence_form (what.units ms) (what.end e)) ≤ length before) →
+    ⊎ (length (sequence_form (written_units what ms) (what.end e)) ≤ length before) →
     TellsSequence what b ms e before after a code
 
 -- no other input is

@@ -1,10 +1,9 @@
 -- What is written for one protocol version is a sequence, whose form is itself.
-use Rattle.std.proofs.Common.{◌≡◌, ℕ, suc, ◌<◌, ◌≤◌, leb, List, [], ◌∷◌, ◌++◌, length, map, Ok}
+use Rattle.std.proofs.Common.{◌≡◌, ℕ, suc, ◌<◌, ◌≤◌, leb, List, [], ◌∷◌, length, Ok}
+use Rattle.std.proofs.Common.{Some, None}
 use Rattle.std.proofs.Common.{refl, sym, ap, ◌∙◌, subst, arith}
-use Rattle.std.specs.List.{filter}
+use Rattle.std.specs.List.{cons_option}
 use Rattle.std.proofs.lemmas.Bool.{cond_both}
-use Rattle.std.proofs.lemmas.List.{map-append}
-use Rattle.std.proofs.lemmas.List.Elements.{filter-append}
 use Rattle.rtr_base.specs.Bytes.{IsBytes}
 use Rattle.rtr_base.proofs.Numbers.{IsBytes-cons}
 use Rattle.rtr_units.specs.End.{EndMeaning, end_list}
@@ -21,13 +20,7 @@ use Rattle.rtr_wire.specs.Sequences.{AreUnits, IsSequence, everything, for_versi
 use Rattle.rtr_wire.specs.Sequences.{sequence_form, in_version, units_for, end_for}
 use Rattle.rtr_wire.proofs.OneAnswer.{only_accepted, sequence_run}
 use Rattle.rtr_wire.proofs.Runs.{end_fits_for, again}
-
--- what is written for a version is written unit by unit
-pub version_joins : (v : ℕ) (ms ns : List Meaning) →
-    units_for v (ms ++ ns) ≡ units_for v ms ++ units_for v ns
-version_joins v ms ns =
-    ap (map (in_version v)) (filter-append (λ m. leb (smallest_version m.payload) v) ms ns)
-    ∙ map-append (in_version v) _ _
+use Rattle.rtr_wire.proofs.Written.{all_written}
 
 -- ---- a unit in another version is a unit
 
@@ -95,10 +88,9 @@ units_in_version : (v : ℕ) → v < 256 → (b : List ℕ) (ms : List Meaning) 
 units_in_version v byte b [] h = refl
 units_in_version v byte b (m ∷ ms) h =
     let rest = units_in_version v byte h.1 ms h.4 in
-    cond_both (leb (smallest_version m.payload) v)
-    (m ∷ filter (λ m. leb (smallest_version m.payload) v) ms)
-    (filter (λ m. leb (smallest_version m.payload) v) ms)
-    (λ kept. AreUnits (forms (map (in_version v) kept)) (map (in_version v) kept))
+    let others = units_for v ms in
+    cond_both (leb (smallest_version m.payload) v) (Some (in_version v m)) None
+    (λ o. AreUnits (forms (cons_option o others)) (cons_option o others))
     (λ _. (
       form_of (in_version v m),
       forms (units_for v ms),
@@ -112,10 +104,8 @@ few_for : (v : ℕ) (ms : List Meaning) → length (units_for v ms) ≤ length m
 few_for v [] = omega arith
 few_for v (m ∷ ms) =
     let rest = few_for v ms in
-    cond_both (leb (smallest_version m.payload) v)
-    (m ∷ filter (λ m. leb (smallest_version m.payload) v) ms)
-    (filter (λ m. leb (smallest_version m.payload) v) ms)
-    (λ kept. length (map (in_version v) kept) ≤ suc (length ms)) (λ _. omega (arith, rest))
+    cond_both (leb (smallest_version m.payload) v) (Some (in_version v m)) None
+    (λ o. length (cons_option o (units_for v ms)) ≤ suc (length ms)) (λ _. omega (arith, rest))
     (λ _. omega (arith, rest))
 
 pub sequence_for : (v : ℕ) (b : List ℕ) (ms : List Meaning) (e : EndMeaning) → v ≤ 2 →
@@ -131,14 +121,24 @@ sequence_for v b ms e le h = record {
 
 -- ---- and a run over what was written writes it again
 
+-- a run over the form of a sequence
+run_over_form : (limit : ℕ) (b rest : List ℕ) (ms : List Meaning) (e : EndMeaning) →
+    IsSequence (sequence_form ms e) ms e → length ms < limit → b ≡ sequence_form ms e →
+    Run everything limit (Ok (length ms)) b rest b
+run_over_form limit b rest ms e s lt is =
+    subst (λ w. Run everything limit (Ok (length ms)) w rest w) (sym is)
+    (subst (λ l. Run everything limit (Ok (length l)) (sequence_form ms e) rest (sequence_form l e))
+    (all_written ms) (sequence_run everything limit (sequence_form ms e) rest ms e s lt))
+
 pub run_again : (limit number : ℕ) (took left wrote rest : List ℕ) →
     Run everything limit (Ok number) took left wrote →
     Run everything limit (Ok number) wrote rest wrote
 run_again limit number took left wrote rest p =
     let (ms, e, s, counted, lt, is) = only_accepted everything limit number took left wrote p in
-    subst (λ n. Run everything limit (Ok n) wrote rest wrote) counted
-    (subst (λ w. Run everything limit (Ok (length ms)) w rest w) (sym is)
-    (sequence_run everything limit (sequence_form ms e) rest ms e (again took ms e s) lt))
+    let same = all_written ms in
+    subst (λ n. Run everything limit (Ok n) wrote rest wrote) (ap length (sym same) ∙ counted)
+    (run_over_form limit wrote rest ms e (again took ms e s) lt
+    (is ∙ ap (λ l. sequence_form l e) same))
 
 pub run_for_again : (v limit number : ℕ) (took left wrote rest : List ℕ) → v ≤ 2 →
     Run (for_version v) limit (Ok number) took left wrote →
@@ -146,9 +146,7 @@ pub run_for_again : (v limit number : ℕ) (took left wrote rest : List ℕ) →
 run_for_again v limit number took left wrote rest le p =
     let (ms, e, s, counted, lt, is) =
     only_accepted (for_version v) limit number took left wrote p in
-    let form = sequence_form (units_for v ms) (end_for v e) in
     let few = few_for v ms in
     subst (λ n. Run everything limit (Ok n) wrote rest wrote) counted
-    (subst (λ w. Run everything limit (Ok (length (units_for v ms))) w rest w) (sym is)
-    (sequence_run everything limit form rest (units_for v ms) (end_for v e)
-    (sequence_for v took ms e le s) (omega (arith, few, lt))))
+    (run_over_form limit wrote rest (units_for v ms) (end_for v e)
+    (sequence_for v took ms e le s) (omega (arith, few, lt)) is)

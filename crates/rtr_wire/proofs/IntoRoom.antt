@@ -1,8 +1,7 @@
 -- What is written is never longer than what it is written for, but for an end of data.
-use Rattle.std.proofs.Common.{◌≡◌, ◌≢◌, ℕ, ◌+◌, ◌<◌, ◌≤◌, leb, List, [], ◌∷◌, length, map, Option}
+use Rattle.std.proofs.Common.{◌≡◌, ◌≢◌, ℕ, ◌+◌, ◌<◌, ◌≤◌, leb, List, [], ◌∷◌, length, Option}
 use Rattle.std.proofs.Common.{Some, None, Result, Ok, Err, refl}
-use Rattle.std.proofs.Common.{sym, ap, append-nil, arith, inl, inr}
-use Rattle.std.specs.List.{filter}
+use Rattle.std.proofs.Common.{ap, arith, inl, inr}
 use Rattle.std.proofs.lemmas.Bool.{cond_both}
 use Rattle.std.proofs.lemmas.List.{length-append}
 use Rattle.rtr_base.specs.Actions.{act, flags_of}
@@ -21,10 +20,12 @@ use Rattle.rtr_payload.proofs.ByFields.{unit_fields_of}
 use Rattle.rtr_base.specs.declared.payload.Timing.{Timing}
 use Rattle.rtr_wire.specs.Into.{LacksRoom, FillsInto}
 use Rattle.rtr_wire.specs.Sequences.{AreUnits, Output, everything, for_version}
-use Rattle.rtr_wire.specs.Sequences.{forms, in_version, units_for, end_for}
+use Rattle.rtr_wire.specs.Sequences.{forms, form_written, written_units, in_version}
+use Rattle.rtr_wire.specs.Sequences.{unit_for, end_for}
 use Rattle.rtr_wire.specs.declared.into.IntoFault.{IntoFault}
 use Rattle.rtr_wire.specs.declared.into.IntoFault.TheVariants.{NoRoom}
 use Rattle.rtr_wire.specs.declared.into.Progress.{Progress}
+use Rattle.rtr_wire.proofs.Written.{forms_cons}
 
 -- a withdrawal names no providers
 fewer : (v f g z c : ℕ) (a : Action) (ps : List ℕ) →
@@ -67,38 +68,12 @@ same_size v m = by_payload m.payload refl
     by_payload (key k) e = rw e refl
     by_payload (aspa a) e = rw e refl
 
-units_fit : (us : List ℕ) (ms : List Meaning) → AreUnits us ms → length (forms ms) ≤ length us
-units_fit us [] h = omega (arith, ap length h)
-units_fit us (m ∷ ms) (first, rest, parts, unit, others) =
-    omega (
-      arith,
-      unit_fits first m unit,
-      units_fit rest ms others,
-      ap length parts,
-      length-append first rest,
-      length-append (form_of m) (forms ms),
-    )
-
-version_fits : (v : ℕ) (us : List ℕ) (ms : List Meaning) → AreUnits us ms →
-    length (forms (units_for v ms)) ≤ length us
-version_fits v us [] h = omega (arith, ap length h)
-version_fits v us (m ∷ ms) (first, rest, parts, unit, others) =
-    let fits = version_fits v rest ms others in
-    let one = unit_fits first m unit in
-    let kept = filter (λ m. leb (smallest_version m.payload) v) ms in
-    cond_both (leb (smallest_version m.payload) v) (m ∷ kept) kept
-    (λ kept. length (forms (map (in_version v) kept)) ≤ length us)
-    (λ _.
-    omega (
-      arith,
-      one,
-      fits,
-      same_size v m,
-      ap length parts,
-      length-append first rest,
-      length-append (form_of (in_version v m)) (forms (units_for v ms)),
-    ))
-    (λ _. omega (arith, fits, ap length parts, length-append first rest))
+version_fits : (v : ℕ) (b : List ℕ) (m : Meaning) → IsUnit b m →
+    length (form_written (unit_for v m)) ≤ length b
+version_fits v b m unit =
+    cond_both (leb (smallest_version m.payload) v) (Some (in_version v m)) None
+    (λ o. length (form_written o) ≤ length b)
+    (λ _. omega (arith, unit_fits b m unit, same_size v m)) (λ _. omega arith)
 
 -- an end of data has at least 12 bytes, and at most 24
 end_size : (v s q : ℕ) (t : Option Timing) →
@@ -108,14 +83,29 @@ end_size v s q (Some t) = (omega arith, omega arith)
 
 -- the next is written in no more bytes than it has, and these more
 module _ (what : Output) (more : ℕ)
-    (units_fits : (us : List ℕ) (ms : List Meaning) → AreUnits us ms →
-    length (forms (what.units ms)) ≤ length us)
+    (one_fits : (b : List ℕ) (m : Meaning) → IsUnit b m →
+    length (form_written (what.unit m)) ≤ length b)
     (end_fits : (next : List ℕ) (e : EndMeaning) → IsEnd next e →
     length (end_list (what.end e)) ≤ length next + more) where
+  units_fit : (us : List ℕ) (ms : List Meaning) → AreUnits us ms →
+      length (forms (written_units what ms)) ≤ length us
+  units_fit us [] h = omega arith
+  units_fit us (m ∷ ms) (first, rest, parts, unit, others) =
+      let one = what.unit m in
+      let more = written_units what ms in
+      omega (
+        arith,
+        one_fits first m unit,
+        units_fit rest ms others,
+        ap length parts,
+        length-append first rest,
+        ap length (forms_cons one more),
+        length-append (form_written one) (forms more),
+      )
+
   next_fits : (rest : List ℕ) (room : ℕ) → LacksRoom what rest room → room < length rest + more
   next_fits rest room (next, left, parts, inl (m, unit, less)) =
-      let alone : AreUnits next (m ∷ []) = (next, [], sym (append-nil next), unit, refl) in
-      omega (arith, less, units_fits next (m ∷ []) alone, ap length parts, length-append next left)
+      omega (arith, less, one_fits next m unit, ap length parts, length-append next left)
   next_fits rest room (next, left, parts, inr (e, end, less)) =
       omega (arith, less, end_fits next e end, ap length parts, length-append next left)
 
@@ -132,7 +122,7 @@ module _ (what : Output) (more : ℕ)
           omega (
             arith,
             less,
-            units_fits f.us f.ms f.are_units,
+            units_fit f.us f.ms f.are_units,
             f.room_is,
             f.written,
             ap length f.ends.1,
@@ -146,7 +136,7 @@ pub room_for_all : (limit : ℕ) (result : Result Unit IntoFault) (input before 
     (p : Progress) → FillsInto everything limit result input before after p →
     length input ≤ length before → result ≢ Err NoRoom
 room_for_all limit result input before after p f enough =
-    always_room everything 0 units_fit (λ next e end. omega (arith, ap length end.bytes)) limit
+    always_room everything 0 unit_fits (λ next e end. omega (arith, ap length end.bytes)) limit
     result input before after p f (omega (arith, enough))
 
 pub room_for_version : (v limit : ℕ) (result : Result Unit IntoFault) (input before after : List ℕ)

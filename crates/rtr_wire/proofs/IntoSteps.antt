@@ -1,5 +1,5 @@
 -- Steps from a slice into another, one after the other.
-use Rattle.std.proofs.Common.{◌≡◌, ℕ, ◌+◌, ◌-◌, ◌<◌, ◌≤◌, Bool, true, false, cond, List, [], ◌∷◌}
+use Rattle.std.proofs.Common.{◌≡◌, ℕ, ◌+◌, ◌-◌, ◌<◌, ◌≤◌, List, []}
 use Rattle.std.proofs.Common.{◌++◌, length, take, drop, Some, None, Ok, Err, refl, sym, ap, subst}
 use Rattle.std.proofs.Common.{◌∙◌, append_assoc, append-nil, arith, inl, inr}
 use Rattle.std.proofs.lemmas.List.{length-append, take-append-drop, length-take-le, length-drop}
@@ -8,7 +8,7 @@ use Rattle.std.proofs.Math.Seq.{drop-append_seam, take-append_seam}
 use Rattle.rtr_units.specs.End.{IsEnd, end_list}
 use Rattle.rtr_units.specs.AnyEnd.{end_bytes, end_meaning}
 use Rattle.rtr_units.specs.declared.end.EndOfData.{EndOfData}
-use Rattle.rtr_payload.specs.Payloads.{Meaning, smallest_version}
+use Rattle.rtr_payload.specs.Payloads.{Meaning}
 use Rattle.rtr_payload.specs.KeyUnits.{key_at}
 use Rattle.rtr_payload.specs.AspaUnits.{aspa_at}
 use Rattle.rtr_payload.specs.UnitFields.{key_unit, aspa_unit, meaning}
@@ -25,11 +25,10 @@ use Rattle.rtr_views.specs.Faults.{IsFirstFault}
 use Rattle.rtr_wire.specs.Into.{LacksRoom, WhyStopped, FillsInto}
 use Rattle.rtr_wire.specs.declared.into.IntoFault.{IntoFault}
 use Rattle.rtr_wire.specs.declared.into.IntoFault.TheVariants.{NoRoom, TooMany, Refused}
-use Rattle.rtr_wire.specs.Sequences.{Output, forms, in_version}
+use Rattle.rtr_wire.specs.Sequences.{Output, form_written, in_version}
 use Rattle.rtr_wire.specs.declared.into.Step.{Step}
 use Rattle.rtr_wire.specs.declared.run.Passed.TheVariants as passes
-use Rattle.rtr_wire.proofs.Stepping.{Joins, SoFar, starts, goes_on, leaves_out}
-use Rattle.rtr_wire.proofs.Units.{OneByOne}
+use Rattle.rtr_wire.proofs.Stepping.{SoFar, starts, goes_on, leaves_out}
 
 -- ---- one step
 
@@ -52,22 +51,16 @@ viewed (views.Aspa v) b not is =
     record { m = m; means = refl; unit = view_means (views.Aspa v) b m is refl }
 viewed (views.End e) b not is = absurd (not e refl)
 
-module _ (what : Output) (has : ℕ → Bool) (to : ℕ → ℕ) (one : OneByOne what has to) (rest : List ℕ)
-    (k : ℕ) (le : k ≤ length rest) (before : List ℕ) where
+module _ (what : Output) (rest : List ℕ) (k : ℕ) (le : k ≤ length rest) (before : List ℕ) where
   parts : rest ≡ take k rest ++ drop k rest
   parts = sym (take-append-drop k rest)
 
   size : k ≡ length (take k rest)
   size = sym (length-take-le k rest le)
 
-  of_unit : (m : Meaning) (b : Bool) → has (smallest_version m.payload) ≡ b →
-      what.units (m ∷ []) ≡ cond b (in_version (to m.version) m ∷ []) []
-  of_unit m b is = one m ∙ ap (λ b. cond b (in_version (to m.version) m ∷ []) []) is
-
-  pub step_left_out : (m : Meaning) → IsUnit (take k rest) m →
-      has (smallest_version m.payload) ≡ false →
+  pub step_left_out : (m : Meaning) → IsUnit (take k rest) m → what.unit m ≡ None →
       Stepped what (record { passed = passes.LeftOut; taken = k; written = 0 }) rest before before
-  step_left_out m unit not = record {
+  step_left_out m unit none = record {
     took = take k rest;
     wrote = [];
     parts = parts;
@@ -75,43 +68,33 @@ module _ (what : Output) (has : ℕ → Bool) (to : ℕ → ℕ) (one : OneByOne
     written = refl;
     fits = omega arith;
     output = refl;
-    tells = (
-      m,
-      unit,
-      (ap forms (sym (of_unit m false not)), ap (λ l. Some (length l)) (of_unit m false not)),
-    );
+    tells = (m, unit, (none, refl));
   }
 
-  whole : (m : Meaning) → has (smallest_version m.payload) ≡ true →
-      form_of (in_version (to m.version) m) ≡ forms (what.units (m ∷ []))
-  whole m does =
-      sym (append-nil (form_of (in_version (to m.version) m)))
-      ∙ ap forms (sym (of_unit m true does))
-
-  pub step_written : (m : Meaning) (n : ℕ) (after : List ℕ) → IsUnit (take k rest) m →
-      has (smallest_version m.payload) ≡ true → PlacesUnit (to m.version) m (Some n) before after →
+  pub step_written : (m : Meaning) (v n : ℕ) (after : List ℕ) → IsUnit (take k rest) m →
+      what.unit m ≡ Some (in_version v m) → PlacesUnit v m (Some n) before after →
       Stepped what (record { passed = passes.Written; taken = k; written = n }) rest before after
-  step_written m n after unit does (is, fits, output) = record {
+  step_written m v n after unit some (is, fits, output) = record {
     took = take k rest;
-    wrote = form_of (in_version (to m.version) m);
+    wrote = form_of (in_version v m);
     parts = parts;
     taken = size;
     written = is;
     fits = fits;
     output = output;
-    tells = (m, unit, (whole m does, ap (λ l. Some (length l)) (of_unit m true does)));
+    tells = (m, unit, (in_version v m, some, refl));
   }
 
-  pub unit_lacks_room : (m : Meaning) (after : List ℕ) → IsUnit (take k rest) m →
-      has (smallest_version m.payload) ≡ true → PlacesUnit (to m.version) m None before after →
+  pub unit_lacks_room : (m : Meaning) (v : ℕ) (after : List ℕ) → IsUnit (take k rest) m →
+      what.unit m ≡ Some (in_version v m) → PlacesUnit v m None before after →
       (after ≡ before) × LacksRoom what rest (length before)
-  unit_lacks_room m after unit does (less, same) = (
+  unit_lacks_room m v after unit some (less, same) = (
     same,
     (
       take k rest,
       drop k rest,
       parts,
-      inl (m, unit, omega (arith, less, ap length (whole m does))),
+      inl (m, unit, omega (arith, less, ap (λ o. length (form_written o)) some)),
     ),
   )
 
@@ -144,15 +127,15 @@ pub record Along (what : Output) (units left_out : ℕ) (input : List ℕ) (take
   pub so_far :
       SoFar what units left_out (Some input) (Some (drop taken input)) (Some []) (Some form)
 
-pub along_starts : (what : Output) (input before : List ℕ) → Joins what →
+pub along_starts : (what : Output) (input before : List ℕ) →
     Along what 0 0 input 0 before before 0
-along_starts what input before joins = record {
+along_starts what input before = record {
   within = omega arith;
   fits = omega arith;
   form = [];
   size = refl;
   output = refl;
-  so_far = starts what (Some input) (Some []) joins;
+  so_far = starts what (Some input) (Some []);
 }
 
 -- one step further: what the step leaves of the run
@@ -223,9 +206,8 @@ put_is n xs ys =
     (ap (λ l. ys ++ l) (drop_all (length xs - n) (drop n xs) (omega (arith, length-drop n xs)))
     ∙ append-nil ys)
 
-module _ (what : Output) (joins : Joins what) (units left_out : ℕ) (input : List ℕ) (taken : ℕ)
-    (before now : List ℕ) (written : ℕ)
-    (a : Along what units left_out input taken before now written) where
+module _ (what : Output) (units left_out : ℕ) (input : List ℕ) (taken : ℕ) (before now : List ℕ)
+    (written : ℕ) (a : Along what units left_out input taken before now written) where
   module _ (s : Step) (part : List ℕ)
       (did : Stepped what s (rest_of taken input) (rest_of written now) part) where
     abbrev after : List ℕ
@@ -247,7 +229,7 @@ module _ (what : Output) (joins : Joins what) (units left_out : ℕ) (input : Li
       size = on.size;
       output = on.output;
       so_far =
-          goes_on what units left_out _ _ _ _ _ _ joins a.so_far
+          goes_on what units left_out _ _ _ _ _ _ a.so_far
           (subst
           (λ p.
           Steps what (Ok p) (Some (drop taken input)) (Some (drop (taken + s.taken) input))
@@ -265,7 +247,7 @@ module _ (what : Output) (joins : Joins what) (units left_out : ℕ) (input : Li
       size = on.size;
       output = on.output;
       so_far =
-          leaves_out what units left_out _ _ _ _ _ _ joins a.so_far
+          leaves_out what units left_out _ _ _ _ _ _ a.so_far
           (subst
           (λ p.
           Steps what (Ok p) (Some (drop taken input)) (Some (drop (taken + s.taken) input))

@@ -1,7 +1,7 @@
 -- Views one after the other are a run.
 use Rattle.std.proofs.Common.{◌≡◌, ℕ, ◌-◌, ◌<◌, not, List, ◌++◌, [], length, Option, Some, Result}
 use Rattle.std.proofs.Common.{Ok, Err, refl, sym, ap, subst, ◌∙◌}
-use Rattle.std.proofs.Common.{append_assoc, append-nil, arith, inl, inr}
+use Rattle.std.proofs.Common.{append_assoc, arith, inl, inr}
 use Rattle.std.specs.Prelude.{IsOk, IfOk}
 use Rattle.std.proofs.lemmas.List.{length-append}
 use Rattle.std.specs.Io.KnownBytes.{Appends}
@@ -22,7 +22,6 @@ use Rattle.rtr_payload.specs.AspaUnits.{aspa_at}
 use Rattle.rtr_payload.specs.FirstFault.{first_fault, refusal_report, taken}
 use Rattle.rtr_payload.specs.FaultSteps.{first_unit}
 use Rattle.rtr_payload.specs.UnitFields.{meaning}
-use Rattle.rtr_payload.specs.Units.{form_of}
 use Rattle.rtr_views.specs.Faults.{IsFirstFault, IsWriterFault, is_view_writer_fault}
 use Rattle.rtr_views.specs.Origins.{origin_meaning}
 use Rattle.rtr_views.specs.Views.{IsViewOf, ViewMeans, view_form}
@@ -37,7 +36,7 @@ use Rattle.rtr_views.proofs.Agreement.{view_means, form_meant}
 use Rattle.rtr_wire.specs.PrivateSteps.{StepTells, Steps, StopsStep, is_payload_unit, passed}
 use Rattle.rtr_units.specs.StopCauses.{by_cause}
 use Rattle.rtr_wire.specs.Run.{Run, HasRun, Ends, IsPartOfForm, BlamesNobody, Normalises}
-use Rattle.rtr_wire.specs.Sequences.{AreUnits, everything, forms}
+use Rattle.rtr_wire.specs.Sequences.{AreUnits, everything, forms, written_units}
 use Rattle.rtr_wire.specs.declared.run.Passed.TheVariants as passes
 use Rattle.rtr_wire.specs.SliceRun.{view_cause, slice_answer, NormalisesSlice}
 use Rattle.rtr_wire.proofs.Calls.{over}
@@ -56,7 +55,7 @@ unit_step v m r b left held holds is means parts wrote = (
   view_form v,
   parts,
   wrote,
-  (m, view_means v b m is means, (form_meant v m means ∙ sym (append-nil (form_of m)), refl)),
+  (m, view_means v b m is means, (m, refl, form_meant v m means)),
 )
 
 pub view_step : (v : UnitView) (r b left : List ℕ) (held holds : Option (List ℕ)) → IsViewOf v b →
@@ -78,13 +77,13 @@ part_of_view : (v : UnitView) (b t others : List ℕ) → IsViewOf v b → view_
     0 < length others → IsPartOfForm everything b t
 part_of_view (views.Origin v) b t others is e some =
     let m = origin_meaning v in
-    inl (m, view_means (views.Origin v) b m is refl, (others, append-nil (form_of m) ∙ e, some))
+    inl (m, view_means (views.Origin v) b m is refl, (others, e, some))
 part_of_view (views.RouterKey v) b t others is e some =
     let m = meaning (key_unit (key_at v.unit.now)) in
-    inl (m, view_means (views.RouterKey v) b m is refl, (others, append-nil (form_of m) ∙ e, some))
+    inl (m, view_means (views.RouterKey v) b m is refl, (others, e, some))
 part_of_view (views.Aspa v) b t others is e some =
     let m = meaning (aspa_unit (aspa_at v.unit.now)) in
-    inl (m, view_means (views.Aspa v) b m is refl, (others, append-nil (form_of m) ∙ e, some))
+    inl (m, view_means (views.Aspa v) b m is refl, (others, e, some))
 part_of_view (views.End d) b t others (is, end) e some =
     inr (end_meaning d, end, (others, sym end.bytes ∙ sym is ∙ e, some))
 
@@ -218,7 +217,7 @@ slice_fills limit count input rest old new full gone failed =
 
 -- at a fault
 record Broke (limit : ℕ) (c : Cause) (us t w left : List ℕ) (ms : List Meaning) : Type 0 where
-  run : Run everything limit (Err c) (us ++ t) left (forms ms ++ w)
+  run : Run everything limit (Err c) (us ++ t) left (forms (written_units everything ms) ++ w)
   last : t ≡ run.last
 
 broke : (limit : ℕ) (c : Cause) (us t w left : List ℕ) (ms : List Meaning) → AreUnits us ms →
@@ -291,8 +290,9 @@ slice_breaks limit count e input rest mid old new lt p (t, left, w, parts, wrote
     broke limit (view_cause t e) p.us t w left p.ms p.units (omega (arith, p.counted)) told in
     let all : input ≡ (p.us ++ t) ++ left =
     p.taken ∙ ap (λ l. p.us ++ l) parts ∙ sym (append_assoc p.us t left) in
-    normalises_slice limit (Err e) input (p.us ++ t) left (forms p.ms ++ w) t old new all
-    (Appends-trans old.held mid new.held (forms p.ms) w p.written wrote) b.run b.last tt failed
+    let units = forms (written_units everything p.ms) in
+    normalises_slice limit (Err e) input (p.us ++ t) left (units ++ w) t old new all
+    (Appends-trans old.held mid new.held units w p.written wrote) b.run b.last tt failed
 
 -- ---- whose fault it is doesn't depend on what would have been answered
 

@@ -1,12 +1,12 @@
 -- What a run from a slice into another writes and answers (this library's own).
-use Rattle.std.specs.Prelude.{◌≡◌, ℕ, ◌+◌, ◌<◌, ◌≤◌, ◌⊎◌, List, [], ◌∷◌, ◌++◌, length, drop}
+use Rattle.std.specs.Prelude.{◌≡◌, ℕ, ◌+◌, ◌<◌, ◌≤◌, ◌⊎◌, List, ◌++◌, length, drop}
 use Rattle.std.specs.Prelude.{Result, Ok, Err}
 use Rattle.rtr_units.specs.End.{EndMeaning, IsEnd, end_list}
 use Rattle.rtr_payload.specs.Payloads.{Meaning}
 use Rattle.rtr_payload.specs.Units.{IsUnit}
 use Rattle.rtr_views.specs.Faults.{IsFirstFault}
 use Rattle.rtr_views.specs.declared.fault.ViewFault.TheVariants.{UnitVersion}
-use Rattle.rtr_wire.specs.Sequences.{AreUnits, Output, forms}
+use Rattle.rtr_wire.specs.Sequences.{AreUnits, Output, forms, form_written, written_units}
 use Rattle.rtr_wire.specs.declared.into.IntoFault.{IntoFault}
 use Rattle.rtr_wire.specs.declared.into.IntoFault.TheVariants.{NoRoom, TooMany, Refused}
 use Rattle.rtr_wire.specs.declared.into.Progress.{Progress}
@@ -14,7 +14,7 @@ use Rattle.rtr_wire.specs.declared.into.Progress.{Progress}
 -- the next unit or end of data is there, and what is to be written for it has more bytes than this
 abbrev pub LacksRoom : Output → List ℕ → ℕ → Type 0
 LacksRoom what rest room = (next left : List ℕ) × (rest ≡ next ++ left)
-    × (((m : Meaning) × IsUnit next m × (room < length (forms (what.units (m ∷ [])))))
+    × (((m : Meaning) × IsUnit next m × (room < length (form_written (what.unit m))))
     ⊎ ((e : EndMeaning) × IsEnd next e × (room < length (end_list (what.end e)))))
 
 -- why a call stopped after units with these meanings, at the rest of the input, with this room
@@ -31,9 +31,9 @@ abbrev pub EndsInto : Output → ℕ → Result Unit IntoFault → List Meaning 
 EndsInto what limit (Ok done) ms n rest room written taken =
     (e : EndMeaning) × (last left : List ℕ) × (rest ≡ last ++ left) × IsEnd last e
     × (length ms < limit) × (taken ≡ n + length last)
-    × (written ≡ forms (what.units ms) ++ end_list (what.end e))
+    × (written ≡ forms (written_units what ms) ++ end_list (what.end e))
 EndsInto what limit (Err f) ms n rest room written taken =
-    (taken ≡ n) × (written ≡ forms (what.units ms)) × WhyStopped what limit f ms rest room
+    (taken ≡ n) × (written ≡ forms (written_units what ms)) × WhyStopped what limit f ms rest room
 
 -- the whole promise of a run from the input into the output
 pub record FillsInto (what : Output) (limit : ℕ) (result : Result Unit IntoFault)
@@ -45,7 +45,7 @@ pub record FillsInto (what : Output) (limit : ℕ) (result : Result Unit IntoFau
   pub parts : input ≡ us ++ rest
   pub are_units : AreUnits us ms
   pub units : p.units ≡ length ms
-  pub forms : p.forms ≡ length (what.units ms)
+  pub forms : p.forms ≡ length (written_units what ms)
   -- what was written stands at the front of the output, and what follows is as it was
   pub form : List ℕ
   pub written : p.written ≡ length form

@@ -1,7 +1,7 @@
 -- What calls inside this crate leave: one unit read and what is to be written for it written, in
 -- terms of the bytes that were taken and written. Only contracts of private functions cite these,
 -- and the law `plain_way`, which compares the plain calls with a step.
-use Rattle.std.specs.Prelude.{◌≡◌, ℕ, ◌≤◌, Bool, true, false, List, [], ◌∷◌, ◌++◌, length, drop}
+use Rattle.std.specs.Prelude.{◌≡◌, ℕ, ◌≤◌, Bool, true, false, List, [], ◌++◌, length, drop}
 use Rattle.std.specs.Prelude.{Option, Some, None, Result, Ok, Err, IfSome}
 use Rattle.std.specs.Io.KnownBytes.{Consumes, Appends}
 use Rattle.rtr_units.specs.declared.fault.Fault.{Fault}
@@ -26,21 +26,17 @@ use Rattle.rtr_wire.specs.declared.run.Passed.TheVariants as passes
 use Rattle.rtr_wire.specs.Comparison.{Accepted}
 use Rattle.rtr_wire.specs.Into.{LacksRoom}
 use Rattle.rtr_wire.specs.Run.{IsProperPrefix, Ends}
-use Rattle.rtr_wire.specs.Sequences.{Output, everything, forms, in_version, sequence_form}
+use Rattle.rtr_wire.specs.Sequences.{Output, everything, form_written, in_version, sequence_form}
 use Rattle.rtr_wire.specs.SliceRun.{view_cause}
 
 -- ---- a step from a reader to a writer
 
--- how many units were written by a step that read one
-abbrev pub number_of : Passed → Option ℕ
-number_of passes.Written = Some 1
-number_of passes.LeftOut = Some 0
-number_of passes.End = None
-
--- the form of what is written for this meaning is w, and this step wrote it
+-- by what the step passed: what is written for this meaning was written, as w, or nothing is
 abbrev pub WritesMeaning : Output → Meaning → Passed → List ℕ → Type 0
-WritesMeaning what m step w =
-    (w ≡ forms (what.units (m ∷ []))) × (Some (length (what.units (m ∷ []))) ≡ number_of step)
+WritesMeaning what m passes.Written w =
+    (n : Meaning) × (what.unit m ≡ Some n) × (w ≡ form_of n)
+WritesMeaning what m passes.LeftOut w = (what.unit m ≡ None) × (w ≡ [])
+WritesMeaning what m passes.End w = ⊥
 
 -- What writing for the unit u says of the bytes w that were written: they are all that is to be
 -- written, or a proper prefix of it; or none, where there is no payload or no memory for it.
@@ -49,7 +45,7 @@ FormTells what u (Ok step) w =
     LengthsAgree (unit_fields u) × WritesMeaning what (meaning (unit_fields u)) step w
 FormTells what u (Err by_writer) w =
     LengthsAgree (unit_fields u) ×
-    IsProperPrefix w (forms (what.units (meaning (unit_fields u) ∷ [])))
+    IsProperPrefix w (form_written (what.unit (meaning (unit_fields u))))
 FormTells what u (Err c) w = HasNoPayload u c × (w ≡ [])
 
 -- One unit was read, and what is to be written for it was written; or an end of data, at which a

@@ -197,7 +197,9 @@ fn view_step<const TYPE: u8, S: Writing>(
                     written: 0,
                 });
             }
-            match place_unit(writing, &view, output) {
+            let came_in = view.version();
+            let version = writing.version(came_in);
+            match place_unit(version, &view, output) {
                 Some(written) => Ok(Step {
                     passed: Passed::Written,
                     taken,
@@ -209,13 +211,12 @@ fn view_step<const TYPE: u8, S: Writing>(
     }
 }
 
-/// Writes the form of the unit, in the version in which it is to be written.
+/// Writes the form of the unit in this version.
 #[inline(always)]
-fn place_unit<S: Writing>(writing: S, view: &UnitView<'_>, output: &mut [u8]) -> Option<usize>
+fn place_unit(version: u8, view: &UnitView<'_>, output: &mut [u8]) -> Option<usize>
     ensures { (m : Meaning) → ViewMeans view.now m →
-        PlacesUnit (S.version_for writing m.version) m result output.old output.new }
+        PlacesUnit version m result output.old output.new }
 {
-    let version = writing.version(view.version());
     let size = view.place_form(output)?;
     if let Some(first) = output.first_mut() {
         *first = version;

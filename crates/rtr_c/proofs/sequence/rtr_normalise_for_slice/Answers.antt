@@ -1,13 +1,12 @@
 use Rattle.std.proofs.Common.{inl, inr}
 use Rattle.std.proofs.lemmas.Bool.{cases_lt}
 use Rattle.rtr_wire.specs.Sequences.{for_version}
-use Rattle.rtr_wire.proofs.InVersion.{version_joins}
 use Rattle.rtr_c.proofs.Accepted.{accepted, only, unknown}
 use Rattle.rtr_c.proofs.sequence.rtr_normalise_for_slice.Goals as goal
 
 pub returns-clause-succeeds : goal.returns-clause-succeeds
 returns-clause-succeeds c known =
-    accepted (for_version c.args.version) (version_joins c.args.version) c.args.limit _
+    accepted (for_version c.args.version) c.args.limit _
     c.normalise_for_into-end.result.1 c.args.input.now c.args.output.now
     c.normalise_for_into-end.new.output c.normalise_for_into-end.result.0 _ _
     (c.normalise_for_into-end.ensures.known known) c.answer_of.ensures

@@ -1,11 +1,10 @@
-use Rattle.std.proofs.Common.{refl}
 use Rattle.rtr_wire.specs.Sequences.{everything}
 use Rattle.rtr_c.proofs.Accepted.{accepted, only}
 use Rattle.rtr_c.proofs.sequence.rtr_normalise_slice.Goals as goal
 
 pub returns-clause-succeeds : goal.returns-clause-succeeds
 returns-clause-succeeds c =
-    accepted everything (λ ms ns. refl) c.args.limit _ c.normalise_into-end.result.1
+    accepted everything c.args.limit _ c.normalise_into-end.result.1
     c.args.input.now c.args.output.now c.normalise_into-end.new.output c.normalise_into-end.result.0
     _ _ c.normalise_into-end.ensures.fills c.answer_of.ensures c.normalise_into-end.ensures.room
 

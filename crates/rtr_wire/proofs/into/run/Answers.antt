@@ -7,22 +7,20 @@ use Rattle.rtr_wire.proofs.into.run.Goals as goal
 pub loop-units-init : goal.loop-units-init
 loop-units-init g c =
     along_starts (g.S.Writing.what c.args.writing) c.args.input.now c.args.output.now
-    (g.met.S.Writing.joins c.args.writing)
 
 pub loop-units-preserved : goal.loop-units-preserved
 loop-units-preserved g c =
     let what = g.S.Writing.what c.args.writing in
-    let joins = g.met.S.Writing.joins c.args.writing in
     let l = c.loop-units in
     elim c.match-step.branch [
       | in-Written w ↦
           rw w.left_out-is
-          (into_written what joins l.units l.left_out c.args.input.now l.taken c.args.output.now
+          (into_written what l.units l.left_out c.args.input.now l.taken c.args.output.now
           l.output l.written l.invariant c.in-Ok.step c.take_step.new.output c.in-Ok.ensures
           w.in-Written.is)
       | in-LeftOut w ↦
           rw w.left_out-is
-          (into_left_out what joins l.units l.left_out c.args.input.now l.taken c.args.output.now
+          (into_left_out what l.units l.left_out c.args.input.now l.taken c.args.output.now
           l.output l.written l.invariant c.in-Ok.step c.take_step.new.output c.in-Ok.ensures
           w.in-LeftOut.is)
     ]
@@ -30,28 +28,25 @@ loop-units-preserved g c =
 pub returns-in-End : goal.returns-in-End
 returns-in-End g c =
     let what = g.S.Writing.what c.args.writing in
-    let joins = g.met.S.Writing.joins c.args.writing in
     let l = c.loop-units in
     rw c.came.ensures
-    (into_end what joins l.units l.left_out c.args.input.now l.taken c.args.output.now l.output
+    (into_end what l.units l.left_out c.args.input.now l.taken c.args.output.now l.output
     l.written l.invariant c.args.limit c.in-Ok.step c.take_step.new.output c.loop-units-test.true
     c.in-End.is c.in-Ok.ensures)
 
 pub returns-in-Err : goal.returns-in-Err
 returns-in-Err g c =
     let what = g.S.Writing.what c.args.writing in
-    let joins = g.met.S.Writing.joins c.args.writing in
     let l = c.loop-units in
     rw c.came-in-Err.ensures
-    (into_breaks what joins l.units l.left_out c.args.input.now l.taken c.args.output.now l.output
+    (into_breaks what l.units l.left_out c.args.input.now l.taken c.args.output.now l.output
     l.written l.invariant c.args.limit c.in-Err.e c.take_step.new.output c.loop-units-test.true
     c.in-Err.ensures.0 c.in-Err.ensures.1)
 
 pub returns : goal.returns
 returns g c =
     let what = g.S.Writing.what c.args.writing in
-    let joins = g.met.S.Writing.joins c.args.writing in
     let l = c.loop-units in
     rw c.came-progress.ensures
-    (into_full what joins l.units l.left_out c.args.input.now l.taken c.args.output.now l.output
+    (into_full what l.units l.left_out c.args.input.now l.taken c.args.output.now l.output
     l.written l.invariant c.args.limit (omega (arith, l.auto.units-end, c.loop-units-test.false)))

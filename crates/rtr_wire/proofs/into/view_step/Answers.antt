@@ -1,51 +1,54 @@
-use Rattle.std.proofs.Common.{take, sym, ap, ◌∙◌, append-nil}
+use Rattle.std.proofs.Common.{take, sym, ◌∙◌, append-nil}
+use Rattle.rtr_wire.specs.Sequences.{in_version}
 use Rattle.rtr_wire.proofs.IntoSteps.{viewed, step_left_out, step_written, unit_lacks_room}
 use Rattle.rtr_wire.proofs.IntoSteps.{end_lacks_room}
+use Rattle.rtr_wire.proofs.Written.{none_written, one_written}
 use Rattle.rtr_wire.proofs.into.view_step.Goals as goal
 
 pub returns-then-not-writes : goal.returns-then-not-writes
 returns-then-not-writes g c =
-    let s = c.args.writing in
+    let what = g.S.Writing.what c.args.writing in
     let k = c.in-Ok.first.1 in
     let v =
     viewed c.in-Ok.first.0 (take k c.args.rest.now) c.in_default.not-End c.in-Ok.ensures.view in
-    step_left_out (g.S.Writing.what s) (g.S.Writing.has s) (g.S.Writing.version_for s)
-    (g.met.S.Writing.one s) c.args.rest.now k c.in-Ok.ensures.within c.args.output.now v.m v.unit
-    (ap (g.S.Writing.has s) (sym (c.smallest_version.ensures v.m v.means)) ∙ sym c.writes.ensures
-    ∙ c.if-not-writes.true)
+    step_left_out what c.args.rest.now k c.in-Ok.ensures.within c.args.output.now v.m v.unit
+    (none_written (what.unit v.m)
+    (sym (c.writes.ensures v.m (sym (c.smallest_version.ensures v.m v.means)))
+    ∙ c.if-not-writes.true))
 
 pub returns-in-None : goal.returns-in-None
 returns-in-None g c =
-    let s = c.args.writing in
     let k = c.in-Ok.first.1 in
     let view = rw c.in-End.is at c.in-Ok.ensures.view in
-    end_lacks_room (g.S.Writing.what s) (g.S.Writing.has s) (g.S.Writing.version_for s)
-    (g.met.S.Writing.one s) c.args.rest.now k c.in-Ok.ensures.within c.args.output.now c.in-End.end
-    view.0 view.1 _
+    end_lacks_room (g.S.Writing.what c.args.writing) c.args.rest.now k c.in-Ok.ensures.within
+    c.args.output.now c.in-End.end view.0 view.1 _
     (append-nil _ ∙ c.as_ref.ensures.bytes ∙ c.end.ensures (rw (sym view.0) at view.1)) _
     c.in-None.ensures
 
 pub returns-in-Some-place_unit : goal.returns-in-Some-place_unit
 returns-in-Some-place_unit g c =
-    let s = c.args.writing in
+    let what = g.S.Writing.what c.args.writing in
     let k = c.in-Ok.first.1 in
     let v =
     viewed c.in-Ok.first.0 (take k c.args.rest.now) c.in_default.not-End c.in-Ok.ensures.view in
-    step_written (g.S.Writing.what s) (g.S.Writing.has s) (g.S.Writing.version_for s)
-    (g.met.S.Writing.one s) c.args.rest.now k c.in-Ok.ensures.within c.args.output.now v.m _
-    _ v.unit
-    (ap (g.S.Writing.has s) (sym (c.smallest_version.ensures v.m v.means)) ∙ sym c.writes.ensures
+    let version = c.version-version.result in
+    let some = one_written (what.unit v.m) (in_version version v.m)
+    (sym (c.writes.ensures v.m (sym (c.smallest_version.ensures v.m v.means)))
     ∙ c.if-not-writes.false)
-    (c.in-Some-place_unit.ensures v.m v.means)
+    (λ n. c.version-version.ensures v.m n (sym (c.version-came_in.ensures.means v.m v.means))) in
+    step_written what c.args.rest.now k c.in-Ok.ensures.within c.args.output.now v.m version _ _
+    v.unit some (c.in-Some-place_unit.ensures v.m v.means)
 
 pub returns-in-None-place_unit : goal.returns-in-None-place_unit
 returns-in-None-place_unit g c =
-    let s = c.args.writing in
+    let what = g.S.Writing.what c.args.writing in
     let k = c.in-Ok.first.1 in
     let v =
     viewed c.in-Ok.first.0 (take k c.args.rest.now) c.in_default.not-End c.in-Ok.ensures.view in
-    unit_lacks_room (g.S.Writing.what s) (g.S.Writing.has s) (g.S.Writing.version_for s)
-    (g.met.S.Writing.one s) c.args.rest.now k c.in-Ok.ensures.within c.args.output.now v.m _ v.unit
-    (ap (g.S.Writing.has s) (sym (c.smallest_version.ensures v.m v.means)) ∙ sym c.writes.ensures
+    let version = c.version-version.result in
+    let some = one_written (what.unit v.m) (in_version version v.m)
+    (sym (c.writes.ensures v.m (sym (c.smallest_version.ensures v.m v.means)))
     ∙ c.if-not-writes.false)
-    (c.in-None-place_unit.ensures v.m v.means)
+    (λ n. c.version-version.ensures v.m n (sym (c.version-came_in.ensures.means v.m v.means))) in
+    unit_lacks_room what c.args.rest.now k c.in-Ok.ensures.within c.args.output.now v.m version _
+    v.unit some (c.in-None-place_unit.ensures v.m v.means)

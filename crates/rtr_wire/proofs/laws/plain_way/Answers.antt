@@ -1,4 +1,4 @@
-use Rattle.std.proofs.Common.{true, Ok, Err, refl}
+use Rattle.std.proofs.Common.{Ok, Err, refl}
 use Rattle.rtr_wire.specs.Sequences.{everything}
 use Rattle.rtr_wire.specs.declared.run.Passed.TheVariants as passes
 use Rattle.rtr_wire.proofs.Units.{unit_passed, form_put, form_not_put, not_meant}
@@ -8,14 +8,12 @@ use Rattle.rtr_wire.proofs.laws.plain_way.Goals as goal
 pub returns-clause-written : goal.returns-clause-written
 returns-clause-written c = λ u action p old new held holds read fields means wrote.
     unit_passed everything u (Ok passes.Written) old new held holds read fields
-    (form_put everything (λ v. true) (λ v. v) (λ m. refl) u action p means _ _ _ refl refl refl refl
-    held holds wrote)
+    (form_put everything u action p means _ _ _ refl refl refl held holds wrote)
 
 pub returns-clause-cut : goal.returns-clause-cut
 returns-clause-cut c = λ u action p fault old new held holds read fields means part.
     unit_passed everything u (Err fault) old new held holds read fields
-    (form_not_put everything (λ v. true) (λ v. v) (λ m. refl) u action p means _ _ _ refl refl refl
-    refl fault held holds part)
+    (form_not_put everything u action p means _ _ _ refl refl refl fault held holds part)
 
 pub returns-clause-refused : goal.returns-clause-refused
 returns-clause-refused c = λ u fault old new held read fields none.

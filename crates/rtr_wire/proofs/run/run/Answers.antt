@@ -9,7 +9,7 @@ use Rattle.rtr_wire.proofs.run.run.Goals as goal
 
 pub loop-count-init : goal.loop-count-init
 loop-count-init g c = record {
-  so_far = starts (g.S.Writing.what c.args.writing) _ _ (g.met.S.Writing.joins c.args.writing);
+  so_far = starts (g.S.Writing.what c.args.writing) _ _;
   reads = refl;
   writes = refl;
 }
@@ -17,17 +17,16 @@ loop-count-init g c = record {
 pub loop-count-preserved : goal.loop-count-preserved
 loop-count-preserved g c =
     let what = g.S.Writing.what c.args.writing in
-    let joins = g.met.S.Writing.joins c.args.writing in
     let so_far = c.loop-count.invariant.so_far in
     record {
       so_far = elim c.match-branch-2.branch [
         | in-Written w ↦
             rw w.left_out-is
-            (goes_on what c.loop-count.count c.loop-count.left_out _ _ _ _ _ _ joins so_far
+            (goes_on what c.loop-count.count c.loop-count.left_out _ _ _ _ _ _ so_far
             (rw w.in-Written.is at c.in_ok-step.ensures.bytes))
         | in-LeftOut w ↦
             rw w.left_out-is
-            (leaves_out what c.loop-count.count c.loop-count.left_out _ _ _ _ _ _ joins so_far
+            (leaves_out what c.loop-count.count c.loop-count.left_out _ _ _ _ _ _ so_far
             (rw w.in-LeftOut.is at c.in_ok-step.ensures.bytes))
       ];
       reads = search rules;

@@ -5,14 +5,14 @@ use Rattle.rtr_wire.proofs.Stepping.{starts, goes_on}
 use Rattle.rtr_wire.proofs.slice.normalise_slice.Goals as goal
 
 pub loop-count-init : goal.loop-count-init
-loop-count-init g c = record { so_far = starts everything _ _ (λ ms ns. refl); writes = refl }
+loop-count-init g c = record { so_far = starts everything _ _; writes = refl }
 
 pub loop-count-preserved : goal.loop-count-preserved
 loop-count-preserved g c =
     record {
       so_far =
-          goes_on everything c.loop-count.count 0 _ _ _ _ _ _ (λ ms ns. refl)
-          c.loop-count.invariant.so_far (rw c.if-not-is_unit.false at c.in-Ok.ensures.unit);
+          goes_on everything c.loop-count.count 0 _ _ _ _ _ _ c.loop-count.invariant.so_far
+          (rw c.if-not-is_unit.false at c.in-Ok.ensures.unit);
       writes = c.in-Ok.ensures.count ∙ c.loop-count.invariant.writes;
     }
 
