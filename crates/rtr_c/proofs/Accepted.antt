@@ -174,7 +174,8 @@ fitting what limit input before after p f b ms e acc enough =
     let (next, left, parts, why) = f.ends.2.1 in
     let s = acc.sequence in
     let size = length-append (forms (written_units what ms)) (end_list (what.end e)) in
-    let before_it : p.written ≡ length (forms (written_units what f.ms)) = f.written ∙ ap length f.ends.1 in
+    let before_it : p.written ≡ length (forms (written_units what f.ms)) =
+    f.written ∙ ap length f.ends.1 in
     let both : (f.us ++ next) ++ left ≡ s.front ++ (s.last ++ acc.rest) =
     append_assoc f.us next left ∙ ap (λ r. f.us ++ r) (sym parts) ∙ sym f.parts ∙ acc.parts
     ∙ then b s.front s.last acc.rest s.parts in

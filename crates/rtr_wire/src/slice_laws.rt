@@ -1,11 +1,12 @@
 //! Laws of `normalise_slice`.
 
-ghost use Rattle.std.specs.Prelude.{◌≡◌, ℕ, List, Some, Result, Ok, IsOk};
+ghost use Rattle.std.specs.Prelude.{◌≡◌, ℕ, List, Some, Result};
 ghost use Rattle.rtr_units.specs.declared.fault.Fault.{Fault};
 ghost use Rattle.rtr_units.specs.StopCauses.{ReaderState, WriterState};
 ghost use Rattle.rtr_views.specs.declared.fault.ViewFault.{ViewFault};
 ghost use Rattle.rtr_units.specs.StopCauses.{by_cause};
-ghost use Rattle.rtr_wire.specs.Run.{HasRun, BlamesNobody, Normalises};
+ghost use Rattle.rtr_wire.specs.Promise.{SlicePromises};
+ghost use Rattle.rtr_wire.specs.Run.{BlamesNobody, Normalises};
 ghost use Rattle.rtr_wire.specs.Sequences.{everything};
 ghost use Rattle.rtr_wire.specs.SliceRun.{NormalisesSlice, slice_answer};
 
@@ -26,9 +27,7 @@ pub fn same_answer()
 
 /// What follows from the contract of `normalise_slice`, by the answer.
 pub fn slice_promises()
-    // An input over which some run succeeds is answered by numbers, unless the writer failed.
-    ensures answers { (limit : ℕ) (r : Result (ℕ × ℕ) ViewFault) (input : List ℕ)
-        (old new : WriterState) (p : NormalisesSlice limit r input old new) (number : ℕ) →
-        HasRun everything limit (Ok number) input → BlamesNobody (slice_answer p.last r) →
-        IsOk r }
+    ensures { (limit : ℕ) (r : Result (ℕ × ℕ) ViewFault) (input : List ℕ)
+        (old new : WriterState) (p : NormalisesSlice limit r input old new) →
+        SlicePromises limit r input old new p }
 {}
