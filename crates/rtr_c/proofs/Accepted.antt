@@ -18,14 +18,14 @@ use Rattle.rtr_views.specs.declared.fault.ViewFault.{ViewFault}
 use Rattle.rtr_views.specs.declared.fault.ViewFault.TheVariants as faults
 use Rattle.rtr_wire.specs.Into.{FillsInto, RefusesVersion}
 use Rattle.rtr_wire.specs.Sequences.{AreUnits, Accepts, Output, forms, sequence_form}
-use Rattle.rtr_wire.specs.Sequences.{form_written, written_units}
+use Rattle.rtr_wire.specs.Sequences.{written_units}
 use Rattle.rtr_wire.specs.declared.into.IntoFault.{IntoFault}
 use Rattle.rtr_wire.specs.declared.into.IntoFault.TheVariants.{NoRoom, TooMany, Refused}
 use Rattle.rtr_wire.specs.declared.into.Progress.{Progress}
 use Rattle.rtr_wire.proofs.OneAnswer.{begins_end, no_unit, no_end}
 use Rattle.rtr_wire.proofs.Push.{forms_append, units_push}
 use Rattle.rtr_wire.proofs.Runs.{accepted_same, after as then, goes_on, kept_accepted}
-use Rattle.rtr_wire.proofs.Written.{forms_one_more}
+use Rattle.rtr_wire.proofs.Written.{form_written, forms_one_more}
 use Rattle.rtr_c.specs.Answers.{Tells, TellsSequence, CallSucceeds, CallSucceedsOnly}
 use Rattle.rtr_c.specs.Answers.{fault_status, stop_status, run_status}
 use Rattle.rtr_c.specs.declared.answer.RtrAnswer.{RtrAnswer}
@@ -180,7 +180,7 @@ fitting what limit input before after p f b ms e acc enough =
     append_assoc f.us next left ∙ ap (λ r. f.us ++ r) (sym parts) ∙ sym f.parts ∙ acc.parts
     ∙ then b s.front s.last acc.rest s.parts in
     elim why [
-      | inl (m, unit, less) ↦
+      | inl (m, n, unit, is, less) ↦
           let units = units_push f.us next f.ms m f.are_units unit in
           elim (cases_lt (length ms) (length (f.ms ++ m ∷ []))) [
             | inl lt ↦
@@ -189,11 +189,12 @@ fitting what limit input before after p f b ms e acc enough =
                 s.units units (sym both) lt)
                 (begins_end s.last acc.rest e s.end)
             | inr le ↦
-                let (more, is) = front_of (f.us ++ next) left s.front (s.last ++ acc.rest)
+                let (more, split) = front_of (f.us ++ next) left s.front (s.last ++ acc.rest)
                 (f.ms ++ m ∷ []) ms units s.units both le in
                 omega (
                   arith,
-                  longer what f.ms m more ms is,
+                  longer what f.ms m more ms split,
+                  ap (λ o. length (form_written o)) is,
                   less,
                   enough,
                   size,

@@ -20,12 +20,12 @@ use Rattle.rtr_payload.proofs.ByFields.{unit_fields_of}
 use Rattle.rtr_base.specs.declared.payload.Timing.{Timing}
 use Rattle.rtr_wire.specs.Into.{LacksRoom, FillsInto}
 use Rattle.rtr_wire.specs.Sequences.{AreUnits, Output, everything, for_version}
-use Rattle.rtr_wire.specs.Sequences.{forms, form_written, written_units, in_version}
+use Rattle.rtr_wire.specs.Sequences.{forms, written_units, in_version}
 use Rattle.rtr_wire.specs.Sequences.{unit_for, end_for}
 use Rattle.rtr_wire.specs.declared.into.IntoFault.{IntoFault}
 use Rattle.rtr_wire.specs.declared.into.IntoFault.TheVariants.{NoRoom}
 use Rattle.rtr_wire.specs.declared.into.Progress.{Progress}
-use Rattle.rtr_wire.proofs.Written.{forms_cons}
+use Rattle.rtr_wire.proofs.Written.{form_written, forms_cons}
 
 -- a withdrawal names no providers
 fewer : (v f g z c : ℕ) (a : Action) (ps : List ℕ) →
@@ -104,8 +104,9 @@ module _ (what : Output) (more : ℕ)
       )
 
   next_fits : (rest : List ℕ) (room : ℕ) → LacksRoom what rest room → room < length rest + more
-  next_fits rest room (next, left, parts, inl (m, unit, less)) =
-      omega (arith, less, one_fits next m unit, ap length parts, length-append next left)
+  next_fits rest room (next, left, parts, inl (m, n, unit, is, less)) =
+      let size = ap (λ o. length (form_written o)) is in
+      omega (arith, less, size, one_fits next m unit, ap length parts, length-append next left)
   next_fits rest room (next, left, parts, inr (e, end, less)) =
       omega (arith, less, end_fits next e end, ap length parts, length-append next left)
 

@@ -25,7 +25,7 @@ use Rattle.rtr_views.specs.Faults.{IsFirstFault}
 use Rattle.rtr_wire.specs.Into.{LacksRoom, WhyStopped, FillsInto}
 use Rattle.rtr_wire.specs.declared.into.IntoFault.{IntoFault}
 use Rattle.rtr_wire.specs.declared.into.IntoFault.TheVariants.{NoRoom, TooMany, Refused}
-use Rattle.rtr_wire.specs.Sequences.{Output, form_written, in_version}
+use Rattle.rtr_wire.specs.Sequences.{Output, in_version}
 use Rattle.rtr_wire.specs.declared.into.Step.{Step}
 use Rattle.rtr_wire.specs.declared.run.Passed.TheVariants as passes
 use Rattle.rtr_wire.proofs.Stepping.{SoFar, starts, goes_on, leaves_out}
@@ -94,7 +94,7 @@ module _ (what : Output) (rest : List ℕ) (k : ℕ) (le : k ≤ length rest) (b
       take k rest,
       drop k rest,
       parts,
-      inl (m, unit, omega (arith, less, ap (λ o. length (form_written o)) some)),
+      inl (m, in_version v m, unit, some, less),
     ),
   )
 

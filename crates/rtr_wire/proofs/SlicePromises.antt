@@ -4,7 +4,7 @@ use Rattle.std.proofs.Common.{sym, ap, subst, ◌∙◌, arith}
 use Rattle.std.specs.Prelude.{IfOk}
 use Rattle.std.specs.Io.KnownBytes.{Appends}
 use Rattle.rtr_units.specs.StopCauses.{Cause, by_writer, too_many, wrong}
-use Rattle.rtr_units.specs.Stream.{WriterState, count_after}
+use Rattle.rtr_units.specs.StopCauses.{WriterState, count_after}
 use Rattle.rtr_views.specs.Faults.{is_view_writer_fault}
 use Rattle.rtr_views.specs.declared.fault.ViewFault.{ViewFault}
 use Rattle.rtr_views.specs.declared.fault.ViewFault.TheVariants.{Writer, Short, UnitType}

@@ -77,13 +77,13 @@ part_of_view : (v : UnitView) (b t others : List ℕ) → IsViewOf v b → view_
     0 < length others → IsPartOfForm everything b t
 part_of_view (views.Origin v) b t others is e some =
     let m = origin_meaning v in
-    inl (m, view_means (views.Origin v) b m is refl, (others, e, some))
+    inl (m, m, view_means (views.Origin v) b m is refl, refl, (others, e, some))
 part_of_view (views.RouterKey v) b t others is e some =
     let m = meaning (key_unit (key_at v.unit.now)) in
-    inl (m, view_means (views.RouterKey v) b m is refl, (others, e, some))
+    inl (m, m, view_means (views.RouterKey v) b m is refl, refl, (others, e, some))
 part_of_view (views.Aspa v) b t others is e some =
     let m = meaning (aspa_unit (aspa_at v.unit.now)) in
-    inl (m, view_means (views.Aspa v) b m is refl, (others, e, some))
+    inl (m, m, view_means (views.Aspa v) b m is refl, refl, (others, e, some))
 part_of_view (views.End d) b t others (is, end) e some =
     inr (end_meaning d, end, (others, sym end.bytes ∙ sym is ∙ e, some))
 

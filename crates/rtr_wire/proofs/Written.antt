@@ -6,9 +6,15 @@ use Rattle.std.specs.List.{filter, cons_option}
 use Rattle.std.proofs.lemmas.Bool.{cond_both}
 use Rattle.std.proofs.lemmas.List.Elements.{filter_map-append}
 use Rattle.rtr_payload.specs.Payloads.{Meaning, smallest_version}
-use Rattle.rtr_wire.specs.Sequences.{Output, everything, forms, form_written, written_units}
+use Rattle.rtr_payload.specs.Units.{form_of}
+use Rattle.rtr_wire.specs.Sequences.{Output, everything, forms, written_units}
 use Rattle.rtr_wire.specs.Sequences.{in_version, unit_for, units_for}
 use Rattle.rtr_wire.proofs.Push.{forms_append}
+
+-- the form of what is written for one unit: no bytes where nothing is
+abbrev pub form_written : Option Meaning → List ℕ
+form_written None = []
+form_written (Some m) = form_of m
 
 -- ---- one unit more
 

@@ -1,12 +1,12 @@
 -- What a run from a slice into another writes and answers (this library's own).
 use Rattle.std.specs.Prelude.{◌≡◌, ℕ, ◌+◌, ◌<◌, ◌≤◌, ◌⊎◌, List, ◌++◌, length, drop}
-use Rattle.std.specs.Prelude.{Result, Ok, Err}
+use Rattle.std.specs.Prelude.{Some, Result, Ok, Err}
 use Rattle.rtr_units.specs.End.{EndMeaning, IsEnd, end_list}
 use Rattle.rtr_payload.specs.Payloads.{Meaning}
-use Rattle.rtr_payload.specs.Units.{IsUnit}
+use Rattle.rtr_payload.specs.Units.{IsUnit, form_of}
 use Rattle.rtr_views.specs.Faults.{IsFirstFault}
 use Rattle.rtr_views.specs.declared.fault.ViewFault.TheVariants.{UnitVersion}
-use Rattle.rtr_wire.specs.Sequences.{AreUnits, Output, forms, form_written, written_units}
+use Rattle.rtr_wire.specs.Sequences.{AreUnits, Output, forms, written_units}
 use Rattle.rtr_wire.specs.declared.into.IntoFault.{IntoFault}
 use Rattle.rtr_wire.specs.declared.into.IntoFault.TheVariants.{NoRoom, TooMany, Refused}
 use Rattle.rtr_wire.specs.declared.into.Progress.{Progress}
@@ -14,7 +14,7 @@ use Rattle.rtr_wire.specs.declared.into.Progress.{Progress}
 -- the next unit or end of data is there, and what is to be written for it has more bytes than this
 abbrev pub LacksRoom : Output → List ℕ → ℕ → Type 0
 LacksRoom what rest room = (next left : List ℕ) × (rest ≡ next ++ left)
-    × (((m : Meaning) × IsUnit next m × (room < length (form_written (what.unit m))))
+    × (((m n : Meaning) × IsUnit next m × (what.unit m ≡ Some n) × (room < length (form_of n)))
     ⊎ ((e : EndMeaning) × IsEnd next e × (room < length (end_list (what.end e)))))
 
 -- why a call stopped after units with these meanings, at the rest of the input, with this room

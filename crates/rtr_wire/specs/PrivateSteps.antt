@@ -26,7 +26,7 @@ use Rattle.rtr_wire.specs.declared.run.Passed.TheVariants as passes
 use Rattle.rtr_wire.specs.Comparison.{Accepted}
 use Rattle.rtr_wire.specs.Into.{LacksRoom}
 use Rattle.rtr_wire.specs.Run.{IsProperPrefix, Ends}
-use Rattle.rtr_wire.specs.Sequences.{Output, everything, form_written, in_version, sequence_form}
+use Rattle.rtr_wire.specs.Sequences.{Output, everything, in_version, sequence_form}
 use Rattle.rtr_wire.specs.SliceRun.{view_cause}
 
 -- ---- a step from a reader to a writer
@@ -44,8 +44,8 @@ abbrev pub FormTells : Output → Payload → Result Passed Cause → List ℕ �
 FormTells what u (Ok step) w =
     LengthsAgree (unit_fields u) × WritesMeaning what (meaning (unit_fields u)) step w
 FormTells what u (Err by_writer) w =
-    LengthsAgree (unit_fields u) ×
-    IsProperPrefix w (form_written (what.unit (meaning (unit_fields u))))
+    LengthsAgree (unit_fields u) × (n : Meaning) ×
+    (what.unit (meaning (unit_fields u)) ≡ Some n) × IsProperPrefix w (form_of n)
 FormTells what u (Err c) w = HasNoPayload u c × (w ≡ [])
 
 -- One unit was read, and what is to be written for it was written; or an end of data, at which a

@@ -1,14 +1,17 @@
-//! Laws of `normalise_slice`.
+//! Laws of the calls on slices.
 
-ghost use Rattle.std.specs.Prelude.{◌≡◌, ℕ, List, Some, Result};
+ghost use Rattle.std.specs.Prelude.{◌≡◌, ◌+◌, ◌++◌, ℕ, List, take, drop, Some, Result, Err};
 ghost use Rattle.rtr_units.specs.declared.fault.Fault.{Fault};
 ghost use Rattle.rtr_units.specs.StopCauses.{ReaderState, WriterState};
 ghost use Rattle.rtr_views.specs.declared.fault.ViewFault.{ViewFault};
 ghost use Rattle.rtr_units.specs.StopCauses.{by_cause};
 ghost use Rattle.rtr_wire.specs.Promise.{SlicePromises};
 ghost use Rattle.rtr_wire.specs.Run.{BlamesNobody, Normalises};
-ghost use Rattle.rtr_wire.specs.Sequences.{everything};
+ghost use Rattle.rtr_wire.specs.Into.{FillsInto};
+ghost use Rattle.rtr_wire.specs.Sequences.{Output, everything};
 ghost use Rattle.rtr_wire.specs.SliceRun.{NormalisesSlice, slice_answer};
+ghost use Rattle.rtr_wire.specs.declared.into.IntoFault.{IntoFault};
+ghost use Rattle.rtr_wire.specs.declared.into.Progress.{Progress};
 
 /// `normalise` over a reader of some bytes and `normalise_slice` over the same bytes, with the same
 /// limit, answer the same number or faults of one cause, take and leave the same bytes and write
@@ -30,4 +33,19 @@ pub fn slice_promises()
     ensures { (limit : ℕ) (r : Result (ℕ × ℕ) ViewFault) (input : List ℕ)
         (old new : WriterState) (p : NormalisesSlice limit r input old new) →
         SlicePromises limit r input old new p }
+{}
+
+/// A call of `normalise_into` or `normalise_for_into` that goes on where another stopped, over the
+/// rest of the input and of the output and with its own limit, is one run with it.
+pub fn resumed()
+    ensures { (what : Output) (first limit : ℕ) (fault : IntoFault) (r : Result Unit IntoFault)
+        (input before mid after : List ℕ) (p q : Progress) →
+        FillsInto what first (Err fault) input before mid p →
+        FillsInto what limit r (drop p.taken input) (drop p.written mid) after q →
+        FillsInto what (p.units + limit) r input before (take p.written mid ++ after) (record {
+          units = p.units + q.units;
+          forms = p.forms + q.forms;
+          taken = p.taken + q.taken;
+          written = p.written + q.written;
+        }) }
 {}
