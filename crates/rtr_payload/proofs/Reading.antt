@@ -20,14 +20,14 @@ use Rattle.rtr_units.proofs.Headers.{same_header}
 use Rattle.rtr_payload.specs.UnitKinds.{variable_unit, payload_unit}
 use Rattle.rtr_units.specs.PrefixUnits.{prefix_at}
 use Rattle.rtr_payload.specs.UnitFields.{prefix_unit, Fields, HasFields}
-use Rattle.rtr_payload.specs.FirstFault.{IsPartial, IsRefused}
+use Rattle.rtr_payload.specs.FirstFault.{IsPartial}
 use Rattle.rtr_payload.specs.UnitBytes.{unit_bytes, unit_fields}
 use Rattle.rtr_payload.specs.declared.pdu.payload.Payload.{Payload}
 use Rattle.std.specs.Prelude.{IfOk, IsTrue}
 use Rattle.rtr_payload.specs.FirstFault.{header_fault}
 use Rattle.rtr_payload.specs.FaultSteps.{header_step}
 use Rattle.rtr_payload.proofs.Frames.{shape_whole}
-use Rattle.rtr_payload.proofs.Refusals.{header_short, unit_short, header_refused}
+use Rattle.rtr_payload.proofs.Refusals.{IsRefused, header_short, unit_short, header_refused}
 use Rattle.rtr_payload.proofs.Wholes.{prefix_whole}
 
 -- ---- headers by their type

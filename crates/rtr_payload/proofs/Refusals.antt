@@ -10,12 +10,16 @@ use Rattle.rtr_units.specs.StopCauses.{too_long, unit_length, empty_providers, r
 use Rattle.rtr_units.specs.Header.{version_field, type_field, length_field}
 use Rattle.rtr_units.proofs.Headers.{same_header}
 use Rattle.rtr_payload.specs.declared.pdu.prefix_rule.PrefixRule.{PrefixRule}
-use Rattle.rtr_payload.specs.FirstFault.{IsPartial, IsRefused}
+use Rattle.rtr_payload.specs.FirstFault.{IsPartial, first_fault}
 use Rattle.rtr_payload.specs.FirstFault.{header_fault, taken, refusal_report}
 use Rattle.rtr_payload.specs.FaultSteps.{header_step, rule_of}
 use Rattle.rtr_payload.specs.UnitFields.{Fields, HasFields}
 use Rattle.rtr_payload.proofs.Frames.{Whole, refuse, header_first, length_next}
 use Rattle.rtr_payload.proofs.Frames.{same_step, shape_fault, shape_cut}
+
+-- whatever follows h, it is refused by f, and just h is taken
+abbrev pub IsRefused : List ℕ → Refusal → Type 0
+IsRefused h f = (r : List ℕ) → (first_fault (h ++ r) ≡ Some f) × (taken f (h ++ r) ≡ h)
 
 -- ---- a list that ends too early
 

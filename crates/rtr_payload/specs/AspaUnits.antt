@@ -1,5 +1,5 @@
 -- The units of ASPAs (as in the Rust crate): which bytes are one, and what it means.
-use Rattle.std.specs.Prelude.{◌≡◌, ℕ, ◌+◌, ◌*◌, ◌≤◌, List, [], ◌∷◌, ◌++◌, length, take, drop}
+use Rattle.std.specs.Prelude.{◌≡◌, ℕ, ◌+◌, ◌*◌, ◌≤◌, List, [], ◌∷◌, ◌++◌, length, take, drop, ⊤}
 use Rattle.std.specs.Prelude.{slice_index}
 use Rattle.rtr_base.specs.Actions.{act}
 use Rattle.rtr_base.specs.declared.payload.Action.{Action}
@@ -27,7 +27,7 @@ aspa_list u =
 -- (this library's own)
 abbrev pub HasProviders : Action → List ℕ → Type 0
 HasProviders Announce ps = 1 ≤ length ps
-HasProviders Withdraw ps = Unit {0}
+HasProviders Withdraw ps = ⊤
 
 -- the providers count on an announcement alone (as in the Rust crate)
 abbrev pub meant_providers : Action → List ℕ → List ℕ

@@ -122,10 +122,6 @@ pub record BeginsEnd (r : List ℕ) : Type 0 where
 abbrev pub IsPartial : List ℕ → Type 0
 IsPartial h = first_fault h ≡ Some short
 
--- whatever follows h, it is refused by f, and just h is taken
-abbrev pub IsRefused : List ℕ → Refusal → Type 0
-IsRefused h f = (r : List ℕ) → (first_fault (h ++ r) ≡ Some f) × (taken f (h ++ r) ≡ h)
-
 -- after h memory may be asked for: h is the header of a router key or an ASPA unit, with nothing
 -- wrong, or all of such a unit
 abbrev pub MayAskMemory : List ℕ → Type 0

@@ -1,5 +1,5 @@
 -- What calls inside this crate leave. Only contracts of private functions cite these.
-use Rattle.std.specs.Prelude.{◌≡◌, ◌⊎◌, ℕ, List, [], length, Option, Some, Result, Ok, Err}
+use Rattle.std.specs.Prelude.{◌≡◌, ◌⊎◌, ℕ, List, [], length, Option, Some, Result, Ok, Err, ⊤}
 use Rattle.std.specs.Io.KnownBytes.{Consumes}
 use Rattle.rtr_units.specs.StopCauses.{Refusal, Cause, no_memory, wrong, refused}
 use Rattle.rtr_units.specs.Reading.{Takes}
@@ -29,5 +29,5 @@ IsRefusedBy fault c = ⊥
 -- a report, or no memory for it
 abbrev pub AnswersReport : Cause → List ℕ → Type 0
 AnswersReport (wrong (refused r)) report = r ≡ report
-AnswersReport no_memory report = Unit {0}
+AnswersReport no_memory report = ⊤
 AnswersReport c report = ⊥

@@ -1,5 +1,5 @@
 -- The providers of an ASPA (as in the Rust crate).
-use Rattle.std.specs.Prelude.{◌≡◌, ℕ, List, [], ◌∷◌, length, Option}
+use Rattle.std.specs.Prelude.{◌≡◌, ℕ, List, [], ◌∷◌, length, Option, ⊤}
 use Rattle.std.specs.Iterator.{Yields}
 use Rattle.rtr_base.specs.Bytes.{value, words}
 use Rattle.rtr_payload.specs.Payloads.{AreProviders}
@@ -23,4 +23,4 @@ pub record AreProviderBytes (bytes : List ℕ) : Type 0 where
 abbrev pub StopsTaking : {S : Type 0} → (S → Option ℕ → S → Type 0) → S → ProviderIterError → Type 0
 StopsTaking {S} steps s (Count e) = (xs : List ℕ) × (t : S) × Yields steps s xs t ×
     (length xs ≡ 16381)
-StopsTaking {S} steps s Memory = Unit {0}
+StopsTaking {S} steps s Memory = ⊤

@@ -1,7 +1,7 @@
 -- What the values of payload units are: their bytes, and the fields that stand in them (this
 -- library's own; the places by RFC 8210 sections 5.6, 5.7 and 5.10, ASPA units as in the Rust
 -- crate).
-use Rattle.std.specs.Prelude.{◌≡◌, ◌≤◌, List, [], ℕ, Option, Some, None, Result, Ok, Err}
+use Rattle.std.specs.Prelude.{◌≡◌, ◌≤◌, List, [], ℕ, Option, Some, None, Result, Ok, Err, ⊤}
 use Rattle.std.specs.Prelude.{IsSome}
 use Rattle.rtr_base.specs.Addresses.{v4, v6}
 use Rattle.rtr_base.specs.declared.payload.Action.{Action}
@@ -62,8 +62,8 @@ IsAnswer (Err d) = IsEnd (end_bytes d) (end_meaning d)
 -- an origin whose max length was given
 abbrev pub HasMaxLen : Value → Type 0
 HasMaxLen (values.Origin o) = IsSome o.prefix.max_len
-HasMaxLen (values.RouterKey k) = Unit {0}
-HasMaxLen (values.Aspa a) = Unit {0}
+HasMaxLen (values.RouterKey k) = ⊤
+HasMaxLen (values.Aspa a) = ⊤
 
 -- The unit means this payload with this action. An origin's max length is given.
 pub record MeansPayload (u : Payload) (action : Action) (p : Value) : Type 0 where
@@ -79,8 +79,8 @@ pub record MeansPayload (u : Payload) (action : Action) (p : Value) : Type 0 whe
 -- is made of a prefix that breaks its rule (this library's own)
 abbrev pub NeedsMemory : Fields → Type 0
 NeedsMemory (prefix_unit u) = IsSome (rule_of (prefix_unit u))
-NeedsMemory (key_unit u) = Unit {0}
-NeedsMemory (aspa_unit u) = Unit {0}
+NeedsMemory (key_unit u) = ⊤
+NeedsMemory (aspa_unit u) = ⊤
 
 -- Why the unit has no payload: its prefix breaks a rule (RFC 8210 sections 5.1, 5.6 and 5.7), of
 -- which the report tells, or memory was refused (this library's own).
@@ -93,8 +93,8 @@ HasNoPayload u c = ⊥
 -- ---- kinds
 
 abbrev pub IsPrefixUnit : Payload → Type 0
-IsPrefixUnit (units.V4 u) = Unit {0}
-IsPrefixUnit (units.V6 u) = Unit {0}
+IsPrefixUnit (units.V4 u) = ⊤
+IsPrefixUnit (units.V6 u) = ⊤
 IsPrefixUnit (units.RouterKey u) = ⊥
 IsPrefixUnit (units.Aspa u) = ⊥
 
@@ -114,7 +114,7 @@ flags_in (units.RouterKey u) = (key_at u).flags
 flags_in (units.Aspa u) = (aspa_at u).flags
 
 abbrev pub IsOriginRef : PayloadRef → Type 0
-IsOriginRef (lent.Origin o) = Unit {0}
+IsOriginRef (lent.Origin o) = ⊤
 IsOriginRef (lent.RouterKey k) = ⊥
 IsOriginRef (lent.Aspa a) = ⊥
 

@@ -1,6 +1,6 @@
 -- The fields of payload units of any kind, for contracts that speak of single fields (each by its
 -- RFC section). The law `units_by_fields` shows that `HasMeaning` and `IsUnit` say the same.
-use Rattle.std.specs.Prelude.{◌≡◌, ℕ, ◌≤◌, List, length}
+use Rattle.std.specs.Prelude.{◌≡◌, ℕ, ◌≤◌, List, length, ⊤}
 use Rattle.rtr_base.specs.declared.payload.Action.{Action}
 use Rattle.rtr_base.specs.Actions.{act}
 use Rattle.rtr_base.specs.Bytes.{IsBytes}
@@ -40,15 +40,15 @@ Fit (aspa_unit u) = IsAspa u.aspa
 -- what is read of keys and ASPAs: units of at most 65535 bytes, and in an announcement a provider
 -- (as in the Rust crate)
 abbrev pub WithinLimits : Fields → Type 0
-WithinLimits (prefix_unit u) = Unit {0}
+WithinLimits (prefix_unit u) = ⊤
 WithinLimits (key_unit u) = length u.key.info ≤ 65503
 WithinLimits (aspa_unit u) = HasProviders (act u.flags) u.aspa.providers
 
 -- the lengths of a prefix are in order (RFC 8210 sections 5.1, 5.6 and 5.7)
 abbrev pub LengthsAgree : Fields → Type 0
 LengthsAgree (prefix_unit u) = LengthsInOrder u.origin
-LengthsAgree (key_unit u) = Unit {0}
-LengthsAgree (aspa_unit u) = Unit {0}
+LengthsAgree (key_unit u) = ⊤
+LengthsAgree (aspa_unit u) = ⊤
 
 -- what the fields mean: of the flags the lowest bit counts (RFC 8210 section 5.1)
 abbrev pub meaning : Fields → Meaning

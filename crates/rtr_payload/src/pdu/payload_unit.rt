@@ -1,6 +1,7 @@
 //! What the four kinds of payload units have in common.
 
 ghost use Rattle.std.specs.Prelude.{◌≡◌, ◌≢◌, ℕ, List, Option, replicate, Err, IfOk, IfErr, IsOk};
+ghost use Rattle.std.specs.Prelude.{⊤};
 ghost use Rattle.std.specs.Prelude.{refl};
 ghost use Rattle.rtr_units.specs.StopCauses.{Cause, by_cause, by_writer, cause_of};
 ghost use Rattle.rtr_units.specs.Header.{type_field, version_field};
@@ -210,7 +211,7 @@ impl PayloadUnit for RouterKey {
 
     ghost value = { payloads.RouterKey };
 
-    ghost holds = { λ _. Unit {0} };
+    ghost holds = { λ _. ⊤ };
 
     ghost kind = { 9 };
 
@@ -288,7 +289,7 @@ impl PayloadUnit for Aspa {
 
     ghost value = { payloads.Aspa };
 
-    ghost holds = { λ _. Unit {0} };
+    ghost holds = { λ _. ⊤ };
 
     ghost kind = { 11 };
 
