@@ -16,7 +16,7 @@ use Rattle.rtr_payload.specs.FaultSteps.{first_unit}
 use Rattle.rtr_views.specs.Faults.{IsFirstFault}
 use Rattle.rtr_views.specs.declared.fault.ViewFault.{ViewFault}
 use Rattle.rtr_views.specs.declared.fault.ViewFault.TheVariants as faults
-use Rattle.rtr_wire.specs.Into.{FillsInto, RefusesVersion}
+use Rattle.rtr_wire.specs.Into.{NormalisesInto, RefusesVersion}
 use Rattle.rtr_wire.specs.Sequences.{AreUnits, Accepts, Output, forms, sequence_form}
 use Rattle.rtr_wire.specs.Sequences.{written_units}
 use Rattle.rtr_wire.specs.declared.into.IntoFault.{IntoFault}
@@ -63,7 +63,7 @@ stop_some (Refused e) = fault_some e
 -- ---- a run that came to the end of data
 
 pub only : (what : Output) (limit : ℕ) (r : Result Unit IntoFault) (input before after : List ℕ)
-    (p : Progress) (a : RtrAnswer) (code : ℕ) → FillsInto what limit r input before after p →
+    (p : Progress) (a : RtrAnswer) (code : ℕ) → NormalisesInto what limit r input before after p →
     Tells p r a code → CallSucceedsOnly what limit input before after a code
 only what limit (Err g) input before after p a code f t zero =
     absurd (stop_some g (sym t.answered ∙ zero))
@@ -106,8 +106,8 @@ unknown version r before after p a code f t zero =
 
 -- what was read up to a stop is kept, and an end of data comes next
 stopped : (what : Output) (limit : ℕ) (g : IntoFault) (input before after : List ℕ)
-    (p : Progress) → FillsInto what limit (Err g) input before after p → g ≢ NoRoom → (b : List ℕ)
-    (ms : List Meaning) (e : EndMeaning) → Accepts input b ms e → length ms < limit → ⊥
+    (p : Progress) → NormalisesInto what limit (Err g) input before after p → g ≢ NoRoom →
+    (b : List ℕ) (ms : List Meaning) (e : EndMeaning) → Accepts input b ms e → length ms < limit → ⊥
 stopped what limit NoRoom input before after p f not b ms e acc few = not refl
 stopped what limit TooMany input before after p f not b ms e acc few =
     let full : length f.ms ≡ limit = f.ends.2 in
@@ -167,11 +167,11 @@ longer what ns m more ms is =
 
 -- an output as long as the form doesn't lack room
 fitting : (what : Output) (limit : ℕ) (input before after : List ℕ) (p : Progress) →
-    FillsInto what limit (Err NoRoom) input before after p → (b : List ℕ) (ms : List Meaning)
+    NormalisesInto what limit (Err NoRoom) input before after p → (b : List ℕ) (ms : List Meaning)
     (e : EndMeaning) → Accepts input b ms e →
     length (sequence_form (written_units what ms) (what.end e)) ≤ length before → ⊥
 fitting what limit input before after p f b ms e acc enough =
-    let (next, left, parts, why) = f.ends.2.1 in
+    let (next, left, form, parts, why, less) = f.ends.2.1 in
     let s = acc.sequence in
     let size = length-append (forms (written_units what ms)) (end_list (what.end e)) in
     let before_it : p.written ≡ length (forms (written_units what f.ms)) =
@@ -180,7 +180,7 @@ fitting what limit input before after p f b ms e acc enough =
     append_assoc f.us next left ∙ ap (λ r. f.us ++ r) (sym parts) ∙ sym f.parts ∙ acc.parts
     ∙ then b s.front s.last acc.rest s.parts in
     elim why [
-      | inl (m, n, unit, is, less) ↦
+      | inl (m, n, unit, is, of) ↦
           let units = units_push f.us next f.ms m f.are_units unit in
           elim (cases_lt (length ms) (length (f.ms ++ m ∷ []))) [
             | inl lt ↦
@@ -195,6 +195,7 @@ fitting what limit input before after p f b ms e acc enough =
                   arith,
                   longer what f.ms m more ms split,
                   ap (λ o. length (form_written o)) is,
+                  ap length of,
                   less,
                   enough,
                   size,
@@ -202,7 +203,7 @@ fitting what limit input before after p f b ms e acc enough =
                   f.room_is,
                 )
           ]
-      | inr (d, end, less) ↦
+      | inr (d, end, of) ↦
           let whole : Accepts input (f.us ++ next) f.ms d = record {
             rest = left;
             parts = f.parts ∙ ap (λ r. f.us ++ r) parts ∙ sym (append_assoc f.us next left);
@@ -215,6 +216,7 @@ fitting what limit input before after p f b ms e acc enough =
             arith,
             ap (λ ms. length (forms (written_units what ms))) meanings,
             ap (λ e. length (end_list (what.end e))) ends,
+            ap length of,
             less,
             enough,
             size,
@@ -230,14 +232,14 @@ NotNoRoom r = r ≢ Err NoRoom
 
 pub accepted : (what : Output) (limit enough : ℕ) (r : Result Unit IntoFault)
     (input before after : List ℕ) (p : Progress) (a : RtrAnswer) (code : ℕ) →
-    FillsInto what limit r input before after p → Tells p r a code →
+    NormalisesInto what limit r input before after p → Tells p r a code →
     (enough ≤ length before → r ≢ Err NoRoom) →
     CallSucceeds what limit enough input before after a code
 accepted what limit enough (Err g) input before after p a code f t always b ms e acc
     few room =
     absurd (stopped what limit g input before after p f (by_room g f always) b ms e acc few)
   where
-    by_room : (g : IntoFault) → FillsInto what limit (Err g) input before after p →
+    by_room : (g : IntoFault) → NormalisesInto what limit (Err g) input before after p →
         (enough ≤ length before → NotNoRoom (Err g)) → g ≢ NoRoom
     by_room NoRoom f always is = elim room [
       | inl long ↦ always long refl

@@ -1,7 +1,7 @@
 //! Calls over whole sequences.
 
 ghost use Rattle.std.specs.Prelude.{◌≡◌, ◌≢◌, ◌+◌, ◌≤◌, ◌<◌, Result, length};
-ghost use Rattle.rtr_wire.specs.Into.{FillsInto, RefusesVersion};
+ghost use Rattle.rtr_wire.specs.Into.{NormalisesInto, RefusesVersion};
 ghost use Rattle.rtr_wire.specs.Sequences.{everything, for_version};
 ghost use Rattle.rtr_wire.specs.declared.into.IntoFault.{IntoFault};
 ghost use Rattle.rtr_wire.specs.declared.into.Progress.{Progress};
@@ -19,7 +19,7 @@ pub extern "C" fn rtr_normalise_slice(
     answer: &mut RtrAnswer,
 ) -> u8
     ensures told { (p : Progress) × (r : Result Unit IntoFault)
-        × FillsInto everything limit r input.now output.old output.new p
+        × NormalisesInto everything limit r input.now output.old output.new p
         × Tells p r answer.new result }
     ensures room { length input.now ≤ length output.old → result ≢ rtr_no_room }
     ensures succeeds { CallSucceeds everything limit (length input.now)
@@ -42,7 +42,7 @@ pub extern "C" fn rtr_normalise_for_slice(
     answer: &mut RtrAnswer,
 ) -> u8
     ensures known { version ≤ 2 → (p : Progress) × (r : Result Unit IntoFault)
-        × FillsInto (for_version version) limit r input.now output.old output.new p
+        × NormalisesInto (for_version version) limit r input.now output.old output.new p
         × Tells p r answer.new result }
     ensures room { version ≤ 2 → length input.now + 12 ≤ length output.old → result ≢ rtr_no_room }
     ensures succeeds { version ≤ 2 →

@@ -18,7 +18,7 @@ use Rattle.rtr_payload.specs.Units.{IsUnit, form_of}
 use Rattle.rtr_payload.specs.UnitFields.{unit_list, meaning}
 use Rattle.rtr_payload.proofs.ByFields.{unit_fields_of}
 use Rattle.rtr_base.specs.declared.payload.Timing.{Timing}
-use Rattle.rtr_wire.specs.Into.{LacksRoom, FillsInto}
+use Rattle.rtr_wire.specs.Into.{LacksRoom, NormalisesInto}
 use Rattle.rtr_wire.specs.Sequences.{AreUnits, Output, everything, for_version}
 use Rattle.rtr_wire.specs.Sequences.{forms, written_units, in_version}
 use Rattle.rtr_wire.specs.Sequences.{unit_for, end_for}
@@ -104,19 +104,34 @@ module _ (what : Output) (more : ℕ)
       )
 
   next_fits : (rest : List ℕ) (room : ℕ) → LacksRoom what rest room → room < length rest + more
-  next_fits rest room (next, left, parts, inl (m, n, unit, is, less)) =
+  next_fits rest room (next, left, form, parts, inl (m, n, unit, is, of), less) =
       let size = ap (λ o. length (form_written o)) is in
-      omega (arith, less, size, one_fits next m unit, ap length parts, length-append next left)
-  next_fits rest room (next, left, parts, inr (e, end, less)) =
-      omega (arith, less, end_fits next e end, ap length parts, length-append next left)
+      omega (
+        arith,
+        less,
+        ap length of,
+        size,
+        one_fits next m unit,
+        ap length parts,
+        length-append next left,
+      )
+  next_fits rest room (next, left, form, parts, inr (e, end, of), less) =
+      omega (
+        arith,
+        less,
+        ap length of,
+        end_fits next e end,
+        ap length parts,
+        length-append next left,
+      )
 
   pub always_room : (limit : ℕ) (result : Result Unit IntoFault) (input before after : List ℕ)
-      (p : Progress) → FillsInto what limit result input before after p →
+      (p : Progress) → NormalisesInto what limit result input before after p →
       length input + more ≤ length before → result ≢ Err NoRoom
   always_room limit (Ok done) input before after p f enough e = absurd cc
   always_room limit (Err g) input before after p f enough e = at_fault g f cc
     where
-      at_fault : (g : IntoFault) → FillsInto what limit (Err g) input before after p →
+      at_fault : (g : IntoFault) → NormalisesInto what limit (Err g) input before after p →
           g ≡ NoRoom → ⊥
       at_fault NoRoom f e =
           let less = next_fits f.rest f.room f.ends.2.1 in
@@ -134,14 +149,14 @@ module _ (what : Output) (more : ℕ)
       at_fault g f e = absurd cc
 
 pub room_for_all : (limit : ℕ) (result : Result Unit IntoFault) (input before after : List ℕ)
-    (p : Progress) → FillsInto everything limit result input before after p →
+    (p : Progress) → NormalisesInto everything limit result input before after p →
     length input ≤ length before → result ≢ Err NoRoom
 room_for_all limit result input before after p f enough =
     always_room everything 0 unit_fits (λ next e end. omega (arith, ap length end.bytes)) limit
     result input before after p f (omega (arith, enough))
 
 pub room_for_version : (v limit : ℕ) (result : Result Unit IntoFault) (input before after : List ℕ)
-    (p : Progress) → FillsInto (for_version v) limit result input before after p →
+    (p : Progress) → NormalisesInto (for_version v) limit result input before after p →
     length input + 12 ≤ length before → result ≢ Err NoRoom
 room_for_version v limit result input before after p f enough =
     always_room (for_version v) 12 (version_fits v)

@@ -22,7 +22,7 @@ use Rattle.rtr_views.proofs.Agreement.{view_means}
 use Rattle.rtr_wire.specs.PrivateSteps.{StepTells, Steps, StopsStepInto, PlacesUnit, Stepped}
 use borrow.Rule.Slice.PartMut.{put_mid}
 use Rattle.rtr_views.specs.Faults.{IsFirstFault}
-use Rattle.rtr_wire.specs.Into.{LacksRoom, WhyStopped, FillsInto}
+use Rattle.rtr_wire.specs.Into.{LacksRoom, WhyStopped, NormalisesInto}
 use Rattle.rtr_wire.specs.declared.into.IntoFault.{IntoFault}
 use Rattle.rtr_wire.specs.declared.into.IntoFault.TheVariants.{NoRoom, TooMany, Refused}
 use Rattle.rtr_wire.specs.Sequences.{Output, in_version}
@@ -93,8 +93,10 @@ module _ (what : Output) (rest : List ℕ) (k : ℕ) (le : k ≤ length rest) (b
     (
       take k rest,
       drop k rest,
+      form_of (in_version v m),
       parts,
-      inl (m, in_version v m, unit, some, less),
+      inl (m, in_version v m, unit, some, refl),
+      less,
     ),
   )
 
@@ -104,15 +106,8 @@ module _ (what : Output) (rest : List ℕ) (k : ℕ) (le : k ≤ length rest) (b
       (for_it : x ≡ end_list (what.end (end_meaning d))) where
     pub end_lacks_room : (after : List ℕ) → Places None x before after →
         (after ≡ before) × LacksRoom what rest (length before)
-    end_lacks_room after (less, same) = (
-      same,
-      (
-        take k rest,
-        drop k rest,
-        parts,
-        inr (end_meaning d, end, omega (arith, less, ap length for_it)),
-      ),
-    )
+    end_lacks_room after (less, same) =
+        (same, (take k rest, drop k rest, x, parts, inr (end_meaning d, end, for_it), less))
 
 -- ---- one after the other
 
@@ -268,7 +263,8 @@ module _ (what : Output) (units left_out : ℕ) (input : List ℕ) (taken : ℕ)
 
   pub into_end : (limit : ℕ) (s : Step) (part : List ℕ) → units < limit → s.passed ≡ passes.End →
       Stepped what s (rest_of taken input) (rest_of written now) part →
-      FillsInto what limit (Ok tt) input before (put_mid written (length now - written) now part)
+      NormalisesInto what limit (Ok tt) input before
+      (put_mid written (length now - written) now part)
       (record {
         units = units;
         forms = units - left_out;
@@ -319,7 +315,7 @@ module _ (what : Output) (units left_out : ℕ) (input : List ℕ) (taken : ℕ)
 
   pub into_stop : (limit : ℕ) (f : IntoFault) (now' : List ℕ) → now' ≡ now →
       WhyStopped what limit f a.so_far.ms (drop taken input) (length before - written) →
-      FillsInto what limit (Err f) input before now'
+      NormalisesInto what limit (Err f) input before now'
       (record { units = units; forms = units - left_out; taken = taken; written = written })
   into_stop limit f now' same why = record {
     us = a.so_far.us;
@@ -370,7 +366,8 @@ module _ (what : Output) (units left_out : ℕ) (input : List ℕ) (taken : ℕ)
   pub into_breaks : (limit : ℕ) (f : IntoFault) (part : List ℕ) → units < limit →
       part ≡ rest_of written now →
       StopsStepInto what f (rest_of taken input) (length (rest_of written now)) →
-      FillsInto what limit (Err f) input before (put_mid written (length now - written) now part)
+      NormalisesInto what limit (Err f) input before
+      (put_mid written (length now - written) now part)
       (record { units = units; forms = units - left_out; taken = taken; written = written })
   into_breaks limit f part lt same stop =
       into_stop limit f _
@@ -379,11 +376,11 @@ module _ (what : Output) (units left_out : ℕ) (input : List ℕ) (taken : ℕ)
       (why limit f lt stop)
 
   pub into_full : (limit : ℕ) → units ≡ limit →
-      FillsInto what limit (Err TooMany) input before now
+      NormalisesInto what limit (Err TooMany) input before now
       (record { units = limit; forms = limit - left_out; taken = taken; written = written })
   into_full limit full =
       subst
       (λ n.
-      FillsInto what limit (Err TooMany) input before now
+      NormalisesInto what limit (Err TooMany) input before now
       (record { units = n; forms = n - left_out; taken = taken; written = written }))
       full (into_stop limit TooMany now refl (a.so_far.counted ∙ full))

@@ -6,7 +6,7 @@ use Rattle.std.proofs.lemmas.List.Elements.{filter_map-append}
 use Rattle.std.proofs.Math.Seq.{drop-append_seam, take-append_seam}
 use Rattle.rtr_units.specs.End.{end_list}
 use Rattle.rtr_payload.specs.Payloads.{Meaning}
-use Rattle.rtr_wire.specs.Into.{WhyStopped, EndsInto, FillsInto}
+use Rattle.rtr_wire.specs.Into.{WhyStopped, EndsInto, NormalisesInto}
 use Rattle.rtr_wire.specs.Sequences.{AreUnits, Output, forms, written_units}
 use Rattle.rtr_wire.specs.declared.into.IntoFault.{IntoFault}
 use Rattle.rtr_wire.specs.declared.into.IntoFault.TheVariants.{NoRoom, TooMany, Refused}
@@ -33,7 +33,7 @@ forms_both what ms ns =
 
 -- after a first run that stopped
 module _ (what : Output) (first limit : ℕ) (fault : IntoFault) (input before mid after : List ℕ)
-    (p q : Progress) (f : FillsInto what first (Err fault) input before mid p) where
+    (p q : Progress) (f : NormalisesInto what first (Err fault) input before mid p) where
   rest_is : drop p.taken input ≡ f.rest
   rest_is =
       ap (drop p.taken) f.parts ∙ ap (λ (n : ℕ). drop n (f.us ++ f.rest)) f.ends.0
@@ -52,7 +52,7 @@ module _ (what : Output) (first limit : ℕ) (fault : IntoFault) (input before m
       ∙ drop-append_seam f.form (drop p.written before)
 
   abbrev Second : Result Unit IntoFault → Type 0
-  Second r = FillsInto what limit r (drop p.taken input) (drop p.written mid) after q
+  Second r = NormalisesInto what limit r (drop p.taken input) (drop p.written mid) after q
 
   why : (x : IntoFault) → (g : Second (Err x)) →
       WhyStopped what (p.units + limit) x (f.ms ++ g.ms) g.rest g.room
@@ -86,7 +86,7 @@ module _ (what : Output) (first limit : ℕ) (fault : IntoFault) (input before m
   )
 
   pub one_run_of_two : (r : Result Unit IntoFault) → Second r →
-      FillsInto what (p.units + limit) r input before (take p.written mid ++ after) (record {
+      NormalisesInto what (p.units + limit) r input before (take p.written mid ++ after) (record {
         units = p.units + q.units;
         forms = p.forms + q.forms;
         taken = p.taken + q.taken;
@@ -124,9 +124,9 @@ module _ (what : Output) (first limit : ℕ) (fault : IntoFault) (input before m
 
 pub resumed : (what : Output) (first limit : ℕ) (fault : IntoFault) (r : Result Unit IntoFault)
     (input before mid after : List ℕ) (p q : Progress) →
-    FillsInto what first (Err fault) input before mid p →
-    FillsInto what limit r (drop p.taken input) (drop p.written mid) after q →
-    FillsInto what (p.units + limit) r input before (take p.written mid ++ after) (record {
+    NormalisesInto what first (Err fault) input before mid p →
+    NormalisesInto what limit r (drop p.taken input) (drop p.written mid) after q →
+    NormalisesInto what (p.units + limit) r input before (take p.written mid ++ after) (record {
       units = p.units + q.units;
       forms = p.forms + q.forms;
       taken = p.taken + q.taken;

@@ -22,6 +22,7 @@ use Rattle.rtr_payload.specs.AspaUnits.{aspa_at}
 use Rattle.rtr_payload.specs.FirstFault.{first_fault, refusal_report, taken}
 use Rattle.rtr_payload.specs.FaultSteps.{first_unit}
 use Rattle.rtr_payload.specs.UnitFields.{meaning}
+use Rattle.rtr_payload.specs.Units.{form_of}
 use Rattle.rtr_views.specs.Faults.{IsFirstFault, IsWriterFault, is_view_writer_fault}
 use Rattle.rtr_views.specs.Origins.{origin_meaning}
 use Rattle.rtr_views.specs.Views.{IsViewOf, ViewMeans, view_form}
@@ -35,7 +36,8 @@ use Rattle.rtr_views.specs.declared.view.UnitView.TheVariants as views
 use Rattle.rtr_views.proofs.Agreement.{view_means, form_meant}
 use Rattle.rtr_wire.specs.PrivateSteps.{StepTells, Steps, StopsStep, is_payload_unit, passed}
 use Rattle.rtr_units.specs.StopCauses.{by_cause}
-use Rattle.rtr_wire.specs.Run.{Run, HasRun, Ends, IsPartOfForm, BlamesNobody, Normalises}
+use Rattle.rtr_wire.specs.Run.{IsProperPrefix, IsToWrite, Run, HasRun, Ends, BlamesNobody}
+use Rattle.rtr_wire.specs.Run.{Normalises}
 use Rattle.rtr_wire.specs.Sequences.{AreUnits, everything, forms, written_units}
 use Rattle.rtr_wire.specs.declared.run.Passed.TheVariants as passes
 use Rattle.rtr_wire.specs.SliceRun.{view_cause, slice_answer, NormalisesSlice}
@@ -74,18 +76,21 @@ view_step (views.End e) r b left held holds (is, end) parts wrote =
 
 -- a part of the form was written
 part_of_view : (v : UnitView) (b t others : List ℕ) → IsViewOf v b → view_form v ≡ t ++ others →
-    0 < length others → IsPartOfForm everything b t
+    0 < length others → (form : List ℕ) × IsToWrite everything b form × IsProperPrefix t form
 part_of_view (views.Origin v) b t others is e some =
     let m = origin_meaning v in
-    inl (m, m, view_means (views.Origin v) b m is refl, refl, (others, e, some))
+    (form_of m, inl (m, m, view_means (views.Origin v) b m is refl, refl, refl), (others, e, some))
 part_of_view (views.RouterKey v) b t others is e some =
-    let m = meaning (key_unit (key_at v.unit.now)) in
-    inl (m, m, view_means (views.RouterKey v) b m is refl, refl, (others, e, some))
+    let m = meaning (key_unit (key_at v.unit.now)) in (
+      form_of m,
+      inl (m, m, view_means (views.RouterKey v) b m is refl, refl, refl),
+      (others, e, some),
+    )
 part_of_view (views.Aspa v) b t others is e some =
     let m = meaning (aspa_unit (aspa_at v.unit.now)) in
-    inl (m, m, view_means (views.Aspa v) b m is refl, refl, (others, e, some))
+    (form_of m, inl (m, m, view_means (views.Aspa v) b m is refl, refl, refl), (others, e, some))
 part_of_view (views.End d) b t others (is, end) e some =
-    inr (end_meaning d, end, (others, sym end.bytes ∙ sym is ∙ e, some))
+    (b, inr (end_meaning d, end, end.bytes), (others, sym is ∙ e, some))
 
 pub not_written : (v : UnitView) (e : ViewFault) (r b left : List ℕ)
     (held holds : Option (List ℕ)) → IsViewOf v b → r ≡ b ++ left →

@@ -1,11 +1,11 @@
 -- What a run from a slice into another writes and answers (this library's own).
-use Rattle.std.specs.Prelude.{◌≡◌, ℕ, ◌+◌, ◌<◌, ◌≤◌, ◌⊎◌, List, ◌++◌, length, drop}
-use Rattle.std.specs.Prelude.{Some, Result, Ok, Err}
+use Rattle.std.specs.Prelude.{◌≡◌, ℕ, ◌+◌, ◌<◌, ◌≤◌, List, ◌++◌, length, drop}
+use Rattle.std.specs.Prelude.{Result, Ok, Err}
 use Rattle.rtr_units.specs.End.{EndMeaning, IsEnd, end_list}
 use Rattle.rtr_payload.specs.Payloads.{Meaning}
-use Rattle.rtr_payload.specs.Units.{IsUnit, form_of}
 use Rattle.rtr_views.specs.Faults.{IsFirstFault}
 use Rattle.rtr_views.specs.declared.fault.ViewFault.TheVariants.{UnitVersion}
+use Rattle.rtr_wire.specs.Run.{IsToWrite}
 use Rattle.rtr_wire.specs.Sequences.{AreUnits, Output, forms, written_units}
 use Rattle.rtr_wire.specs.declared.into.IntoFault.{IntoFault}
 use Rattle.rtr_wire.specs.declared.into.IntoFault.TheVariants.{NoRoom, TooMany, Refused}
@@ -13,9 +13,8 @@ use Rattle.rtr_wire.specs.declared.into.Progress.{Progress}
 
 -- the next unit or end of data is there, and what is to be written for it has more bytes than this
 abbrev pub LacksRoom : Output → List ℕ → ℕ → Type 0
-LacksRoom what rest room = (next left : List ℕ) × (rest ≡ next ++ left)
-    × (((m n : Meaning) × IsUnit next m × (what.unit m ≡ Some n) × (room < length (form_of n)))
-    ⊎ ((e : EndMeaning) × IsEnd next e × (room < length (end_list (what.end e)))))
+LacksRoom what rest room = (next left form : List ℕ) × (rest ≡ next ++ left)
+    × IsToWrite what next form × (room < length form)
 
 -- why a call stopped after units with these meanings, at the rest of the input, with this room
 -- left in the output
@@ -36,7 +35,7 @@ EndsInto what limit (Err f) ms n rest room written taken =
     (taken ≡ n) × (written ≡ forms (written_units what ms)) × WhyStopped what limit f ms rest room
 
 -- the whole promise of a run from the input into the output
-pub record FillsInto (what : Output) (limit : ℕ) (result : Result Unit IntoFault)
+pub record NormalisesInto (what : Output) (limit : ℕ) (result : Result Unit IntoFault)
     (input before after : List ℕ) (p : Progress) : Type 0 where
   -- units at the front of the input, with these meanings, and what follows them
   pub us : List ℕ

@@ -4,7 +4,7 @@ ghost use Rattle.std.specs.Prelude.{◌≡◌, ◌≢◌, ◌+◌, ◌-◌, ◌�
 ghost use Rattle.rtr_payload.specs.Payloads.{Meaning, smallest_version as smallest};
 ghost use Rattle.rtr_views.specs.Placing.{Places};
 ghost use Rattle.rtr_views.specs.Views.{ViewMeans};
-ghost use Rattle.rtr_wire.specs.Into.{FillsInto, RefusesVersion};
+ghost use Rattle.rtr_wire.specs.Into.{NormalisesInto, RefusesVersion};
 ghost use Rattle.rtr_wire.specs.PrivateSteps.{StepsInto, PlacesUnit};
 ghost use Rattle.rtr_wire.specs.Sequences.{everything, for_version};
 
@@ -58,7 +58,8 @@ pub fn normalise_into(
     output: &mut [u8],
     limit: u64,
 ) -> (Progress, Result<(), IntoFault>)
-    ensures fills { FillsInto everything limit result.1 input.now output.old output.new result.0 }
+    ensures bytes { NormalisesInto everything limit result.1
+        input.now output.old output.new result.0 }
     ensures room { length input.now ≤ length output.old → result.1 ≢ Err IntoFault.NoRoom }
 {
     run(Everything, input, output, limit)
@@ -76,7 +77,8 @@ pub fn normalise_for_into(
     version: u8,
 ) -> (Progress, Result<(), IntoFault>)
     ensures known { version ≤ 2 →
-        FillsInto (for_version version) limit result.1 input.now output.old output.new result.0 }
+        NormalisesInto (for_version version) limit result.1
+        input.now output.old output.new result.0 }
     ensures room { version ≤ 2 → length input.now + 12 ≤ length output.old →
         result.1 ≢ Err IntoFault.NoRoom }
     ensures unknown { 2 < version →
@@ -98,7 +100,8 @@ fn run<S: Writing>(
     output: &mut [u8],
     limit: u64,
 ) -> (Progress, Result<(), IntoFault>)
-    ensures { FillsInto (S.what writing) limit result.1 input.now output.old output.new result.0 }
+    ensures { NormalisesInto (S.what writing) limit result.1
+        input.now output.old output.new result.0 }
 {
     let (mut left_out, mut taken, mut written) = (0, 0, 0);
     for units in 0..limit {

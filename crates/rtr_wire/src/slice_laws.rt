@@ -7,7 +7,7 @@ ghost use Rattle.rtr_views.specs.declared.fault.ViewFault.{ViewFault};
 ghost use Rattle.rtr_units.specs.StopCauses.{by_cause};
 ghost use Rattle.rtr_wire.specs.Promise.{SlicePromises};
 ghost use Rattle.rtr_wire.specs.Run.{BlamesNobody, Normalises};
-ghost use Rattle.rtr_wire.specs.Into.{FillsInto};
+ghost use Rattle.rtr_wire.specs.Into.{NormalisesInto};
 ghost use Rattle.rtr_wire.specs.Sequences.{Output, everything};
 ghost use Rattle.rtr_wire.specs.SliceRun.{NormalisesSlice, slice_answer};
 ghost use Rattle.rtr_wire.specs.declared.into.IntoFault.{IntoFault};
@@ -40,9 +40,9 @@ pub fn slice_promises()
 pub fn resumed()
     ensures { (what : Output) (first limit : ℕ) (fault : IntoFault) (r : Result Unit IntoFault)
         (input before mid after : List ℕ) (p q : Progress) →
-        FillsInto what first (Err fault) input before mid p →
-        FillsInto what limit r (drop p.taken input) (drop p.written mid) after q →
-        FillsInto what (p.units + limit) r input before (take p.written mid ++ after) (record {
+        NormalisesInto what first (Err fault) input before mid p →
+        NormalisesInto what limit r (drop p.taken input) (drop p.written mid) after q →
+        NormalisesInto what (p.units + limit) r input before (take p.written mid ++ after) (record {
           units = p.units + q.units;
           forms = p.forms + q.forms;
           taken = p.taken + q.taken;
