@@ -129,5 +129,6 @@ payload_finds u old new p v a f0 f1 f2 f3 f4 v_is a_is one two three name four v
           (payload_reserved fields) (payload_rules fields) (announced_twice units (payload fields)),
       knows_payload fields units old new p known name
           (version ∙ ap (λ n. Some (unwrap_or old.version n)) is_version) session
-          (subst (λ x. Updates order old.announced new.announced p (is_announce x)) is_action updates),
+          (subst (λ x. Updates order old.announced new.announced p (is_announce x)) is_action
+          updates),
     )

@@ -4,7 +4,8 @@ use Rattle.std.specs.Prelude.{ℕ, List, Bool, true, false}
 use Rattle.std.specs.Str.{IsUtf8, is_utf8}
 use Rattle.std.proofs.lemmas.Str.{IsUtf8-from_is_utf8, is_utf8-from_IsUtf8}
 
-refused : (bytes : List ℕ) → (IsUtf8 bytes → ⊥) → (b : Bool) → is_utf8 bytes ≡ b → false ≡ is_utf8 bytes
+refused : (bytes : List ℕ) → (IsUtf8 bytes → ⊥) → (b : Bool) → is_utf8 bytes ≡ b →
+    false ≡ is_utf8 bytes
 refused bytes broken true e = absurd (broken (IsUtf8-from_is_utf8 bytes e))
 refused bytes broken false e = sym e
 

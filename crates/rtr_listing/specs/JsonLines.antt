@@ -51,8 +51,8 @@ payload_kind (prefix_unit u) = family_kind u.origin.family
 payload_kind (key_unit u) = codes "router_key"
 payload_kind (aspa_unit u) = codes "aspa"
 
--- what RFC 8210 calls zero, in order: bytes 2 and 3, and byte 11, of a prefix unit (sections 5.6 and
--- 5.7), byte 3 of the others (section 5.10)
+-- what RFC 8210 calls zero, in order: bytes 2 and 3, and byte 11, of a prefix unit (sections 5.6
+-- and 5.7), byte 3 of the others (section 5.10)
 abbrev pub payload_zeros : Fields → List ℕ
 payload_zeros (prefix_unit u) = u.session ∷ u.free ∷ []
 payload_zeros (key_unit u) = u.free ∷ []

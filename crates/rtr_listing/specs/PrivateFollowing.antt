@@ -25,8 +25,8 @@ pub record Knows (checker : Checker) (units : List AnyFields) : Type 0 where
 abbrev pub HasSeen : Checker → List AnyFields → Type 0
 HasSeen checker history = Knows checker (sequence history)
 
--- Of a checker that knows any sequence, the unit breaks in it exactly the rules that are found after
--- those that were found before, and then the checker knows the sequence with it.
+-- Of a checker that knows any sequence, the unit breaks in it exactly the rules that are found
+-- after those that were found before, and then the checker knows the sequence with it.
 abbrev pub FindsIn : Checker → AnyFields → Checker → List Finding → List Finding → Type 0
 FindsIn old unit new before after = (units : List AnyFields) → Knows old units →
     (after ≡ before ++ broken_in units unit) × Knows new (after_unit unit units)

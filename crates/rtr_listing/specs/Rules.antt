@@ -20,7 +20,8 @@ use Rattle.rtr_payload.specs.declared.pdu.prefix_rule.PrefixRule.TheVariants.{Ma
 use Rattle.rtr_session.specs.AnyFields.{AnyFields, reset_query, payload, end_of_data, cache_reset}
 use Rattle.rtr_session.specs.AnyFields.{error_report}
 use Rattle.rtr_listing.specs.ReportParts.{report_parts}
-use Rattle.rtr_listing.specs.SequenceSoFar.{sequence, sequence_version, sequence_session, payload_version}
+use Rattle.rtr_listing.specs.SequenceSoFar.{sequence, sequence_version, sequence_session}
+use Rattle.rtr_listing.specs.SequenceSoFar.{payload_version}
 use Rattle.rtr_listing.specs.SequenceSoFar.{named_by, announces, announced, action_of}
 use Rattle.rtr_listing.specs.declared.finding.Finding.{Finding}
 use Rattle.rtr_listing.specs.declared.finding.Finding.TheVariants as rules
@@ -152,7 +153,8 @@ other_version None version = []
 
 -- payload units and an end of data have the version of their sequence (RFC 8210 section 7)
 abbrev pub version_rule : List AnyFields → AnyFields → List Finding
-version_rule units (payload fields) = other_version (sequence_version units) (payload_version fields)
+version_rule units (payload fields) =
+    other_version (sequence_version units) (payload_version fields)
 version_rule units (end_of_data meaning) = other_version (sequence_version units) meaning.version
 version_rule units unit = []
 

@@ -75,7 +75,8 @@ origin_under (Some rule) p = None
 -- the payload that a payload unit is about: an origin, where its lengths break no rule, or a key;
 -- an ASPA counts by its customer alone (this program's own)
 abbrev pub payload_named : Fields → Option Payload
-payload_named (prefix_unit u) = origin_under (rule_of (prefix_unit u)) (origin (meant_origin u.origin))
+payload_named (prefix_unit u) =
+    origin_under (rule_of (prefix_unit u)) (origin (meant_origin u.origin))
 payload_named (key_unit u) = Some (key u.key)
 payload_named (aspa_unit u) = Some (aspa (record { customer = u.aspa.customer; providers = [] }))
 

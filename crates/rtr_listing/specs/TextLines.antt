@@ -83,8 +83,8 @@ timing_words (Some t) =
     codes " refresh " ++ decimal t.refresh ++ codes " retry " ++ decimal t.retry
     ++ codes " expire " ++ decimal t.expire
 
--- the parts of an error report: the unit in hex, and the text with escapes for what isn't ASCII that
--- prints
+-- the parts of an error report: the unit in hex, and the text with escapes for what isn't ASCII
+-- that prints
 abbrev pub report_words : Option (List ℕ × List ℕ) → List ℕ
 report_words None = codes " with lengths that do not fit"
 report_words (Some (pdu, text)) =
@@ -109,4 +109,5 @@ unit_words (error_report version code body) =
 
 -- the line of a unit that stands after so many bytes
 abbrev pub unit_text : ℕ → AnyFields → List ℕ
-unit_text offset fields = decimal offset ++ codes " v" ++ decimal (fields_version fields) ++ unit_words fields
+unit_text offset fields =
+    decimal offset ++ codes " v" ++ decimal (fields_version fields) ++ unit_words fields

@@ -1,6 +1,7 @@
 //! The rules on a unit, and on what is known of its sequence.
 
-ghost use Rattle.std.specs.Prelude.{◌≡◌, ◌==◌, ◌++◌, [], ◌∷◌, not, nat_lt, slice_index, length, drop};
+ghost use Rattle.std.specs.Prelude.{◌≡◌, ◌==◌, ◌++◌, [], ◌∷◌, not, nat_lt, slice_index, length};
+ghost use Rattle.std.specs.Prelude.{drop};
 ghost use Rattle.std.specs.Prelude.{None, Some, OnOk, IfOk, MatchResult};
 ghost use Rattle.std.specs.Option.{option_map};
 ghost use Rattle.std.specs.Str.{is_utf8};
@@ -148,7 +149,8 @@ pub(crate) fn payload_unit(
 ) -> Result<Option<payload::Payload>, AllocError>
     ensures found { OnOk result (found.new.items ≡
         found.old.items ++ rules.payload_rules (unit_fields unit.now)) }
-    ensures named { IfOk result (λ o. option_map payload_of o ≡ payload_named (unit_fields unit.now)) }
+    ensures named { IfOk result (λ o.
+        option_map payload_of o ≡ payload_named (unit_fields unit.now)) }
 {
     match unit {
         Payload::V4(unit) => {

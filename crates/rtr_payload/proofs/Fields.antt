@@ -266,7 +266,8 @@ cleared_none : (w l a : ℕ) → a % 2 ^ (w - l) ≡ 0 → cleared w l a ≡ a
 cleared_none w l a h = omega arith
 
 pub meaning-written : (v f : ℕ) (p : Payload) → IsPayload p →
-    meaning (written_fields v f p) ≡ record { version = v; action = act f; payload = stripped (act f) p }
+    meaning (written_fields v f p) ≡
+    record { version = v; action = act f; payload = stripped (act f) p }
 meaning-written v f (origin o) h =
     ap
     (λ (b : ℕ). record { version = v; action = act f; payload = origin (record o { address = b }) })
@@ -307,7 +308,8 @@ act_again : (a : Action) → act (flags_of a) ≡ a
 act_again Announce = refl
 act_again Withdraw = refl
 
-named_again : (a : Action) (ps : List ℕ) → meant_providers a (meant_providers a ps) ≡ meant_providers a ps
+named_again : (a : Action) (ps : List ℕ) →
+    meant_providers a (meant_providers a ps) ≡ meant_providers a ps
 named_again Announce ps = refl
 named_again Withdraw ps = refl
 
@@ -326,13 +328,15 @@ HasProviders-named Announce ps h = h
 HasProviders-named Withdraw ps h = tt
 
 limits_again : (u : Fields) → WithinLimits u →
-    WithinLimits (written_fields (meaning u).version (flags_of (meaning u).action) (meaning u).payload)
+    WithinLimits
+    (written_fields (meaning u).version (flags_of (meaning u).action) (meaning u).payload)
 limits_again (prefix_unit u) h = tt
 limits_again (key_unit u) h = h
 limits_again (aspa_unit u) h = HasProviders-named (act u.flags) u.aspa.providers h
 
 lengths_again : (u : Fields) → LengthsAgree u →
-    LengthsAgree (written_fields (meaning u).version (flags_of (meaning u).action) (meaning u).payload)
+    LengthsAgree
+    (written_fields (meaning u).version (flags_of (meaning u).action) (meaning u).payload)
 lengths_again (prefix_unit u) h = h
 lengths_again (key_unit u) h = tt
 lengths_again (aspa_unit u) h = tt

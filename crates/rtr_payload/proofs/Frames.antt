@@ -1,6 +1,7 @@
 -- The steps of a list of bytes by its front: what a header, a unit and an end of data say
 -- whatever follows them.
-use Rattle.std.proofs.Common.{◌≡◌, ◌≢◌, ℕ, ◌+◌, ◌*◌, ◌%◌, ◌<◌, ◌≤◌, Bool, true, false, cond, ltb, eqb}
+use Rattle.std.proofs.Common.{◌≡◌, ◌≢◌, ℕ, ◌+◌, ◌*◌, ◌%◌, ◌<◌, ◌≤◌, Bool, true, false, cond, ltb}
+use Rattle.std.proofs.Common.{eqb}
 use Rattle.std.proofs.Common.{List, ◌++◌, length, Option, Some, None, refl, sym, ap, subst, ◌∙◌}
 use Rattle.std.proofs.Common.{arith, inl, inr}
 use Rattle.std.proofs.lemmas.Bool.{le-ltb, lt-ltb, ltb-false, eq-eqb, cond-true}
@@ -86,7 +87,8 @@ none_in_frame r e =
 pub after_header : (r : List ℕ) → 8 ≤ length r →
     frame_fault r ≡ option_or (header_step r) (length_step r)
 after_header r l =
-    ap (λ b. cond b (Some short) (option_or (header_step r) (length_step r))) (le-ltb (length r) 8 l)
+    ap (λ b. cond b (Some short) (option_or (header_step r) (length_step r)))
+    (le-ltb (length r) 8 l)
 
 pub in_frame_none : (r : List ℕ) → InFrame r → frame_fault r ≡ None
 in_frame_none r h =

@@ -5,7 +5,8 @@ use Rattle.rtr_listing.proofs.unit_rules.parts.Goals as goal
 
 pub returns-in_err-pdu : goal.returns-in_err-pdu
 returns-in_err-pdu c =
-    let missing = parts_missing c.args.report.now c.as_ref-bytes.ensures.report c.in_err-pdu.ensures in
+    let missing = parts_missing c.args.report.now c.as_ref-bytes.ensures.report
+    c.in_err-pdu.ensures in
     ap (option_map (λ r. (r.0.now, r.1.now))) c.from_residual.ensures ∙ sym missing
 
 pub returns : goal.returns

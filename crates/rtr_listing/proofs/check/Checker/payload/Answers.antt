@@ -12,4 +12,5 @@ returns-in-Some c =
     c.version-version.ensures c.action.ensures c.in_ok-sequence_version.ensures
     c.in_ok-payload_reserved.ensures c.in_ok-payload.ensures.found
     (sym (ap (option_map payload_of) c.in-Some.is) ∙ c.in_ok-payload.ensures.named) found
-    (c.count.ensures.version ∙ ap (λ v. Some v) c.unwrap_or.ensures) c.count.ensures.session updates)
+    (c.count.ensures.version ∙ ap (λ v. Some v) c.unwrap_or.ensures) c.count.ensures.session
+    updates)
