@@ -1,12 +1,12 @@
-/* Times the archive for C against the same jobs written by hand, over a sequence from standard
+/* Times the calls from C against the same jobs written by hand, over a sequence from standard
  * input.
  *
- * usage: archive < SEQUENCE, once `bindings/build` has made the archive:
+ * usage: c_calls < SEQUENCE, once `bindings/build` has made the archive:
  *
- *     cc -O3 -march=x86-64 -Ibindings/c -o archive bench/archive.c bindings/lib/x86_64/librtr_c.a
+ *     cc -O3 -march=x86-64 -Ibindings/c -o c_calls bench/c_calls.c bindings/lib/x86_64/librtr_c.a
  *
  * Prints for each job the best of 41 runs each way, interleaved, in nanoseconds a unit, and how
- * many times as long the archive takes. It ends with status 1 if the two ways don't agree, on the
+ * many times as long the calls take. It ends with status 1 if the two ways don't agree, on the
  * input or with any bit of its front flipped. */
 #include <stdio.h>
 #include <stdlib.h>
@@ -414,7 +414,7 @@ static void best(double *least, double begun)
 
 static void print(const char *job, const double best[2], uint64_t units)
 {
-    printf("%s: archive %.2f ns a unit, by hand %.2f ns, %.2f times as long\n", job,
+    printf("%s: calls %.2f ns a unit, by hand %.2f ns, %.2f times as long\n", job,
            best[0] / (double)units, best[1] / (double)units, best[0] / best[1]);
 }
 
@@ -471,7 +471,7 @@ int main(void)
             && memcmp(form, other, made) == 0;
     }
     if (!same || !agree_on_damaged(input, length)) {
-        fprintf(stderr, "the archive and the code by hand differ\n");
+        fprintf(stderr, "the calls and the code by hand differ\n");
         return 1;
     }
     print("sequence", whole, count);
