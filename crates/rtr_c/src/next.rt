@@ -9,6 +9,7 @@ ghost use Rattle.rtr_c.specs.Shown.{ShowsFirst, none, shown, end_shown};
 
 use crate::answer::{ACCEPTED, fault_detail, fault_status};
 use crate::unit::RtrUnit;
+use rtr_wire::payload::Action;
 use rtr_wire::pdu::{
     Aspa, AspaView, EndOfData, Ipv4Prefix, Ipv6Prefix, OriginView, RouterKey, RouterKeyView, Unit,
     UnitView,
@@ -56,7 +57,7 @@ fn show_origin(view: &OriginView, size: usize, unit: &mut RtrUnit)
     unit.size = size;
     unit.asn = origin.asn.into_u32();
     unit.version = view.version();
-    unit.action = view.flags() % 2;
+    unit.action = Action::from_flags(view.flags()).into_flags();
     unit.prefix_length = prefix.len();
     unit.max_length = origin.prefix.resolved_max_len();
     match prefix.addr() {
@@ -84,7 +85,7 @@ fn show_key(view: &RouterKeyView<'_>, size: usize, unit: &mut RtrUnit)
     unit.asn = view.asn().into_u32();
     unit.kind = RouterKey::PDU;
     unit.version = view.version();
-    unit.action = view.flags() % 2;
+    unit.action = Action::from_flags(view.flags()).into_flags();
     unit.key_identifier = view.key_identifier();
 }
 
@@ -99,7 +100,7 @@ fn show_aspa(view: &AspaView<'_>, size: usize, unit: &mut RtrUnit)
     unit.customer = view.customer().into_u32();
     unit.kind = Aspa::PDU;
     unit.version = view.version();
-    unit.action = view.flags() % 2;
+    unit.action = Action::from_flags(view.flags()).into_flags();
 }
 
 /// Shows an end of data.
