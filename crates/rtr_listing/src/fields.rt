@@ -1,6 +1,6 @@
 //! Fields that units of all types have.
 
-ghost use Rattle.std.specs.Prelude.{◌≡◌, drop, length, option_map};
+ghost use Rattle.std.specs.Prelude.{◌≡◌, drop, length, option_map, slice_index};
 ghost use Rattle.rtr_payload.specs.UnitBytes.{unit_fields};
 ghost use Rattle.rtr_payload.specs.UnitFields.{unit_list};
 ghost use Rattle.rtr_session.specs.AnyFields.{any_list};
@@ -68,4 +68,11 @@ pub fn parts(report: &Report) -> Option<(&[u8], &[u8])>
     let pdu = report.pdu()?;
     let text = report.text()?;
     Some((pdu, text))
+}
+
+/// The byte at the place, or 0 where there is none.
+pub fn byte_at(bytes: &[u8], place: usize) -> u8
+    ensures { result ≡ slice_index bytes.now place }
+{
+    bytes.get(place).copied().unwrap_or(0)
 }

@@ -1,6 +1,6 @@
 //! A unit as a JSON object (RFC 8259), with the fields by the names that RFC 8210 gives them.
 
-ghost use Rattle.std.specs.Prelude.{◌≡◌, ◌++◌, [], ◌∷◌, IfOk, OnOk, Some, None, codes, slice_index};
+ghost use Rattle.std.specs.Prelude.{◌≡◌, ◌++◌, [], ◌∷◌, IfOk, OnOk, Some, None, codes};
 ghost use Rattle.std.specs.Prelude.{string_bytes};
 ghost use Rattle.rtr_base.specs.Addresses.{v4, v6};
 ghost use Rattle.rtr_base.specs.PlainTexts.{action_text, address_text};
@@ -22,7 +22,7 @@ ghost use Rattle.rtr_listing.specs.PrivateJson.{Adds};
 
 use crate::escapes::without_controls;
 use crate::fields;
-use crate::fields::parts;
+use crate::fields::{byte_at, parts};
 use crate::line::Line;
 use hex::encode;
 use json::Writer;
@@ -152,18 +152,11 @@ fn reserved(out: &mut Writer, unit: &Payload) -> Result<(), AllocError>
 {
     let bytes = unit.as_partial_slice();
     match unit {
-        Payload::V4(unit) => zeros(out, &[unit.session(), byte_at(bytes, 11)]),
-        Payload::V6(unit) => zeros(out, &[unit.session(), byte_at(bytes, 11)]),
-        Payload::RouterKey(_) => zeros(out, &[byte_at(bytes, 3)]),
-        Payload::Aspa(_) => zeros(out, &[byte_at(bytes, 3)]),
+        Payload::V4(unit) => zeros(out, &[unit.session(), u16::from(byte_at(bytes, 11))]),
+        Payload::V6(unit) => zeros(out, &[unit.session(), u16::from(byte_at(bytes, 11))]),
+        Payload::RouterKey(_) => zeros(out, &[u16::from(byte_at(bytes, 3))]),
+        Payload::Aspa(_) => zeros(out, &[u16::from(byte_at(bytes, 3))]),
     }
-}
-
-/// The byte at the place, or 0 where there is none.
-fn byte_at(bytes: &[u8], place: usize) -> u16
-    ensures { result ≡ slice_index bytes.now place }
-{
-    u16::from(bytes.get(place).copied().unwrap_or(0))
 }
 
 /// The fields that RFC 8210 calls zero, in their order.

@@ -1,6 +1,6 @@
 //! The rules on a unit, and on what is known of its sequence.
 
-ghost use Rattle.std.specs.Prelude.{◌≡◌, ◌==◌, ◌++◌, [], ◌∷◌, not, nat_lt, slice_index, length};
+ghost use Rattle.std.specs.Prelude.{◌≡◌, ◌==◌, ◌++◌, [], ◌∷◌, not, nat_lt, length};
 ghost use Rattle.std.specs.Prelude.{drop};
 ghost use Rattle.std.specs.Prelude.{None, Some, OnOk, IfOk, MatchResult};
 ghost use Rattle.std.specs.Option.{option_map};
@@ -17,6 +17,7 @@ ghost use Rattle.rtr_listing.specs.Rules as rules;
 ghost use Rattle.rtr_listing.specs.SequenceSoFar.{payload_named};
 ghost use Rattle.rtr_listing.specs.declared.finding.Finding.TheVariants as broken;
 
+use crate::fields::{byte_at, parts};
 use crate::finding::{Finding, Layout};
 use rtr_base::addr::MaxLenPrefix;
 use rtr_base::asn::Asn;
@@ -130,13 +131,6 @@ fn prefix_reserved(
     reserved_session(session, found)?;
     reserved_flags(flags, found)?;
     reserved_byte(11, free, found)
-}
-
-/// The byte at the place, or 0 where there is none.
-fn byte_at(bytes: &[u8], place: usize) -> u8
-    ensures { result ≡ slice_index bytes.now place }
-{
-    bytes.get(place).copied().unwrap_or(0)
 }
 
 // ---- payload units
@@ -354,14 +348,4 @@ fn is_text(bytes: &[u8]) -> bool
         Ok(_) => true,
         Err(_) => false,
     }
-}
-
-/// The unit that the report speaks of and its text, where they fill it.
-pub(crate) fn parts(report: &Report) -> Option<(&[u8], &[u8])>
-    ensures { option_map (λ r. (r.0.now, r.1.now)) result ≡ report_parts (drop 8 report.now) }
-{
-    let _bytes = report.as_ref();
-    let pdu = report.pdu()?;
-    let text = report.text()?;
-    Some((pdu, text))
 }
