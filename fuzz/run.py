@@ -28,7 +28,9 @@ import expected
 import inputs
 
 TOP = os.path.join(os.path.dirname(os.path.abspath(__file__)), "..")
-PROGRAM = os.path.join(TOP, "crates", "rtr_normalise", "out", "rtr_normalise")
+sys.path.insert(0, os.path.join(TOP, ".ci"))
+
+import built  # noqa: E402  (it lies in another folder)
 
 # The program is stopped after this many seconds on one input.
 LIMIT = 10
@@ -155,11 +157,12 @@ def main():
     parser = argparse.ArgumentParser()
     parser.add_argument("--seconds", type=float, default=WHOLE_RUN)
     parser.add_argument("--seed", type=int, default=1)
-    parser.add_argument("--program", default=PROGRAM)
+    parser.add_argument("--program")
     parser.add_argument("--version", type=int, choices=[0, 1, 2])
     parser.add_argument("--workers", type=int, default=len(os.sched_getaffinity(0)))
     parser.add_argument("--input", type=int)
     args = parser.parse_args()
+    args.program = args.program or built.program("rtr_normalise")
     if not os.path.isfile(args.program):
         sys.exit(f"fuzz: no program {args.program}")
     if args.input is None:
