@@ -1,4 +1,4 @@
--- What C is told of a call, in numbers (this library's own).
+-- What C gets of a call, in numbers (this library's own).
 use Rattle.std.specs.Prelude.{◌≡◌, ◌<◌, ◌≤◌, ◌⊎◌, ℕ, List, ◌++◌, length, drop}
 use Rattle.std.specs.Prelude.{Result, Ok, Err}
 use Rattle.rtr_units.specs.End.{EndMeaning}
@@ -61,7 +61,7 @@ rtr_no_memory = 11
 abbrev pub rtr_failed : ℕ
 rtr_failed = 255
 
--- ---- what is told of a call
+-- ---- what is reported of a call
 
 -- the part of the rule on the lengths of a prefix
 abbrev pub rule_number : PrefixRule → ℕ
@@ -107,7 +107,7 @@ abbrev pub run_detail : Result Unit IntoFault → ℕ
 run_detail (Ok done) = 0
 run_detail (Err f) = stop_detail f
 
--- a run is told: how far it came and how it ended
+-- a run is reported: how far it came and how it ended
 pub record Tells (p : Progress) (r : Result Unit IntoFault) (a : RtrAnswer) (code : ℕ)
     : Type 0 where
   pub units : a.units ≡ p.units

@@ -1,4 +1,4 @@
--- What C is told of a comparison (this library's own).
+-- What C gets of a comparison (this library's own).
 use Rattle.std.specs.Prelude.{◌≡◌, ℕ, Bool, Result, Ok, Err}
 use Rattle.rtr_units.specs.StopCauses.{short, unit_type, unit_version, too_long, unit_length}
 use Rattle.rtr_units.specs.StopCauses.{empty_providers, refused, Cause, by_reader, by_writer}

@@ -92,8 +92,8 @@ said u input =
     else if u.kind == 11 then aspa_said u (part_said u input)
     else Err rtr_unit_type
 
--- A form is written where there is room for it, or refused for want of room; what has none is
--- refused with its status.
+-- A form is written where there is room for it, and refused where there is none; what has no form
+-- is refused with its status.
 abbrev pub Writes : Result (List ℕ) ℕ → Result ℕ ℕ → (before after : List ℕ) → Type 0
 Writes (Ok f) (Ok n) before after = Places (Some n) f before after
 Writes (Ok f) (Err s) before after = (s ≡ rtr_no_room) × Places None f before after
@@ -104,6 +104,6 @@ abbrev pub Told : Result ℕ ℕ → (n code : ℕ) → Type 0
 Told (Ok k) n code = (n ≡ k) × (code ≡ rtr_ok)
 Told (Err s) n code = (n ≡ 0) × (code ≡ s)
 
--- the same, told by a status and the number of bytes that were written
+-- the same, reported by a status and the number of bytes that were written
 abbrev pub TellsWritten : Result (List ℕ) ℕ → (before after : List ℕ) → (n code : ℕ) → Type 0
 TellsWritten is before after n code = (r : Result ℕ ℕ) × Writes is r before after × Told r n code

@@ -108,7 +108,7 @@ shown (views.RouterKey v) n = key_shown n (key_at v.unit.now)
 shown (views.Aspa v) n = aspa_shown n (length (drop 12 v.unit.now)) (aspa_at v.unit.now)
 shown (views.End e) n = end_shown n (end_meaning e)
 
--- the first unit or end of data of the input is shown, or its first fault is told
+-- the first unit or end of data of the input is shown, or its first fault is reported
 abbrev pub ShowsFirst : Result (UnitView × ℕ) ViewFault → List ℕ → RtrUnit → ℕ → Type 0
 ShowsFirst (Ok (v, n)) input u code =
     IsViewOf v (take n input) × (n ≤ length input) × (u ≡ shown v n) × (code ≡ rtr_ok)

@@ -15,11 +15,11 @@ pub(crate) const SHORT: u8 = 1;
 pub(crate) const UNIT_TYPE: u8 = 2;
 /// A unit of this protocol version is not allowed here.
 pub(crate) const UNIT_VERSION: u8 = 3;
-/// The length field of a unit of no fixed size is over 65535.
+/// The length field of a router key or an ASPA unit is above 65535.
 pub(crate) const TOO_LONG: u8 = 4;
 /// The length field does not suit the type of the unit.
 pub(crate) const UNIT_LENGTH: u8 = 5;
-/// An ASPA unit that announces has no providers.
+/// An ASPA is announced without providers.
 pub(crate) const EMPTY_PROVIDERS: u8 = 6;
 /// The lengths of a prefix break their rule.
 pub(crate) const PREFIX: u8 = 7;
@@ -27,9 +27,9 @@ pub(crate) const PREFIX: u8 = 7;
 pub(crate) const TOO_MANY: u8 = 8;
 /// The output is too short for what comes next.
 pub(crate) const NO_ROOM: u8 = 9;
-/// What should be written has no form.
+/// No unit has these fields.
 pub(crate) const NO_FORM: u8 = 10;
-/// Memory ran out.
+/// Out of memory.
 pub(crate) const NO_MEMORY: u8 = 11;
 /// A reader or a writer failed; none here does.
 pub(crate) const WRITER: u8 = 255;

@@ -1,4 +1,4 @@
-//! Units written from what they say.
+//! Units written from their fields.
 
 ghost use Rattle.std.specs.Prelude.{◌≡◌, ◌∷◌, ◌++◌, Ok, IfSome};
 ghost use Rattle.std.specs.Option.{option_copied};
