@@ -2,7 +2,6 @@
 
 mod aspa;
 mod frame;
-mod framed;
 mod key_info;
 mod payload;
 mod payload_unit;
@@ -10,6 +9,7 @@ pub mod prefix_rule;
 mod prefix_unit;
 mod providers;
 mod router_key;
+mod variable_unit;
 
 pub use aspa::Aspa;
 pub use key_info::{KeyInfoError, KeyInfoVecError, RouterKeyInfo};

@@ -4,14 +4,15 @@ ghost use Rattle.std.specs.Prelude.{◌≡◌, length, replicate, refl};
 ghost use Rattle.std.proofs.Common.{rules};
 ghost use Rattle.rtr_base.specs.Bytes.{words};
 ghost use Rattle.rtr_payload.specs.AspaUnits.{aspa_at};
+ghost use Rattle.rtr_payload.specs.declared.pdu.aspa.TheConstants.{PDU as ASPA_TYPE, FIXED as ASPA_FIXED};
 ghost use Rattle.rtr_payload.specs.Payloads.{IsAspa, aspa};
 ghost use Rattle.rtr_payload.specs.Providers.{AreProviderBytes};
 ghost use Rattle.rtr_payload.specs.Payloads.{AreProviders};
 ghost use Rattle.rtr_payload.specs.UnitFields.{aspa_unit};
 ghost use Rattle.rtr_payload.specs.Units.{form};
 
-use super::framed::{Body, Framed};
 use super::providers::ProviderAsns;
+use super::variable_unit::{Body, VariableUnit};
 use bytes::Bytes;
 use rtr_base::asn::Asn;
 use rtr_units::fault::Fault;
@@ -19,29 +20,36 @@ use rtr_units::header::{Header, MAX_SIZE};
 use rtr_units::numbers::u32_at;
 use std::alloc::AllocError;
 
-/// The bytes of an ASPA unit before its providers.
-const FIXED: usize = 12;
+/// The type of an ASPA unit.
+pub const PDU: u8 = 11;
 
-/// An ASPA unit: twelve bytes and its providers, four bytes each.
-pub type Aspa = Framed<FIXED, ProviderAsns>;
+/// The bytes of an ASPA unit before its providers.
+pub const FIXED: usize = 12;
+
+/// An ASPA unit: `FIXED` bytes and its providers, four bytes each.
+///
+/// Faults of its header, in this order: `TooLong` above length 65535; `UnitLength` below `FIXED`
+/// and where the length is not a multiple of 4; `EmptyProviders` where it is announced at length
+/// `FIXED`.
+pub type Aspa = VariableUnit<FIXED, ProviderAsns>;
 
 impl Body<FIXED> for ProviderAsns {
     ghost items = { words };
 
-    ghost holds = { AreProviders };
+    ghost valid = { AreProviders };
 
-    ghost fits = { AreProviderBytes };
+    ghost is_body = { AreProviderBytes };
 
     ghost fields = { λ u. aspa_unit (aspa_at u) };
 
-    ghost PDU = { 11 };
+    ghost PDU = { ASPA_TYPE };
 
     const PDU: u8 = Aspa::PDU;
 
     const NAME: &'static str = "Aspa";
 
     #[inline(always)]
-    fn check(header: Header) -> Result<(), Fault> {
+    fn check_header(header: Header) -> Result<(), Fault> {
         let head = header.as_ref();
         let size = header.length();
         if size > MAX_SIZE {
@@ -75,7 +83,7 @@ impl Body<FIXED> for ProviderAsns {
 
 impl Aspa {
     /// The type of an ASPA unit.
-    pub const PDU: u8 = 11;
+    pub const PDU: u8 = PDU;
 
     /// The bytes of an ASPA unit before its providers.
     pub const FIXED: usize = FIXED;
@@ -92,15 +100,15 @@ impl Aspa {
         fixed[..4].copy_from_slice(&[version, Aspa::PDU, flags, 0]);
         fixed[4..8].copy_from_slice(&size.to_be_bytes());
         fixed[8..].copy_from_slice(&customer.into_u32().to_be_bytes());
-        Framed::from_parts(fixed, providers)
+        VariableUnit::from_parts(fixed, providers)
     }
 
     /// A unit of zeros without providers, which asks for no memory.
     #[inline(always)]
     pub(crate) fn empty() -> Self
-        ensures { result ≡ replicate 12 0 }
+        ensures { result ≡ replicate ASPA_FIXED 0 }
     {
-        Framed::from_parts([0; FIXED], ProviderAsns::none())
+        VariableUnit::from_parts([0; FIXED], ProviderAsns::none())
     }
 
     /// The customer: the autonomous system whose providers these are.

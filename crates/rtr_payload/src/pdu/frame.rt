@@ -17,7 +17,7 @@ use std::alloc::Global;
 /// Faults, in this order: `Memory`, with nothing read, where there is no room for the frame;
 /// `Short` or `Reader` inside it; `Memory`, with all of it read, where it can't be shared.
 #[inline(always)]
-pub fn read_frame<R: Source>(alloc: Global, size: usize, reader: &mut R) -> Result<Bytes, Fault>
+pub fn read_rest<R: Source>(alloc: Global, size: usize, reader: &mut R) -> Result<Bytes, Fault>
     ensures bytes { ReadsFrame size (by_bytes (λ frame. frame) result) (R.state reader.old)
         (R.state reader.new) }
     ensures range { IfOk result IsBytes }

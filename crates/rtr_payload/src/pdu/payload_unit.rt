@@ -11,6 +11,8 @@ ghost use Rattle.rtr_units.specs.StopCauses.{HoldsReadError, HoldsWriteError};
 ghost use Rattle.rtr_units.specs.HeaderBytes.{header_bytes};
 ghost use Rattle.rtr_payload.specs.declared.payload.Payload.{Payload as Value};
 ghost use Rattle.rtr_payload.specs.declared.payload.Payload.TheVariants as payloads;
+ghost use Rattle.rtr_payload.specs.declared.pdu.aspa.TheConstants.{PDU as ASPA_TYPE, FIXED as ASPA_FIXED};
+ghost use Rattle.rtr_payload.specs.declared.pdu.router_key.TheConstants.{PDU as KEY_TYPE, FIXED as KEY_FIXED};
 ghost use Rattle.rtr_payload.specs.declared.pdu.payload.Payload.{Payload};
 ghost use Rattle.rtr_payload.specs.declared.pdu.payload.Payload.TheVariants as units;
 ghost use Rattle.rtr_payload.specs.Payloads.{smallest_version};
@@ -213,11 +215,11 @@ impl PayloadUnit for RouterKey {
 
     ghost holds = { λ _. ⊤ };
 
-    ghost kind = { 9 };
+    ghost kind = { KEY_TYPE };
 
     ghost SMALLEST_VERSION = { 1 };
 
-    ghost FIXED = { 32 };
+    ghost FIXED = { KEY_FIXED };
 
     ghost leaves = { λ h c u v old new. v ≡ u };
 
@@ -291,11 +293,11 @@ impl PayloadUnit for Aspa {
 
     ghost holds = { λ _. ⊤ };
 
-    ghost kind = { 11 };
+    ghost kind = { ASPA_TYPE };
 
     ghost SMALLEST_VERSION = { 2 };
 
-    ghost FIXED = { 12 };
+    ghost FIXED = { ASPA_FIXED };
 
     ghost leaves = { λ h c u v old new. v ≡ u };
 

@@ -3,13 +3,14 @@
 ghost use Rattle.std.specs.Prelude.{◌≡◌, ◌≤◌, length, replicate, refl};
 ghost use Rattle.std.proofs.Common.{rules};
 ghost use Rattle.rtr_payload.specs.declared.pdu.key_info.TheConstants.{MAX_LEN as MOST};
+ghost use Rattle.rtr_payload.specs.declared.pdu.router_key.TheConstants.{PDU as KEY_TYPE, FIXED as KEY_FIXED};
 ghost use Rattle.rtr_payload.specs.KeyUnits.{key_at};
 ghost use Rattle.rtr_payload.specs.Payloads.{IsKey, key};
 ghost use Rattle.rtr_payload.specs.Units.{form};
 ghost use Rattle.rtr_payload.specs.UnitFields.{key_unit};
 
-use super::framed::{Body, Framed};
 use super::key_info::{MAX_LEN, RouterKeyInfo};
+use super::variable_unit::{Body, VariableUnit};
 use bytes::Bytes;
 use rtr_base::asn::Asn;
 use rtr_units::fault::Fault;
@@ -17,29 +18,34 @@ use rtr_units::header::{Header, MAX_SIZE};
 use rtr_units::numbers::u32_at;
 use std::alloc::AllocError;
 
-/// The bytes of a router key before its key info.
-const FIXED: usize = 32;
+/// The type of a router key.
+pub const PDU: u8 = 9;
 
-/// A router key: 32 bytes and its key info.
-pub type RouterKey = Framed<FIXED, RouterKeyInfo>;
+/// The bytes of a router key before its key info.
+pub const FIXED: usize = 32;
+
+/// A router key: `FIXED` bytes and its key info.
+///
+/// Faults of its header, in this order: `TooLong` above length 65535; `UnitLength` below `FIXED`.
+pub type RouterKey = VariableUnit<FIXED, RouterKeyInfo>;
 
 impl Body<FIXED> for RouterKeyInfo {
     ghost items = { λ k. k };
 
-    ghost holds = { λ k. length k ≤ MOST };
+    ghost valid = { λ k. length k ≤ MOST };
 
-    ghost fits = { λ b. length b ≤ MOST };
+    ghost is_body = { λ b. length b ≤ MOST };
 
     ghost fields = { λ u. key_unit (key_at u) };
 
-    ghost PDU = { 9 };
+    ghost PDU = { KEY_TYPE };
 
     const PDU: u8 = RouterKey::PDU;
 
     const NAME: &'static str = "RouterKey";
 
     #[inline(always)]
-    fn check(header: Header) -> Result<(), Fault> {
+    fn check_header(header: Header) -> Result<(), Fault> {
         let size = header.length();
         if size > MAX_SIZE {
             return Err(Fault::TooLong);
@@ -69,7 +75,7 @@ impl Body<FIXED> for RouterKeyInfo {
 
 impl RouterKey {
     /// The type of a router key.
-    pub const PDU: u8 = 9;
+    pub const PDU: u8 = PDU;
 
     /// The bytes of a router key before its key info.
     pub const FIXED: usize = FIXED;
@@ -104,15 +110,15 @@ impl RouterKey {
         fixed[4..8].copy_from_slice(&size.to_be_bytes());
         fixed[28..].copy_from_slice(&asn.into_u32().to_be_bytes());
         fixed[8..28].copy_from_slice(&key_identifier);
-        Framed::from_parts(fixed, key_info)
+        VariableUnit::from_parts(fixed, key_info)
     }
 
     /// A unit of zeros without key info, which asks for no memory.
     #[inline(always)]
     pub(crate) fn empty() -> Self
-        ensures { result ≡ replicate 32 0 }
+        ensures { result ≡ replicate KEY_FIXED 0 }
     {
-        Framed::from_parts([0; FIXED], RouterKeyInfo::within_limit(Bytes::new()))
+        VariableUnit::from_parts([0; FIXED], RouterKeyInfo::within_limit(Bytes::new()))
     }
 
     /// The subject key identifier.

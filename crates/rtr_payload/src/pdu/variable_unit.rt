@@ -16,7 +16,7 @@ ghost use Rattle.rtr_payload.specs.PrivateFrames.{IsRefusedBy};
 ghost use Rattle.rtr_payload.specs.UnitKinds.{variable_unit};
 ghost use Rattle.rtr_payload.specs.UnitFields.{Fields, HasFields};
 
-use super::frame::read_frame;
+use super::frame::read_rest;
 use bytes::Bytes;
 use rtr_units::fault::Fault;
 use rtr_units::header::Header;
@@ -33,10 +33,10 @@ pub trait Body<const FIXED: usize>: fmt::Debug + Drop {
     ghost items: { Self → List ℕ };
 
     /// What holds of each body.
-    ghost holds: { Self → Type 0 };
+    ghost valid: { Self → Type 0 };
 
     /// What bytes have to be, to be those of a body.
-    ghost fits: { List ℕ → Type 0 };
+    ghost is_body: { List ℕ → Type 0 };
 
     /// The fields of a unit, read off its bytes.
     ghost fields: { List ℕ → Fields };
@@ -52,19 +52,19 @@ pub trait Body<const FIXED: usize>: fmt::Debug + Drop {
 
     /// Checks a header, which is taken for one of this type whatever type it names. A whole unit
     /// whose header is in order has a fixed part and a body that fits.
-    fn check(header: Header) -> Result<(), Fault>
+    fn check_header(header: Header) -> Result<(), Fault>
         ensures answer { MatchResult result
             (λ _. (variable_unit PDU).fault (header_bytes header) ≡ None)
             (λ e. IsRefusedBy ((variable_unit PDU).fault (header_bytes header)) (cause_of e)) }
         ensures whole { IfOk result (λ _. (u : List ℕ) → IsWhole (variable_unit PDU) u →
-            (FIXED ≤ length u) × fits (drop FIXED u) ×
+            (FIXED ≤ length u) × is_body (drop FIXED u) ×
             (type_field u ≡ PDU → HasFields u (fields u))) };
 
     /// The body of these bytes.
     fn from_bytes(frame: Bytes) -> Self
-        requires { fits frame }
+        requires { is_body frame }
         ensures value { items result ≡ frame }
-        ensures valid { holds result };
+        ensures valid { valid result };
 
     /// The bytes.
     fn as_slice(&self) -> &[u8]
@@ -81,29 +81,29 @@ pub trait Body<const FIXED: usize>: fmt::Debug + Drop {
 
 /// A variable unit: a fixed part, with its header, and a body. Its value is the list of its bytes.
 #[derive(Drop)]
-pub struct Framed<const FIXED: usize, B: Body<FIXED>> {
+pub struct VariableUnit<const FIXED: usize, B: Body<FIXED>> {
     fixed: [u8; FIXED],
     body: B,
 }
 
-impl<const FIXED: usize, B: Body<FIXED>> Model for Framed<FIXED, B> {
+impl<const FIXED: usize, B: Body<FIXED>> Model for VariableUnit<FIXED, B> {
     ghost use Rattle.std.specs.Prelude.{◌≡◌, ◌++◌, ℕ, List, length};
 
     ghost Value = { List ℕ };
 
     ghost view = { λ a. a.fixed ++ B.items a.body };
 
-    ghost invariant = { λ a. (length a.fixed ≡ FIXED) × B.holds a.body };
+    ghost invariant = { λ a. (length a.fixed ≡ FIXED) × B.valid a.body };
 }
 
-impl<const FIXED: usize, B: Body<FIXED>> Framed<FIXED, B> {
+impl<const FIXED: usize, B: Body<FIXED>> VariableUnit<FIXED, B> {
     /// The unit of a fixed part and a body.
     #[inline(always)]
     pub(crate) fn from_parts(fixed: [u8; FIXED], body: B) -> Self
-        requires { B.holds body }
+        requires { B.valid body }
         ensures { result ≡ fixed.entry ++ B.items body }
     {
-        Framed { fixed, body }
+        VariableUnit { fixed, body }
     }
 
     /// Reads a unit.
@@ -126,12 +126,10 @@ impl<const FIXED: usize, B: Body<FIXED>> Framed<FIXED, B> {
 
     /// Reads what follows the header, which is kept as it is. Its type is not checked.
     ///
-    /// Faults, in this order: `TooLong` above length 65535; `UnitLength` below the fixed part, and
-    /// for an ASPA unit where the length is not a multiple of 4; `EmptyProviders` where an ASPA is
-    /// announced at length 12: all these with nothing read and no memory asked for; `Memory`, with
-    /// nothing read, where there is no room for the frame that the rest is read into; `Short` or
-    /// `Reader` inside the unit; `Memory`, with the whole unit read, where the frame can't be
-    /// shared. The body is cut from it.
+    /// Faults, in this order: those of the header that the unit's type names, with nothing read and
+    /// no memory asked for; `Memory`, with nothing read, where there is no room for the frame that
+    /// the rest is read into; `Short` or `Reader` inside the unit; `Memory`, with the whole unit
+    /// read, where the frame can't be shared. The body is cut from it.
     #[inline(always)]
     pub fn read_payload<R: Source>(
         alloc: Global,
@@ -146,8 +144,8 @@ impl<const FIXED: usize, B: Body<FIXED>> Framed<FIXED, B> {
     {
         let head = header.as_ref();
         let size = header.length();
-        B::check(header)?;
-        let frame = read_frame(alloc, size as usize - 8, reader)?;
+        B::check_header(header)?;
+        let frame = read_rest(alloc, size as usize - 8, reader)?;
         Ok(Self::from_frame(head, frame))
     }
 
@@ -156,13 +154,13 @@ impl<const FIXED: usize, B: Body<FIXED>> Framed<FIXED, B> {
     fn from_frame(head: &[u8], mut frame: Bytes) -> Self
         requires head { length head.now ≡ 8 }
         requires size { FIXED ≤ 8 + length frame }
-        requires fits { B.fits (drop FIXED (head.now ++ frame)) }
+        requires is_body { B.is_body (drop FIXED (head.now ++ frame)) }
         ensures { result ≡ head.now ++ frame }
     {
         let mut fixed = [0; FIXED];
         join(&mut fixed[..], head, &frame.as_slice()[..FIXED - 8]);
         frame.advance(FIXED - 8);
-        Framed {
+        VariableUnit {
             fixed,
             body: B::from_bytes(frame),
         }
@@ -196,7 +194,7 @@ impl<const FIXED: usize, B: Body<FIXED>> Framed<FIXED, B> {
     #[inline(always)]
     pub(crate) fn body(&self) -> &B
         ensures value { B.items result.now ≡ drop FIXED self.now }
-        ensures valid { B.holds result.now }
+        ensures valid { B.valid result.now }
     {
         &self.body
     }
@@ -205,7 +203,7 @@ impl<const FIXED: usize, B: Body<FIXED>> Framed<FIXED, B> {
     #[inline(always)]
     pub(crate) fn into_body(self) -> B
         ensures value { B.items result ≡ drop FIXED self }
-        ensures valid { B.holds result }
+        ensures valid { B.valid result }
     {
         self.body
     }
@@ -216,7 +214,7 @@ impl<const FIXED: usize, B: Body<FIXED>> Framed<FIXED, B> {
         ensures { IfOk result (λ u. u ≡ self.now) }
     {
         let body = self.body.clone()?;
-        Ok(Framed {
+        Ok(VariableUnit {
             fixed: self.fixed,
             body,
         })
@@ -253,7 +251,7 @@ fn join(fixed: &mut [u8], head: &[u8], front: &[u8])
     fixed[..8].copy_from_slice(head);
 }
 
-impl<const FIXED: usize, B: Body<FIXED>> fmt::Debug for Framed<FIXED, B> {
+impl<const FIXED: usize, B: Body<FIXED>> fmt::Debug for VariableUnit<FIXED, B> {
     fn fmt<W: fmt::Write>(&self, f: &mut fmt::Formatter<W>) -> fmt::Result {
         f.debug_struct(B::NAME)
             .field("fixed", &self.fixed)
@@ -262,7 +260,7 @@ impl<const FIXED: usize, B: Body<FIXED>> fmt::Debug for Framed<FIXED, B> {
     }
 }
 
-impl<const FIXED: usize, B: Body<FIXED>> PartialEq for Framed<FIXED, B> {
+impl<const FIXED: usize, B: Body<FIXED>> PartialEq for VariableUnit<FIXED, B> {
     ghost eq = { pointwise nat_eq };
 
     ghost laws = { partial_equiv_from_equiv nat_list_eq_equiv };
@@ -272,11 +270,11 @@ impl<const FIXED: usize, B: Body<FIXED>> PartialEq for Framed<FIXED, B> {
     }
 }
 
-impl<const FIXED: usize, B: Body<FIXED>> Eq for Framed<FIXED, B> {
+impl<const FIXED: usize, B: Body<FIXED>> Eq for VariableUnit<FIXED, B> {
     ghost laws = { nat_list_eq_equiv };
 }
 
-impl<const FIXED: usize, B: Body<FIXED>> Hash for Framed<FIXED, B> {
+impl<const FIXED: usize, B: Body<FIXED>> Hash for VariableUnit<FIXED, B> {
     ghost hash_input = { λ u. fed.slice fed.u8 (take FIXED u) ++ fed.slice fed.u8 (drop FIXED u) };
 
     ghost respects_eq = { (fed.same_Alike _ bytes_decides).fed };

@@ -4,7 +4,7 @@ use Rattle.rtr_units.specs.HeaderBytes.{header_bytes}
 use Rattle.rtr_units.specs.Reading.{by_bytes}
 use Rattle.rtr_units.proofs.UnitsRead.{read_both}
 use Rattle.rtr_payload.specs.UnitKinds.{variable_unit}
-use Rattle.rtr_payload.proofs.pdu.framed.Framed.read.Goals as goal
+use Rattle.rtr_payload.proofs.pdu.variable_unit.VariableUnit.read.Goals as goal
 
 pub returns-clause-bytes : goal.returns-clause-bytes
 returns-clause-bytes g c =

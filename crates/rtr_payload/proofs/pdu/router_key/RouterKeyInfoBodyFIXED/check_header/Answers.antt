@@ -2,7 +2,7 @@ use Rattle.std.proofs.Common.{arith}
 use Rattle.rtr_payload.proofs.Frames.{nine_in_order}
 use Rattle.rtr_payload.proofs.Variable.{key_too_long, key_length}
 use Rattle.rtr_payload.proofs.Wholes.{key_body}
-use Rattle.rtr_payload.proofs.pdu.router_key.RouterKeyInfoBodyFIXED.check.Goals as goal
+use Rattle.rtr_payload.proofs.pdu.router_key.RouterKeyInfoBodyFIXED.check_header.Goals as goal
 
 pub returns-then-size-gt-MAX_SIZE-clause-answer : goal.returns-then-size-gt-MAX_SIZE-clause-answer
 returns-then-size-gt-MAX_SIZE-clause-answer c =

@@ -6,12 +6,12 @@ use Rattle.rtr_payload.specs.UnitKinds.{variable_unit}
 use Rattle.rtr_payload.proofs.Frames.{eleven_in_order}
 use Rattle.rtr_payload.proofs.Variable.{aspa_too_long, aspa_short, aspa_uneven, aspa_empty}
 use Rattle.rtr_payload.proofs.Wholes.{aspa_body}
-use Rattle.rtr_payload.proofs.pdu.aspa.ProviderAsnsBodyFIXED.check.Goals as goal
-use Rattle.rtr_payload.proofs.pdu.aspa.ProviderAsnsBodyFIXED.check.Goals.{
+use Rattle.rtr_payload.proofs.pdu.aspa.ProviderAsnsBodyFIXED.check_header.Goals as goal
+use Rattle.rtr_payload.proofs.pdu.aspa.ProviderAsnsBodyFIXED.check_header.Goals.{
   then-size-via-then-size,
   then-size-via-else-size+then-size-ne0,
 }
-use Rattle.rtr_payload.proofs.pdu.aspa.ProviderAsnsBodyFIXED.check.Goals.{
+use Rattle.rtr_payload.proofs.pdu.aspa.ProviderAsnsBodyFIXED.check_header.Goals.{
   else-size-2-via-then-size-2+else-head-eq1,
   else-size-2-via-else-size-2,
 }

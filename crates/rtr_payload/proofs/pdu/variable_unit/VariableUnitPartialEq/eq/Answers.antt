@@ -1,6 +1,6 @@
 use Rattle.std.proofs.Common.{refl, arith}
 use Rattle.rtr_payload.proofs.Joined.{pointwise-append}
-use Rattle.rtr_payload.proofs.pdu.framed.FramedPartialEq.eq.Goals as goal
+use Rattle.rtr_payload.proofs.pdu.variable_unit.VariableUnitPartialEq.eq.Goals as goal
 
 pub returns-then-eq : goal.returns-then-eq
 returns-then-eq g c =

@@ -1,5 +1,5 @@
 use Rattle.rtr_payload.proofs.Joined.{both_put}
-use Rattle.rtr_payload.proofs.pdu.framed.Framed.write.Goals as goal
+use Rattle.rtr_payload.proofs.pdu.variable_unit.VariableUnit.write.Goals as goal
 
 pub returns-clause-bytes : goal.returns-clause-bytes
 returns-clause-bytes g c =
