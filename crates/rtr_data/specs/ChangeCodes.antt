@@ -1,0 +1,13 @@
+-- The error code of each reason for which a change is not made (RFC 8210 section 12).
+use Rattle.std.specs.Prelude.{ℕ, Option, Some, None}
+use Rattle.rtr_data.specs.declared.change_error.ChangeError.{ChangeError}
+use Rattle.rtr_data.specs.declared.change_error.ChangeError.TheVariants.{Duplicate, Unknown}
+use Rattle.rtr_data.specs.declared.change_error.ChangeError.TheVariants.{KeyTooLong, NoProviders}
+use Rattle.rtr_data.specs.declared.change_error.ChangeError.TheVariants.{Memory}
+
+abbrev pub change_code : ChangeError → Option ℕ
+change_code Duplicate = Some 7
+change_code Unknown = Some 6
+change_code KeyTooLong = None
+change_code NoProviders = None
+change_code Memory = None

@@ -1,0 +1,3 @@
+pub mod ChangeCodes
+pub mod Data
+pub mod Contents

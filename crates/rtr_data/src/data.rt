@@ -1,0 +1,203 @@
+//! A set of payloads.
+
+ghost use Rattle.std.specs.Prelude.{◌≡◌, [], Bool, false, length, min, nat_eq};
+ghost use Rattle.rtr_base.specs.declared.payload.Action.TheVariants.{Announce, Withdraw};
+ghost use Rattle.rtr_payload.specs.Meanings.{payload_of, payload_of_ref};
+ghost use Rattle.rtr_data.specs.Data.{IsData, changed, has};
+ghost use Rattle.rtr_data.specs.Contents.{AreFit, IsFit, Leaves, Makes, announcing, joined};
+ghost use Rattle.rtr_data.specs.Contents.{unfit};
+
+use crate::change_error::ChangeError;
+use rtr_base::asn::Asn;
+use rtr_payload::payload::{Aspa, Payload, PayloadRef, RouteOrigin, RouterKey};
+use rtr_payload::pdu::ProviderAsns;
+use std::alloc::Global;
+use std::collections::{BTreeMap, BTreeSet, btree_map, btree_set};
+use std::marker::Model;
+
+/// The most bytes of key info in a unit, of which the length counts at most 65535.
+const MOST_KEY_INFO: usize = 65503;
+
+/// Payloads, each of them once, and of each customer one ASPA at most.
+#[derive(Drop)]
+pub struct Data {
+    origins: BTreeSet<RouteOrigin>,
+    router_keys: BTreeSet<RouterKey>,
+    aspas: BTreeMap<Asn, ProviderAsns>,
+}
+
+impl Model for Data {
+    ghost use Rattle.std.specs.Prelude.{List};
+    ghost use Rattle.rtr_payload.specs.Payloads.{Payload};
+
+    ghost Value = { List Payload };
+
+    ghost use Rattle.rtr_data.specs.Contents.{payloads};
+
+    ghost view = { payloads };
+
+    ghost use Rattle.rtr_data.specs.Contents.{AreFit};
+
+    ghost invariant = { λ d. AreFit (payloads d) };
+}
+
+impl Data {
+    /// No payloads.
+    pub fn new(alloc: Global) -> Self
+        ensures { result ≡ [] }
+    {
+        Data {
+            origins: BTreeSet::new(alloc),
+            router_keys: BTreeSet::new(alloc),
+            aspas: BTreeMap::new(alloc),
+        }
+    }
+
+    /// How many payloads there are, or the greatest `usize` where there are more.
+    pub fn len(&self) -> usize
+        ensures { result ≡ min (length self.now) usize.MAX }
+    {
+        self.origins
+            .len()
+            .saturating_add(self.router_keys.len())
+            .saturating_add(self.aspas.len())
+    }
+
+    /// Whether there are no payloads.
+    pub fn is_empty(&self) -> bool
+        ensures { result ≡ nat_eq (length self.now) 0 }
+    {
+        self.len() == 0
+    }
+
+    /// The origins, the router keys and the ASPAs, which are the payloads in their order.
+    pub fn parts(
+        &self,
+    ) -> (
+        btree_set::Iter<'_, RouteOrigin>,
+        btree_set::Iter<'_, RouterKey>,
+        btree_map::Iter<'_, Asn, ProviderAsns>,
+    )
+        ensures payloads { self.now ≡ joined result.0 result.1 result.2 }
+        ensures ordered { IsData self.now }
+        ensures fit { AreFit self.now }
+    {
+        (
+            self.origins.iter(),
+            self.router_keys.iter(),
+            self.aspas.iter(),
+        )
+    }
+
+    /// Whether the payload is there: an ASPA with just these providers.
+    pub fn contains(&self, payload: &PayloadRef<'_>) -> bool
+        ensures { result ≡ has self.now (payload_of_ref payload.now) }
+    {
+        match payload {
+            PayloadRef::Origin(origin) => self.origins.contains(origin),
+            PayloadRef::RouterKey(key) => self.router_keys.contains(*key),
+            PayloadRef::Aspa(aspa) => {
+                // Gives the proof that the customers are in order.
+                let _count = self.aspas.len();
+                match self.aspas.get(&aspa.customer) {
+                    Some(providers) => aspa.providers == *providers,
+                    None => false,
+                }
+            }
+        }
+    }
+
+    /// Announces a payload. An ASPA takes the place of the one of its customer.
+    ///
+    /// `KeyTooLong` or `NoProviders` for what no reader accepts, `Duplicate` for another payload that
+    /// is there already, or `Memory`; then the data is as it was.
+    pub fn announce(&mut self, payload: Payload) -> Result<(), ChangeError>
+        ensures { Leaves result (announcing (payload_of payload) self.old) self.old self.new }
+    {
+        if let Some(error) = refusal(&payload) {
+            return Err(error);
+        }
+        self.insert(payload)
+    }
+
+    /// Announces a payload that a reader accepts.
+    fn insert(&mut self, payload: Payload) -> Result<(), ChangeError>
+        requires { IsFit (payload_of payload) }
+        ensures { Leaves result (changed Announce (payload_of payload) self.old) self.old self.new }
+    {
+        match payload {
+            Payload::Origin(origin) => match self.origins.insert(origin) {
+                Ok(true) => Ok(()),
+                Ok(false) => Err(ChangeError::Duplicate),
+                Err(_) => Err(ChangeError::Memory),
+            },
+            Payload::RouterKey(key) => match self.router_keys.insert(key) {
+                Ok(true) => Ok(()),
+                Ok(false) => Err(ChangeError::Duplicate),
+                Err(_) => Err(ChangeError::Memory),
+            },
+            Payload::Aspa(aspa) => {
+                let Aspa {
+                    customer,
+                    providers,
+                } = aspa;
+                match self.aspas.insert(customer, providers) {
+                    Ok(_) => Ok(()),
+                    Err(_) => Err(ChangeError::Memory),
+                }
+            }
+        }
+    }
+
+    /// Withdraws a payload. Of an ASPA the customer alone counts.
+    ///
+    /// `Unknown` where it is not there; then the data is as it was. No memory is asked for.
+    pub fn withdraw(&mut self, payload: &PayloadRef<'_>) -> Result<(), ChangeError>
+        ensures { Makes result (changed Withdraw (payload_of_ref payload.now) self.old)
+            self.old self.new }
+    {
+        match payload {
+            PayloadRef::Origin(origin) => {
+                if self.origins.remove(origin) {
+                    Ok(())
+                } else {
+                    Err(ChangeError::Unknown)
+                }
+            }
+            PayloadRef::RouterKey(key) => {
+                if self.router_keys.remove(*key) {
+                    Ok(())
+                } else {
+                    Err(ChangeError::Unknown)
+                }
+            }
+            PayloadRef::Aspa(aspa) => match self.aspas.remove(&aspa.customer) {
+                Some(_) => Ok(()),
+                None => Err(ChangeError::Unknown),
+            },
+        }
+    }
+}
+
+/// Why no reader accepts an announcement of the payload, if none does.
+fn refusal(payload: &Payload) -> Option<ChangeError>
+    ensures { result ≡ unfit (payload_of payload.now) }
+{
+    match payload {
+        Payload::Origin(_) => None,
+        Payload::RouterKey(key) => {
+            if key.key_info.len() > MOST_KEY_INFO {
+                Some(ChangeError::KeyTooLong)
+            } else {
+                None
+            }
+        }
+        Payload::Aspa(aspa) => {
+            if aspa.providers.is_empty() {
+                Some(ChangeError::NoProviders)
+            } else {
+                None
+            }
+        }
+    }
+}

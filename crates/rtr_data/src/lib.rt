@@ -1,0 +1,10 @@
+//! Data of the RPKI to Router protocol: the payloads that a cache has, or a router has of it, and
+//! how announcements and withdrawals change them.
+#![tactic(auto)]
+
+mod change_error;
+mod data;
+pub mod laws;
+
+pub use change_error::ChangeError;
+pub use data::Data;
