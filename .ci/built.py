@@ -1,5 +1,5 @@
 #!/usr/bin/env python3
-"""The one place that picks the built programs which checks run.
+"""The one place that picks the built programs, and the archive of rtr_c, which checks run.
 
 usage: built.py NAME..
 
@@ -14,6 +14,7 @@ import sys
 
 TOP = os.path.realpath(os.path.join(os.path.dirname(os.path.abspath(__file__)), ".."))
 ENDINGS = ("", ".by-rattle")
+ARCHIVE = os.path.join(TOP, "bindings", "lib", "x86_64", "librtr_c.a")
 
 
 def crates(name):
@@ -39,6 +40,8 @@ def last_change(name):
 def programs(name):
     """The paths of the program that are there and no older than its sources."""
     paths = [os.path.join(TOP, "crates", name, "out", name + ending) for ending in ENDINGS]
+    if name == "rtr_c":
+        paths = [ARCHIVE]
     since = last_change(name)
     return [path for path in paths if os.path.isfile(path) and os.path.getmtime(path) >= since]
 
@@ -46,8 +49,9 @@ def programs(name):
 def needed(name):
     """The same, where there has to be one as LLVM builds it."""
     found = programs(name)
-    if not found or not found[0].endswith(name):
-        sys.exit(f"{name} is missing or older than its sources: call .ci/run, or rt run in its folder")
+    if not found or found[0].endswith(ENDINGS[1]):
+        call = "bindings/build" if name == "rtr_c" else "rt run in its folder"
+        sys.exit(f"{name} is missing or older than its sources: call .ci/run, or {call}")
     return found
 
 
