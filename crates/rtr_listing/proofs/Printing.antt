@@ -59,7 +59,7 @@ one_broken what text e a b ((part, missing, wrote, is, stops), counts) =
 
 -- ---- the lines of broken rules
 
--- for want of memory nothing of a line is written
+-- out of memory, nothing of a line is written
 pub puts_none : (text : List ℕ) (a : Option (List ℕ)) → PutsLineBytes text (Err Memory) a a
 puts_none text a = ([], written_line text, Appends-nil a, refl, refl)
 

@@ -77,7 +77,7 @@ starts what offset checker a h first seen = record {
 nat_lt_sum : (m n : ℕ) → (nat_lt 0 m || nat_lt 0 n) ≡ nat_lt 0 (m + n)
 nat_lt_sum m n = grind (arith, nat_tests)
 
--- whether a rule is told broken in the lines before or in those after
+-- whether a broken rule is reported in the lines before or in those after
 tells_more : (what : Wanted) (found more : Bool) (xs ys : List (List ℕ)) →
     found ≡ tells_broken what xs → more ≡ tells_broken what ys →
     (found || more) ≡ tells_broken what (xs ++ ys)

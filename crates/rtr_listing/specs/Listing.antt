@@ -60,7 +60,7 @@ Printed what (newest ∷ before) lines = (earlier last : List (List ℕ))
     × Printed what before earlier × UnitLines what (offset_of before) before newest last
     × (lines ≡ earlier ++ last)
 
--- whether these lines tell of a broken rule: whether there is one, where such are asked for
+-- whether these lines report a broken rule: whether there is one, where such are asked for
 abbrev pub tells_broken : Wanted → List (List ℕ) → Bool
 tells_broken Text lines = false
 tells_broken Json lines = false
@@ -108,7 +108,7 @@ abbrev pub PrintsAll : Wanted → List AnyFields → List ℕ → Type 0
 PrintsAll what units written =
     (lines : List (List ℕ)) × Printed what units lines × (written ≡ concat lines)
 
--- and they tell of a broken rule, or don't
+-- and they report a broken rule, or don't
 abbrev pub PrintsToTheEnd : Wanted → Bool → List AnyFields → List ℕ → Type 0
 PrintsToTheEnd what found units written = (lines : List (List ℕ)) × Printed what units lines
     × (written ≡ concat lines) × (found ≡ tells_broken what lines)
@@ -129,7 +129,7 @@ ListingEnds what (Err by_writer) units rest left written =
 -- at the most units that are read
 ListingEnds what (Err too_many) units rest left written =
     (length units ≡ 2 ^ 64 - 1) × (rest ≡ []) × PrintsAll what units written
--- for want of memory, for the newest unit's lines or for a unit, inside which reading stopped then
+-- out of memory, for the newest unit's lines or for a unit, inside which reading stopped then
 ListingEnds what (Err no_memory) units rest left written =
     ((rest ≡ []) × PrintsPart what no_memory units written)
     ⊎ (StopsInAny no_memory rest left × PrintsAll what units written)

@@ -23,7 +23,7 @@ StopsLine by_writer part missing = 0 < length missing
 StopsLine no_memory part missing = part ≡ []
 StopsLine cause part missing = ⊥
 
--- the line of this text was written, or a part of it, or nothing for want of memory
+-- the line of this text was written, or a part of it, or nothing where memory ran out
 abbrev pub PutsLineBytes :
     List ℕ → Result (Unit {0}) Fault → Option (List ℕ) → Option (List ℕ) → Type 0
 PutsLineBytes text (Ok x) held holds = Appends held holds (written_line text)
@@ -36,7 +36,7 @@ PutsLine text r old new =
 
 -- ---- one unit
 
--- these lines of one unit were printed, with whether they tell of a broken rule, or printing
+-- these lines of one unit were printed, with whether they report a broken rule, or printing
 -- stopped
 abbrev pub PrintsBytes :
     Wanted → List (List ℕ) → Result Bool Fault → Option (List ℕ) → Option (List ℕ) → Type 0

@@ -60,7 +60,7 @@ impl Checker {
     /// the sequence, then bytes and flags that are to be zero, then what its fields say, then the
     /// session or the payloads of the sequence.
     ///
-    /// After want of memory the checker may have seen a part of the unit.
+    /// If memory runs out the checker may have seen a part of the unit.
     pub fn check(&mut self, unit: &AnyUnit, found: &mut Vec<Finding>) -> Result<(), AllocError>
         ensures { OnOk result (Finds self.old (any_fields unit.now) self.new found.new.items) }
     {

@@ -97,11 +97,14 @@ fn form_named(word: &str) -> Option<Wanted>
 }
 
 /// Reads units up to the end of the input and prints what the words ask for of each, flushes the
-/// output once, and answers the status to end with: 0 where all that succeeded and no rule was
-/// found broken; 1 where one was, or at a fault of the input; 2 where there are words other than
-/// `--json` or `--check`; 3 where reading, writing, flushing or memory failed. At a fault and at
-/// statuses 2 and 3 there is a line on `faults`, and a second one where the flush failed after a
-/// fault whose status isn't 3. A line that can't be written changes nothing.
+/// output once, and answers the exit status:
+/// - 0 if all that succeeded and no broken rule was found;
+/// - 1 if one was found, or the input has a fault;
+/// - 2 with words other than `--json` or `--check`;
+/// - 3 if reading, writing, flushing or memory failed.
+///
+/// A fault and statuses 2 and 3 come with a line on `faults`, and with a second one if the flush
+/// failed after a fault whose status isn't 3. If a line can't be written, nothing else changes.
 pub fn run<R: Source, W: Sink, F: Write>(
     alloc: Global,
     args: &[String],

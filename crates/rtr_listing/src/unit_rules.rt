@@ -135,7 +135,7 @@ fn prefix_reserved(
 
 // ---- payload units
 
-/// What the fields of the unit say, and the payload that it is about.
+/// Finds the rules that the fields of the unit break, and answers the payload that it is about.
 pub(crate) fn payload_unit(
     alloc: Global,
     unit: &Payload,
