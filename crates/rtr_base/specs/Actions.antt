@@ -1,7 +1,7 @@
 -- Whether a record is announced or withdrawn (the flags of RFC 8210 section 5.1).
 use Rattle.std.specs.Prelude.{ℕ, ◌%◌, ◌==◌, if◌then◌else◌}
-use Rattle.rtr_base.specs.declared.payload.Action.{Action}
-use Rattle.rtr_base.specs.declared.payload.Action.TheVariants.{Announce, Withdraw}
+use Rattle.rtr_base.specs.declared.action.Action.{Action}
+use Rattle.rtr_base.specs.declared.action.Action.TheVariants.{Announce, Withdraw}
 
 -- the lowest flag bit alone decides
 abbrev pub act : ℕ → Action

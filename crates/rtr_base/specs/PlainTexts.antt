@@ -6,8 +6,8 @@ use Rattle.std.specs.Net.Addr.{segments_of}
 use Rattle.std.specs.Net.Text.{ipv4_text, ipv6_text}
 use Rattle.rtr_base.specs.Addresses.{Family, v4, v6, PrefixParts, MaxLenParts}
 use Rattle.rtr_base.specs.Bytes.{be}
-use Rattle.rtr_base.specs.declared.payload.Action.{Action}
-use Rattle.rtr_base.specs.declared.payload.Action.TheVariants.{Announce, Withdraw}
+use Rattle.rtr_base.specs.declared.action.Action.{Action}
+use Rattle.rtr_base.specs.declared.action.Action.TheVariants.{Announce, Withdraw}
 
 -- AS65551
 abbrev pub asn_text : ℕ → List ℕ

@@ -17,7 +17,7 @@ ghost use Rattle.rtr_base.specs.declared.parse.ParseMaxLenPrefixError.{ParseMaxL
 ghost use Rattle.rtr_base.specs.declared.parse.ParsePrefixError.{ParsePrefixError};
 ghost use Rattle.rtr_base.specs.Serial.{serial_cmp, serial_distance, reversed};
 
-use crate::pdu::ErrorCode;
+use crate::error_code::ErrorCode;
 
 /// The numbers of the error codes: up to 8 those of RFC 8210 section 12, above as in the Rust crate
 /// `rpki`.

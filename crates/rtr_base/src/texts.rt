@@ -6,11 +6,11 @@ ghost use Rattle.hex.specs.Hex.{encode_lower};
 ghost use Rattle.rtr_base.specs.PlainTexts.{action_text, asn_text, code_name, error_code_text};
 ghost use Rattle.rtr_base.specs.PlainTexts.{max_len_text, prefix_text};
 
+use crate::action::Action;
 use crate::addr::{MaxLenPrefix, Prefix};
 use crate::asn::Asn;
+use crate::error_code::ErrorCode;
 use crate::keys::KeyIdentifier;
-use crate::payload::Action;
-use crate::pdu::ErrorCode;
 use std::fmt;
 
 /// Writes `AS` and the number, as in `AS65551`.

@@ -2,12 +2,13 @@
 
 use crate::expect_equal;
 use crate::rows::{read, written};
+use rtr_base::action::Action;
 use rtr_base::addr::{MaxLenError, MaxLenPrefix, Prefix, PrefixError};
+use rtr_base::afi::Afi;
 use rtr_base::asn::Asn;
+use rtr_base::error_code::ErrorCode;
 use rtr_base::keys::KeyIdentifier;
 use rtr_base::parse::{ParseAsnError, ParseKeyIdentifierError};
-use rtr_base::payload::{Action, Afi};
-use rtr_base::pdu::ErrorCode;
 use rtr_base::state::Serial;
 use rtr_support::check_rows;
 use std::alloc::Global;

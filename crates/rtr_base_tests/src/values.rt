@@ -1,10 +1,12 @@
 //! ASNs, keys, actions, families, timings and error codes.
 
 use crate::expect_equal;
+use rtr_base::action::Action;
+use rtr_base::afi::Afi;
 use rtr_base::asn::Asn;
+use rtr_base::error_code::ErrorCode;
 use rtr_base::keys::KeyIdentifier;
-use rtr_base::payload::{Action, Afi, Timing};
-use rtr_base::pdu::ErrorCode;
+use rtr_base::timing::Timing;
 use rtr_support::hash_of;
 
 #[test]

@@ -5,7 +5,7 @@ use Rattle.std.specs.Prelude.{Option, Some, None, Result, Ok}
 use Rattle.std.specs.Prelude.{Err, nat_lt, nat_le, ◌==◌, if◌then◌else◌}
 use Rattle.rtr_base.specs.Addresses.{Family, v4, v6, width, cleared, ip_version}
 use Rattle.rtr_base.specs.Bytes.{value}
-use Rattle.rtr_base.specs.declared.payload.Timing.{Timing}
+use Rattle.rtr_base.specs.declared.timing.Timing.{Timing}
 use Rattle.rtr_units.specs.End.{timed_list}
 use Rattle.rtr_units.specs.PrefixUnits.{address_bytes}
 use Rattle.rtr_payload.specs.Payloads.{origin, key, aspa}

@@ -5,7 +5,7 @@ use Rattle.std.specs.Prelude.{◌++◌, length, take, drop, Option, Some, None}
 use Rattle.std.specs.Prelude.{Result, Ok, Err, replicate}
 use Rattle.rtr_base.specs.Addresses.{Family, v4, v6, ip_version, resolved_len}
 use Rattle.rtr_base.specs.Bytes.{be}
-use Rattle.rtr_base.specs.declared.payload.Timing.{Timing}
+use Rattle.rtr_base.specs.declared.timing.Timing.{Timing}
 use Rattle.rtr_units.specs.End.{EndMeaning}
 use Rattle.rtr_units.specs.AnyEnd.{end_meaning}
 use Rattle.rtr_units.specs.PrefixUnits.{prefix_type}

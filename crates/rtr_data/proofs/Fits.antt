@@ -2,7 +2,7 @@
 use Rattle.std.proofs.Common.{◌≡◌, List, Ok, subst}
 use Rattle.std.specs.BTreeMap.{is_at}
 use Rattle.std.specs.Set.{remove_key}
-use Rattle.rtr_base.specs.declared.payload.Action.TheVariants.{Announce}
+use Rattle.rtr_base.specs.declared.action.Action.TheVariants.{Announce}
 use Rattle.rtr_payload.specs.Payloads.{Payload}
 use Rattle.rtr_data.specs.Contents.{AreFit, IsFit}
 use Rattle.rtr_data.specs.Data.{changed, name_cmp}

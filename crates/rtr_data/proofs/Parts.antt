@@ -12,8 +12,8 @@ use Rattle.std.specs.Prelude.{is_some, IsOk}
 use Rattle.std.specs.Set.{remove_key}
 use Rattle.std.specs.declared.cmp.Ordering.{Ordering}
 use Rattle.std.specs.declared.cmp.Ordering.TheVariants.{Less, Equal, Greater}
-use Rattle.rtr_base.specs.declared.payload.Action.{Action}
-use Rattle.rtr_base.specs.declared.payload.Action.TheVariants.{Announce, Withdraw}
+use Rattle.rtr_base.specs.declared.action.Action.{Action}
+use Rattle.rtr_base.specs.declared.action.Action.TheVariants.{Announce, Withdraw}
 use Rattle.rtr_payload.specs.Meanings.{origin_of, key_of}
 use Rattle.rtr_payload.proofs.Orders.{aspa_chain}
 use Rattle.rtr_payload.specs.Orders.{list_cmp, payload_cmp}

@@ -2,7 +2,7 @@
 use Rattle.std.specs.Prelude.{◌≡◌, ℕ, List, ◌++◌, map, length, Result, Ok, Err, IsOk}
 use Rattle.std.specs.Prelude.{Option, Some, None, nat_lt, if◌then◌else◌}
 use Rattle.std.specs.List.{AllByRecursion}
-use Rattle.rtr_base.specs.declared.payload.Action.TheVariants.{Announce}
+use Rattle.rtr_base.specs.declared.action.Action.TheVariants.{Announce}
 use Rattle.rtr_payload.specs.Meanings.{origin_of, key_of}
 use Rattle.rtr_payload.specs.Payloads.{Payload, origin, key, aspa}
 use Rattle.rtr_payload.specs.declared.payload.RouteOrigin.{RouteOrigin}

@@ -9,8 +9,8 @@ use Rattle.std.specs.List.Sorted.{IsStrictlySortedBy}
 use Rattle.std.specs.Ordering.{on}
 use Rattle.std.specs.Set.{remove_key}
 use Rattle.std.specs.declared.cmp.Ordering.{Ordering}
-use Rattle.rtr_base.specs.declared.payload.Action.{Action}
-use Rattle.rtr_base.specs.declared.payload.Action.TheVariants.{Announce, Withdraw}
+use Rattle.rtr_base.specs.declared.action.Action.{Action}
+use Rattle.rtr_base.specs.declared.action.Action.TheVariants.{Announce, Withdraw}
 use Rattle.rtr_payload.specs.Orders.{payload_cmp}
 use Rattle.rtr_payload.specs.Payloads.{Payload, origin, key, aspa}
 use Rattle.rtr_data.specs.declared.change_error.ChangeError.{ChangeError}

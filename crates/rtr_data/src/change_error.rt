@@ -4,7 +4,7 @@ ghost use Rattle.std.specs.Prelude.{◌≡◌};
 ghost use Rattle.std.specs.Option.{option_map};
 ghost use Rattle.rtr_data.specs.ChangeCodes.{change_code};
 
-use rtr_base::pdu::ErrorCode;
+use rtr_base::error_code::ErrorCode;
 
 /// Why a change was not made.
 #[derive(Clone, Copy, Debug, PartialEq, Eq, thiserror::Error)]

@@ -1,7 +1,7 @@
 //! A set of payloads.
 
 ghost use Rattle.std.specs.Prelude.{◌≡◌, [], Bool, false, length, min, nat_eq};
-ghost use Rattle.rtr_base.specs.declared.payload.Action.TheVariants.{Announce, Withdraw};
+ghost use Rattle.rtr_base.specs.declared.action.Action.TheVariants.{Announce, Withdraw};
 ghost use Rattle.rtr_payload.specs.Meanings.{payload_of, payload_of_ref};
 ghost use Rattle.rtr_data.specs.Data.{IsData, changed, has};
 ghost use Rattle.rtr_data.specs.Contents.{AreFit, IsFit, Leaves, Makes, announcing, joined};

@@ -1,6 +1,6 @@
 //! What new data is, and what an error says.
 
-use rtr_base::pdu::ErrorCode;
+use rtr_base::error_code::ErrorCode;
 use rtr_data::{ChangeError, Data};
 use std::test::Fail;
 

@@ -9,7 +9,7 @@ use Rattle.hex.specs.Hex.{encode_lower}
 use Rattle.json.specs.Token.{Token, begin_object, end_object, begin_array, end_array, key, string}
 use Rattle.json.specs.Token.{number, null}
 use Rattle.json.specs.Print.{print}
-use Rattle.rtr_base.specs.declared.payload.Timing.{Timing}
+use Rattle.rtr_base.specs.declared.timing.Timing.{Timing}
 use Rattle.rtr_base.specs.Actions.{act}
 use Rattle.rtr_base.specs.Addresses.{Family, v4, v6}
 use Rattle.rtr_base.specs.PlainTexts.{action_text, address_text}

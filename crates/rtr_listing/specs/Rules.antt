@@ -5,8 +5,8 @@ use Rattle.std.specs.Prelude.{◌&&◌, List, [], ◌∷◌, ◌++◌, length, O
 use Rattle.std.specs.Prelude.{if◌then◌else◌}
 use Rattle.std.specs.Str.{is_utf8}
 use Rattle.rtr_base.specs.Addresses.{width, cleared}
-use Rattle.rtr_base.specs.declared.payload.Action.{Action}
-use Rattle.rtr_base.specs.declared.payload.Action.TheVariants.{Announce, Withdraw}
+use Rattle.rtr_base.specs.declared.action.Action.{Action}
+use Rattle.rtr_base.specs.declared.action.Action.TheVariants.{Announce, Withdraw}
 use Rattle.rtr_units.specs.Header.{type_field}
 use Rattle.rtr_units.specs.PrefixUnits.{OriginParts}
 use Rattle.rtr_payload.specs.AspaUnits.{AspaFields}

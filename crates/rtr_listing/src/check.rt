@@ -18,12 +18,12 @@ ghost use Rattle.rtr_listing.specs.declared.finding.Finding.TheVariants as broke
 
 use crate::finding::Finding;
 use crate::unit_rules;
-use rtr_base::payload::Action;
+use rtr_base::action::Action;
 use rtr_payload::payload;
 use rtr_payload::pdu::Payload;
 use rtr_session::AnyUnit;
 use rtr_units::end::EndOfData;
-use rtr_units::session::CacheResponse;
+use rtr_units::queries::CacheResponse;
 use rtr_units::unit::Unit;
 use std::alloc::{AllocError, Global};
 use std::collections::BTreeSet;

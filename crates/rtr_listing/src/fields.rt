@@ -10,9 +10,9 @@ ghost use Rattle.rtr_listing.specs.TextLines.{fields_version};
 
 use rtr_payload::pdu::{Aspa, Payload};
 use rtr_session::{AnyUnit, Report};
-use rtr_units::end::EndOfData;
-use rtr_units::fixed::{EndOfDataV0, EndOfDataV1, Ipv4Prefix, Ipv6Prefix};
-use rtr_units::session::{CacheReset, CacheResponse, ResetQuery, SerialNotify, SerialQuery};
+use rtr_units::end::{EndOfData, EndOfDataV0, EndOfDataV1};
+use rtr_units::prefixes::{Ipv4Prefix, Ipv6Prefix};
+use rtr_units::queries::{CacheReset, CacheResponse, ResetQuery, SerialNotify, SerialQuery};
 use rtr_units::unit::Unit;
 
 /// The bytes of a router key besides its identifier and its key info: a header and the number of

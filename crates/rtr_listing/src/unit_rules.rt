@@ -19,9 +19,9 @@ ghost use Rattle.rtr_listing.specs.declared.finding.Finding.TheVariants as broke
 
 use crate::fields::{byte_at, parts};
 use crate::finding::{Finding, Layout};
+use rtr_base::action::Action;
 use rtr_base::addr::MaxLenPrefix;
 use rtr_base::asn::Asn;
-use rtr_base::payload::Action;
 use rtr_payload::payload;
 use rtr_payload::pdu::prefix_rule::{PrefixRule, ipv4_prefix, ipv6_prefix};
 use rtr_payload::pdu::{Aspa, Payload, PayloadUnit, ProviderAsns, RouterKey};

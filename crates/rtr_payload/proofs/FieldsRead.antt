@@ -5,7 +5,7 @@ use Rattle.std.proofs.Common.{eqb, inl, inr}
 use Rattle.std.specs.List.{AllByRecursion}
 use Rattle.std.proofs.lemmas.Bool.{cases_lt, cond_both, eqb-true}
 use Rattle.std.proofs.lemmas.List.{take_at, drop_at, drop-drop, length-drop, length-take-le}
-use Rattle.rtr_base.specs.declared.payload.Action.TheVariants.{Announce, Withdraw}
+use Rattle.rtr_base.specs.declared.action.Action.TheVariants.{Announce, Withdraw}
 use Rattle.rtr_base.specs.Actions.{act}
 use Rattle.rtr_base.specs.Bytes.{be, value, words, IsBytes}
 use Rattle.rtr_base.proofs.Numbers.{value-be, IsBytes-drop}

@@ -2,7 +2,7 @@
 use Rattle.std.proofs.Common.{◌≡◌, ℕ, Option, Some, None, refl, sym, ap, ◌∙◌}
 use Rattle.std.specs.Prelude.{IsSome}
 use Rattle.rtr_base.specs.Actions.{act}
-use Rattle.rtr_base.specs.declared.payload.Action.{Action}
+use Rattle.rtr_base.specs.declared.action.Action.{Action}
 use Rattle.rtr_units.specs.StopCauses.{short, unit_type, unit_version, too_long, unit_length}
 use Rattle.rtr_units.specs.StopCauses.{empty_providers, refused, Cause, by_reader}
 use Rattle.rtr_units.specs.StopCauses.{by_writer, too_many, no_memory, wrong}

@@ -3,7 +3,7 @@
 use Rattle.std.specs.Prelude.{◌≡◌, ℕ, ◌%◌, ◌-◌, ◌^◌, ◌<◌, ◌≤◌, List, length}
 use Rattle.std.specs.List.{AllByRecursion}
 use Rattle.rtr_base.specs.Addresses.{width}
-use Rattle.rtr_base.specs.declared.payload.Action.{Action}
+use Rattle.rtr_base.specs.declared.action.Action.{Action}
 use Rattle.rtr_units.specs.PrefixUnits.{OriginParts}
 
 -- a router key (RFC 8210 section 5.10)

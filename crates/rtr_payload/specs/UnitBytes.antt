@@ -4,7 +4,7 @@
 use Rattle.std.specs.Prelude.{◌≡◌, ◌≤◌, List, [], ℕ, Option, Some, None, Result, Ok, Err, ⊤}
 use Rattle.std.specs.Prelude.{IsSome}
 use Rattle.rtr_base.specs.Addresses.{v4, v6}
-use Rattle.rtr_base.specs.declared.payload.Action.{Action}
+use Rattle.rtr_base.specs.declared.action.Action.{Action}
 use Rattle.rtr_units.specs.StopCauses.{refused, Cause, no_memory, wrong}
 use Rattle.rtr_units.specs.End.{IsEnd}
 use Rattle.rtr_units.specs.Header.{version_field}

@@ -1,7 +1,7 @@
 -- The fields of payload units of any kind, for contracts that speak of single fields (each by its
 -- RFC section). The law `units_by_fields` shows that `HasMeaning` and `IsUnit` say the same.
 use Rattle.std.specs.Prelude.{◌≡◌, ℕ, ◌≤◌, List, length, ⊤}
-use Rattle.rtr_base.specs.declared.payload.Action.{Action}
+use Rattle.rtr_base.specs.declared.action.Action.{Action}
 use Rattle.rtr_base.specs.Actions.{act}
 use Rattle.rtr_base.specs.Bytes.{IsBytes}
 use Rattle.rtr_units.specs.PrefixUnits.{PrefixFields, prefix_list, prefix_at}

@@ -10,7 +10,7 @@ ghost use Rattle.std.specs.declared.cmp.Ordering.TheVariants.{Equal};
 ghost use Rattle.rtr_payload.specs.Orders.{list_cmp, payload_cmp};
 ghost use Rattle.rtr_payload.specs.Payloads.{Payload, IsPayload, Meaning};
 ghost use Rattle.rtr_base.specs.Actions.{act};
-ghost use Rattle.rtr_base.specs.declared.payload.Action.{Action};
+ghost use Rattle.rtr_base.specs.declared.action.Action.{Action};
 ghost use Rattle.rtr_units.specs.StopCauses.{Cause, no_memory};
 ghost use Rattle.rtr_units.specs.Header.{version_field};
 ghost use Rattle.rtr_units.specs.Reading.{AsksAfter};

@@ -3,7 +3,7 @@ use Rattle.std.proofs.Common.{◌≡◌, ℕ, ◌+◌, ◌≤◌, ◌⊎◌, Lis
 use Rattle.std.proofs.Common.{Some, None, refl, sym, ap, subst, ◌∙◌, arith, inl, inr}
 use Rattle.std.proofs.lemmas.Bool.Decides.{nat_tests}
 use Rattle.std.proofs.lemmas.List.{take_at, drop_at}
-use Rattle.rtr_base.specs.declared.payload.Timing.{Timing}
+use Rattle.rtr_base.specs.declared.timing.Timing.{Timing}
 use Rattle.rtr_base.specs.Bytes.{be, value, IsBytes}
 use Rattle.rtr_base.proofs.Numbers.{value-be}
 use Rattle.rtr_units.specs.End.{HasTimingOf, timed_list}

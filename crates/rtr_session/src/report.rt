@@ -19,7 +19,7 @@ ghost use Rattle.rtr_session.specs.SessionKinds.{report_unit};
 ghost use Rattle.rtr_session.specs.Reports.{IsReport, HasParts};
 ghost use Rattle.rtr_session.specs.PrivateHeaders.{IsCounted, IsCutShort};
 
-use rtr_base::pdu::ErrorCode;
+use rtr_base::error_code::ErrorCode;
 use rtr_units::error::Error;
 use rtr_units::fault::Fault;
 use rtr_units::header::{Header, MAX_SIZE};

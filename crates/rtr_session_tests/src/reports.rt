@@ -1,7 +1,7 @@
 //! Error reports: the unit that they are about, and their text.
 
 use crate::{expect_equal, said};
-use rtr_base::pdu::ErrorCode;
+use rtr_base::error_code::ErrorCode;
 use rtr_session::Report;
 use rtr_support::{bytes, filler, hash_of};
 use rtr_units::header::Header;

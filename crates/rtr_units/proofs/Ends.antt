@@ -1,7 +1,7 @@
 -- No end of data begins another.
 use Rattle.std.proofs.Common.{◌≡◌, ℕ, ◌^◌, ◌<◌, List, ◌++◌, take, drop, Option, Some, None, refl}
 use Rattle.std.proofs.Common.{sym, ap, ◌∙◌, arith, get_or, inl, inr}
-use Rattle.rtr_base.specs.declared.payload.Timing.{Timing}
+use Rattle.rtr_base.specs.declared.timing.Timing.{Timing}
 use Rattle.rtr_base.proofs.Numbers.{be-injective}
 use Rattle.rtr_units.specs.End.{EndMeaning, IsEndMeaning, IsEnd, HasTimingOf, timed_list, end_list}
 

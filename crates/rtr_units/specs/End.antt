@@ -1,12 +1,12 @@
 -- The end of data (RFC 6810 section 5.8, RFC 8210 section 5.8; version 2 as in the Rust crate
 -- `rpki`, laid out as version 1).
 use Rattle.std.specs.Prelude.{◌≡◌, ℕ, ◌^◌, ◌<◌, ◌⊎◌, List, ◌++◌, take, drop, Option, Some, None}
-use Rattle.rtr_base.specs.declared.payload.Timing.{Timing}
+use Rattle.rtr_base.specs.declared.timing.Timing.{Timing}
 use Rattle.rtr_base.specs.Bytes.{be, value}
 use Rattle.rtr_units.specs.Header.{header, version_field, session_field}
 use Rattle.rtr_units.specs.Queries.{serial_field}
-use Rattle.rtr_units.specs.declared.fixed.EndOfDataV0.{EndOfDataV0}
-use Rattle.rtr_units.specs.declared.fixed.EndOfDataV1.{EndOfDataV1}
+use Rattle.rtr_units.specs.declared.end.EndOfDataV0.{EndOfDataV0}
+use Rattle.rtr_units.specs.declared.end.EndOfDataV1.{EndOfDataV1}
 
 -- what an end of data means: in version 0 without timings
 pub record EndMeaning : Type 0 where

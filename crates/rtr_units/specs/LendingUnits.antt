@@ -2,9 +2,9 @@
 use Rattle.std.specs.Prelude.{ℕ, List}
 use Rattle.std.specs.Borrow.{Lends, MutBor, Fml, u8, Array}
 use Rattle.rtr_units.specs.declared.header.Header.{Header}
-use Rattle.rtr_units.specs.declared.session.SerialQueryPayload.{SerialQueryPayload}
+use Rattle.rtr_units.specs.declared.queries.SerialQueryPayload.{SerialQueryPayload}
 use Rattle.rtr_units.specs.contracts.header.Header.{the_row as header_row}
-use Rattle.rtr_units.specs.contracts.session.SerialQueryPayload.{the_row as query_payload_row}
+use Rattle.rtr_units.specs.contracts.queries.SerialQueryPayload.{the_row as query_payload_row}
 
 abbrev pub LendsHeader : MutBor Header → MutBor (List ℕ) → Fml
 LendsHeader header r =

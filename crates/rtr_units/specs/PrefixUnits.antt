@@ -4,8 +4,8 @@ use Rattle.std.specs.Prelude.{ℕ, ◌+◌, List, ◌∷◌, ◌++◌, take, dro
 use Rattle.rtr_base.specs.Addresses.{Family, v4, v6}
 use Rattle.rtr_base.specs.Bytes.{be, value}
 use Rattle.rtr_units.specs.Header.{header, version_field, session_field}
-use Rattle.rtr_units.specs.declared.fixed.Ipv4Prefix.{Ipv4Prefix}
-use Rattle.rtr_units.specs.declared.fixed.Ipv6Prefix.{Ipv6Prefix}
+use Rattle.rtr_units.specs.declared.prefixes.Ipv4Prefix.{Ipv4Prefix}
+use Rattle.rtr_units.specs.declared.prefixes.Ipv6Prefix.{Ipv6Prefix}
 
 -- a route origin: the autonomous system, and the prefix with the longest prefix length that it may
 -- announce (RFC 8210 sections 5.6 and 5.7)

@@ -3,12 +3,12 @@
 use Rattle.std.specs.Prelude.{ℕ, List, ◌++◌, take, drop}
 use Rattle.rtr_base.specs.Bytes.{be, value}
 use Rattle.rtr_units.specs.Header.{header}
-use Rattle.rtr_units.specs.declared.session.SerialNotify.{SerialNotify}
-use Rattle.rtr_units.specs.declared.session.SerialQuery.{SerialQuery}
-use Rattle.rtr_units.specs.declared.session.SerialQueryPayload.{SerialQueryPayload}
-use Rattle.rtr_units.specs.declared.session.ResetQuery.{ResetQuery}
-use Rattle.rtr_units.specs.declared.session.CacheResponse.{CacheResponse}
-use Rattle.rtr_units.specs.declared.session.CacheReset.{CacheReset}
+use Rattle.rtr_units.specs.declared.queries.SerialNotify.{SerialNotify}
+use Rattle.rtr_units.specs.declared.queries.SerialQuery.{SerialQuery}
+use Rattle.rtr_units.specs.declared.queries.SerialQueryPayload.{SerialQueryPayload}
+use Rattle.rtr_units.specs.declared.queries.ResetQuery.{ResetQuery}
+use Rattle.rtr_units.specs.declared.queries.CacheResponse.{CacheResponse}
+use Rattle.rtr_units.specs.declared.queries.CacheReset.{CacheReset}
 
 -- a header alone: reset query, cache response, cache reset (RFC 8210 sections 5.4, 5.5 and 5.9)
 abbrev pub bare_list : (version kind session : ℕ) → List ℕ

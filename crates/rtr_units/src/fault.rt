@@ -5,7 +5,7 @@ ghost use Rattle.std.specs.Option.{option_map};
 ghost use Rattle.rtr_units.specs.Codes.{code_of};
 
 use crate::error::Error;
-use rtr_base::pdu::ErrorCode;
+use rtr_base::error_code::ErrorCode;
 use std::io;
 
 /// Why a call on units failed.

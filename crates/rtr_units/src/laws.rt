@@ -3,11 +3,11 @@
 ghost use Rattle.std.specs.Prelude.{◌≡◌, ◌++◌, ℕ, List};
 ghost use Rattle.rtr_units.specs.End.{IsEnd, IsEndMeaning, EndMeaning, end_list};
 
-use crate::end::EndOfData;
+use crate::end::{EndOfData, EndOfDataV0, EndOfDataV1};
 use crate::error::Error;
-use crate::fixed::{EndOfDataV0, EndOfDataV1, Ipv4Prefix, Ipv6Prefix};
 use crate::header::LAST_VERSION;
-use crate::session::{CacheReset, CacheResponse, ResetQuery, SerialNotify, SerialQuery};
+use crate::prefixes::{Ipv4Prefix, Ipv6Prefix};
+use crate::queries::{CacheReset, CacheResponse, ResetQuery, SerialNotify, SerialQuery};
 use crate::unit::Unit;
 
 /// The type of each unit, and its size in bytes if it is fixed (RFC 8210 sections 5.2 to 5.9 and

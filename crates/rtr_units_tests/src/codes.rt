@@ -1,7 +1,7 @@
 //! The error codes that are reported to peers.
 
 use crate::expect_equal;
-use rtr_base::pdu::ErrorCode;
+use rtr_base::error_code::ErrorCode;
 use rtr_units::error::Error;
 use rtr_units::fault::Fault;
 use std::io;

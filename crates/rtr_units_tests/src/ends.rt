@@ -2,11 +2,10 @@
 
 use crate::answers::state;
 use crate::expect_equal;
-use rtr_base::payload::Timing;
 use rtr_base::state::Serial;
+use rtr_base::timing::Timing;
 use rtr_support::{END_0, END_REST, Recorder, bytes};
-use rtr_units::end::EndOfData;
-use rtr_units::fixed::{EndOfDataV0, EndOfDataV1};
+use rtr_units::end::{EndOfData, EndOfDataV0, EndOfDataV1};
 use rtr_units::source::{Counted, SliceSource};
 use rtr_units::unit::Unit;
 use std::alloc::Global;

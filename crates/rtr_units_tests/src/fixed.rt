@@ -6,13 +6,14 @@ ghost use Rattle.std.proofs.Common.{rules};
 use crate::answers::state;
 use crate::expect_equal;
 use rtr_base::asn::Asn;
-use rtr_base::payload::Timing;
 use rtr_base::state::Serial;
+use rtr_base::timing::Timing;
 use rtr_support::{END_0, END_1, Recorder, bytes, hash_of};
 use rtr_units::cells::Cells;
-use rtr_units::fixed::{EndOfDataV0, EndOfDataV1, Ipv4Prefix, Ipv6Prefix};
+use rtr_units::end::{EndOfDataV0, EndOfDataV1};
 use rtr_units::header::Header;
-use rtr_units::session::{
+use rtr_units::prefixes::{Ipv4Prefix, Ipv6Prefix};
+use rtr_units::queries::{
     CacheReset, CacheResponse, ResetQuery, SerialNotify, SerialQuery, SerialQueryPayload,
 };
 use rtr_units::source::{Counted, SliceSource};

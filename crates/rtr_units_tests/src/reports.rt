@@ -4,7 +4,7 @@ use crate::expect_equal;
 use rtr_support::{bytes, hash_of};
 use rtr_units::error::Error;
 use rtr_units::header::Header;
-use rtr_units::session::SerialQuery;
+use rtr_units::queries::SerialQuery;
 use rtr_units::source::SliceSource;
 use rtr_units::unit::Unit;
 use std::test::Fail;

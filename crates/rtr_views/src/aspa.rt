@@ -14,8 +14,8 @@ ghost use Rattle.rtr_views.specs.Faults.{IsFirstFault, PutsPiece, HoldsViewWrite
 use crate::cut::{first_unit, size_at};
 use crate::fault::ViewFault;
 use crate::form::put_flagged;
+use rtr_base::action::Action;
 use rtr_base::asn::Asn;
-use rtr_base::payload::Action;
 use rtr_payload::pdu::Aspa;
 use rtr_units::numbers::u32_at;
 use rtr_units::source::Sink;

@@ -9,8 +9,7 @@ ghost use Rattle.rtr_views.specs.PrivateFirst.{IsFirstUnit};
 
 use crate::cut::first_unit;
 use crate::fault::ViewFault;
-use rtr_units::end::EndOfData;
-use rtr_units::fixed::{EndOfDataV0, EndOfDataV1};
+use rtr_units::end::{EndOfData, EndOfDataV0, EndOfDataV1};
 use rtr_units::header::LAST_VERSION;
 use rtr_units::numbers::u32_at;
 use rtr_units::unit::Unit;

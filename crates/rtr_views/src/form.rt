@@ -8,7 +8,7 @@ ghost use Rattle.rtr_views.specs.Faults.{PutsPiece, HoldsViewWriteError};
 
 use crate::fault::ViewFault;
 use crate::placing::flagged_header;
-use rtr_base::payload::Action;
+use rtr_base::action::Action;
 use rtr_units::end::EndOfData;
 use rtr_units::fault::Fault;
 use rtr_units::piece::put;

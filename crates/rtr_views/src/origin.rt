@@ -12,13 +12,13 @@ ghost use Rattle.rtr_views.specs.Origins.{IsOriginOf, ShowsOrigin, origin_meanin
 use crate::cut::first_unit;
 use crate::fault::ViewFault;
 use crate::form::put_piece;
+use rtr_base::action::Action;
 use rtr_base::asn::Asn;
-use rtr_base::payload::Action;
 use rtr_payload::payload::RouteOrigin;
 use rtr_payload::pdu::PrefixUnit;
 use rtr_payload::pdu::prefix_rule::PrefixRule;
-use rtr_units::fixed::{Ipv4Prefix, Ipv6Prefix};
 use rtr_units::numbers::u32_at;
+use rtr_units::prefixes::{Ipv4Prefix, Ipv6Prefix};
 use rtr_units::source::Sink;
 use rtr_units::unit::Unit;
 

@@ -16,9 +16,9 @@ use crate::aspa::AspaView;
 use crate::origin::OriginView;
 use crate::router_key::RouterKeyView;
 use crate::view::UnitView;
-use rtr_base::payload::Action;
+use rtr_base::action::Action;
 use rtr_payload::pdu::{Aspa, PrefixUnit, RouterKey};
-use rtr_units::fixed::{Ipv4Prefix, Ipv6Prefix};
+use rtr_units::prefixes::{Ipv4Prefix, Ipv6Prefix};
 use rtr_units::unit::Unit;
 
 /// Writes two pieces to the front of the output, the second after the first, and answers their

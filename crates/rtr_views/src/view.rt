@@ -12,7 +12,7 @@ use crate::origin::OriginView;
 use crate::router_key::RouterKeyView;
 use rtr_payload::pdu::{Aspa, RouterKey};
 use rtr_units::end::EndOfData;
-use rtr_units::fixed::{Ipv4Prefix, Ipv6Prefix};
+use rtr_units::prefixes::{Ipv4Prefix, Ipv6Prefix};
 use rtr_units::source::Sink;
 use rtr_units::unit::Unit;
 

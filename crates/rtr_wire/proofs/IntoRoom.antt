@@ -7,8 +7,8 @@ use Rattle.std.proofs.lemmas.List.{length-append}
 use Rattle.rtr_base.specs.Actions.{act, flags_of}
 use Rattle.rtr_base.specs.Addresses.{Family, v4, v6}
 use Rattle.rtr_base.specs.Bytes.{be, words}
-use Rattle.rtr_base.specs.declared.payload.Action.{Action}
-use Rattle.rtr_base.specs.declared.payload.Action.TheVariants.{Announce, Withdraw}
+use Rattle.rtr_base.specs.declared.action.Action.{Action}
+use Rattle.rtr_base.specs.declared.action.Action.TheVariants.{Announce, Withdraw}
 use Rattle.rtr_units.specs.End.{EndMeaning, IsEnd, end_list, timed_list}
 use Rattle.rtr_payload.specs.Payloads.{Meaning, Payload, origin, key, aspa, smallest_version}
 use Rattle.rtr_units.specs.PrefixUnits.{PrefixFields, prefix_list}
@@ -17,7 +17,7 @@ use Rattle.rtr_payload.specs.UnitFields.{Fields, prefix_unit, key_unit, aspa_uni
 use Rattle.rtr_payload.specs.Units.{IsUnit, form_of}
 use Rattle.rtr_payload.specs.UnitFields.{unit_list, meaning}
 use Rattle.rtr_payload.proofs.ByFields.{unit_fields_of}
-use Rattle.rtr_base.specs.declared.payload.Timing.{Timing}
+use Rattle.rtr_base.specs.declared.timing.Timing.{Timing}
 use Rattle.rtr_wire.specs.Into.{LacksRoom, NormalisesInto}
 use Rattle.rtr_wire.specs.Sequences.{AreUnits, Output, everything, for_version}
 use Rattle.rtr_wire.specs.Sequences.{forms, written_units, in_version}

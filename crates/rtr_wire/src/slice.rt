@@ -8,7 +8,7 @@ ghost use Rattle.rtr_wire.specs.Sequences.{everything};
 ghost use Rattle.rtr_wire.specs.SliceRun.{NormalisesSlice};
 
 use rtr_payload::pdu::{Aspa, RouterKey};
-use rtr_units::fixed::{Ipv4Prefix, Ipv6Prefix};
+use rtr_units::prefixes::{Ipv4Prefix, Ipv6Prefix};
 use rtr_units::source::Sink;
 use rtr_units::unit::Unit;
 use rtr_views::fault::ViewFault;

@@ -1,6 +1,6 @@
 use Rattle.std.proofs.Common.{◌≡◌, ap, sym, ◌∙◌, Ok, refl, subst}
 use Rattle.std.proofs.lemmas.Bool.{not-true, not-false, OnFalse_at}
-use Rattle.rtr_base.specs.declared.payload.Action.TheVariants.{Announce}
+use Rattle.rtr_base.specs.declared.action.Action.TheVariants.{Announce}
 use Rattle.rtr_payload.specs.Meanings.{payload_of}
 use Rattle.rtr_data.specs.Contents.{joined}
 use Rattle.rtr_data.specs.Contents.{IsFit}

@@ -1,7 +1,7 @@
 use Rattle.std.proofs.Common.{◌≡◌, ap, sym, ◌∙◌, Ok}
 use Rattle.std.proofs.lemmas.Bool.{OnFalse_at}
 use Rattle.std.specs.Prelude.{is_some}
-use Rattle.rtr_base.specs.declared.payload.Action.TheVariants.{Withdraw}
+use Rattle.rtr_base.specs.declared.action.Action.TheVariants.{Withdraw}
 use Rattle.rtr_payload.specs.Meanings.{payload_of_ref}
 use Rattle.rtr_data.specs.Contents.{joined, Makes}
 use Rattle.rtr_data.specs.Data.{changed}

@@ -1,20 +1,15 @@
-//! Prefix units and ends of data (RFC 6810 and RFC 8210 sections 5.6 to 5.8).
+//! Prefix units (RFC 6810 and RFC 8210 sections 5.6 and 5.7).
 
-ghost use Rattle.std.specs.Prelude.{◌≡◌, ℕ, List, length, replicate, Some, refl};
+ghost use Rattle.std.specs.Prelude.{◌≡◌, ℕ, List, length, replicate, refl};
 ghost use Rattle.std.proofs.Common.{rules};
 ghost use Rattle.std.specs.Net.Addr.{ipv4_bits, ipv6_bits};
 ghost use Rattle.rtr_base.specs.Addresses.{v4, v6};
-ghost use Rattle.rtr_units.specs.End.{timed_list, timing_fields, end_v0_bytes, end_v1_bytes};
 ghost use Rattle.rtr_units.specs.PrefixUnits.{ipv4_bytes, ipv6_bytes, prefix_list, prefix_at};
-ghost use Rattle.rtr_units.specs.Queries.{serial_list, serial_field};
 
 use crate::cells::Cells;
 use crate::numbers::{u32_at, u128_at, u128_bytes};
-use crate::session::serial_after_header;
 use crate::unit::Unit;
 use rtr_base::asn::Asn;
-use rtr_base::payload::Timing;
-use rtr_base::state::{Serial, State};
 use std::net::{Ipv4Addr, Ipv6Addr};
 
 /// An IPv4 prefix (RFC 8210 section 5.6): 20 bytes.
@@ -336,167 +331,5 @@ impl Ipv6Prefix {
         ensures { result ≡ (prefix_at v6 (ipv6_bytes self.now)).origin.asn }
     {
         Asn::from_u32(u32_at(self.as_ref(), 28))
-    }
-}
-
-/// An end of data in version 0 (RFC 6810 section 5.8): 12 bytes.
-#[derive(Clone, Copy, Debug, PartialEq, Eq, Hash)]
-pub struct EndOfDataV0 {
-    cells: Cells<12>,
-}
-
-impl Unit for EndOfDataV0 {
-    ghost bytes = { end_v0_bytes };
-
-    ghost with_bytes = { λ u l. record { cells = record { bytes = l } } };
-
-    ghost PDU = { 7 };
-
-    ghost LENGTH = { 12 };
-
-    const PDU: u8 = 7;
-
-    const LENGTH: usize = 12;
-
-    #[inline(always)]
-    fn zero() -> Self {
-        EndOfDataV0 {
-            cells: Cells::new([0; 12]),
-        }
-    }
-
-    #[inline(always)]
-    fn as_ref(&self) -> &[u8] {
-        self.cells.as_ref()
-    }
-
-    #[inline(always)]
-    fn as_mut(&mut self) -> &mut [u8] {
-        self.cells.as_mut()
-    }
-
-    ghost sized = { Prim.search rules };
-
-    ghost kept = { λ u l. refl };
-}
-
-impl Default for EndOfDataV0 {
-    ghost is_default = { λ u. end_v0_bytes u ≡ replicate 12 0 };
-
-    fn default() -> Self {
-        EndOfDataV0::zero()
-    }
-}
-
-impl EndOfDataV0 {
-    /// The end of data in this state, with version 0.
-    #[inline(always)]
-    pub fn new(state: State) -> Self
-        ensures { end_v0_bytes result ≡ serial_list 0 7 state.session state.serial }
-    {
-        let [s0, s1] = state.session().to_be_bytes();
-        let [q0, q1, q2, q3] = state.serial().0.to_be_bytes();
-        EndOfDataV0 {
-            cells: Cells::new([0, 7, s0, s1, 0, 0, 0, 12, q0, q1, q2, q3]),
-        }
-    }
-
-    /// The serial number.
-    #[inline(always)]
-    pub fn serial(&self) -> Serial
-        ensures { result.0 ≡ serial_field (end_v0_bytes self.now) }
-    {
-        serial_after_header(self.as_ref())
-    }
-}
-
-/// An end of data since version 1 (RFC 8210 section 5.8): 24 bytes.
-#[derive(Clone, Copy, Debug, PartialEq, Eq, Hash)]
-pub struct EndOfDataV1 {
-    cells: Cells<24>,
-}
-
-impl Unit for EndOfDataV1 {
-    ghost bytes = { end_v1_bytes };
-
-    ghost with_bytes = { λ u l. record { cells = record { bytes = l } } };
-
-    ghost PDU = { 7 };
-
-    ghost LENGTH = { 24 };
-
-    const PDU: u8 = 7;
-
-    const LENGTH: usize = 24;
-
-    #[inline(always)]
-    fn zero() -> Self {
-        EndOfDataV1 {
-            cells: Cells::new([0; 24]),
-        }
-    }
-
-    #[inline(always)]
-    fn as_ref(&self) -> &[u8] {
-        self.cells.as_ref()
-    }
-
-    #[inline(always)]
-    fn as_mut(&mut self) -> &mut [u8] {
-        self.cells.as_mut()
-    }
-
-    ghost sized = { Prim.search rules };
-
-    ghost kept = { λ u l. refl };
-}
-
-impl Default for EndOfDataV1 {
-    ghost is_default = { λ u. end_v1_bytes u ≡ replicate 24 0 };
-
-    fn default() -> Self {
-        EndOfDataV1::zero()
-    }
-}
-
-impl EndOfDataV1 {
-    /// The end of data in this state, with these timings. The version is not checked.
-    #[inline(always)]
-    pub fn new(version: u8, state: State, timing: Timing) -> Self
-        ensures { end_v1_bytes result ≡
-            timed_list version state.session state.serial (Some timing) }
-    {
-        let [s0, s1] = state.session().to_be_bytes();
-        let [q0, q1, q2, q3] = state.serial().0.to_be_bytes();
-        let [r0, r1, r2, r3] = timing.refresh.to_be_bytes();
-        let [y0, y1, y2, y3] = timing.retry.to_be_bytes();
-        let [e0, e1, e2, e3] = timing.expire.to_be_bytes();
-        EndOfDataV1 {
-            cells: Cells::new([
-                version, 7, s0, s1, 0, 0, 0, 24, q0, q1, q2, q3, r0, r1, r2, r3, y0, y1, y2, y3,
-                e0, e1, e2, e3,
-            ]),
-        }
-    }
-
-    /// The serial number.
-    #[inline(always)]
-    pub fn serial(&self) -> Serial
-        ensures { result.0 ≡ serial_field (end_v1_bytes self.now) }
-    {
-        serial_after_header(self.as_ref())
-    }
-
-    /// The timing parameters, in seconds.
-    #[inline(always)]
-    pub fn timing(&self) -> Timing
-        ensures { result ≡ timing_fields (end_v1_bytes self.now) }
-    {
-        let bytes = self.as_ref();
-        Timing {
-            refresh: u32_at(bytes, 12),
-            retry: u32_at(bytes, 16),
-            expire: u32_at(bytes, 20),
-        }
     }
 }
