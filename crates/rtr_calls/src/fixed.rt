@@ -3,7 +3,7 @@
 use crate::answer::Answer;
 use crate::row::{Row, Way};
 use crate::views::tell_end;
-use rtr_support::{Pieces, Recorder};
+use rtr_tests::support::{Pieces, Recorder};
 use rtr_wire::pdu::{
     CacheReset, CacheResponse, Counted, EndOfData, EndOfDataV0, EndOfDataV1, Fault, Header,
     Ipv4Prefix, Ipv6Prefix, Payload, ResetQuery, SerialNotify, SerialQuery, SerialQueryPayload,

@@ -3,7 +3,7 @@
 use crate::answer::Answer;
 use crate::row::{Row, Way};
 use crate::views::tell_end;
-use rtr_support::{Recorder, hash_of};
+use rtr_tests::support::{Recorder, hash_of};
 use rtr_wire::pdu::{Counted, Payload, SliceSource};
 
 /// Makes the call of a row if it is one of these.

@@ -1,7 +1,7 @@
 //! A row's call, and what it is given.
 
 use crate::answer::Answer;
-use rtr_support::{ONES, Pieces, Recorder, STEPS, WHOLE};
+use rtr_tests::support::{ONES, Pieces, Recorder, STEPS, WHOLE};
 use std::alloc::{AllocError, Global};
 
 /// A setting of a row, `KEY=VALUE`.

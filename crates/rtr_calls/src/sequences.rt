@@ -2,7 +2,7 @@
 
 use crate::answer::Answer;
 use crate::row::{Row, Way};
-use rtr_support::{Pieces, Recorder};
+use rtr_tests::support::{Pieces, Recorder};
 use rtr_wire::pdu::{CacheResponse, Counted, Fault, PrefixRule, Unit, ViewFault};
 use rtr_wire::{normalise, normalise_for, normalise_slice, same_meaning};
 

@@ -4,7 +4,7 @@ use crate::answer::Answer;
 use crate::fixed::{header, tell_taken, told_put};
 use crate::row::{Row, Way};
 use rtr_session::{AnyUnit, Report};
-use rtr_support::Recorder;
+use rtr_tests::support::Recorder;
 use rtr_wire::pdu::{Counted, Fault, Payload, SliceSource};
 
 /// Makes the call of a row if it is one of these.

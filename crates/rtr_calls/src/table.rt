@@ -3,6 +3,7 @@
 use crate::answer::Answer;
 use crate::call::call;
 use crate::row::{Row, Setting, Way};
+use rtr_tests::support::filler;
 use std::alloc::{AllocError, Global};
 use std::test::Fail;
 
@@ -116,7 +117,7 @@ impl Table {
             }
         }
         if let Some(count) = word.strip_prefix("..") {
-            bytes.extend_from_slice(&rtr_support::filler(self.alloc, count.parse::<usize>()?)?)?;
+            bytes.extend_from_slice(&filler(self.alloc, count.parse::<usize>()?)?)?;
             return Ok(true);
         }
         match hex::decode(self.alloc, word) {

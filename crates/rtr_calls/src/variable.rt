@@ -3,7 +3,7 @@
 use crate::answer::Answer;
 use crate::fixed::{header, tell_taken};
 use crate::row::{Row, Way};
-use rtr_support::Recorder;
+use rtr_tests::support::Recorder;
 use rtr_wire::pdu::{Aspa, Counted, Fault, RouterKey, SliceSource};
 
 /// Makes the call of a row if it is one of these.

@@ -1,0 +1,119 @@
+//! ASNs, keys, actions, families, timings and error codes.
+
+use crate::expect::expect_equal;
+use crate::support::hash_of;
+use rtr_base::action::Action;
+use rtr_base::afi::Afi;
+use rtr_base::asn::Asn;
+use rtr_base::error_code::ErrorCode;
+use rtr_base::keys::KeyIdentifier;
+use rtr_base::timing::Timing;
+
+#[test]
+fn numbers(rt: HostRuntime) {
+    expect_equal(&rt, Asn::from_u32(65551).into_u32(), 65551);
+    expect_equal(&rt, Asn::from(65551), Asn::from_u32(65551));
+    assert!(rt; Asn::from_u32(2) < Asn::from_u32(256));
+    expect_equal(&rt, hash_of(&Asn::from_u32(7)), hash_of(&Asn::from_u32(7)));
+}
+
+#[test]
+fn keys(rt: HostRuntime) {
+    let mut bytes = [0; 20];
+    bytes[0] = 1;
+    let key = KeyIdentifier::from(bytes);
+    let back: [u8; 20] = key.into();
+    assert!(rt; back == bytes);
+    expect_equal(&rt, hash_of(&key), hash_of(&KeyIdentifier::from(back)));
+}
+
+#[test]
+fn keys_ascend(rt: HostRuntime) {
+    let mut bytes = [0; 20];
+    bytes[0] = 1;
+    let key = KeyIdentifier::from(bytes);
+    bytes[19] = 1;
+    let next = KeyIdentifier::from(bytes);
+    assert!(rt; key < next);
+    assert!(rt; key != next);
+}
+
+#[test]
+fn actions(rt: HostRuntime) {
+    expect_equal(&rt, Action::from_flags(0), Action::Withdraw);
+    expect_equal(&rt, Action::from_flags(1), Action::Announce);
+    expect_equal(&rt, Action::from_flags(128), Action::Withdraw);
+    expect_equal(&rt, Action::from_flags(255), Action::Announce);
+    expect_equal(&rt, Action::Announce.into_flags(), 1);
+    expect_equal(&rt, Action::Withdraw.into_flags(), 0);
+}
+
+#[test]
+fn announce_and_withdraw(rt: HostRuntime) {
+    assert!(rt; Action::Announce < Action::Withdraw);
+    assert!(rt; Action::Announce.is_announce());
+    assert!(rt; !Action::Announce.is_withdraw());
+    assert!(rt; Action::Withdraw.is_withdraw());
+    assert!(rt; !Action::Withdraw.is_announce());
+}
+
+#[test]
+fn families(rt: HostRuntime) {
+    assert!(rt; Afi::ipv6().is_ipv6());
+    assert!(rt; !Afi::ipv6().is_ipv4());
+    expect_equal(&rt, Afi::from_u8(1), Afi::ipv6());
+}
+
+/// Whatever isn't 1 is IPv4, but keeps its number.
+#[test]
+fn other_families(rt: HostRuntime) {
+    let other = Afi::from_u8(2);
+    assert!(rt; other != Afi::ipv4());
+    assert!(rt; Afi::ipv6() < other);
+    assert!(rt; other.is_ipv4());
+    assert!(rt; !other.is_ipv6());
+    expect_equal(&rt, other.into_u8(), 2);
+}
+
+#[test]
+fn timings_by_default(rt: HostRuntime) {
+    let timing = Timing::default();
+    expect_equal(
+        &rt,
+        timing,
+        Timing {
+            refresh: 3600,
+            retry: 600,
+            expire: 7200,
+        },
+    );
+    expect_equal(&rt, timing.refresh_duration().as_secs(), 3600);
+    expect_equal(&rt, timing.refresh_duration().subsec_nanos(), 0);
+}
+
+#[test]
+fn error_codes(rt: HostRuntime) {
+    let codes = [
+        (ErrorCode::CORRUPT_DATA, 0),
+        (ErrorCode::INTERNAL_ERROR, 1),
+        (ErrorCode::NO_DATA_AVAILABLE, 2),
+        (ErrorCode::INVALID_REQUEST, 3),
+        (ErrorCode::UNSUPPORTED_PROTOCOL_VERSION, 4),
+        (ErrorCode::UNSUPPORTED_PDU_TYPE, 5),
+        (ErrorCode::WITHDRAWAL_OF_UNKNOWN_RECORD, 6),
+        (ErrorCode::DUPLICATE_ANNOUNCEMENT_RECEIVED, 7),
+        (ErrorCode::UNEXPECTED_PROTOCOL_VERSION, 8),
+        (ErrorCode::ASPA_PROVIDER_LIST_ERROR, 9),
+        (ErrorCode::TRANSPORT_ERROR, 10),
+        (ErrorCode::ORDERING_ERROR, 11),
+    ];
+    for (code, number) in codes {
+        expect_equal(&rt, code, ErrorCode(number));
+    }
+    assert!(rt; ErrorCode::CORRUPT_DATA < ErrorCode::INTERNAL_ERROR);
+    expect_equal(
+        &rt,
+        hash_of(&ErrorCode(3)),
+        hash_of(&ErrorCode::INVALID_REQUEST),
+    );
+}

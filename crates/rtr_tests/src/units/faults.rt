@@ -1,0 +1,38 @@
+//! The texts of faults.
+
+use crate::expect::expect_equal;
+use rtr_units::error::Error;
+use rtr_units::fault::Fault;
+use std::io;
+use std::io::ErrorKind;
+use std::test::Fail;
+
+fn is_error<E: std::error::Error>(_: &E) {}
+
+#[test]
+fn texts_of_faults(rt: HostRuntime) -> Result<(), Fail> {
+    let alloc = rt.alloc();
+    let error = || io::Error::from(ErrorKind::Interrupted);
+    let table = [
+        (Fault::Reader(error()), "read failed"),
+        (Fault::Writer(error()), "write failed"),
+        (Fault::Short, "unexpected end of input"),
+        (Fault::UnitType(10), "unit type 10 is not allowed here"),
+        (Fault::UnitLength, "invalid unit length"),
+        (Fault::TooLong, "unit is longer than 65535 bytes"),
+        (Fault::EmptyProviders, "ASPA unit has no providers"),
+        (Fault::UnitVersion(3), "version 3 is not supported here"),
+        (
+            Fault::Refused(Error::empty(alloc)),
+            "prefix fields are not allowed",
+        ),
+        (Fault::TooMany, "too many units"),
+        (Fault::Memory, "out of memory"),
+    ];
+    for (fault, want) in table {
+        is_error(&fault);
+        let text = format!(in alloc; "{fault}")?;
+        expect_equal(&rt, text.as_str(), want);
+    }
+    Ok(())
+}
