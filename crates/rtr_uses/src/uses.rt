@@ -1,6 +1,5 @@
 //! Uses of `rtr_wire` as a caller would write them, with no other library than std and no proofs.
-//! `docs/CALLING.md` shows them.
-#![tactic(auto)]
+//! `docs/CALLING.md` shows them. The program needs none of them: they are built for their tests.
 
 use rtr_wire::base::{Asn, MaxLenPrefix, ParseMaxLenPrefixError};
 use rtr_wire::payload::{Action, Aspa, Payload, RouteOrigin, Timing};
@@ -16,7 +15,6 @@ use std::env;
 use std::fs::File;
 use std::io::{self, BufReader, BufWriter};
 
-#[cfg(test)]
 mod tests;
 
 /// The most units that these functions read from one sequence.
