@@ -14,7 +14,21 @@
 //! `refused` and which of its answers that is.
 #![tactic(auto)]
 
-use rtr_calls::table::Table;
+mod answer;
+mod call;
+mod fixed;
+mod into;
+mod meanings;
+mod parts;
+mod payloads;
+mod row;
+mod sequences;
+mod session;
+mod table;
+mod variable;
+mod views;
+
+use crate::table::Table;
 use std::env;
 use std::io::Read;
 use std::process::ExitCode;
