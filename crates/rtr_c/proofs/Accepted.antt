@@ -1,47 +1,31 @@
 -- An input that begins with a sequence has status 0, and no other input has.
-use Rattle.std.proofs.Common.{◌≡◌, ◌≢◌, ℕ, ◌+◌, ◌<◌, ◌≤◌, List, [], ◌∷◌, ◌++◌, length, drop, Some}
+use Rattle.std.proofs.Common.{◌≡◌, ◌≢◌, ℕ, ◌+◌, ◌<◌, ◌≤◌, List, [], ◌∷◌, ◌++◌, length, drop}
 use Rattle.std.proofs.Common.{Result, Ok, Err, refl, sym, ap, subst}
-use Rattle.std.proofs.Common.{◌∙◌, append_assoc, arith, inl, inr}
+use Rattle.std.proofs.Common.{◌∙◌, append-nil, arith, inl, inr}
 use Rattle.std.proofs.lemmas.Bool.{cases_lt}
 use Rattle.std.proofs.lemmas.List.{length-append}
 use Rattle.std.proofs.lemmas.List.Elements.{filter_map-append}
-use Rattle.rtr_units.specs.StopCauses.{Refusal, short, unit_type, unit_version}
-use Rattle.rtr_units.specs.StopCauses.{too_long, unit_length, empty_providers, refused}
+use Rattle.rtr_units.specs.StopCauses.{too_many, wrong}
 use Rattle.rtr_units.specs.End.{EndMeaning, end_list}
 use Rattle.rtr_payload.specs.Payloads.{Meaning}
 use Rattle.rtr_payload.proofs.Apart.{begins_apart}
 use Rattle.rtr_payload.proofs.Fields.{units_same}
-use Rattle.rtr_payload.specs.FirstFault.{first_fault, refusal_report}
-use Rattle.rtr_payload.specs.FaultSteps.{first_unit}
-use Rattle.rtr_views.specs.Faults.{IsFirstFault}
 use Rattle.rtr_views.specs.declared.fault.ViewFault.{ViewFault}
 use Rattle.rtr_views.specs.declared.fault.ViewFault.TheVariants as faults
 use Rattle.rtr_wire.specs.Into.{NormalisesInto, RefusesVersion}
+use Rattle.rtr_wire.specs.Run.{Run}
 use Rattle.rtr_wire.specs.Sequences.{AreUnits, Accepts, Output, forms, sequence_form}
 use Rattle.rtr_wire.specs.Sequences.{written_units}
 use Rattle.rtr_wire.specs.declared.into.IntoFault.{IntoFault}
 use Rattle.rtr_wire.specs.declared.into.IntoFault.TheVariants.{NoRoom, TooMany, Refused}
 use Rattle.rtr_wire.specs.declared.into.Progress.{Progress}
-use Rattle.rtr_wire.proofs.OneAnswer.{begins_end, no_unit, no_end}
+use Rattle.rtr_wire.proofs.OneAnswer.{begins_end, one_run, sequence_run}
 use Rattle.rtr_wire.proofs.Push.{forms_append, units_push}
-use Rattle.rtr_wire.proofs.Runs.{accepted_same, after as then, goes_on, kept_accepted}
+use Rattle.rtr_wire.proofs.Runs.{accepted_same, after as then, goes_on}
 use Rattle.rtr_wire.proofs.Written.{form_written, forms_one_more}
 use Rattle.rtr_c.specs.Answers.{Tells, TellsSequence, CallSucceeds, CallSucceedsOnly}
 use Rattle.rtr_c.specs.Answers.{fault_status, stop_status, run_status}
 use Rattle.rtr_c.specs.declared.answer.RtrAnswer.{RtrAnswer}
-
--- some fault comes first
-some_fault : (r : List ℕ) (e : ViewFault) → IsFirstFault r e →
-    (f : Refusal) × (first_fault r ≡ Some f)
-some_fault r (faults.Writer e) h = absurd h
-some_fault r faults.Short h = (short, h)
-some_fault r (faults.UnitType t) h = (unit_type t, h)
-some_fault r faults.UnitLength h = (unit_length, h)
-some_fault r faults.TooLong h = (too_long, h)
-some_fault r faults.EmptyProviders h = (empty_providers, h)
-some_fault r (faults.UnitVersion v) h = (unit_version v, h)
-some_fault r (faults.Prefix rule) h = (refused (refusal_report (first_unit r) rule), h)
-some_fault r faults.TooMany h = absurd h
 
 -- no fault has status 0
 fault_some : (e : ViewFault) → fault_status e ≢ 0
@@ -68,26 +52,32 @@ pub only : (what : Output) (limit : ℕ) (r : Result Unit IntoFault) (input befo
 only what limit (Err g) input before after p a code f t zero =
     absurd (stop_some g (sym t.answered ∙ zero))
 only what limit (Ok done) input before after p a code f t zero =
-    let (e, last, left, parts, end, below, taken, written) = f.ends in
-    let wrote : p.written ≡ length (sequence_form (written_units what f.ms) (what.end e)) =
-    f.written ∙ ap length written in (
-      f.us ++ last,
-      f.ms,
+    let (e, end, last_form) = f.run.ends in
+    let units = written_units what f.run.meanings in
+    let is : f.form ≡ sequence_form units (what.end e) =
+    f.run.written_parts ∙ ap (λ l. forms units ++ l) last_form in (
+      f.viewed,
+      f.run.meanings,
       e,
       record {
-        rest = left;
-        parts = f.parts ∙ ap (λ r. f.us ++ r) parts ∙ sym (append_assoc f.us last left);
-        sequence =
-            record { front = f.us; last = last; parts = refl; units = f.are_units; end = end };
+        rest = f.left;
+        parts = f.parts;
+        sequence = record {
+          front = f.run.units;
+          last = f.run.last;
+          parts = f.run.taken_parts;
+          units = f.run.are_units;
+          end = end;
+        };
       },
-      below,
+      f.run.counts.1,
       record {
         units = t.units ∙ f.units;
         forms = t.forms ∙ f.forms;
-        taken = t.taken ∙ taken ∙ sym (length-append f.us last);
-        written = t.written ∙ wrote;
+        taken = t.taken ∙ f.taken;
+        written = t.written ∙ f.written ∙ ap length is;
         fits = omega (arith, t.written, f.fits);
-        output = f.output ∙ (λ i. written i ++ drop (sym t.written i) before);
+        output = f.output ∙ (λ i. is i ++ drop (sym t.written i) before);
         status = t.status;
         detail = t.detail;
         answered = t.answered;
@@ -104,34 +94,25 @@ unknown version r before after p a code f t zero =
 
 -- ---- a run that stopped
 
--- what was read up to a stop is kept, and an end of data comes next
+-- another run over the input comes to its end of data
 stopped : (what : Output) (limit : ℕ) (g : IntoFault) (input before after : List ℕ)
     (p : Progress) → NormalisesInto what limit (Err g) input before after p → g ≢ NoRoom →
     (b : List ℕ) (ms : List Meaning) (e : EndMeaning) → Accepts input b ms e → length ms < limit → ⊥
 stopped what limit NoRoom input before after p f not b ms e acc few = not refl
 stopped what limit TooMany input before after p f not b ms e acc few =
-    let full : length f.ms ≡ limit = f.ends.2 in
-    let same = kept_accepted input limit f.us f.rest b ms f.ms e
-    (record {
-      parts = f.parts;
-      units = f.are_units;
-      few = omega (arith, full);
-      longest = inl (sym full);
-    })
-    acc few in
-    omega (arith, full, few, ap length same.0)
+    let other = sequence_run what limit b acc.rest ms e acc.sequence few in
+    let one = one_run what limit (Err too_many) _ f.viewed f.left f.form b acc.rest _ f.run other
+    (sym f.parts ∙ acc.parts) tt tt in
+    let same = one.0 in
+    absurd cc
 stopped what limit (Refused g) input before after p f not b ms e acc few =
-    let (below, first) = f.ends.2 in
-    let (fault, is) = some_fault f.rest g first in
-    let same = kept_accepted input limit f.us f.rest b ms f.ms e
-    (record {
-      parts = f.parts;
-      units = f.are_units;
-      few = omega (arith, below);
-      longest = inr (no_unit f.rest fault is);
-    })
-    acc few in
-    no_end f.rest fault is same.1
+    let (h, is) = f.stops in
+    let other = sequence_run what limit b acc.rest ms e acc.sequence few in
+    let run = subst (λ c. Run what limit (Err c) f.viewed f.left f.form) is f.run in
+    let one = one_run what limit (Err (wrong h)) _ f.viewed f.left f.form b acc.rest _ run other
+    (sym f.parts ∙ acc.parts) tt tt in
+    let same = one.0 in
+    absurd cc
 
 -- ---- a run that lacked room
 
@@ -171,29 +152,36 @@ fitting : (what : Output) (limit : ℕ) (input before after : List ℕ) (p : Pro
     (e : EndMeaning) → Accepts input b ms e →
     length (sequence_form (written_units what ms) (what.end e)) ≤ length before → ⊥
 fitting what limit input before after p f b ms e acc enough =
-    let (next, left, form, parts, why, less) = f.ends.2.1 in
+    let (form, why, less) = f.stops.0 in
+    let us = f.run.units in
+    let fs = f.run.meanings in
+    let next = f.last in
     let s = acc.sequence in
     let size = length-append (forms (written_units what ms)) (end_list (what.end e)) in
-    let before_it : p.written ≡ length (forms (written_units what f.ms)) =
-    f.written ∙ ap length f.ends.1 in
-    let both : (f.us ++ next) ++ left ≡ s.front ++ (s.last ++ acc.rest) =
-    append_assoc f.us next left ∙ ap (λ r. f.us ++ r) (sym parts) ∙ sym f.parts ∙ acc.parts
-    ∙ then b s.front s.last acc.rest s.parts in
+    let before_it : p.written ≡ length (forms (written_units what fs)) =
+    f.written ∙ ap length
+    (f.run.written_parts ∙ ap (λ l. forms (written_units what fs) ++ l) f.stops.1
+    ∙ append-nil (forms (written_units what fs))) in
+    let viewed : f.viewed ≡ us ++ next =
+    f.run.taken_parts ∙ ap (λ l. us ++ l) (sym f.last_is) in
+    let parts : input ≡ (us ++ next) ++ f.left = f.parts ∙ ap (λ l. l ++ f.left) viewed in
+    let both : (us ++ next) ++ f.left ≡ s.front ++ (s.last ++ acc.rest) =
+    sym parts ∙ acc.parts ∙ then b s.front s.last acc.rest s.parts in
     elim why [
       | inl (m, n, unit, is, of) ↦
-          let units = units_push f.us next f.ms m f.are_units unit in
-          elim (cases_lt (length ms) (length (f.ms ++ m ∷ []))) [
+          let units = units_push us next fs m f.run.are_units unit in
+          elim (cases_lt (length ms) (length (fs ++ m ∷ []))) [
             | inl lt ↦
                 begins_apart (s.last ++ acc.rest)
-                (goes_on s.front (s.last ++ acc.rest) (f.us ++ next) left ms (f.ms ++ m ∷ [])
+                (goes_on s.front (s.last ++ acc.rest) (us ++ next) f.left ms (fs ++ m ∷ [])
                 s.units units (sym both) lt)
                 (begins_end s.last acc.rest e s.end)
             | inr le ↦
-                let (more, split) = front_of (f.us ++ next) left s.front (s.last ++ acc.rest)
-                (f.ms ++ m ∷ []) ms units s.units both le in
+                let (more, split) = front_of (us ++ next) f.left s.front (s.last ++ acc.rest)
+                (fs ++ m ∷ []) ms units s.units both le in
                 omega (
                   arith,
-                  longer what f.ms m more ms split,
+                  longer what fs m more ms split,
                   ap (λ o. length (form_written o)) is,
                   ap length of,
                   less,
@@ -204,14 +192,19 @@ fitting what limit input before after p f b ms e acc enough =
                 )
           ]
       | inr (d, end, of) ↦
-          let whole : Accepts input (f.us ++ next) f.ms d = record {
-            rest = left;
-            parts = f.parts ∙ ap (λ r. f.us ++ r) parts ∙ sym (append_assoc f.us next left);
-            sequence =
-                record { front = f.us; last = next; parts = refl; units = f.are_units; end = end };
+          let whole : Accepts input (us ++ next) fs d = record {
+            rest = f.left;
+            parts = parts;
+            sequence = record {
+              front = us;
+              last = next;
+              parts = refl;
+              units = f.run.are_units;
+              end = end;
+            };
           } in
           let (bytes, meanings, ends) =
-          accepted_same input (f.us ++ next) b f.ms ms d e whole acc in
+          accepted_same input (us ++ next) b fs ms d e whole acc in
           omega (
             arith,
             ap (λ ms. length (forms (written_units what ms))) meanings,

@@ -103,27 +103,12 @@ module _ (what : Output) (more : ℕ)
         length-append (form_written one) (forms more),
       )
 
-  next_fits : (rest : List ℕ) (room : ℕ) → LacksRoom what rest room → room < length rest + more
-  next_fits rest room (next, left, form, parts, inl (m, n, unit, is, of), less) =
+  next_fits : (next : List ℕ) (room : ℕ) → LacksRoom what next room → room < length next + more
+  next_fits next room (form, inl (m, n, unit, is, of), less) =
       let size = ap (λ o. length (form_written o)) is in
-      omega (
-        arith,
-        less,
-        ap length of,
-        size,
-        one_fits next m unit,
-        ap length parts,
-        length-append next left,
-      )
-  next_fits rest room (next, left, form, parts, inr (e, end, of), less) =
-      omega (
-        arith,
-        less,
-        ap length of,
-        end_fits next e end,
-        ap length parts,
-        length-append next left,
-      )
+      omega (arith, less, ap length of, size, one_fits next m unit)
+  next_fits next room (form, inr (e, end, of), less) =
+      omega (arith, less, ap length of, end_fits next e end)
 
   pub always_room : (limit : ℕ) (result : Result Unit IntoFault) (input before after : List ℕ)
       (p : Progress) → NormalisesInto what limit result input before after p →
@@ -134,16 +119,22 @@ module _ (what : Output) (more : ℕ)
       at_fault : (g : IntoFault) → NormalisesInto what limit (Err g) input before after p →
           g ≡ NoRoom → ⊥
       at_fault NoRoom f e =
-          let less = next_fits f.rest f.room f.ends.2.1 in
+          let less = next_fits f.last f.room f.stops.0 in
+          let units = forms (written_units what f.run.meanings) in
           omega (
             arith,
             less,
-            units_fit f.us f.ms f.are_units,
+            units_fit f.run.units f.run.meanings f.run.are_units,
             f.room_is,
             f.written,
-            ap length f.ends.1,
+            ap length f.run.written_parts,
+            length-append units f.run.last_written,
+            ap length f.stops.1,
             ap length f.parts,
-            length-append f.us f.rest,
+            length-append f.viewed f.left,
+            ap length f.run.taken_parts,
+            length-append f.run.units f.run.last,
+            ap length f.last_is,
             enough,
           )
       at_fault g f e = absurd cc

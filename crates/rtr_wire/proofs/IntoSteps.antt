@@ -6,6 +6,7 @@ use Rattle.std.proofs.lemmas.List.{length-append, take-append-drop, length-take-
 use Rattle.std.proofs.lemmas.List.{drop-drop, take_all, drop_all}
 use Rattle.std.proofs.Math.Seq.{drop-append_seam, take-append_seam}
 use Rattle.rtr_units.specs.End.{IsEnd, end_list}
+use Rattle.rtr_units.specs.StopCauses.{Cause, by_writer, too_many, wrong}
 use Rattle.rtr_units.specs.AnyEnd.{end_bytes, end_meaning}
 use Rattle.rtr_units.specs.declared.end.EndOfData.{EndOfData}
 use Rattle.rtr_payload.specs.Payloads.{Meaning}
@@ -21,11 +22,11 @@ use Rattle.rtr_views.specs.declared.view.UnitView.TheVariants as views
 use Rattle.rtr_views.proofs.Agreement.{view_means}
 use Rattle.rtr_wire.specs.PrivateSteps.{StepTells, Steps, StopsStepInto, PlacesUnit, Stepped}
 use borrow.Rule.Slice.PartMut.{put_mid}
-use Rattle.rtr_views.specs.Faults.{IsFirstFault}
-use Rattle.rtr_wire.specs.Into.{LacksRoom, WhyStopped, NormalisesInto}
+use Rattle.rtr_wire.specs.Into.{StopsInto, NormalisesInto, into_answer}
 use Rattle.rtr_wire.specs.declared.into.IntoFault.{IntoFault}
 use Rattle.rtr_wire.specs.declared.into.IntoFault.TheVariants.{NoRoom, TooMany, Refused}
-use Rattle.rtr_wire.specs.Sequences.{Output, in_version}
+use Rattle.rtr_wire.specs.Run.{IsProperPrefix, Counts, Ends}
+use Rattle.rtr_wire.specs.Sequences.{Output, in_version, forms, written_units}
 use Rattle.rtr_wire.specs.declared.into.Step.{Step}
 use Rattle.rtr_wire.specs.declared.run.Passed.TheVariants as passes
 use Rattle.rtr_wire.proofs.Stepping.{SoFar, starts, goes_on, leaves_out}
@@ -87,16 +88,14 @@ module _ (what : Output) (rest : List ℕ) (k : ℕ) (le : k ≤ length rest) (b
 
   pub unit_lacks_room : (m : Meaning) (v : ℕ) (after : List ℕ) → IsUnit (take k rest) m →
       what.unit m ≡ Some (in_version v m) → PlacesUnit v m None before after →
-      (after ≡ before) × LacksRoom what rest (length before)
+      (after ≡ before) × StopsStepInto what NoRoom rest (length before)
   unit_lacks_room m v after unit some (less, same) = (
     same,
     (
       take k rest,
       drop k rest,
-      form_of (in_version v m),
       parts,
-      inl (m, in_version v m, unit, some, refl),
-      less,
+      (form_of (in_version v m), inl (m, in_version v m, unit, some, refl), less),
     ),
   )
 
@@ -105,9 +104,9 @@ module _ (what : Output) (rest : List ℕ) (k : ℕ) (le : k ≤ length rest) (b
       (end : IsEnd (take k rest) (end_meaning d)) (x : List ℕ)
       (for_it : x ≡ end_list (what.end (end_meaning d))) where
     pub end_lacks_room : (after : List ℕ) → Places None x before after →
-        (after ≡ before) × LacksRoom what rest (length before)
+        (after ≡ before) × StopsStepInto what NoRoom rest (length before)
     end_lacks_room after (less, same) =
-        (same, (take k rest, drop k rest, x, parts, inr (end_meaning d, end, for_it), less))
+        (same, (take k rest, drop k rest, parts, (x, inr (end_meaning d, end, for_it), less)))
 
 -- ---- one after the other
 
@@ -279,59 +278,85 @@ module _ (what : Output) (units left_out : ℕ) (input : List ℕ) (taken : ℕ)
       (Some a.form) (Some f.form))
       is f.steps in
       record {
-        us = a.so_far.us;
-        ms = a.so_far.ms;
-        rest = drop taken input;
-        parts = a.so_far.taken;
-        are_units = a.so_far.units;
+        viewed = a.so_far.us ++ t;
+        left = drop (taken + s.taken) input;
+        form = f.form;
+        parts =
+            a.so_far.taken ∙ ap (λ l. a.so_far.us ++ l) took
+            ∙ sym (append_assoc a.so_far.us t (drop (taken + s.taken) input));
+        last = t;
+        run = record {
+          units = a.so_far.us;
+          last = t;
+          taken_parts = refl;
+          meanings = a.so_far.ms;
+          are_units = a.so_far.units;
+          last_written = w;
+          written_parts = wrote ∙ (λ i. a.so_far.written i ++ w);
+          counts = (omega (arith, a.so_far.others), omega (arith, a.so_far.counted, lt));
+          ends = (e, end, form);
+        };
+        last_is = refl;
         units = sym a.so_far.counted;
         forms = omega (arith, a.so_far.others);
-        form = f.form;
+        taken =
+            omega (
+              arith,
+              front,
+              f.within,
+              a.within,
+              ap length took,
+              length-append a.so_far.us t,
+              length-drop taken input,
+              length-drop (taken + s.taken) input,
+              length-append t (drop (taken + s.taken) input),
+            );
         written = f.size;
         fits = f.fits;
         output = f.output;
         room = length before - (written + s.written);
         room_is = omega (arith, f.fits);
-        ends = (
-          e,
-          t,
-          drop (taken + s.taken) input,
-          took,
-          end,
-          omega (arith, a.so_far.counted, lt),
-          omega (
-            arith,
-            front,
-            f.within,
-            a.within,
-            ap length took,
-            length-drop taken input,
-            length-drop (taken + s.taken) input,
-            length-append t (drop (taken + s.taken) input),
-          ),
-          wrote ∙ (λ i. a.so_far.written i ++ form i),
-        );
+        stops = tt;
       }
 
-  pub into_stop : (limit : ℕ) (f : IntoFault) (now' : List ℕ) → now' ≡ now →
-      WhyStopped what limit f a.so_far.ms (drop taken input) (length before - written) →
+  -- a run that stops at these last bytes, for which nothing is written
+  into_stop : (limit : ℕ) (f : IntoFault) (now' last left : List ℕ) (c : Cause) → now' ≡ now →
+      drop taken input ≡ last ++ left →
+      into_answer (units - left_out) last (Err f) ≡ Err c →
+      Counts what limit (Err c) a.so_far.ms → Ends what (Err c) last left [] →
+      StopsInto what f last [] (length before - written) →
       NormalisesInto what limit (Err f) input before now'
       (record { units = units; forms = units - left_out; taken = taken; written = written })
-  into_stop limit f now' same why = record {
-    us = a.so_far.us;
-    ms = a.so_far.ms;
-    rest = drop taken input;
-    parts = a.so_far.taken;
-    are_units = a.so_far.units;
+  into_stop limit f now' last left c same parts is counts ends stops = record {
+    viewed = a.so_far.us ++ last;
+    left = left;
+    form = a.form;
+    parts =
+        a.so_far.taken ∙ ap (λ l. a.so_far.us ++ l) parts
+        ∙ sym (append_assoc a.so_far.us last left);
+    last = last;
+    run = record {
+      units = a.so_far.us;
+      last = last;
+      taken_parts = refl;
+      meanings = a.so_far.ms;
+      are_units = a.so_far.units;
+      last_written = [];
+      written_parts =
+          a.so_far.written ∙ sym (append-nil (forms (written_units what a.so_far.ms)));
+      counts = subst (λ r. Counts what limit r a.so_far.ms) (sym is) counts;
+      ends = subst (λ r. Ends what r last left []) (sym is) ends;
+    };
+    last_is = refl;
     units = sym a.so_far.counted;
     forms = omega (arith, a.so_far.others);
-    form = a.form;
+    taken = front;
     written = a.size;
     fits = a.fits;
     output = same ∙ a.output;
     room = length before - written;
     room_is = omega (arith, a.fits);
-    ends = (front, a.so_far.written, why);
+    stops = stops;
   }
 
   -- at a fault of a step
@@ -348,20 +373,9 @@ module _ (what : Output) (units left_out : ℕ) (input : List ℕ) (taken : ℕ)
         a.fits,
       )
 
-  why : (limit : ℕ) (f : IntoFault) → units < limit →
-      StopsStepInto what f (rest_of taken input) (length (rest_of written now)) →
-      WhyStopped what limit f a.so_far.ms (drop taken input) (length before - written)
-  why limit NoRoom lt stop = (
-    omega (arith, a.so_far.counted, lt),
-    subst (λ n. LacksRoom what (drop taken input) n) room_left
-        (subst (λ l. LacksRoom what l (length (rest_of written now)))
-        (rest_is taken input) stop),
-  )
-  why limit TooMany lt stop = absurd stop
-  why limit (Refused e) lt stop = (
-    omega (arith, a.so_far.counted, lt),
-    subst (λ l. IsFirstFault l e) (rest_is taken input) stop,
-  )
+  -- there is room for less than this form, so that some of it is missing
+  some_missing : (form : List ℕ) (room : ℕ) → room < length form → IsProperPrefix [] form
+  some_missing form room less = (form, refl, omega (arith, less))
 
   pub into_breaks : (limit : ℕ) (f : IntoFault) (part : List ℕ) → units < limit →
       part ≡ rest_of written now →
@@ -369,11 +383,28 @@ module _ (what : Output) (units left_out : ℕ) (input : List ℕ) (taken : ℕ)
       NormalisesInto what limit (Err f) input before
       (put_mid written (length now - written) now part)
       (record { units = units; forms = units - left_out; taken = taken; written = written })
-  into_breaks limit f part lt same stop =
-      into_stop limit f _
-      (put_is written now part ∙ ap (λ l. take written now ++ l) (same ∙ rest_is written now)
-      ∙ take-append-drop written now)
-      (why limit f lt stop)
+  into_breaks limit f part lt same stop = by_fault f stop
+    where
+      kept : put_mid written (length now - written) now part ≡ now
+      kept =
+          put_is written now part ∙ ap (λ l. take written now ++ l) (same ∙ rest_is written now)
+          ∙ take-append-drop written now
+      few : length a.so_far.ms < limit
+      few = omega (arith, a.so_far.counted, lt)
+      by_fault : (f : IntoFault) →
+          StopsStepInto what f (rest_of taken input) (length (rest_of written now)) →
+          NormalisesInto what limit (Err f) input before
+          (put_mid written (length now - written) now part)
+          (record { units = units; forms = units - left_out; taken = taken; written = written })
+      by_fault NoRoom (last, left, split, (form, is, less)) =
+          let smaller : length before - written < length form = omega (arith, less, room_left) in
+          into_stop limit NoRoom _ last left by_writer kept (sym (rest_is taken input) ∙ split) refl
+          few (form, is, some_missing form (length before - written) smaller)
+          ((form, is, smaller), refl)
+      by_fault TooMany stop = absurd stop
+      by_fault (Refused e) (last, left, split, g, is, ends) =
+          into_stop limit (Refused e) _ last left (wrong g) kept (sym (rest_is taken input) ∙ split)
+          (ap (λ c. Err c) is) few ends (g, is)
 
   pub into_full : (limit : ℕ) → units ≡ limit →
       NormalisesInto what limit (Err TooMany) input before now
@@ -383,4 +414,6 @@ module _ (what : Output) (units left_out : ℕ) (input : List ℕ) (taken : ℕ)
       (λ n.
       NormalisesInto what limit (Err TooMany) input before now
       (record { units = n; forms = n - left_out; taken = taken; written = written }))
-      full (into_stop limit TooMany now refl (a.so_far.counted ∙ full))
+      full
+      (into_stop limit TooMany now [] (drop taken input) too_many refl refl refl
+      (a.so_far.counted ∙ full) (refl, refl) tt)

@@ -38,7 +38,7 @@ use Rattle.rtr_wire.specs.PrivateSteps.{StepTells, Steps, StopsStep, is_payload_
 use Rattle.rtr_units.specs.StopCauses.{by_cause}
 use Rattle.rtr_wire.specs.Run.{IsProperPrefix, IsToWrite, Run, HasRun, Ends, BlamesNobody}
 use Rattle.rtr_wire.specs.Run.{Normalises}
-use Rattle.rtr_wire.specs.Sequences.{AreUnits, everything, forms, written_units}
+use Rattle.rtr_wire.specs.Sequences.{AreUnits, Output, everything, forms, written_units}
 use Rattle.rtr_wire.specs.declared.run.Passed.TheVariants as passes
 use Rattle.rtr_wire.specs.SliceRun.{view_cause, slice_answer, NormalisesSlice}
 use Rattle.rtr_wire.proofs.Calls.{over}
@@ -133,39 +133,59 @@ stopped_at r f h e = elim (next r h) [
       }
 ]
 
+-- a fault of the input ends each run alike, whatever it writes
+any_output : (what : Output) (f : Refusal) (last left written : List ℕ) →
+    Ends everything (Err (wrong f)) last left written → Ends what (Err (wrong f)) last left written
+any_output what short last left written h = h
+any_output what (unit_type t) last left written h = h
+any_output what (unit_version v) last left written h = h
+any_output what too_long last left written h = h
+any_output what unit_length last left written h = h
+any_output what empty_providers last left written h = h
+any_output what (refused report) last left written h = h
+
+-- the last bytes of a run that this fault ends
+abbrev pub EndsAt : Output → ViewFault → List ℕ → Type 0
+EndsAt what e r = (last left : List ℕ) × (r ≡ last ++ left)
+    × (f : Refusal) × (view_cause last e ≡ wrong f) × Ends what (Err (wrong f)) last left []
+
+ends_at : (what : Output) (e : ViewFault) (r : List ℕ) (f : Refusal) → (s : Stopped r f) →
+    view_cause s.last e ≡ wrong f → EndsAt what e r
+ends_at what e r f s is =
+    (s.last, s.left, s.parts, f, is, any_output what f s.last s.left [] s.ends)
+
 -- no unit was viewed
+pub first_ends : (what : Output) (e : ViewFault) (r : List ℕ) → IsBytes r → IsFirstFault r e →
+    EndsAt what e r
+first_ends what (Writer x) r h e = absurd e
+first_ends what Short r h e = ends_at what Short r short (stopped_at r short h e) refl
+first_ends what (UnitType t) r h e =
+    ends_at what (UnitType t) r (unit_type t) (stopped_at r (unit_type t) h e) refl
+first_ends what UnitLength r h e =
+    ends_at what UnitLength r unit_length (stopped_at r unit_length h e) refl
+first_ends what TooLong r h e = ends_at what TooLong r too_long (stopped_at r too_long h e) refl
+first_ends what EmptyProviders r h e =
+    ends_at what EmptyProviders r empty_providers (stopped_at r empty_providers h e) refl
+first_ends what (UnitVersion v) r h e =
+    ends_at what (UnitVersion v) r (unit_version v) (stopped_at r (unit_version v) h e) refl
+first_ends what (Prefix rule) r h e =
+    let report = refusal_report (first_unit r) rule in
+    let s = stopped_at r (refused report) h e in
+    ends_at what (Prefix rule) r (refused report) s
+    (ap (λ u. wrong (refused (refusal_report u rule))) (sym s.takes))
+first_ends what TooMany r h e = absurd e
+
 pub not_viewed : (e : ViewFault) (r : List ℕ) (held : Option (List ℕ)) → IsBytes r →
     IsFirstFault r e → StopsStep e r held held
-not_viewed (Writer x) r held h e = absurd e
-not_viewed Short r held h e =
-    let s = stopped_at r short h e in
-    (s.last, s.left, [], s.parts, Appends-nil held, s.ends)
-not_viewed (UnitType t) r held h e =
-    let s = stopped_at r (unit_type t) h e in
-    (s.last, s.left, [], s.parts, Appends-nil held, s.ends)
-not_viewed UnitLength r held h e =
-    let s = stopped_at r unit_length h e in
-    (s.last, s.left, [], s.parts, Appends-nil held, s.ends)
-not_viewed TooLong r held h e =
-    let s = stopped_at r too_long h e in
-    (s.last, s.left, [], s.parts, Appends-nil held, s.ends)
-not_viewed EmptyProviders r held h e =
-    let s = stopped_at r empty_providers h e in
-    (s.last, s.left, [], s.parts, Appends-nil held, s.ends)
-not_viewed (UnitVersion v) r held h e =
-    let s = stopped_at r (unit_version v) h e in
-    (s.last, s.left, [], s.parts, Appends-nil held, s.ends)
-not_viewed (Prefix rule) r held h e =
-    let s = stopped_at r (refused (refusal_report (first_unit r) rule)) h e in (
-      s.last,
-      s.left,
+not_viewed e r held h is =
+    let (last, left, parts, f, cause, ends) = first_ends everything e r h is in (
+      last,
+      left,
       [],
-      s.parts,
+      parts,
       Appends-nil held,
-      subst (λ u. Ends everything (Err (wrong (refused (refusal_report u rule)))) s.last s.left [])
-          s.takes s.ends,
+      subst (λ c. StepTells everything (Err c) last [] (Some left)) (sym cause) ends,
     )
-not_viewed TooMany r held h e = absurd e
 
 -- ---- the whole run
 

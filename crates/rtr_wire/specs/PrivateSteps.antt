@@ -5,7 +5,8 @@ use Rattle.std.specs.Prelude.{◌≡◌, ℕ, ◌≤◌, Bool, true, false, List
 use Rattle.std.specs.Prelude.{Option, Some, None, Result, Ok, Err, IfSome}
 use Rattle.std.specs.Io.KnownBytes.{Consumes, Appends}
 use Rattle.rtr_units.specs.declared.fault.Fault.{Fault}
-use Rattle.rtr_units.specs.StopCauses.{Cause, by_writer, no_memory, too_many, by_cause}
+use Rattle.rtr_units.specs.StopCauses.{Refusal, Cause, by_writer, no_memory, too_many, wrong}
+use Rattle.rtr_units.specs.StopCauses.{by_cause}
 use Rattle.rtr_units.specs.End.{EndMeaning}
 use Rattle.rtr_units.specs.HeaderBytes.{AreBytes}
 use Rattle.rtr_payload.specs.Payloads.{Meaning}
@@ -13,7 +14,6 @@ use Rattle.rtr_payload.specs.Units.{IsUnit, form_of}
 use Rattle.rtr_payload.specs.UnitFields.{LengthsAgree, meaning}
 use Rattle.rtr_payload.specs.UnitBytes.{unit_fields, HasNoPayload}
 use Rattle.rtr_payload.specs.declared.pdu.payload.Payload.{Payload}
-use Rattle.rtr_views.specs.Faults.{IsFirstFault}
 use Rattle.rtr_views.specs.Placing.{Places}
 use Rattle.rtr_views.specs.declared.fault.ViewFault.{ViewFault}
 use Rattle.rtr_views.specs.declared.view.UnitView.{UnitView}
@@ -118,10 +118,13 @@ pub record Stepped (what : Output) (s : Step) (rest before after : List ℕ) : T
   pub output : after ≡ wrote ++ drop s.written before
   pub tells : StepTells what (Ok s.passed) took wrote (Some (drop s.taken rest))
 
+-- why a step stopped at the front of the rest, of which it wrote nothing, where there is so much room
 abbrev pub StopsStepInto : Output → IntoFault → List ℕ → ℕ → Type 0
-StopsStepInto what NoRoom rest room = LacksRoom what rest room
+StopsStepInto what NoRoom rest room =
+    (last left : List ℕ) × (rest ≡ last ++ left) × LacksRoom what last room
 StopsStepInto what TooMany rest room = ⊥
-StopsStepInto what (Refused e) rest room = IsFirstFault rest e
+StopsStepInto what (Refused e) rest room = (last left : List ℕ) × (rest ≡ last ++ left)
+    × (f : Refusal) × (view_cause last e ≡ wrong f) × Ends what (Err (wrong f)) last left []
 
 abbrev pub StepsInto : Output → Result Step IntoFault → (rest before after : List ℕ) → Type 0
 StepsInto what (Ok s) rest before after = Stepped what s rest before after

@@ -1,9 +1,17 @@
-use Rattle.std.proofs.Common.{take, sym, ◌∙◌, append-nil}
+use Rattle.std.proofs.Common.{take, sym, refl, ◌∙◌, append-nil, arith}
 use Rattle.rtr_wire.specs.Sequences.{in_version}
 use Rattle.rtr_wire.proofs.IntoSteps.{viewed, step_left_out, step_written, unit_lacks_room}
 use Rattle.rtr_wire.proofs.IntoSteps.{end_lacks_room}
+use Rattle.rtr_wire.proofs.Slices.{first_ends}
 use Rattle.rtr_wire.proofs.Written.{none_written, one_written}
 use Rattle.rtr_wire.proofs.into.view_step.Goals as goal
+
+pub returns-in-Err : goal.returns-in-Err
+returns-in-Err g c = (
+  refl,
+  first_ends (g.S.Writing.what c.args.writing) c.in-Err.e c.args.rest.now
+      (λ i. omega (arith, c.type_inv.rest i)) c.in-Err.ensures.fault,
+)
 
 pub returns-then-not-writes : goal.returns-then-not-writes
 returns-then-not-writes g c =
