@@ -4,3 +4,7 @@ pub mod Membership
 pub mod Changes
 pub mod Parts
 pub mod Fits
+pub mod Merge
+pub mod Delta
+pub mod Once
+pub mod Needed

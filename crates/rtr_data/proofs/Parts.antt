@@ -135,14 +135,16 @@ unfolding name_cmp
 aspa_below_keys a ks = all_map (λ q. name_cmp (aspa a) q ≡ Greater) key_of (λ k. refl) ks
 
 module _ (os : List RouteOrigin) (ks : List RouterKey) (es : List (ℕ × List ℕ)) where
-  pub origin_announced : (o : RouteOrigin) → list_any (is_at (on origin_of payload_cmp o)) os ≡ false →
+  pub origin_announced : (o : RouteOrigin) →
+      list_any (is_at (on origin_of payload_cmp o)) os ≡ false →
       changed Announce (origin_of o) (joined os ks es) ≡
       Ok (joined (insert_key (on origin_of payload_cmp) os o) ks es)
   origin_announced o n =
       part_announced origin_of (on origin_of payload_cmp) origin_same [] os
       (map key_of ks ++ map entry_of es) o tt (origin_above o ks es) (origin_plain o) n
 
-  pub origin_duplicate : (o : RouteOrigin) → list_any (is_at (on origin_of payload_cmp o)) os ≡ true →
+  pub origin_duplicate : (o : RouteOrigin) →
+      list_any (is_at (on origin_of payload_cmp o)) os ≡ true →
       changed Announce (origin_of o) (joined os ks es) ≡ Err Duplicate
   origin_duplicate o n =
       part_duplicate origin_of (on origin_of payload_cmp) origin_same [] os
@@ -155,14 +157,16 @@ module _ (os : List RouteOrigin) (ks : List RouterKey) (es : List (ℕ × List �
       part_gone origin_of (on origin_of payload_cmp) origin_same [] os
       (map key_of ks ++ map entry_of es) o tt (origin_above o ks es)
 
-  pub origin_withdrawn : (o : RouteOrigin) → list_any (is_at (on origin_of payload_cmp o)) os ≡ true →
+  pub origin_withdrawn : (o : RouteOrigin) →
+      list_any (is_at (on origin_of payload_cmp o)) os ≡ true →
       changed Withdraw (origin_of o) (joined os ks es) ≡
       Ok (joined (remove_key (is_at (on origin_of payload_cmp o)) os) ks es)
   origin_withdrawn o n =
       part_withdrawn origin_of (on origin_of payload_cmp) origin_same [] os
       (map key_of ks ++ map entry_of es) o tt (origin_above o ks es) n
 
-  pub origin_unknown : (o : RouteOrigin) → list_any (is_at (on origin_of payload_cmp o)) os ≡ false →
+  pub origin_unknown : (o : RouteOrigin) →
+      list_any (is_at (on origin_of payload_cmp o)) os ≡ false →
       changed Withdraw (origin_of o) (joined os ks es) ≡ Err Unknown
   origin_unknown o n =
       part_unknown origin_of (on origin_of payload_cmp) origin_same [] os
@@ -262,7 +266,8 @@ no_and : (b : Bool) → (b && false) ≡ false
 no_and true = refl
 no_and false = refl
 
-module _ (os : List RouteOrigin) (ks : List RouterKey) (es : List (ℕ × List ℕ)) (a : AspaParts) where
+module _ (os : List RouteOrigin) (ks : List RouterKey) (es : List (ℕ × List ℕ))
+    (a : AspaParts) where
   aspa_name : has_name (joined os ks es) (aspa a) ≡
       is_some (lookup (is_at (nat_cmp a.customer)) es)
   aspa_name =

@@ -1,3 +1,4 @@
 pub mod ChangeCodes
 pub mod Data
 pub mod Contents
+pub mod Changes

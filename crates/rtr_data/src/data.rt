@@ -109,8 +109,8 @@ impl Data {
 
     /// Announces a payload. An ASPA takes the place of the one of its customer.
     ///
-    /// `KeyTooLong` or `NoProviders` for what no reader accepts, `Duplicate` for another payload that
-    /// is there already, or `Memory`; then the data is as it was.
+    /// `KeyTooLong` or `NoProviders` for what no reader accepts, `Duplicate` for another payload
+    /// that is there already, or `Memory`; then the data is as it was.
     pub fn announce(&mut self, payload: Payload) -> Result<(), ChangeError>
         ensures { Leaves result (announcing (payload_of payload) self.old) self.old self.new }
     {

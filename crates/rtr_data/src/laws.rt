@@ -1,11 +1,15 @@
 //! Laws of changes.
 
-ghost use Rattle.std.specs.Prelude.{◌≡◌, List, Ok, false, if◌then◌else◌};
+ghost use Rattle.std.specs.Prelude.{◌≡◌, [], List, Ok, false, true, if◌then◌else◌};
 ghost use Rattle.std.specs.BTreeMap.{is_at};
+ghost use Rattle.std.specs.List.{AllByRecursion};
 ghost use Rattle.rtr_payload.specs.Orders.{payload_cmp};
 ghost use Rattle.rtr_payload.specs.Payloads.{Payload};
 ghost use Rattle.rtr_data.specs.Data.{Change, IsData, after, announcement, has, name_cmp};
 ghost use Rattle.rtr_data.specs.Data.{withdrawal};
+ghost use Rattle.rtr_data.specs.Changes.{AreApart, after_all, changes, touches};
+
+use crate::data::Data;
 
 /// A change that is not refused makes data of data. After an announcement the payload is all that
 /// is there of its name, after a withdrawal nothing is, and of other names there is what was.
@@ -18,3 +22,26 @@ pub fn one_change()
         after (withdrawal p) d ≡ Ok e →
         has e q ≡ (if is_at (name_cmp p) q then false else has d q) }
 {}
+
+/// The changes from old data to new make new data of old, and there are none from data to itself.
+///
+/// No two of them are of one name, so that no payload stands in them twice; and whatever changes
+/// lead from old data to new have one of each of these names, so that no fewer do.
+pub fn changes_lead_to_new()
+    ensures leads { (old new : List Payload) → IsData old → IsData new →
+        after_all (changes old new) (Ok old) ≡ Ok new }
+    ensures nothing { (d : List Payload) → changes d d ≡ [] }
+    ensures apart { (old new : List Payload) → IsData old → IsData new →
+        AreApart (changes old new) }
+    ensures needed { (cs : List Change) (old new : List Payload) → IsData old →
+        after_all cs (Ok old) ≡ Ok new →
+        AllByRecursion (λ c. touches cs c.payload ≡ true) (changes old new) }
+{}
+
+/// The changes from the one to the other of any two values lead there.
+pub fn changes_of_data(old: &Data, new: &Data)
+    ensures { after_all (changes old.now new.now) (Ok old.now) ≡ Ok new.now }
+{
+    let _old = old.parts();
+    let _new = new.parts();
+}

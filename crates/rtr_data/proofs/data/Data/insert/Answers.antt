@@ -52,7 +52,8 @@ returns-in-Ok-false-insert c =
     let i = c.self.inside in (
       moved Announce (ap payload_of c.in-RouterKey.is) c.self.view_is
           (key_duplicate i.origins.keys i.router_keys.keys i.aspas.entries c.in-RouterKey.key
-          (not-false _ (sym c.in-Ok-false-insert.ensures.added ∙ c.in-Ok-false-insert.field-0-test))),
+          (not-false _ (sym c.in-Ok-false-insert.ensures.added
+          ∙ c.in-Ok-false-insert.field-0-test))),
       ap (λ l. joined i.origins.keys l i.aspas.entries)
           (OnFalse_at c.in-Ok-false-insert.field-0-test c.in-Ok-false-insert.ensures.unchanged)
           ∙ c.self.view_is,
