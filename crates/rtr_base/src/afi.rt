@@ -64,7 +64,7 @@ impl Afi {
     }
 }
 
-/// Writes `ipv4` or `ipv6`; width and fill are ignored.
+/// Writes `ipv4` or `ipv6`; width and padding are ignored.
 impl fmt::Display for Afi {
     ghost use Rattle.std.specs.Prelude.{Some};
     ghost use Rattle.rtr_base.specs.Texts.{afi_text};

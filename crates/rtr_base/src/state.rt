@@ -98,7 +98,7 @@ impl FromStr for Serial {
     }
 }
 
-/// Writes the number in decimal; width and fill are ignored.
+/// Writes the number in decimal; width and padding are ignored.
 impl fmt::Display for Serial {
     ghost use Rattle.std.specs.Prelude.{Some};
     ghost use Rattle.std.specs.Fmt.{decimal};

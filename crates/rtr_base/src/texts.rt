@@ -1,4 +1,4 @@
-//! Texts of plain values. Width and fill are ignored.
+//! Texts of plain values. Width and padding are ignored.
 
 ghost use Rattle.std.specs.Prelude.{◌≡◌, List, ℕ, Some};
 ghost use Rattle.std.specs.Option.{option_copied};

@@ -16,11 +16,11 @@ text_part body = drop (pdu_size body) (drop 4 body)
 abbrev pub text_size : List ℕ → ℕ
 text_size body = value (take 4 (text_part body))
 
--- whether the two parts, with their lengths, fill the report exactly
+-- whether the two parts, with their lengths, make up the report exactly
 abbrev pub parts_fill : List ℕ → Bool
 parts_fill body = length body == 8 + pdu_size body + text_size body
 
--- the unit and the text, where they fill the report
+-- the unit and the text, where they make up the report
 abbrev pub report_parts : List ℕ → Option (List ℕ × List ℕ)
 report_parts body = if parts_fill body
     then Some (take (pdu_size body) (drop 4 body), drop 4 (text_part body))

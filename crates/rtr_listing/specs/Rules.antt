@@ -125,7 +125,7 @@ report_about pdu = told (type_field pdu == 10) rules.ReportOfReport
 abbrev pub report_text : List ℕ → List Finding
 report_text text = told (not (is_utf8 text)) rules.ReportText
 
--- the two parts fill the report (RFC 8210 section 5.11)
+-- the two parts make up the report (RFC 8210 section 5.11)
 abbrev pub report_rules : Option (List ℕ × List ℕ) → List Finding
 report_rules (Some parts) = report_about parts.0 ++ report_text parts.1
 report_rules None = rules.ReportParts ∷ []

@@ -60,7 +60,7 @@ fn payload_size(unit: &Payload) -> u64
     }
 }
 
-/// The unit that an error report speaks of and its text, where their lengths fill the report.
+/// The unit that an error report speaks of and its text, where they make up the report.
 pub fn parts(report: &Report) -> Option<(&[u8], &[u8])>
     ensures { option_map (λ r. (r.0.now, r.1.now)) result ≡ report_parts (drop 8 report.now) }
 {

@@ -30,7 +30,7 @@ pub enum Finding {
     Twice,
     /// The providers of an ASPA unit ascend: this program's own rule.
     ProviderOrder,
-    /// The two parts of an error report and their lengths fill it (RFC 8210 section 5.11).
+    /// The two parts of an error report and their lengths make it up (RFC 8210 section 5.11).
     ReportParts,
     /// The text of an error report is UTF-8 (RFC 8210 section 5.11).
     ReportText,

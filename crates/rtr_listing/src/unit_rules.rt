@@ -316,7 +316,7 @@ fn layout(flags: u8, free: u8, customer: u32, count: u16) -> Layout
 
 // ---- error reports
 
-/// The two parts of an error report fill it, its text is UTF-8, and it is about no other report.
+/// The two parts of an error report make it up, its text is UTF-8, and it is about no other report.
 pub(crate) fn error_report(report: &Report, found: &mut Vec<Finding>) -> Result<(), AllocError>
     ensures { OnOk result (found.new.items ≡ found.old.items ++
         rules.report_rules (report_parts (drop 8 report.now))) }

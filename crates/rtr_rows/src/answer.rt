@@ -12,7 +12,7 @@ pub struct Answer {
     alloc: Global,
     text: String,
     ends_in_bytes: bool,
-    is_cut: bool,
+    is_incomplete: bool,
 }
 
 impl Answer {
@@ -22,7 +22,7 @@ impl Answer {
             alloc,
             text: String::new(alloc),
             ends_in_bytes: false,
-            is_cut: false,
+            is_incomplete: false,
         }
     }
 
@@ -31,7 +31,7 @@ impl Answer {
         self.ends_in_bytes = false;
         match format!(in self.alloc; "{word}") {
             Ok(word) => self.append(word.as_str()),
-            Err(_) => self.is_cut = true,
+            Err(_) => self.is_incomplete = true,
         }
     }
 
@@ -42,7 +42,7 @@ impl Answer {
         }
         match hex::encode(self.alloc, bytes) {
             Ok(word) => self.append(word.as_str()),
-            Err(_) => self.is_cut = true,
+            Err(_) => self.is_incomplete = true,
         }
         self.ends_in_bytes = true;
     }
@@ -50,21 +50,21 @@ impl Answer {
     /// Appends a text, after a space unless it is the first or goes on with bytes.
     fn append(&mut self, text: &str) {
         if !self.text.is_empty() && !self.ends_in_bytes && self.text.push_str(" ").is_err() {
-            self.is_cut = true;
+            self.is_incomplete = true;
         }
         if self.text.push_str(text).is_err() {
-            self.is_cut = true;
+            self.is_incomplete = true;
         }
     }
 
     /// Whether these are the same words.
     pub fn is_same(&self, other: &Answer) -> bool {
-        self.text == other.text && !self.is_cut && !other.is_cut
+        self.text == other.text && !self.is_incomplete && !other.is_incomplete
     }
 
     /// The words, if there was memory for all of them.
     pub fn into_text(self) -> Result<String, AllocError> {
-        if self.is_cut {
+        if self.is_incomplete {
             return Err(AllocError);
         }
         Ok(self.text)

@@ -10,6 +10,6 @@ abbrev pub IsReport : List ℕ → Type 0
 IsReport = IsWhole report_unit
 
 -- The lengths inside the report u fit: the unit p that it speaks of and the text t, each after its
--- length of four bytes, fill it exactly (RFC 8210 section 5.11).
+-- length of four bytes, make it up exactly (RFC 8210 section 5.11).
 abbrev pub HasParts : List ℕ → List ℕ → List ℕ → Type 0
 HasParts u p t = u ≡ report (version_field u) (session_field u) p t

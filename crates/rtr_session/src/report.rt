@@ -119,7 +119,7 @@ impl Report {
     /// The unit that the report is about; empty if it is about none.
     ///
     /// None if the two lengths inside the report don't fit: a length of four bytes, that unit, a
-    /// length of four bytes and the text have to fill the report exactly.
+    /// length of four bytes and the text have to make up the report exactly.
     pub fn pdu(&self) -> Option<&[u8]>
         ensures { MatchOption result ((p t : List ℕ) → HasParts self.now p t → ⊥)
             (λ p. (t : List ℕ) × HasParts self.now p.now t) }
@@ -160,7 +160,7 @@ impl Report {
         put(writer, self.as_ref())
     }
 
-    /// The unit that the report is about and the text, if their lengths fill the report.
+    /// The unit that the report is about and the text, if they make up the report.
     fn parts(&self) -> Option<(&[u8], &[u8])>
         ensures { MatchOption result ((p t : List ℕ) → HasParts self.now p t → ⊥)
             (λ r. HasParts self.now r.0.now r.1.now) }

@@ -23,7 +23,7 @@ pub fn expect_at(rt: &impl Abort, row: &str, holds: bool) {
     assert!(rt; holds, "at {row}");
 }
 
-/// The text of a value, if it is the same with any width and fill.
+/// The text of a value, if it is the same with any width and padding.
 pub fn written<T: Display>(alloc: Global, value: &T) -> Option<String> {
     let plain = format!(in alloc; "{value}").ok()?;
     let wide = format!(in alloc; "{value:>90}").ok()?;

@@ -29,7 +29,7 @@ pub data Cause : Type 0 where
   by_writer : Cause
   -- as many units as may be were read
   too_many : Cause
-  -- a growth was refused
+  -- an allocation was refused
   no_memory : Cause
   wrong : Refusal → Cause
 

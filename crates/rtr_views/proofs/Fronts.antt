@@ -34,16 +34,16 @@ use Rattle.rtr_views.specs.declared.fault.ViewFault.{ViewFault}
 use Rattle.rtr_views.specs.declared.fault.ViewFault.TheVariants.{TooLong}
 use Rattle.rtr_views.proofs.Forms.{IsWholeKey, IsWholeAspa, whole_key, whole_aspa}
 
--- the unit at the front is cut
-pub cut_first : (r : List ℕ) → 8 ≤ length r → 8 ≤ length_field r → length_field r ≤ length r →
+-- the unit at the front is the first
+pub at_front : (r : List ℕ) → 8 ≤ length r → 8 ≤ length_field r → length_field r ≤ length r →
     IsFirstUnit r (first_unit r)
-cut_first r long some within =
+at_front r long some within =
     let front = first_unit r in
     let len : length front ≡ length_field r = length-take-le (length_field r) r within in
     let all : front ++ drop (length_field r) r ≡ r = take-append-drop (length_field r) r in
     let same = same_header front (drop (length_field r) r) (omega arith) in
     record {
-      cut = λ i. front;
+      is_first = λ i. front;
       size = len;
       version = sym same.version ∙ ap version_field all;
       kind = sym same.kind ∙ ap type_field all;
@@ -68,7 +68,7 @@ prefix_in_order v6 v g n h = grind (arith, nat_tests)
 pub prefix_front : (f : Family) (r u : List ℕ) → IsBytes r → type_field r ≡ prefix_type f →
     length_field r ≡ prefix_size f → IsFirstUnit r u → HasFields u (prefix_unit (prefix_at f u))
 prefix_front f r u h kind field is =
-    prefix_has f u (rw is.cut (IsBytes-take (length_field r) r h)) (is.size ∙ field)
+    prefix_has f u (rw is.is_first (IsBytes-take (length_field r) r h)) (is.size ∙ field)
     (is.kind ∙ kind) (is.field ∙ field)
 
 -- the prefix at the front breaks its rule
@@ -78,11 +78,11 @@ pub prefix_broken : (f : Family) (r u : List ℕ) (fault : PrefixRule) →
     first_fault r ≡ Some (refused (refusal_report (first_unit r) fault))
 prefix_broken f r u fault shape is broken =
     let all : u ++ drop (length_field r) r ≡ r =
-    ap (λ l. l ++ drop (length_field r) r) is.cut ∙ take-append-drop (length_field r) r in
+    ap (λ l. l ++ drop (length_field r) r) is.is_first ∙ take-append-drop (length_field r) r in
     sym (ap first_fault all)
     ∙ (prefix_refused u (prefix_unit (prefix_at f u)) fault shape broken
     (drop (length_field r) r)).0
-    ∙ ap (λ l. Some (refused (refusal_report l fault))) is.cut
+    ∙ ap (λ l. Some (refused (refusal_report l fault))) is.is_first
 
 -- ---- ends of data
 
@@ -129,13 +129,13 @@ typed_in_order r t kind e =
 pub end_front_0 : (r u : List ℕ) → IsBytes r → type_field r ≡ 7 → version_field r ≡ 0 →
     length_field r ≡ 12 → IsFirstUnit r u → IsEnd u (untimed_meaning u)
 end_front_0 r u h kind version field is =
-    untimed_has u (rw is.cut (IsBytes-take (length_field r) r h)) (is.version ∙ version)
+    untimed_has u (rw is.is_first (IsBytes-take (length_field r) r h)) (is.version ∙ version)
     (is.kind ∙ kind) (is.size ∙ field) (is.field ∙ field)
 
 pub end_front_1 : (r u : List ℕ) → IsBytes r → type_field r ≡ 7 → version_field r ≤ 2 →
     version_field r ≢ 0 → length_field r ≡ 24 → IsFirstUnit r u → IsEnd u (timed_meaning u)
 end_front_1 r u h kind small later field is =
-    end_with_timing u (rw is.cut (IsBytes-take (length_field r) r h)) (is.size ∙ field)
+    end_with_timing u (rw is.is_first (IsBytes-take (length_field r) r h)) (is.size ∙ field)
     (omega (arith, is.version)) (λ e. later (sym is.version ∙ e)) (is.kind ∙ kind)
     (is.field ∙ field)
 
@@ -153,13 +153,13 @@ first_whole k r u h is kind order long =
       header = long;
       in_order = typed_is k (variable_unit k) u kind_u ∙ sym named ∙ same ∙ order;
       size = is.size ∙ sym is.field;
-      are_bytes = rw is.cut (IsBytes-take (length_field r) r h);
+      are_bytes = rw is.is_first (IsBytes-take (length_field r) r h);
     }
 
 -- ---- what is viewed, by its length
 
 unit_at : (r u w : List ℕ) → IsFirstUnit r u → w ≡ u → u ≡ take (length w) r
-unit_at r u w is same = is.cut ∙ ap (λ (n : ℕ). take n r) (sym is.size ∙ ap length (sym same))
+unit_at r u w is same = is.is_first ∙ ap (λ (n : ℕ). take n r) (sym is.size ∙ ap length (sym same))
 
 pub key_viewed : (r u w : List ℕ) → IsFirstUnit r u → IsWholeKey u → w ≡ u →
     (u ≡ take (length w) r) × HasFields (take (length w) r) (key_unit (key_at (take (length w) r)))

@@ -5,7 +5,7 @@ use Rattle.rtr_payload.specs.FaultSteps.{first_unit}
 
 -- u is the unit at the front of r, whole, and so its header is that of r
 pub record IsFirstUnit (r u : List ℕ) : Type 0 where
-  pub cut : u ≡ first_unit r
+  pub is_first : u ≡ first_unit r
   pub size : length u ≡ length_field r
   pub version : version_field u ≡ version_field r
   pub kind : type_field u ≡ type_field r

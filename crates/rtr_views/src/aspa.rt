@@ -11,9 +11,9 @@ ghost use Rattle.rtr_payload.specs.Units.{form_of};
 ghost use Rattle.rtr_views.specs.PrivateFirst.{IsFirstUnit};
 ghost use Rattle.rtr_views.specs.Faults.{IsFirstFault, PutsPiece, HoldsViewWriteError};
 
-use crate::cut::{first_unit, size_at};
 use crate::fault::ViewFault;
 use crate::form::put_flagged;
+use crate::front::{first_unit, size_at};
 use rtr_base::action::Action;
 use rtr_base::asn::Asn;
 use rtr_payload::pdu::Aspa;

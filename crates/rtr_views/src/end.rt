@@ -7,8 +7,8 @@ ghost use Rattle.rtr_units.specs.Header.{type_field};
 ghost use Rattle.rtr_views.specs.Faults.{IsFirstFault};
 ghost use Rattle.rtr_views.specs.PrivateFirst.{IsFirstUnit};
 
-use crate::cut::first_unit;
 use crate::fault::ViewFault;
+use crate::front::first_unit;
 use rtr_units::end::{EndOfData, EndOfDataV0, EndOfDataV1};
 use rtr_units::header::LAST_VERSION;
 use rtr_units::numbers::u32_at;

@@ -2,10 +2,10 @@
 #![tactic(auto)]
 
 pub mod aspa;
-mod cut;
 mod end;
 pub mod fault;
 mod form;
+mod front;
 pub mod laws;
 pub mod origin;
 pub mod placing;

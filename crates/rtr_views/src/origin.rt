@@ -9,9 +9,9 @@ ghost use Rattle.rtr_payload.specs.Units.{form_of};
 ghost use Rattle.rtr_views.specs.Faults.{IsFirstFault, PutsPiece, HoldsViewWriteError};
 ghost use Rattle.rtr_views.specs.Origins.{IsOriginOf, ShowsOrigin, origin_meaning};
 
-use crate::cut::first_unit;
 use crate::fault::ViewFault;
 use crate::form::put_piece;
+use crate::front::first_unit;
 use rtr_base::action::Action;
 use rtr_base::asn::Asn;
 use rtr_payload::payload::RouteOrigin;

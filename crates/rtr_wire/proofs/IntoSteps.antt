@@ -389,8 +389,10 @@ module _ (what : Output) (units left_out : ℕ) (input : List ℕ) (taken : ℕ)
       kept =
           put_is written now part ∙ ap (λ l. take written now ++ l) (same ∙ rest_is written now)
           ∙ take-append-drop written now
+
       few : length a.so_far.ms < limit
       few = omega (arith, a.so_far.counted, lt)
+
       by_fault : (f : IntoFault) →
           StopsStepInto what f (rest_of taken input) (length (rest_of written now)) →
           NormalisesInto what limit (Err f) input before

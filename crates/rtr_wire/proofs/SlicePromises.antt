@@ -112,7 +112,7 @@ slice_promised limit r input old new p = record {
   refuses = λ f e.
       over_refuses everything limit input p.taken p.written (Some p.left) old.held new.held f
       (slice_over_by limit r input old new p (wrong f) e);
-  fills = λ e.
+  at_limit = λ e.
       over_fills everything limit input p.taken p.written (Some p.left) old.held new.held
       (slice_over_by limit r input old new p too_many e);
   halted = λ e.

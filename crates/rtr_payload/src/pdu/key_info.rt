@@ -55,7 +55,7 @@ pub enum KeyInfoVecError {
     /// The vector was longer than 4294967263 bytes.
     #[error("router key size overflow")]
     Size(KeyInfoError),
-    /// A growth was refused.
+    /// An allocation was refused.
     #[error("out of memory")]
     Memory,
 }

@@ -50,7 +50,7 @@ pub enum ProviderIterError {
     /// More than 16380 items came.
     #[error("provider ASNs size overflow")]
     Count(ProviderAsnsError),
-    /// A growth was refused.
+    /// An allocation was refused.
     #[error("out of memory")]
     Memory,
 }
@@ -80,7 +80,7 @@ impl ProviderAsns {
     /// The items of the iterator, in their order. At most 16381 are asked for, and its size hint
     /// isn't.
     ///
-    /// `Count` is answered where a 16381st item came. `Memory` is answered where a growth is
+    /// `Count` is answered where a 16381st item came. `Memory` is answered where an allocation is
     /// refused: at an item, or after the last one, where the bytes are shared. How many items came
     /// before that isn't said, as no caller can see it.
     pub fn try_from_iter<I: Iterator<Item = Asn> + Drop>(

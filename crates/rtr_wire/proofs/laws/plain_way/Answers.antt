@@ -10,8 +10,8 @@ returns-clause-written c = λ u action p old new held holds read fields means wr
     unit_passed everything u (Ok passes.Written) old new held holds read fields
     (form_put everything u action p means _ _ _ refl refl refl held holds wrote)
 
-pub returns-clause-cut : goal.returns-clause-cut
-returns-clause-cut c = λ u action p fault old new held holds read fields means part.
+pub returns-clause-written_in_part : goal.returns-clause-written_in_part
+returns-clause-written_in_part c = λ u action p fault old new held holds read fields means part.
     unit_passed everything u (Err fault) old new held holds read fields
     (form_not_put everything u action p means _ _ _ refl refl refl fault held holds part)
 

@@ -26,7 +26,7 @@ returns-in-Ok-of-clause-view g c =
     (λ i. omega (arith, c.type_inv.input i)) c.requires.kind
     (sym c.u32_at.ensures ∙ c.if-u32_at-size.false ∙ c.size.ensures ∙ size)
     c.in-Ok.ensures.unit in
-    subst (IsOriginOf family c.in-Ok-of.view) c.in-Ok.ensures.unit.cut (record {
+    subst (IsOriginOf family c.in-Ok-of.view) c.in-Ok.ensures.unit.is_first (record {
       shape = shape;
       lengths = c.in-Ok-of.ensures.lengths;
       shows = c.in-Ok-of.ensures.view;

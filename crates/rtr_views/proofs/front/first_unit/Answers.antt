@@ -1,9 +1,9 @@
 use Rattle.std.proofs.Common.{◌≡◌, sym, ap, ◌∙◌, arith, take, subst}
 use Rattle.rtr_payload.specs.FaultSteps.{first_unit}
 use Rattle.rtr_payload.proofs.Rests.{eight_said}
-use Rattle.rtr_views.proofs.Fronts.{cut_first}
+use Rattle.rtr_views.proofs.Fronts.{at_front}
 use Rattle.rtr_views.specs.PrivateFirst.{IsFirstUnit}
-use Rattle.rtr_views.proofs.cut.first_unit.Goals as goal
+use Rattle.rtr_views.proofs.front.first_unit.Goals as goal
 
 pub returns-clause-unit : goal.returns-clause-unit
 returns-clause-unit c =
@@ -11,5 +11,5 @@ returns-clause-unit c =
     let is : c.split_at.result.0.now ≡ first_unit r =
     c.split_at.ensures.front ∙ ap (λ n. take n r) (sym c.requires.size) in
     subst (IsFirstUnit r) (sym is)
-    (cut_first r c.requires.header (eight_said _ _ _ _ c.requires.in_order)
+    (at_front r c.requires.header (eight_said _ _ _ _ c.requires.in_order)
     (omega (arith, c.requires.size, c.if-size-input.false)))

@@ -1,4 +1,4 @@
-//! Units cut from the front of a slice.
+//! Units at the front of a slice.
 
 ghost use Rattle.std.specs.Prelude.{◌≡◌, ◌≤◌, ◌<◌, None, length, IfOk, IfErr};
 ghost use Rattle.rtr_units.specs.Header.{length_field};
