@@ -35,7 +35,7 @@ payload_of (payloads.Origin o) = origin_of o
 payload_of (payloads.RouterKey k) = key_of k
 payload_of (payloads.Aspa a) = aspa_of a
 
--- the payload that is lent
+-- the payload that is borrowed
 abbrev pub referent : PayloadRef → Payload
 referent (lent.Origin o) = payloads.Origin o
 referent (lent.RouterKey k) = payloads.RouterKey k.now

@@ -82,8 +82,8 @@ NeedsMemory (prefix_unit u) = IsSome (rule_of (prefix_unit u))
 NeedsMemory (key_unit u) = ⊤
 NeedsMemory (aspa_unit u) = ⊤
 
--- Why the unit has no payload: its prefix breaks a rule (RFC 8210 sections 5.1, 5.6 and 5.7), of
--- which the report tells, or memory was refused (this library's own).
+-- Why the unit has no payload: its prefix breaks a rule (RFC 8210 sections 5.1, 5.6 and 5.7),
+-- which is reported, or memory was refused (this library's own).
 abbrev pub HasNoPayload : Payload → Cause → Type 0
 HasNoPayload u (wrong (refused report)) = (rule : PrefixRule) ×
     (rule_of (unit_fields u) ≡ Some rule) × (report ≡ refusal_report (unit_bytes u) rule)

@@ -178,7 +178,7 @@ impl Payload {
         Payload::Aspa(Aspa::new(customer, providers))
     }
 
-    /// The payload, lent.
+    /// The payload, borrowed.
     pub fn as_ref(&self) -> PayloadRef<'_>
         ensures { referent result ≡ self.now }
     {
@@ -267,7 +267,7 @@ impl From<Aspa> for Payload {
     }
 }
 
-/// A payload that is lent. An origin is copied.
+/// A payload that is borrowed. An origin is copied.
 #[derive(Clone, Copy, Debug)]
 pub enum PayloadRef<'a> {
     /// A route origin.

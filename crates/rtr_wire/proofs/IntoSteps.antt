@@ -187,7 +187,7 @@ further what units left_out input taken before now after written s a part did is
       );
     }
 
--- the rest of a slice, as a call is lent it
+-- the rest of a slice, as a call borrows it
 abbrev pub rest_of : ℕ → List ℕ → List ℕ
 rest_of n xs = take (length xs - n) (drop n xs)
 

@@ -41,7 +41,7 @@ pub record NormalisesInto (what : Output) (limit : ℕ) (result : Result Unit In
   pub left : List ℕ
   pub form : List ℕ
   pub parts : input ≡ viewed ++ left
-  -- That was a run. The last bytes that it viewed are the unit that a broken rule is reported of.
+  -- That was a run. The last bytes that it viewed are the unit whose broken rule is reported.
   pub last : List ℕ
   pub run : Run what limit (into_answer p.forms last result) viewed left form
   pub last_is : last ≡ run.last

@@ -44,7 +44,7 @@ pub record NormalisesSlice (limit : ℕ) (result : Result (ℕ × ℕ) ViewFault
   pub written : List ℕ
   pub parts : input ≡ taken ++ left
   pub writes : Appends old.held new.held written
-  -- That was a run. Its last bytes are the unit that a broken rule is reported of.
+  -- That was a run. Its last bytes are the unit whose broken rule is reported.
   pub last : List ℕ
   pub run : Run everything limit (slice_answer last result) taken left written
   pub last_is : last ≡ run.last

@@ -1,4 +1,4 @@
-//! Texts of payloads, one line each. Width and padding that are asked for count for nothing.
+//! Texts of payloads, one line each. Width and padding are ignored.
 
 ghost use Rattle.std.specs.Prelude.{Some};
 ghost use Rattle.rtr_payload.specs.PayloadTexts.{aspa_text, key_text, origin_text, payload_text};

@@ -129,7 +129,7 @@ impl<const FIXED: usize, B: Body<FIXED>> VariableUnit<FIXED, B> {
     /// Faults, in this order: those of the header that the unit's type names, with nothing read and
     /// no memory asked for; `Memory`, with nothing read, where there is no room for the frame that
     /// the rest is read into; `Short` or `Reader` inside the unit; `Memory`, with the whole unit
-    /// read, where the frame can't be shared. The body is cut from it.
+    /// read, where the frame can't be shared. The body is split off it.
     #[inline(always)]
     pub fn read_payload<R: Source>(
         alloc: Global,
