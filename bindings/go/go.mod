@@ -1,3 +1,3 @@
 module fishreef/rtr
 
-go 1.17
+go 1.19

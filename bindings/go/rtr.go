@@ -14,11 +14,39 @@ package rtr
 #cgo amd64 LDFLAGS: -L${SRCDIR}/../lib/x86_64 -lrtr_c
 #cgo arm64 LDFLAGS: -L${SRCDIR}/../lib/aarch64 -lrtr_c
 #include "rtr.h"
+
+// What a call answers by value, so that nothing of it has to be kept outside of the stack.
+struct shown {
+	struct rtr_unit unit;
+	uint8_t status;
+};
+
+struct written {
+	size_t size;
+	uint8_t status;
+};
+
+static struct shown next(const uint8_t *input, size_t length)
+{
+	struct shown shown;
+	shown.status = rtr_next(input, length, &shown.unit);
+	return shown;
+}
+
+static struct written write_unit(struct rtr_unit unit, const uint8_t *part, size_t part_length,
+                                 uint8_t *output, size_t output_length)
+{
+	struct written written;
+	written.status = rtr_write_unit(&unit, part, part_length, output, output_length, &written.size);
+	return written;
+}
 */
 import "C"
 
 import (
+	"encoding/binary"
 	"fmt"
+	"net/netip"
 	"unsafe"
 )
 
@@ -98,11 +126,13 @@ type Progress struct {
 	Written int    // bytes of the output that were written
 }
 
+// A place for slices without bytes.
+var nowhere byte
+
 // The address of a slice, which is never nil, and its length.
 func place(b []byte) (*C.uint8_t, C.size_t) {
 	if len(b) == 0 {
-		var none [1]byte
-		return (*C.uint8_t)(unsafe.Pointer(&none[0])), 0
+		return (*C.uint8_t)(unsafe.Pointer(&nowhere)), 0
 	}
 	return (*C.uint8_t)(unsafe.Pointer(&b[0])), C.size_t(len(b))
 }
@@ -155,22 +185,55 @@ func SameMeaning(left, right []byte, limit uint64) (bool, error) {
 	return bool(same), bareFault(status)
 }
 
-// The kinds of units.
+// Kind is the type of a unit.
+type Kind uint8
+
+// The kinds of units that Next shows and AppendBinary writes.
 const (
-	IPv4Prefix = 4
-	IPv6Prefix = 6
-	EndOfData  = 7
-	RouterKey  = 9
-	ASPA       = 11
+	IPv4Prefix Kind = 4
+	IPv6Prefix Kind = 6
+	EndOfData  Kind = 7
+	RouterKey  Kind = 9
+	ASPA       Kind = 11
 )
+
+func (k Kind) String() string {
+	switch k {
+	case IPv4Prefix:
+		return "IPv4 prefix"
+	case IPv6Prefix:
+		return "IPv6 prefix"
+	case EndOfData:
+		return "end of data"
+	case RouterKey:
+		return "router key"
+	case ASPA:
+		return "ASPA"
+	}
+	return fmt.Sprintf("type %d", uint8(k))
+}
+
+// Providers are the providers of an ASPA, four bytes each in network order, as they stand in a unit.
+type Providers []byte
+
+// Len is how many there are.
+func (p Providers) Len() int {
+	return len(p) / 4
+}
+
+// At is the i-th provider, from 0 on.
+func (p Providers) At(i int) uint32 {
+	return binary.BigEndian.Uint32(p[4*i:])
+}
 
 // Unit is a payload unit or an end of data. Fields that its kind doesn't have are zero.
 type Unit struct {
-	Kind, Version           uint8
-	Announce                bool // else the payload is withdrawn
-	PrefixLength, MaxLength uint8
-	// The address in network order, the bits after the prefix length zero; for IPv4 the first 4 bytes.
-	Address       [16]byte
+	Kind     Kind
+	Version  uint8 // of the protocol
+	Announce bool  // else the payload is withdrawn
+	// The prefix, the bits after its length zero, and the longest prefix length that is meant.
+	Prefix        netip.Prefix
+	MaxLength     uint8
 	ASN           uint32 // of a prefix or a router key
 	Customer      uint32 // of an ASPA
 	KeyIdentifier [20]byte
@@ -178,69 +241,127 @@ type Unit struct {
 	Serial        uint32
 	// In seconds; 0 in version 0.
 	Refresh, Retry, Expire uint32
-	// The key info of a router key or the providers of an ASPA, four bytes each, within the input.
-	Part []byte
+	KeyInfo                []byte    // of a router key
+	Providers              Providers // of an ASPA, on a withdrawal too
 }
 
-// Next gives the unit that input begins with, and what follows it. Only fixed fields are copied.
+// Clone is the unit with key info and providers of its own.
+func (unit *Unit) Clone() Unit {
+	copied := *unit
+	copied.KeyInfo = append([]byte(nil), unit.KeyInfo...)
+	copied.Providers = append(Providers(nil), unit.Providers...)
+	return copied
+}
+
+// Next gives the unit that input begins with, and what follows it. Key info and providers lie in input, and
+// appending to them leaves it as it is. Nothing is allocated, unless there is an error.
 //
 // Errors: Short to PrefixRule, with the whole input.
 func Next(input []byte) (Unit, []byte, error) {
-	var u C.struct_rtr_unit
 	in, n := place(input)
-	if status := C.rtr_next(in, n, &u); status != 0 {
-		return Unit{}, input, fault(status, u.detail)
+	shown := C.next(in, n)
+	if shown.status != 0 {
+		return Unit{}, input, fault(shown.status, shown.unit.detail)
 	}
+	u := &shown.unit
 	unit := Unit{
-		Kind: uint8(u.kind), Version: uint8(u.version), Announce: u.action == 1,
-		PrefixLength: uint8(u.prefix_length), MaxLength: uint8(u.max_length),
-		ASN: uint32(u.asn), Customer: uint32(u.customer), Session: uint16(u.session),
-		Serial: uint32(u.serial), Refresh: uint32(u.refresh), Retry: uint32(u.retry),
-		Expire: uint32(u.expire),
-		Part:   input[u.part_start : u.part_start+u.part_length],
+		Kind: Kind(u.kind), Version: uint8(u.version), Announce: u.action == 1,
+		MaxLength: uint8(u.max_length), ASN: uint32(u.asn), Customer: uint32(u.customer),
+		Session: uint16(u.session), Serial: uint32(u.serial), Refresh: uint32(u.refresh),
+		Retry: uint32(u.retry), Expire: uint32(u.expire),
 	}
-	for i, b := range u.address {
-		unit.Address[i] = byte(b)
-	}
-	for i, b := range u.key_identifier {
-		unit.KeyIdentifier[i] = byte(b)
+	end := u.part_start + u.part_length
+	part := input[u.part_start:end:end]
+	switch unit.Kind {
+	case IPv4Prefix:
+		unit.Prefix = prefix(netip.AddrFrom4(*(*[4]byte)(unsafe.Pointer(&u.address))), u)
+	case IPv6Prefix:
+		unit.Prefix = prefix(netip.AddrFrom16(*(*[16]byte)(unsafe.Pointer(&u.address))), u)
+	case RouterKey:
+		unit.KeyIdentifier = *(*[20]byte)(unsafe.Pointer(&u.key_identifier))
+		unit.KeyInfo = part
+	case ASPA:
+		unit.Providers = Providers(part)
 	}
 	return unit, input[u.size:], nil
 }
 
-// Write writes the written form of the unit to the front of output, and gives its length in bytes, at most
-// 65535. The bits of an address after the prefix length are cleared, a withdrawn ASPA is written without
-// providers, and an end of data of version 0 without timings. If there is an error, nothing is written and
-// its Detail is 0.
+func prefix(address netip.Addr, u *C.struct_rtr_unit) netip.Prefix {
+	return netip.PrefixFrom(address, int(u.prefix_length))
+}
+
+// MarshalBinary is the written form of the unit; the errors are those of AppendBinary.
+func (unit *Unit) MarshalBinary() ([]byte, error) {
+	return unit.AppendBinary(nil)
+}
+
+// AppendBinary appends the written form of the unit to b, at most 65535 bytes. The bits of an address after
+// the prefix length are cleared, a withdrawn ASPA is written without providers, and an end of data of
+// version 0 without timings. Where b has room for 32 bytes and the key info or the providers, nothing is
+// allocated. If there is an error, nothing is appended and its Detail is 0.
 //
-// Errors, in this order: UnitType; NoForm for an end of data with Announce; PrefixRule; TooLong for more
-// than 65503 bytes of key info or, announced, 65520 of providers; UnitLength for announced providers that
-// aren't 4 bytes each; EmptyProviders if there are none; UnitVersion for an end of data of a version
-// above 2; NoRoom.
-func (unit *Unit) Write(output []byte) (int, error) {
+// Errors, in this order: UnitType; NoForm for an end of data with Announce, and for a prefix that isn't
+// valid or isn't of the kind's family; PrefixRule for the max length; TooLong for more than 65503 bytes of
+// key info or, announced, 65520 of providers; UnitLength for announced providers that aren't 4 bytes each;
+// EmptyProviders if there are none; UnitVersion for an end of data of a version above 2.
+func (unit *Unit) AppendBinary(b []byte) ([]byte, error) {
+	part := unit.part()
+	room := fixed + len(part)
+	if room > longest {
+		room = longest
+	}
+	if cap(b)-len(b) < room {
+		b = append(b, make([]byte, room)...)[:len(b)]
+	}
+	in, n := place(part)
+	out, _ := place(b[len(b) : len(b)+room])
+	written := C.write_unit(unit.said(C.size_t(len(part))), in, n, out, C.size_t(room))
+	if written.status != 0 {
+		return b, bareFault(written.status)
+	}
+	return b[:len(b)+int(written.size)], nil
+}
+
+// Sizes in bytes: of the fixed fields of a unit at most, and of a unit that is read or written.
+const (
+	fixed   = 32
+	longest = 65535
+)
+
+// The key info of a router key, or the providers of an ASPA.
+func (unit *Unit) part() []byte {
+	switch unit.Kind {
+	case RouterKey:
+		return unit.KeyInfo
+	case ASPA:
+		return unit.Providers
+	}
+	return nil
+}
+
+// The unit for C. A prefix that isn't valid is of no family.
+func (unit *Unit) said(partLength C.size_t) C.struct_rtr_unit {
 	u := C.struct_rtr_unit{
-		part_length: C.size_t(len(unit.Part)), asn: C.uint32_t(unit.ASN),
+		part_length: partLength, asn: C.uint32_t(unit.ASN),
 		customer: C.uint32_t(unit.Customer), serial: C.uint32_t(unit.Serial),
 		refresh: C.uint32_t(unit.Refresh), retry: C.uint32_t(unit.Retry),
 		expire: C.uint32_t(unit.Expire), session: C.uint16_t(unit.Session),
 		kind: C.uint8_t(unit.Kind), version: C.uint8_t(unit.Version),
-		prefix_length: C.uint8_t(unit.PrefixLength), max_length: C.uint8_t(unit.MaxLength),
+		max_length: C.uint8_t(unit.MaxLength),
 	}
 	if unit.Announce {
 		u.action = 1
 	}
-	if unit.Kind == IPv4Prefix || unit.Kind == IPv6Prefix {
-		u.family = C.uint8_t(unit.Kind)
+	if unit.Prefix.IsValid() {
+		u.prefix_length = C.uint8_t(unit.Prefix.Bits())
+		if address := unit.Prefix.Addr(); address.Is4() {
+			u.family = 4
+			*(*[4]byte)(unsafe.Pointer(&u.address)) = address.As4()
+		} else {
+			u.family = 6
+			*(*[16]byte)(unsafe.Pointer(&u.address)) = address.As16()
+		}
 	}
-	for i, b := range unit.Address {
-		u.address[i] = C.uint8_t(b)
-	}
-	for i, b := range unit.KeyIdentifier {
-		u.key_identifier[i] = C.uint8_t(b)
-	}
-	var written C.size_t
-	in, n := place(unit.Part)
-	out, room := place(output)
-	status := C.rtr_write_unit(&u, in, n, out, room, &written)
-	return int(written), bareFault(status)
+	*(*[20]byte)(unsafe.Pointer(&u.key_identifier)) = unit.KeyIdentifier
+	return u
 }

@@ -5,7 +5,9 @@ import (
 	"encoding/binary"
 	"errors"
 	"fmt"
+	"net/netip"
 	"os"
+	"reflect"
 	"sync"
 	"testing"
 )
@@ -191,8 +193,8 @@ func TestVersions(t *testing.T) {
 			t.Fatalf("%d: %v %v", version, progress, err)
 		}
 		unit := Unit{Kind: EndOfData, Version: uint8(version)}
-		if size, err := unit.Write(output); size != 0 || !errors.Is(err, UnitVersion) {
-			t.Fatalf("%d: %d %v", version, size, err)
+		if form, err := unit.MarshalBinary(); len(form) != 0 || !errors.Is(err, UnitVersion) {
+			t.Fatalf("%d: %x %v", version, form, err)
 		}
 	}
 	if !bytes.Equal(output, make([]byte, len(output))) {
@@ -200,38 +202,191 @@ func TestVersions(t *testing.T) {
 	}
 }
 
-// What has no form is refused, and nothing is written.
+// What has no form is refused, and nothing is appended.
 func TestNoForm(t *testing.T) {
-	output := make([]byte, 70000)
 	for _, one := range []struct {
 		unit   Unit
 		status Status
-		room   int
 	}{
-		{Unit{}, UnitType, 70000},
-		{Unit{Kind: 5}, UnitType, 70000},
-		{Unit{Kind: EndOfData, Version: 1, Announce: true}, NoForm, 70000},
-		{Unit{Kind: IPv4Prefix, PrefixLength: 33, MaxLength: 33}, PrefixRule, 70000},
-		{Unit{Kind: IPv6Prefix, PrefixLength: 9, MaxLength: 8}, PrefixRule, 70000},
-		{Unit{Kind: RouterKey, Part: make([]byte, 65504)}, TooLong, 70000},
-		{Unit{Kind: ASPA, Announce: true, Part: make([]byte, 65524)}, TooLong, 70000},
-		{Unit{Kind: ASPA, Announce: true, Part: make([]byte, 6)}, UnitLength, 70000},
-		{Unit{Kind: ASPA, Announce: true}, EmptyProviders, 70000},
-		{Unit{Kind: EndOfData, Version: 3}, UnitVersion, 70000},
-		{Unit{Kind: IPv4Prefix}, NoRoom, 19},
-		{Unit{Kind: IPv6Prefix}, NoRoom, 31},
-		{Unit{Kind: RouterKey}, NoRoom, 31},
-		{Unit{Kind: ASPA}, NoRoom, 11},
-		{Unit{Kind: EndOfData}, NoRoom, 0},
-		{Unit{Kind: EndOfData, Version: 1}, NoRoom, 23},
+		{Unit{}, UnitType},
+		{Unit{Kind: 5}, UnitType},
+		{Unit{Kind: EndOfData, Version: 1, Announce: true}, NoForm},
+		{Unit{Kind: IPv4Prefix}, NoForm},
+		{Unit{Kind: IPv6Prefix}, NoForm},
+		{Unit{Kind: IPv4Prefix, Prefix: netip.MustParsePrefix("2001:db8::/32"), MaxLength: 32}, NoForm},
+		{Unit{Kind: IPv4Prefix, Prefix: netip.MustParsePrefix("::ffff:192.0.2.0/120"), MaxLength: 120}, NoForm},
+		{Unit{Kind: IPv6Prefix, Prefix: netip.MustParsePrefix("192.0.2.0/24"), MaxLength: 24}, NoForm},
+		{Unit{Kind: IPv4Prefix, Prefix: netip.MustParsePrefix("192.0.2.0/24"), MaxLength: 33}, PrefixRule},
+		{Unit{Kind: IPv6Prefix, Prefix: netip.MustParsePrefix("2001::/9"), MaxLength: 8}, PrefixRule},
+		{Unit{Kind: RouterKey, KeyInfo: make([]byte, 65504)}, TooLong},
+		{Unit{Kind: RouterKey, KeyInfo: make([]byte, 1<<20)}, TooLong},
+		{Unit{Kind: ASPA, Announce: true, Providers: make([]byte, 65524)}, TooLong},
+		{Unit{Kind: ASPA, Announce: true, Providers: make([]byte, 6)}, UnitLength},
+		{Unit{Kind: ASPA, Announce: true}, EmptyProviders},
+		{Unit{Kind: EndOfData, Version: 3}, UnitVersion},
 	} {
-		size, err := one.unit.Write(output[:one.room])
-		if size != 0 || !errors.Is(err, one.status) {
-			t.Fatalf("%v: %d %v", one.unit.Kind, size, err)
+		form, err := one.unit.AppendBinary([]byte("front"))
+		if string(form) != "front" || !errors.Is(err, one.status) {
+			t.Fatalf("%v: %x %v", one.unit.Kind, form, err)
+		}
+		form, err = one.unit.AppendBinary(make([]byte, 0, 1<<17))
+		if len(form) != 0 || !bytes.Equal(form[:cap(form)], make([]byte, 1<<17)) {
+			t.Fatalf("%v: something was written: %v", one.unit.Kind, err)
 		}
 	}
-	if !bytes.Equal(output, make([]byte, len(output))) {
-		t.Fatal("something was written")
+}
+
+// The longest router key and the longest ASPA.
+func TestLongest(t *testing.T) {
+	for _, one := range []struct {
+		unit Unit
+		size int
+	}{
+		{Unit{Kind: RouterKey, Version: 1, Announce: true, KeyInfo: make([]byte, 65503)}, 65535},
+		{Unit{Kind: ASPA, Version: 2, Announce: true, Providers: make([]byte, 65520)}, 65532},
+	} {
+		form, err := one.unit.MarshalBinary()
+		if err != nil || len(form) != one.size {
+			t.Fatalf("%v: %d bytes, %v", one.unit.Kind, len(form), err)
+		}
+		shown, rest, err := Next(form)
+		if err != nil || len(rest) != 0 || !reflect.DeepEqual(shown, one.unit) {
+			t.Fatalf("%v: %v", one.unit.Kind, err)
+		}
+	}
+}
+
+// Units of each kind, by RFC 8210 sections 5.6 to 5.8 and 5.10.
+var (
+	ipv4 = []byte{1, 4, 0, 0, 0, 0, 0, 20, 1, 23, 26, 0, 192, 0, 2, 0, 0, 1, 0, 15}
+	ipv6 = []byte{
+		1, 6, 0, 0, 0, 0, 0, 32, 0, 32, 48, 0,
+		0x20, 1, 0x0d, 0xb8, 0, 0, 0, 0, 0, 0, 0, 0, 0, 0, 0, 0, 0, 1, 0, 15,
+	}
+	key = []byte{
+		1, 9, 1, 0, 0, 0, 0, 34, 1, 2, 3, 4, 5, 6, 7, 8, 9, 10,
+		11, 12, 13, 14, 15, 16, 17, 18, 19, 20, 0, 1, 0, 15, 0xca, 0xfe,
+	}
+	aspa = []byte{2, 11, 1, 0, 0, 0, 0, 20, 0, 0, 0xfd, 0xe8, 0, 0, 0xfd, 0xe9, 0, 1, 0, 15}
+)
+
+// What Next shows, and that AppendBinary writes it back after what was there.
+func TestFields(t *testing.T) {
+	identifier := [20]byte{1, 2, 3, 4, 5, 6, 7, 8, 9, 10, 11, 12, 13, 14, 15, 16, 17, 18, 19, 20}
+	for _, one := range []struct {
+		bytes []byte
+		unit  Unit
+	}{
+		{ipv4, Unit{
+			Kind: IPv4Prefix, Version: 1, Announce: true, ASN: 65551,
+			Prefix: netip.MustParsePrefix("192.0.2.0/23"), MaxLength: 26,
+		}},
+		{ipv6, Unit{
+			Kind: IPv6Prefix, Version: 1, ASN: 65551,
+			Prefix: netip.MustParsePrefix("2001:db8::/32"), MaxLength: 48,
+		}},
+		{key, Unit{
+			Kind: RouterKey, Version: 1, Announce: true, ASN: 65551, KeyIdentifier: identifier,
+			KeyInfo: []byte{0xca, 0xfe},
+		}},
+		{aspa, Unit{
+			Kind: ASPA, Version: 2, Announce: true, Customer: 65000,
+			Providers: Providers{0, 0, 0xfd, 0xe9, 0, 1, 0, 15},
+		}},
+		{end, Unit{
+			Kind: EndOfData, Version: 1, Session: 0x1234, Serial: 0xdeadbeef,
+			Refresh: 3600, Retry: 600, Expire: 7200,
+		}},
+	} {
+		unit, rest, err := Next(append(one.bytes[:len(one.bytes):len(one.bytes)], 7))
+		if err != nil || !reflect.DeepEqual(unit, one.unit) || !bytes.Equal(rest, []byte{7}) {
+			t.Fatalf("%x: %+v %x %v", one.bytes, unit, rest, err)
+		}
+		form, err := unit.AppendBinary([]byte("front"))
+		if err != nil || !bytes.Equal(form, append([]byte("front"), one.bytes...)) {
+			t.Fatalf("%x: %x %v", one.bytes, form, err)
+		}
+	}
+	unit, _, err := Next(aspa)
+	if err != nil || unit.Providers.Len() != 2 || unit.Providers.At(0) != 65001 || unit.Providers.At(1) != 65551 {
+		t.Fatalf("%v %v", unit.Providers, err)
+	}
+}
+
+// Appending to a part of a unit doesn't write into the input, and a clone doesn't change with it.
+func TestParts(t *testing.T) {
+	for _, unit := range [][]byte{key, aspa} {
+		input := append(append([]byte(nil), unit...), 7)
+		shown, _, err := Next(input)
+		if err != nil {
+			t.Fatal(err)
+		}
+		clone := shown.Clone()
+		_ = append(shown.part(), 8)
+		if input[len(unit)] != 7 {
+			t.Fatalf("%v: the input was changed", shown.Kind)
+		}
+		input[len(unit)-1]++
+		if bytes.Equal(shown.part(), clone.part()) || clone.Kind != shown.Kind {
+			t.Fatalf("%v: the clone has the bytes of the input", shown.Kind)
+		}
+	}
+}
+
+// Nothing is allocated for a unit.
+func TestAllocations(t *testing.T) {
+	output := make([]byte, 0, 100)
+	for _, input := range [][]byte{ipv4, ipv6, key, aspa, end} {
+		count := testing.AllocsPerRun(100, func() {
+			unit, _, err := Next(input)
+			if err != nil {
+				t.Fatal(err)
+			}
+			if output, err = unit.AppendBinary(output[:0]); err != nil {
+				t.Fatal(err)
+			}
+		})
+		if count != 0 {
+			t.Fatalf("%x: %v allocations", input, count)
+		}
+	}
+}
+
+func BenchmarkNext(b *testing.B) {
+	b.ReportAllocs()
+	for i := 0; i < b.N; i++ {
+		if _, _, err := Next(ipv4); err != nil {
+			b.Fatal(err)
+		}
+	}
+}
+
+func BenchmarkAppendBinary(b *testing.B) {
+	b.ReportAllocs()
+	unit, _, err := Next(ipv4)
+	if err != nil {
+		b.Fatal(err)
+	}
+	output := make([]byte, 0, 100)
+	for i := 0; i < b.N; i++ {
+		if output, err = unit.AppendBinary(output[:0]); err != nil {
+			b.Fatal(err)
+		}
+	}
+}
+
+func TestKinds(t *testing.T) {
+	for kind, text := range map[Kind]string{
+		IPv4Prefix: "IPv4 prefix",
+		IPv6Prefix: "IPv6 prefix",
+		EndOfData:  "end of data",
+		RouterKey:  "router key",
+		ASPA:       "ASPA",
+		5:          "type 5",
+	} {
+		if kind.String() != text {
+			t.Fatalf("%d: %v", uint8(kind), kind)
+		}
 	}
 }
 
@@ -260,7 +415,6 @@ func TestStatus(t *testing.T) {
 }
 
 func TestUnits(t *testing.T) {
-	output := make([]byte, 65535)
 	for _, one := range cases(t) {
 		if one.version != 255 {
 			continue
@@ -273,11 +427,10 @@ func TestUnits(t *testing.T) {
 			if unit, rest, err = Next(rest); err != nil {
 				break
 			}
-			size, err := unit.Write(output)
-			if err != nil {
-				t.Fatalf("%x: %v", one.input, err)
+			var refused error
+			if form, refused = unit.AppendBinary(form); refused != nil {
+				t.Fatalf("%x: %v", one.input, refused)
 			}
-			form = append(form, output[:size]...)
 		}
 		status, detail := told(err)
 		if status != one.status || detail != one.detail || !bytes.Equal(form, one.form) {

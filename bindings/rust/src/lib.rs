@@ -2,7 +2,7 @@
 //! proved library `rtr_c`.
 //!
 //! What the archive's functions promise is proved; this wrapper and its declarations are not.
-#![deny(unsafe_op_in_unsafe_fn)]
+#![deny(missing_docs, unsafe_op_in_unsafe_fn)]
 
 mod sys;
 
@@ -11,6 +11,7 @@ use std::net::{IpAddr, Ipv4Addr, Ipv6Addr};
 
 /// Why a call failed, in the order in which the faults of a unit are checked.
 #[derive(Clone, Copy, Debug, PartialEq, Eq)]
+#[non_exhaustive]
 pub enum Fault {
     /// The input ends inside a unit, or before one.
     Short,
@@ -34,6 +35,8 @@ pub enum Fault {
     NoForm,
     /// Out of memory.
     Memory,
+    /// A status that this version of the wrapper doesn't know.
+    Unknown(u8),
 }
 
 /// The part of the rule on the lengths of a prefix that is broken.
@@ -65,7 +68,8 @@ impl Fault {
             8 => Fault::TooMany,
             9 => Fault::NoRoom,
             10 => Fault::NoForm,
-            _ => Fault::Memory,
+            11 => Fault::Memory,
+            status => Fault::Unknown(status),
         }
     }
 }
@@ -84,6 +88,7 @@ impl fmt::Display for Fault {
             Fault::NoRoom => f.write_str("no room in the output"),
             Fault::NoForm => f.write_str("no unit has these fields"),
             Fault::Memory => f.write_str("out of memory"),
+            Fault::Unknown(status) => write!(f, "unknown status {status}"),
         }
     }
 }
@@ -172,41 +177,89 @@ pub fn same_meaning(left: &[u8], right: &[u8], limit: u64) -> Result<bool, Fault
 /// The refresh, retry and expire intervals of an end of data, in seconds.
 #[derive(Clone, Copy, Debug, PartialEq, Eq)]
 pub struct Timing {
+    /// How long a router waits before it asks again.
     pub refresh: u32,
+    /// How long it waits after a query that failed.
     pub retry: u32,
+    /// How long it keeps data that it can't refresh.
     pub expire: u32,
+}
+
+/// The providers of an ASPA, as they stand in a unit: four bytes each, in network order.
+#[derive(Clone, Copy, Debug, PartialEq, Eq, Hash)]
+pub struct Providers<'a>(pub &'a [u8]);
+
+impl<'a> Providers<'a> {
+    /// The providers as numbers, in their order.
+    pub fn iter(&self) -> impl ExactSizeIterator<Item = u32> + DoubleEndedIterator + 'a {
+        self.0
+            .chunks_exact(4)
+            .map(|bytes| u32::from_be_bytes([bytes[0], bytes[1], bytes[2], bytes[3]]))
+    }
+}
+
+/// A route origin (RFC 8210 sections 5.6 and 5.7).
+#[derive(Clone, Copy, Debug, PartialEq, Eq)]
+pub struct Origin {
+    /// Whether it is announced; else it is withdrawn.
+    pub announce: bool,
+    /// The address of the prefix, as it is read with the bits after the prefix length zero.
+    pub address: IpAddr,
+    /// The length of the prefix.
+    pub length: u8,
+    /// The longest prefix length that is meant.
+    pub max_length: u8,
+    /// The autonomous system that may announce the prefix.
+    pub asn: u32,
+}
+
+/// A router key (RFC 8210 section 5.10).
+#[derive(Clone, Copy, Debug, PartialEq, Eq)]
+pub struct RouterKey<'a> {
+    /// Whether it is announced; else it is withdrawn.
+    pub announce: bool,
+    /// The subject key identifier.
+    pub identifier: [u8; 20],
+    /// The autonomous system that the key belongs to.
+    pub asn: u32,
+    /// The key info, at most 65503 bytes.
+    pub key_info: &'a [u8],
+}
+
+/// An ASPA (as in the Rust crate `rpki`).
+#[derive(Clone, Copy, Debug, PartialEq, Eq)]
+pub struct Aspa<'a> {
+    /// Whether it is announced; else it is withdrawn.
+    pub announce: bool,
+    /// The autonomous system whose providers these are.
+    pub customer: u32,
+    /// The providers, on a withdrawal too where the input has some.
+    pub providers: Providers<'a>,
+}
+
+/// An end of data (RFC 6810 and RFC 8210 section 5.8).
+#[derive(Clone, Copy, Debug, PartialEq, Eq)]
+pub struct EndOfData {
+    /// The session of the cache.
+    pub session: u16,
+    /// The serial number of the data.
+    pub serial: u32,
+    /// The intervals, which version 0 doesn't have.
+    pub timing: Option<Timing>,
 }
 
 /// What a unit says. Key info and providers are borrowed from the input.
 #[derive(Clone, Copy, Debug, PartialEq, Eq)]
+#[non_exhaustive]
 pub enum Content<'a> {
-    /// A route origin (RFC 8210 sections 5.6 and 5.7), its address with the host bits cleared.
-    Origin {
-        announce: bool,
-        address: IpAddr,
-        length: u8,
-        max_length: u8,
-        asn: u32,
-    },
-    /// A router key (RFC 8210 section 5.10).
-    RouterKey {
-        announce: bool,
-        identifier: [u8; 20],
-        asn: u32,
-        key_info: &'a [u8],
-    },
-    /// An ASPA. The providers are as in the input, four bytes each, on a withdrawal too.
-    Aspa {
-        announce: bool,
-        customer: u32,
-        providers: &'a [u8],
-    },
-    /// An end of data (RFC 6810 and RFC 8210 section 5.8), in version 0 without timings.
-    EndOfData {
-        session: u16,
-        serial: u32,
-        timing: Option<Timing>,
-    },
+    /// A route origin.
+    Origin(Origin),
+    /// A router key.
+    RouterKey(RouterKey<'a>),
+    /// An ASPA.
+    Aspa(Aspa<'a>),
+    /// An end of data.
+    EndOfData(EndOfData),
 }
 
 /// A payload unit or an end of data.
@@ -249,71 +302,79 @@ impl<'a> Unit<'a> {
 
     /// The unit in numbers, and its key info or providers.
     fn said(&self) -> (sys::Unit, &'a [u8]) {
-        let mut said = sys::Unit {
-            version: self.version,
-            ..sys::Unit::default()
+        let (said, part) = match self.content {
+            Content::Origin(origin) => (origin.said(), &[][..]),
+            Content::RouterKey(key) => (key.said(), key.key_info),
+            Content::Aspa(aspa) => (aspa.said(), aspa.providers.0),
+            Content::EndOfData(end) => (end.said(), &[][..]),
         };
-        let mut part: &[u8] = &[];
-        match self.content {
-            Content::Origin {
-                announce,
-                address,
-                length,
-                max_length,
-                asn,
-            } => {
-                said.action = announce.into();
-                said.prefix_length = length;
-                said.max_length = max_length;
-                said.asn = asn;
-                match address {
-                    IpAddr::V4(v4) => {
-                        (said.kind, said.family) = (IPV4_PREFIX, 4);
-                        said.address[..4].copy_from_slice(&v4.octets());
-                    }
-                    IpAddr::V6(v6) => {
-                        (said.kind, said.family) = (IPV6_PREFIX, 6);
-                        said.address = v6.octets();
-                    }
-                }
-            }
-            Content::RouterKey {
-                announce,
-                identifier,
-                asn,
-                key_info,
-            } => {
-                said.kind = ROUTER_KEY;
-                said.action = announce.into();
-                said.key_identifier = identifier;
-                said.asn = asn;
-                part = key_info;
-            }
-            Content::Aspa {
-                announce,
-                customer,
-                providers,
-            } => {
-                said.kind = ASPA;
-                said.action = announce.into();
-                said.customer = customer;
-                part = providers;
-            }
-            Content::EndOfData {
-                session,
-                serial,
-                timing,
-            } => {
-                let timing = timing.unwrap_or(RECOMMENDED);
-                said.kind = END_OF_DATA;
-                said.session = session;
-                said.serial = serial;
-                (said.refresh, said.retry, said.expire) =
-                    (timing.refresh, timing.retry, timing.expire);
-            }
-        }
-        said.part_length = part.len();
+        let said = sys::Unit {
+            version: self.version,
+            part_length: part.len(),
+            ..said
+        };
         (said, part)
+    }
+}
+
+impl Origin {
+    fn said(&self) -> sys::Unit {
+        let (kind, family, address) = match self.address {
+            IpAddr::V4(v4) => {
+                let mut address = [0; 16];
+                address[..4].copy_from_slice(&v4.octets());
+                (IPV4_PREFIX, 4, address)
+            }
+            IpAddr::V6(v6) => (IPV6_PREFIX, 6, v6.octets()),
+        };
+        sys::Unit {
+            kind,
+            family,
+            address,
+            action: self.announce.into(),
+            prefix_length: self.length,
+            max_length: self.max_length,
+            asn: self.asn,
+            ..sys::Unit::default()
+        }
+    }
+}
+
+impl RouterKey<'_> {
+    fn said(&self) -> sys::Unit {
+        sys::Unit {
+            kind: ROUTER_KEY,
+            action: self.announce.into(),
+            key_identifier: self.identifier,
+            asn: self.asn,
+            ..sys::Unit::default()
+        }
+    }
+}
+
+impl Aspa<'_> {
+    fn said(&self) -> sys::Unit {
+        sys::Unit {
+            kind: ASPA,
+            action: self.announce.into(),
+            customer: self.customer,
+            ..sys::Unit::default()
+        }
+    }
+}
+
+impl EndOfData {
+    fn said(&self) -> sys::Unit {
+        let timing = self.timing.unwrap_or(RECOMMENDED);
+        sys::Unit {
+            kind: END_OF_DATA,
+            session: self.session,
+            serial: self.serial,
+            refresh: timing.refresh,
+            retry: timing.retry,
+            expire: timing.expire,
+            ..sys::Unit::default()
+        }
     }
 }
 
@@ -337,18 +398,18 @@ impl<'a> Content<'a> {
         let announce = shown.action == 1;
         let part = &bytes[shown.part_start..shown.part_start + shown.part_length];
         match shown.kind {
-            ROUTER_KEY => Content::RouterKey {
+            ROUTER_KEY => Content::RouterKey(RouterKey {
                 announce,
                 identifier: shown.key_identifier,
                 asn: shown.asn,
                 key_info: part,
-            },
-            ASPA => Content::Aspa {
+            }),
+            ASPA => Content::Aspa(Aspa {
                 announce,
                 customer: shown.customer,
-                providers: part,
-            },
-            END_OF_DATA => Content::EndOfData {
+                providers: Providers(part),
+            }),
+            END_OF_DATA => Content::EndOfData(EndOfData {
                 session: shown.session,
                 serial: shown.serial,
                 timing: (shown.version > 0).then_some(Timing {
@@ -356,20 +417,25 @@ impl<'a> Content<'a> {
                     retry: shown.retry,
                     expire: shown.expire,
                 }),
-            },
-            _ => {
-                let [a, b, c, d, ..] = shown.address;
-                Content::Origin {
-                    announce,
-                    address: match shown.family {
-                        4 => Ipv4Addr::new(a, b, c, d).into(),
-                        _ => Ipv6Addr::from(shown.address).into(),
-                    },
-                    length: shown.prefix_length,
-                    max_length: shown.max_length,
-                    asn: shown.asn,
-                }
-            }
+            }),
+            _ => Content::Origin(Origin {
+                announce,
+                address: shown.ip_address(),
+                length: shown.prefix_length,
+                max_length: shown.max_length,
+                asn: shown.asn,
+            }),
+        }
+    }
+}
+
+impl sys::Unit {
+    /// The address of a prefix.
+    fn ip_address(&self) -> IpAddr {
+        let [a, b, c, d, ..] = self.address;
+        match self.family {
+            4 => Ipv4Addr::new(a, b, c, d).into(),
+            _ => Ipv6Addr::from(self.address).into(),
         }
     }
 }
@@ -406,7 +472,7 @@ impl<'a> Iterator for Units<'a> {
         }
         let first = Unit::first(self.rest);
         self.ended = match &first {
-            Ok((unit, _)) => matches!(unit.content, Content::EndOfData { .. }),
+            Ok((unit, _)) => matches!(unit.content, Content::EndOfData(_)),
             Err(_) => true,
         };
         Some(first.map(|(unit, rest)| {

@@ -238,6 +238,14 @@ mod tests {
         assert_eq!(write(&unit, &[], &mut [0; 40]), Err(Fault::NoForm));
     }
 
+    /// A status that isn't known isn't said to be another.
+    #[test]
+    fn unknown_status() {
+        assert_eq!(Fault::of(11, 0), Fault::Memory);
+        assert_eq!(Fault::of(12, 0), Fault::Unknown(12));
+        assert_eq!(Fault::of(12, 0).to_string(), "unknown status 12");
+    }
+
     /// The layout that `crates/rtr_c` states, if a `usize` has eight bytes.
     #[test]
     #[cfg(target_pointer_width = "64")]

@@ -2,8 +2,8 @@
 //! the wrapper adds. Without that file, tests that need it are ignored.
 
 use rtr_wire::{
-    normalise, normalise_for, same_meaning, Content, Fault, PrefixRule, Progress, Stopped, Unit,
-    Units,
+    normalise, normalise_for, same_meaning, Aspa, Content, EndOfData, Fault, Origin, PrefixRule,
+    Progress, Providers, RouterKey, Stopped, Unit, Units,
 };
 use std::net::Ipv4Addr;
 
@@ -64,6 +64,7 @@ fn numbers(fault: Fault) -> (u8, u8) {
         Fault::NoRoom => (9, 0),
         Fault::NoForm => (10, 0),
         Fault::Memory => (11, 0),
+        fault => panic!("{fault}"),
     }
 }
 
@@ -221,13 +222,13 @@ fn meanings() {
 fn what_has_no_form() {
     let origin = |length, max_length| Unit {
         version: 1,
-        content: Content::Origin {
+        content: Content::Origin(Origin {
             announce: true,
             address: Ipv4Addr::new(192, 0, 2, 10).into(),
             length,
             max_length,
             asn: 65551,
-        },
+        }),
     };
     let mut output = [0; 20];
     assert_eq!(
@@ -264,11 +265,11 @@ fn versions_that_there_are_not() {
         assert_eq!(normalise_for(&end, &mut output, 1, version), Err(refused));
         let unit = Unit {
             version,
-            content: Content::EndOfData {
+            content: Content::EndOfData(EndOfData {
                 session: 1,
                 serial: 2,
                 timing: None,
-            },
+            }),
         };
         assert_eq!(unit.write(&mut output), Err(Fault::UnitVersion(version)));
     }
@@ -281,20 +282,20 @@ fn parts_that_have_no_form() {
     let bytes = [0; 65524];
     let key = |length| Unit {
         version: 1,
-        content: Content::RouterKey {
+        content: Content::RouterKey(RouterKey {
             announce: true,
             identifier: [0; 20],
             asn: 65551,
             key_info: &bytes[..length],
-        },
+        }),
     };
     let aspa = |length| Unit {
         version: 2,
-        content: Content::Aspa {
+        content: Content::Aspa(Aspa {
             announce: true,
             customer: 65551,
-            providers: &bytes[..length],
-        },
+            providers: Providers(&bytes[..length]),
+        }),
     };
     let mut output = [0xa5; 65535];
     assert_eq!(key(65504).write(&mut output), Err(Fault::TooLong));
@@ -313,11 +314,11 @@ fn parts_that_have_no_form() {
 fn timings_that_are_not_said() {
     let end = |version| Unit {
         version,
-        content: Content::EndOfData {
+        content: Content::EndOfData(EndOfData {
             session: 0x1234,
             serial: 0xdead_beef,
             timing: None,
-        },
+        }),
     };
     let mut output = [0; 24];
     assert_eq!(end(0).write(&mut output), Ok(12));
@@ -326,6 +327,28 @@ fn timings_that_are_not_said() {
         1, 7, 0x12, 0x34, 0, 0, 0, 24, 0xde, 0xad, 0xbe, 0xef, 0, 0, 0x0e, 0x10, 0, 0, 0x02, 0x58,
         0, 0, 0x1c, 0x20,
     ];
+    assert_eq!(output, form);
+}
+
+/// What is shown of an ASPA with two providers.
+#[test]
+fn providers() {
+    let form = [
+        2, 11, 1, 0, 0, 0, 0, 20, 0, 0, 0xfd, 0xe8, 0, 0, 0xfd, 0xe9, 0, 1, 0, 15,
+    ];
+    let (unit, rest) = Unit::first(&form).expect("the unit is accepted");
+    let Content::Aspa(aspa) = unit.content else {
+        panic!("{unit:?}");
+    };
+    assert_eq!(
+        (unit.version, aspa.announce, aspa.customer),
+        (2, true, 65000)
+    );
+    assert!(aspa.providers.iter().eq([65001, 65551]));
+    assert_eq!(aspa.providers.iter().len(), 2);
+    assert!(rest.is_empty());
+    let mut output = [0; 20];
+    assert_eq!(unit.write(&mut output), Ok(20));
     assert_eq!(output, form);
 }
 

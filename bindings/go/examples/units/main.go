@@ -20,7 +20,7 @@ func main() {
 		if unit, rest, err = rtr.Next(rest); err != nil {
 			log.Fatal(err)
 		}
-		fmt.Printf("type %d, AS %d\n", unit.Kind, unit.ASN)
+		fmt.Printf("%v, AS %d\n", unit.Kind, unit.ASN)
 	}
 	form := make([]byte, len(input))
 	progress, err := rtr.Normalise(input, form, 1<<32)
