@@ -3,6 +3,7 @@
 use crate::answer::Answer;
 use crate::fixed::{header, tell_taken, told_put};
 use crate::row::{Row, Way};
+use rtr_session::length::unit_length;
 use rtr_session::{AnyUnit, Report};
 use rtr_tests::support::Recorder;
 use rtr_wire::pdu::{Counted, Fault, Payload, SliceSource};
@@ -13,6 +14,7 @@ pub fn answer(row: &Row<'_>, way: Way) -> Option<Answer> {
         "AnyUnit::read" => Some(read_any(row, way)),
         "AnyUnit::read_payload" => Some(read_any_after(row, way)),
         "AnyUnit::write" => Some(write_any(row, way)),
+        "unit_length" => Some(length(row)),
         "Report::read" => Some(read_report(row, way)),
         "Report::read_payload" => Some(read_report_after(row, way)),
         "Report::write" => Some(write_report(row, way)),
@@ -135,4 +137,17 @@ fn write_report(row: &Row<'_>, way: Way) -> Answer {
     row.ready();
     let answer = report.write(&mut writer);
     told_put(row, &answer, &writer.into_inner())
+}
+
+/// `unit_length`: none, or the length, or the fault of the header.
+fn length(row: &Row<'_>) -> Answer {
+    row.ready();
+    let answer = unit_length(&row.left);
+    let mut seen = row.answer();
+    match &answer {
+        Ok(Some(size)) => seen.word(size),
+        Ok(None) => seen.word("None"),
+        Err(fault) => seen.view_fault(fault),
+    }
+    seen
 }

@@ -1,5 +1,6 @@
 mod Parts
 mod Headers
+mod Lengths
 mod Reports
 mod Stops
 mod Units

@@ -27,22 +27,22 @@ use Rattle.rtr_session.specs.AnyReading.{ReadsAnyAfter, StopsInAny}
 -- ---- what is wrong with a header, by its type
 
 module _ (v g n : ℕ) where
-  of_twelve : (t : ℕ) → (t ≡ 0) ⊎ (t ≡ 1) → any_header_fault v t g n ≡ exact_length 12 n
+  pub of_twelve : (t : ℕ) → (t ≡ 0) ⊎ (t ≡ 1) → any_header_fault v t g n ≡ exact_length 12 n
   unfolding any_header_fault
   of_twelve t (inl e) = rw e refl
   of_twelve t (inr e) = rw e refl
 
-  of_eight : (t : ℕ) → (t ≡ 2) ⊎ ((t ≡ 3) ⊎ (t ≡ 8)) → any_header_fault v t g n ≡ exact_length 8 n
+  pub of_eight : (t : ℕ) → (t ≡ 2) ⊎ ((t ≡ 3) ⊎ (t ≡ 8)) → any_header_fault v t g n ≡ exact_length 8 n
   unfolding any_header_fault
   of_eight t (inl e) = rw e refl
   of_eight t (inr (inl e)) = rw e refl
   of_eight t (inr (inr e)) = rw e refl
 
-  of_ten : any_header_fault v 10 g n ≡ least_length 16 n
+  pub of_ten : any_header_fault v 10 g n ≡ least_length 16 n
   unfolding any_header_fault
   of_ten = refl
 
-  of_payload : (t : ℕ) → (t ≡ 4) ⊎ ((t ≡ 6) ⊎ ((t ≡ 7) ⊎ ((t ≡ 9) ⊎ (t ≡ 11)))) →
+  pub of_payload : (t : ℕ) → (t ≡ 4) ⊎ ((t ≡ 6) ⊎ ((t ≡ 7) ⊎ ((t ≡ 9) ⊎ (t ≡ 11)))) →
       any_header_fault v t g n ≡ header_fault v t g n
   unfolding any_header_fault
   of_payload t (inl e) = rw e refl
@@ -183,7 +183,7 @@ stopped h k kind l is alike f old new (bytes, ((t, took, s), counts)) =
 
 -- ---- a header of no unit
 
-unknown_header : (v t g n : ℕ) → ¬ (t ≡ 0) → ¬ (t ≡ 1) → ¬ (t ≡ 2) → ¬ (t ≡ 3) → ¬ (t ≡ 4) →
+pub unknown_header : (v t g n : ℕ) → ¬ (t ≡ 0) → ¬ (t ≡ 1) → ¬ (t ≡ 2) → ¬ (t ≡ 3) → ¬ (t ≡ 4) →
     ¬ (t ≡ 6) → ¬ (t ≡ 7) → ¬ (t ≡ 8) → ¬ (t ≡ 9) → ¬ (t ≡ 10) → ¬ (t ≡ 11) →
     any_header_fault v t g n ≡ Some (unit_type t)
 unfolding any_header_fault header_fault

@@ -4,3 +4,4 @@ pub mod PrivateHeaders
 pub mod AnyReading
 pub mod Reports
 pub mod AnyUnits
+pub mod Lengths

@@ -10,6 +10,9 @@ use Rattle.rtr_units.specs.HeaderBytes.{header_bytes}
 use Rattle.rtr_units.specs.declared.fault.Fault.{Fault}
 use Rattle.rtr_units.specs.declared.header.Header.{Header}
 use Rattle.rtr_session.specs.AnyReading.{HasEnded, StopsInAny}
+use Rattle.rtr_session.specs.Lengths.{NamesRefusal}
+use Rattle.rtr_units.specs.StopCauses.{Refusal}
+use Rattle.rtr_views.specs.declared.fault.ViewFault.{ViewFault}
 
 -- a header was read, or there was none, or reading stopped inside it
 abbrev pub ReadsHeaderBytes :
@@ -29,3 +32,8 @@ IsCounted b x r = (4 ≤ length b) × (value (take 4 b) ≡ length x) × (drop 4
 -- the bytes b have no length of four bytes at their front, or fewer bytes follow than it says
 abbrev pub IsCutShort : List ℕ → Type 0
 IsCutShort b = 4 ≤ length b → length (drop 4 b) < value (take 4 b)
+
+-- what is said of the size n in a header of which this is wrong, if anything is: it, or the fault
+abbrev pub SaysSize : ℕ → Option Refusal → Result ℕ ViewFault → Type 0
+SaysSize n wrong (Ok m) = (wrong ≡ None) × (m ≡ n)
+SaysSize n wrong (Err e) = (u : List ℕ) → NamesRefusal u wrong e

@@ -1,8 +1,10 @@
 //! Laws of units of any type and of error reports.
 
-ghost use Rattle.std.specs.Prelude.{◌≡◌, ◌++◌, ℕ, List};
+ghost use Rattle.std.specs.Prelude.{◌≡◌, ◌++◌, ℕ, List, Some, Ok};
+ghost use Rattle.rtr_units.specs.Header.{version_field, type_field};
 ghost use Rattle.rtr_units.specs.Reading.{IsWhole};
 ghost use Rattle.rtr_session.specs.AnyFields.{AnyFields, HasAnyFields};
+ghost use Rattle.rtr_session.specs.Lengths.{SaysLength, IsBounded};
 ghost use Rattle.rtr_session.specs.SessionKinds.{session_unit};
 ghost use Rattle.rtr_session.specs.Reports.{IsReport, HasParts};
 
@@ -32,4 +34,10 @@ pub fn any_self_delimiting()
 pub fn one_unit_and_text()
     ensures { (u p t q s : List ℕ) → IsReport u → HasParts u p t → HasParts u q s →
         (p ≡ q) × (t ≡ s) }
+{}
+
+/// A length that is said of a unit is one that units of its version and type have.
+pub fn bounded_lengths()
+    ensures { (b : List ℕ) (n : ℕ) → SaysLength b (Ok (Some n)) →
+        IsBounded (version_field b) (type_field b) n }
 {}

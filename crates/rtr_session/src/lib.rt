@@ -4,6 +4,7 @@
 
 mod any_unit;
 pub mod laws;
+pub mod length;
 mod report;
 
 pub use any_unit::AnyUnit;
