@@ -8,3 +8,7 @@ pub mod Merge
 pub mod Delta
 pub mod Once
 pub mod Needed
+pub mod Fewest
+pub mod Fronts
+pub mod Written
+pub mod Versions

@@ -29,7 +29,7 @@ step_has Withdraw p q d e s n h =
     ap (λ l. has l q) (sym (withdrawn_is p d e h)) ∙ removed_has p q d s
     ∙ ap (λ b. cond b false (has d q)) n
 
-other_step : (p q x : Payload) → is_eq (name_cmp p q) ≡ true → is_eq (name_cmp p x) ≡ false →
+pub other_step : (p q x : Payload) → is_eq (name_cmp p q) ≡ true → is_eq (name_cmp p x) ≡ false →
     is_eq (name_cmp x q) ≡ false
 other_step p q x n m = laws.symm x q ∙ sym (laws.congr p q x n) ∙ m
 

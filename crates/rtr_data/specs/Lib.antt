@@ -2,3 +2,5 @@ pub mod ChangeCodes
 pub mod Data
 pub mod Contents
 pub mod Changes
+pub mod Deltas
+pub mod PrivateForms

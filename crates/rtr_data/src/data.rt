@@ -1,16 +1,27 @@
 //! A set of payloads.
 
-ghost use Rattle.std.specs.Prelude.{◌≡◌, [], Bool, false, length, min, nat_eq};
+ghost use Rattle.std.specs.Prelude.{◌≡◌, [], Bool, IfErr, false, length, min, nat_eq};
 ghost use Rattle.rtr_base.specs.declared.action.Action.TheVariants.{Announce, Withdraw};
+ghost use Rattle.rtr_units.specs.StopCauses.{HoldsWriteError};
+ghost use Rattle.rtr_units.specs.Stream.{PutsForm};
 ghost use Rattle.rtr_payload.specs.Meanings.{payload_of, payload_of_ref};
 ghost use Rattle.rtr_data.specs.Data.{IsData, changed, has};
 ghost use Rattle.rtr_data.specs.Contents.{AreFit, IsFit, Leaves, Makes, announcing, joined};
 ghost use Rattle.rtr_data.specs.Contents.{unfit};
+ghost use Rattle.rtr_data.specs.Changes.{announcements, withdrawals};
+ghost use Rattle.rtr_data.specs.Deltas.{all_for, change_forms, changes_for, data_for};
 
 use crate::change_error::ChangeError;
+use crate::writing::{
+    write_all_aspas, write_all_keys, write_all_origins, write_announced, write_keys, write_origins,
+    write_withdrawn,
+};
+use rtr_base::action::Action;
 use rtr_base::asn::Asn;
 use rtr_payload::payload::{Aspa, Payload, PayloadRef, RouteOrigin, RouterKey};
 use rtr_payload::pdu::ProviderAsns;
+use rtr_units::fault::Fault;
+use rtr_units::source::Sink;
 use std::alloc::Global;
 use std::collections::{BTreeMap, BTreeSet, btree_map, btree_set};
 use std::marker::Model;
@@ -176,6 +187,72 @@ impl Data {
                 None => Err(ChangeError::Unknown),
             },
         }
+    }
+
+    /// Writes all that a router of this version is to have: the units that announce the payloads
+    /// that the version has, in their order. Version 0 has origins alone, version 1 router keys
+    /// too, and any other ASPAs too. The end of data is the caller's to write.
+    ///
+    /// `Writer` is the only fault, and no memory is asked for.
+    pub fn write_all<W: Sink>(&self, version: u8, writer: &mut W) -> Result<(), Fault>
+        ensures bytes { PutsForm result (W.state writer.old) (W.state writer.new)
+            (change_forms version (all_for version self.now)) }
+        ensures error { IfErr result (HoldsWriteError (W.fails writer.new) (W.stalls writer.new)) }
+    {
+        write_all_origins(version, &self.origins, writer)?;
+        write_all_keys(version, &self.router_keys, writer)?;
+        write_all_aspas(version, &self.aspas, writer)
+    }
+
+    /// Writes what leads a router of this version from this data, the old, to new data: the units
+    /// of the changes, of what the version has as in `write_all`. First come all announcements and
+    /// then the withdrawals, each in the order of payloads. The end of data is the caller's to
+    /// write.
+    ///
+    /// `Writer` is the only fault, and no memory is asked for.
+    pub fn write_delta<W: Sink>(&self, new: &Data, version: u8, writer: &mut W) -> Result<(), Fault>
+        ensures bytes { PutsForm result (W.state writer.old) (W.state writer.new)
+            (change_forms version (changes_for version self.now new.now)) }
+        ensures error { IfErr result (HoldsWriteError (W.fails writer.new) (W.stalls writer.new)) }
+    {
+        self.write_announcements(new, version, writer)?;
+        self.write_withdrawals(new, version, writer)
+    }
+
+    /// The announcements of a delta.
+    fn write_announcements<W: Sink>(
+        &self,
+        new: &Data,
+        version: u8,
+        writer: &mut W,
+    ) -> Result<(), Fault>
+        ensures bytes { PutsForm result (W.state writer.old) (W.state writer.new)
+            (change_forms version
+            (announcements (data_for version self.now) (data_for version new.now))) }
+        ensures error { IfErr result (HoldsWriteError (W.fails writer.new) (W.stalls writer.new)) }
+    {
+        let action = Action::Announce;
+        write_origins(version, action, &new.origins, &self.origins, writer)?;
+        write_keys(version, action, &new.router_keys, &self.router_keys, writer)?;
+        write_announced(version, &self.aspas, &new.aspas, writer)
+    }
+
+    /// The withdrawals of a delta.
+    fn write_withdrawals<W: Sink>(
+        &self,
+        new: &Data,
+        version: u8,
+        writer: &mut W,
+    ) -> Result<(), Fault>
+        ensures bytes { PutsForm result (W.state writer.old) (W.state writer.new)
+            (change_forms version
+            (withdrawals (data_for version self.now) (data_for version new.now))) }
+        ensures error { IfErr result (HoldsWriteError (W.fails writer.new) (W.stalls writer.new)) }
+    {
+        let action = Action::Withdraw;
+        write_origins(version, action, &self.origins, &new.origins, writer)?;
+        write_keys(version, action, &self.router_keys, &new.router_keys, writer)?;
+        write_withdrawn(version, &self.aspas, &new.aspas, writer)
     }
 }
 

@@ -1,6 +1,7 @@
 //! Laws of changes.
 
-ghost use Rattle.std.specs.Prelude.{◌≡◌, [], List, Ok, false, true, if◌then◌else◌};
+ghost use Rattle.std.specs.Prelude.{◌≡◌, ◌≤◌, [], ℕ, List, Ok, false, length, true};
+ghost use Rattle.std.specs.Prelude.{if◌then◌else◌};
 ghost use Rattle.std.specs.BTreeMap.{is_at};
 ghost use Rattle.std.specs.List.{AllByRecursion};
 ghost use Rattle.rtr_payload.specs.Orders.{payload_cmp};
@@ -8,6 +9,7 @@ ghost use Rattle.rtr_payload.specs.Payloads.{Payload};
 ghost use Rattle.rtr_data.specs.Data.{Change, IsData, after, announcement, has, name_cmp};
 ghost use Rattle.rtr_data.specs.Data.{withdrawal};
 ghost use Rattle.rtr_data.specs.Changes.{AreApart, after_all, changes, touches};
+ghost use Rattle.rtr_data.specs.Deltas.{all_for, changes_for, data_for};
 
 use crate::data::Data;
 
@@ -36,6 +38,8 @@ pub fn changes_lead_to_new()
     ensures needed { (cs : List Change) (old new : List Payload) → IsData old →
         after_all cs (Ok old) ≡ Ok new →
         AllByRecursion (λ c. touches cs c.payload ≡ true) (changes old new) }
+    ensures fewest { (cs : List Change) (old new : List Payload) → IsData old →
+        after_all cs (Ok old) ≡ Ok new → length (changes old new) ≤ length cs }
 {}
 
 /// The changes from the one to the other of any two values lead there.
@@ -45,3 +49,12 @@ pub fn changes_of_data(old: &Data, new: &Data)
     let _old = old.parts();
     let _new = new.parts();
 }
+
+/// What a delta sends for a version makes of what the version has of old data what it has of new,
+/// and what announces all of the data makes that of nothing.
+pub fn deltas_lead_to_new()
+    ensures leads { (v : ℕ) (old new : List Payload) → IsData old → IsData new →
+        after_all (changes_for v old new) (Ok (data_for v old)) ≡ Ok (data_for v new) }
+    ensures all { (v : ℕ) (d : List Payload) → IsData d →
+        after_all (all_for v d) (Ok []) ≡ Ok (data_for v d) }
+{}

@@ -5,6 +5,7 @@
 mod change_error;
 mod data;
 pub mod laws;
+mod writing;
 
 pub use change_error::ChangeError;
 pub use data::Data;

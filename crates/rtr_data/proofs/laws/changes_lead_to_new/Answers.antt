@@ -1,6 +1,7 @@
 use Rattle.rtr_data.proofs.Delta.{leads_to_new, no_changes}
 use Rattle.rtr_data.proofs.Once.{changes_apart}
 use Rattle.rtr_data.proofs.Needed.{all_named}
+use Rattle.rtr_data.proofs.Fewest.{fewest}
 use Rattle.rtr_data.proofs.laws.changes_lead_to_new.Goals as goal
 
 pub returns-clause-leads : goal.returns-clause-leads
@@ -14,3 +15,6 @@ returns-clause-apart c = changes_apart
 
 pub returns-clause-needed : goal.returns-clause-needed
 returns-clause-needed c = λ cs old new s leads. all_named cs old new s leads
+
+pub returns-clause-fewest : goal.returns-clause-fewest
+returns-clause-fewest c = fewest

@@ -1,0 +1,280 @@
+//! Units of the payloads that one part of data has, and one of other data lacks.
+
+ghost use Rattle.std.specs.Prelude.{◌≡◌, ◌+◌, ◌*◌, ◌∷◌, ◌++◌, [], map, filter, IfErr};
+ghost use Rattle.std.specs.BTreeSet.{difference};
+ghost use Rattle.std.specs.Ordering.{on};
+ghost use Rattle.rtr_base.specs.Actions.{flags_of};
+ghost use Rattle.rtr_base.specs.Bytes.{be};
+ghost use Rattle.rtr_base.specs.declared.action.Action.TheVariants.{Announce, Withdraw};
+ghost use Rattle.rtr_units.specs.StopCauses.{HoldsWriteError};
+ghost use Rattle.rtr_units.specs.Stream.{PutsForm};
+ghost use Rattle.rtr_payload.specs.Meanings.{key_of, origin_of};
+ghost use Rattle.rtr_payload.specs.Orders.{payload_cmp};
+ghost use Rattle.rtr_payload.specs.Units.{form};
+ghost use Rattle.rtr_data.specs.Contents.{entry_of};
+ghost use Rattle.rtr_data.specs.Data.{has, name_of};
+ghost use Rattle.rtr_data.specs.Deltas.{data_for};
+ghost use Rattle.rtr_data.specs.PrivateForms.{entries, lacks_customer, lacks_entry};
+ghost use Rattle.rtr_data.specs.PrivateForms.{payload_forms};
+
+use rtr_base::action::Action;
+use rtr_base::asn::Asn;
+use rtr_payload::payload::{Payload, RouteOrigin, RouterKey};
+use rtr_payload::pdu;
+use rtr_payload::pdu::ProviderAsns;
+use rtr_units::fault::Fault;
+use rtr_units::piece::put;
+use rtr_units::source::Sink;
+use std::collections::{BTreeMap, BTreeSet};
+
+/// Writes two pieces, one after the other.
+fn put_both<W: Sink>(writer: &mut W, front: &[u8], rest: &[u8]) -> Result<(), Fault>
+    ensures bytes { PutsForm result (W.state writer.old) (W.state writer.new)
+        (front.now ++ rest.now) }
+    ensures error { IfErr result (HoldsWriteError (W.fails writer.new) (W.stalls writer.new)) }
+{
+    put(writer, front)?;
+    put(writer, rest)
+}
+
+/// Writes the unit that announces or withdraws the origin.
+fn write_origin<W: Sink>(
+    version: u8,
+    action: Action,
+    origin: RouteOrigin,
+    writer: &mut W,
+) -> Result<(), Fault>
+    ensures bytes { PutsForm result (W.state writer.old) (W.state writer.new)
+        (form version (flags_of action) (origin_of origin)) }
+    ensures error { IfErr result (HoldsWriteError (W.fails writer.new) (W.stalls writer.new)) }
+{
+    let origin = Payload::Origin(origin);
+    let unit = pdu::Payload::from_payload(version, action.into_flags(), origin);
+    unit.write(writer)
+}
+
+/// What comes before the key info in the unit that announces or withdraws the key.
+fn key_front(version: u8, action: Action, key: &RouterKey) -> [u8; 32]
+    ensures { result ++ key.now.key_info ≡ form version (flags_of action) (key_of key.now) }
+{
+    let size = (32 + key.key_info.len()) as u32;
+    let mut front = [0; 32];
+    front[..4].copy_from_slice(&[version, pdu::RouterKey::PDU, action.into_flags(), 0]);
+    front[4..8].copy_from_slice(&size.to_be_bytes());
+    front[28..].copy_from_slice(&key.asn.into_u32().to_be_bytes());
+    front[8..28].copy_from_slice(key.key_identifier.as_slice());
+    front
+}
+
+/// Writes the unit that announces or withdraws the key.
+fn write_key<W: Sink>(
+    version: u8,
+    action: Action,
+    key: &RouterKey,
+    writer: &mut W,
+) -> Result<(), Fault>
+    ensures bytes { PutsForm result (W.state writer.old) (W.state writer.new)
+        (form version (flags_of action) (key_of key.now)) }
+    ensures error { IfErr result (HoldsWriteError (W.fails writer.new) (W.stalls writer.new)) }
+{
+    let front = key_front(version, action, key);
+    put_both(writer, &front, key.key_info.as_slice())
+}
+
+/// What comes before the providers in the unit that announces or withdraws an ASPA, which has as
+/// many providers as `count` says.
+fn aspa_front(version: u8, action: Action, customer: Asn, count: u16) -> [u8; 12]
+    ensures { result ≡ version ∷ 11 ∷ flags_of action ∷ 0 ∷ be (12 + 4 * count) 4 ++
+        be customer 4 }
+{
+    let size = 12 + 4 * u32::from(count);
+    let mut front = [0; 12];
+    front[..4].copy_from_slice(&[version, pdu::Aspa::PDU, action.into_flags(), 0]);
+    front[4..8].copy_from_slice(&size.to_be_bytes());
+    front[8..].copy_from_slice(&customer.into_u32().to_be_bytes());
+    front
+}
+
+/// Writes the unit that announces the ASPA.
+fn announce_aspa<W: Sink>(
+    version: u8,
+    customer: Asn,
+    providers: &ProviderAsns,
+    writer: &mut W,
+) -> Result<(), Fault>
+    ensures bytes { PutsForm result (W.state writer.old) (W.state writer.new)
+        (form version (flags_of Announce) (entry_of (customer, providers.now))) }
+    ensures error { IfErr result (HoldsWriteError (W.fails writer.new) (W.stalls writer.new)) }
+{
+    let front = aspa_front(version, Action::Announce, customer, providers.asn_count());
+    put_both(writer, &front, providers.as_slice())
+}
+
+/// Writes the unit that withdraws the ASPA of the customer.
+fn withdraw_aspa<W: Sink>(version: u8, customer: Asn, writer: &mut W) -> Result<(), Fault>
+    ensures bytes { PutsForm result (W.state writer.old) (W.state writer.new)
+        (form version (flags_of Withdraw) (entry_of (customer, []))) }
+    ensures error { IfErr result (HoldsWriteError (W.fails writer.new) (W.stalls writer.new)) }
+{
+    let front = aspa_front(version, Action::Withdraw, customer, 0);
+    put(writer, &front)
+}
+
+/// Writes units for those of these origins that aren't among those.
+pub(crate) fn write_origins<W: Sink>(
+    version: u8,
+    action: Action,
+    these: &BTreeSet<RouteOrigin>,
+    those: &BTreeSet<RouteOrigin>,
+    writer: &mut W,
+) -> Result<(), Fault>
+    ensures bytes { PutsForm result (W.state writer.old) (W.state writer.new)
+        (payload_forms version action
+        (map origin_of (difference (on origin_of payload_cmp) these.now those.now))) }
+    ensures error { IfErr result (HoldsWriteError (W.fails writer.new) (W.stalls writer.new)) }
+{
+    for origin in these.difference(those) {
+        write_origin(version, action, *origin, writer)?;
+    }
+    Ok(())
+}
+
+/// Writes units for those of these keys that aren't among those, where the version has keys.
+pub(crate) fn write_keys<W: Sink>(
+    version: u8,
+    action: Action,
+    these: &BTreeSet<RouterKey>,
+    those: &BTreeSet<RouterKey>,
+    writer: &mut W,
+) -> Result<(), Fault>
+    ensures bytes { PutsForm result (W.state writer.old) (W.state writer.new)
+        (payload_forms version action (data_for version
+        (map key_of (difference (on key_of payload_cmp) these.now those.now)))) }
+    ensures error { IfErr result (HoldsWriteError (W.fails writer.new) (W.stalls writer.new)) }
+{
+    if version < 1 {
+        return Ok(());
+    }
+    for key in these.difference(those) {
+        write_key(version, action, key, writer)?;
+    }
+    Ok(())
+}
+
+/// Whether the map has just these providers for the customer.
+pub(crate) fn is_there(
+    aspas: &BTreeMap<Asn, ProviderAsns>,
+    customer: Asn,
+    providers: &ProviderAsns,
+) -> bool
+    ensures { result ≡ has (entries aspas.now) (entry_of (customer, providers.now)) }
+{
+    // Gives the proof that the customers are in order.
+    let _count = aspas.len();
+    match aspas.get(&customer) {
+        Some(there) => *providers == *there,
+        None => false,
+    }
+}
+
+/// Announces the ASPAs of new data that old data lacks, where the version has ASPAs.
+pub(crate) fn write_announced<W: Sink>(
+    version: u8,
+    old: &BTreeMap<Asn, ProviderAsns>,
+    new: &BTreeMap<Asn, ProviderAsns>,
+    writer: &mut W,
+) -> Result<(), Fault>
+    ensures bytes { PutsForm result (W.state writer.old) (W.state writer.new)
+        (payload_forms version Announce (data_for version
+        (map entry_of (filter (lacks_entry old.now) new.now.entries)))) }
+    ensures error { IfErr result (HoldsWriteError (W.fails writer.new) (W.stalls writer.new)) }
+{
+    if version < 2 {
+        return Ok(());
+    }
+    for (customer, providers) in new.iter() {
+        if is_there(old, *customer, providers) {
+            continue;
+        }
+        announce_aspa(version, *customer, providers, writer)?;
+    }
+    Ok(())
+}
+
+/// Withdraws the ASPAs of old data whose customers new data lacks, where the version has ASPAs.
+pub(crate) fn write_withdrawn<W: Sink>(
+    version: u8,
+    old: &BTreeMap<Asn, ProviderAsns>,
+    new: &BTreeMap<Asn, ProviderAsns>,
+    writer: &mut W,
+) -> Result<(), Fault>
+    ensures bytes { PutsForm result (W.state writer.old) (W.state writer.new)
+        (payload_forms version Withdraw (map name_of (data_for version
+        (map entry_of (filter (lacks_customer new.now) old.now.entries))))) }
+    ensures error { IfErr result (HoldsWriteError (W.fails writer.new) (W.stalls writer.new)) }
+{
+    if version < 2 {
+        return Ok(());
+    }
+    for (customer, _providers) in old.iter() {
+        if new.contains_key(customer) {
+            continue;
+        }
+        withdraw_aspa(version, *customer, writer)?;
+    }
+    Ok(())
+}
+
+/// Announces these origins.
+pub(crate) fn write_all_origins<W: Sink>(
+    version: u8,
+    origins: &BTreeSet<RouteOrigin>,
+    writer: &mut W,
+) -> Result<(), Fault>
+    ensures bytes { PutsForm result (W.state writer.old) (W.state writer.new)
+        (payload_forms version Announce (map origin_of origins.now.keys)) }
+    ensures error { IfErr result (HoldsWriteError (W.fails writer.new) (W.stalls writer.new)) }
+{
+    for origin in origins.iter() {
+        write_origin(version, Action::Announce, *origin, writer)?;
+    }
+    Ok(())
+}
+
+/// Announces these keys, where the version has keys.
+pub(crate) fn write_all_keys<W: Sink>(
+    version: u8,
+    keys: &BTreeSet<RouterKey>,
+    writer: &mut W,
+) -> Result<(), Fault>
+    ensures bytes { PutsForm result (W.state writer.old) (W.state writer.new)
+        (payload_forms version Announce (data_for version (map key_of keys.now.keys))) }
+    ensures error { IfErr result (HoldsWriteError (W.fails writer.new) (W.stalls writer.new)) }
+{
+    if version < 1 {
+        return Ok(());
+    }
+    for key in keys.iter() {
+        write_key(version, Action::Announce, key, writer)?;
+    }
+    Ok(())
+}
+
+/// Announces these ASPAs, where the version has ASPAs.
+pub(crate) fn write_all_aspas<W: Sink>(
+    version: u8,
+    aspas: &BTreeMap<Asn, ProviderAsns>,
+    writer: &mut W,
+) -> Result<(), Fault>
+    ensures bytes { PutsForm result (W.state writer.old) (W.state writer.new)
+        (payload_forms version Announce (data_for version (entries aspas.now))) }
+    ensures error { IfErr result (HoldsWriteError (W.fails writer.new) (W.stalls writer.new)) }
+{
+    if version < 2 {
+        return Ok(());
+    }
+    for (customer, providers) in aspas.iter() {
+        announce_aspa(version, *customer, providers, writer)?;
+    }
+    Ok(())
+}
