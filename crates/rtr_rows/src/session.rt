@@ -3,10 +3,11 @@
 use crate::answer::Answer;
 use crate::fixed::{header, tell_taken, told_put};
 use crate::row::{Row, Way};
+use crate::views::tell_view;
 use rtr_session::length::unit_length;
-use rtr_session::{AnyUnit, Report};
+use rtr_session::{AnyUnit, Report, ReportView, SessionView};
 use rtr_tests::support::Recorder;
-use rtr_wire::pdu::{Counted, Fault, Payload, SliceSource};
+use rtr_wire::pdu::{Counted, Fault, Payload, SliceSource, Unit};
 
 /// Makes the call of a row if it is one of these.
 pub fn answer(row: &Row<'_>, way: Way) -> Option<Answer> {
@@ -15,6 +16,7 @@ pub fn answer(row: &Row<'_>, way: Way) -> Option<Answer> {
         "AnyUnit::read_payload" => Some(read_any_after(row, way)),
         "AnyUnit::write" => Some(write_any(row, way)),
         "unit_length" => Some(length(row)),
+        "SessionView::first" => Some(first(row)),
         "Report::read" => Some(read_report(row, way)),
         "Report::read_payload" => Some(read_report_after(row, way)),
         "Report::write" => Some(write_report(row, way)),
@@ -150,4 +152,70 @@ fn length(row: &Row<'_>) -> Answer {
         Err(fault) => seen.view_fault(fault),
     }
     seen
+}
+
+/// `SessionView::first`: the kind and what the view shows, and the unit's length; or the fault, and
+/// the size beside it.
+fn first(row: &Row<'_>) -> Answer {
+    row.ready();
+    let answer = SessionView::first(&row.left);
+    let mut seen = row.answer();
+    match &answer {
+        Ok((view, size)) => {
+            tell_session_view(&mut seen, view);
+            seen.word("size");
+            seen.word(size);
+        }
+        Err(fault) => {
+            seen.view_fault(&fault.fault);
+            if let Some(size) = fault.size {
+                seen.word("size");
+                seen.word(size);
+            }
+        }
+    }
+    seen
+}
+
+/// Appends a unit: its kind, and its fields. The session of a reset query and a cache reset, which
+/// means nothing, is the field as it came.
+fn tell_session_view(seen: &mut Answer, view: &SessionView<'_>) {
+    match view {
+        SessionView::SerialNotify(unit) => {
+            seen.word(format_args!("SerialNotify {} {}", unit.version(), unit.session()));
+            seen.word(unit.serial());
+        }
+        SessionView::SerialQuery(unit) => {
+            seen.word(format_args!("SerialQuery {} {}", unit.version(), unit.session()));
+            seen.word(unit.serial());
+        }
+        SessionView::ResetQuery(unit) => {
+            seen.word(format_args!("ResetQuery {} {}", unit.version(), unit.session()));
+        }
+        SessionView::CacheResponse(unit) => {
+            seen.word(format_args!("CacheResponse {} {}", unit.version(), unit.session()));
+        }
+        SessionView::Data(view) => tell_view(seen, view),
+        SessionView::CacheReset(unit) => {
+            seen.word(format_args!("CacheReset {} {}", unit.version(), unit.session()));
+        }
+        SessionView::Error(view) => tell_report_view(seen, view),
+    }
+}
+
+/// Appends an error report: its version, code and size, the unit that it is about and its text, or
+/// that its lengths don't fit.
+fn tell_report_view(seen: &mut Answer, view: &ReportView<'_>) {
+    let (version, size) = (view.version(), view.size());
+    seen.word(format_args!("Error {version} {} {size}", view.code().0));
+    match (view.pdu(), view.text()) {
+        (Some(pdu), Some(text)) => {
+            seen.word("about");
+            seen.bytes(pdu);
+            seen.word("text");
+            seen.bytes(text);
+        }
+        (None, None) => seen.word("lengths"),
+        _ => seen.word("one part"),
+    }
 }

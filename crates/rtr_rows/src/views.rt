@@ -20,18 +20,23 @@ fn first(row: &Row<'_>) -> Answer {
     let mut seen = row.answer();
     match UnitView::first(&row.left) {
         Ok((view, size)) => {
-            match view {
-                UnitView::Origin(view) => tell_origin_view(&mut seen, &view),
-                UnitView::RouterKey(view) => tell_key_view(&mut seen, &view),
-                UnitView::Aspa(view) => tell_aspa_view(&mut seen, &view),
-                UnitView::End(end) => tell_end(&mut seen, &end),
-            }
+            tell_view(&mut seen, &view);
             seen.word("size");
             seen.word(size);
         }
         Err(fault) => seen.view_fault(&fault),
     }
     seen
+}
+
+/// Appends what a view shows.
+pub fn tell_view(seen: &mut Answer, view: &UnitView<'_>) {
+    match view {
+        UnitView::Origin(view) => tell_origin_view(seen, view),
+        UnitView::RouterKey(view) => tell_key_view(seen, view),
+        UnitView::Aspa(view) => tell_aspa_view(seen, view),
+        UnitView::End(end) => tell_end(seen, end),
+    }
 }
 
 /// Appends a prefix: version, flags, origin.

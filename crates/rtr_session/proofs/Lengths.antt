@@ -117,7 +117,7 @@ module _ (v n m : ℕ) (r : Result ℕ ViewFault) where
 
 -- ---- what is in order is bounded
 
-bounded : (v t g n : ℕ) → any_header_fault v t g n ≡ None → IsBounded v t n
+pub bounded : (v t g n : ℕ) → any_header_fault v t g n ≡ None → IsBounded v t n
 unfolding any_header_fault header_fault
 bounded v t g n e = record {
   notify = λ is. grind (arith, nat_tests);

@@ -1,7 +1,9 @@
+mod Agreement
 mod Parts
 mod Headers
 mod Lengths
 mod Reports
 mod Stops
 mod Units
+mod Viewed
 mod Wholes

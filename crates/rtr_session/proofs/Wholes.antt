@@ -68,7 +68,7 @@ list_whole (error_report v c b) (small, least, most) bytes =
       all ∙ sym size,
     )
 
-eight_said : (v t g n : ℕ) → any_header_fault v t g n ≡ None → 8 ≤ n
+pub eight_said : (v t g n : ℕ) → any_header_fault v t g n ≡ None → 8 ≤ n
 unfolding any_header_fault header_fault
 eight_said v t g n e = grind (arith, nat_tests)
 

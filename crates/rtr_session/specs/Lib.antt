@@ -5,3 +5,4 @@ pub mod AnyReading
 pub mod Reports
 pub mod AnyUnits
 pub mod Lengths
+pub mod SessionViews

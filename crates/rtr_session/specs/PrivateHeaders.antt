@@ -1,5 +1,5 @@
 -- What calls inside this crate leave. Only contracts of private functions cite these.
-use Rattle.std.specs.Prelude.{◌≡◌, ℕ, ◌<◌, ◌≤◌, List, ◌++◌, length, take, drop}
+use Rattle.std.specs.Prelude.{◌≡◌, ◌⊎◌, ℕ, ◌<◌, ◌≤◌, List, ◌++◌, length, take, drop}
 use Rattle.std.specs.Prelude.{Option, Some, None, Result, Ok, Err}
 use Rattle.std.specs.Io.KnownBytes.{Consumes}
 use Rattle.rtr_base.specs.Bytes.{value}
@@ -13,6 +13,7 @@ use Rattle.rtr_session.specs.AnyReading.{HasEnded, StopsInAny}
 use Rattle.rtr_session.specs.Lengths.{NamesRefusal}
 use Rattle.rtr_units.specs.StopCauses.{Refusal}
 use Rattle.rtr_views.specs.declared.fault.ViewFault.{ViewFault}
+use Rattle.rtr_views.specs.declared.fault.ViewFault.TheVariants.{Prefix}
 
 -- a header was read, or there was none, or reading stopped inside it
 abbrev pub ReadsHeaderBytes :
@@ -37,3 +38,13 @@ IsCutShort b = 4 ≤ length b → length (drop 4 b) < value (take 4 b)
 abbrev pub SaysSize : ℕ → Option Refusal → Result ℕ ViewFault → Type 0
 SaysSize n wrong (Ok m) = (wrong ≡ None) × (m ≡ n)
 SaysSize n wrong (Err e) = (u : List ℕ) → NamesRefusal u wrong e
+
+-- the types of units that are no payload units and no ends of data (RFC 8210 sections 5.2 to 5.5,
+-- 5.9 and 5.11)
+abbrev pub IsPlainType : ℕ → Type 0
+IsPlainType t = ((t ≡ 0) ⊎ (t ≡ 1)) ⊎ (((t ≡ 2) ⊎ ((t ≡ 3) ⊎ (t ≡ 8))) ⊎ (t ≡ 10))
+
+-- the size that stands beside a fault of a unit of n bytes
+abbrev pub size_beside : ViewFault → ℕ → Option ℕ
+size_beside (Prefix rule) n = Some n
+size_beside _ n = None

@@ -1,9 +1,17 @@
 //! Laws of units of any type and of error reports.
 
-ghost use Rattle.std.specs.Prelude.{◌≡◌, ◌++◌, ℕ, List, Some, Ok};
+ghost use Rattle.std.specs.Prelude.{◌≡◌, ◌++◌, ℕ, List, Some, Ok, IsTrue};
 ghost use Rattle.rtr_units.specs.Header.{version_field, type_field};
 ghost use Rattle.rtr_units.specs.Reading.{IsWhole};
 ghost use Rattle.rtr_session.specs.AnyFields.{AnyFields, HasAnyFields};
+ghost use Rattle.rtr_payload.specs.FirstFault.{first_fault, is_payload_or_end};
+ghost use Rattle.rtr_views.specs.Views.{IsViewOf};
+ghost use Rattle.rtr_views.specs.declared.view.UnitView.{UnitView};
+ghost use Rattle.rtr_session.specs.AnyUnits.{any_bytes, any_fields};
+ghost use Rattle.rtr_session.specs.SessionViews.{ShowsUnit, ShowsFields, session_fault};
+ghost use Rattle.rtr_session.specs.declared.any_unit.AnyUnit.{AnyUnit};
+ghost use Rattle.rtr_session.specs.declared.session_view.SessionView.{SessionView};
+ghost use Rattle.rtr_session.specs.declared.session_view.SessionView.TheVariants.{Data};
 ghost use Rattle.rtr_session.specs.Lengths.{SaysLength, IsBounded};
 ghost use Rattle.rtr_session.specs.SessionKinds.{session_unit};
 ghost use Rattle.rtr_session.specs.Reports.{IsReport, HasParts};
@@ -40,4 +48,19 @@ pub fn one_unit_and_text()
 pub fn bounded_lengths()
     ensures { (b : List ℕ) (n : ℕ) → SaysLength b (Ok (Some n)) →
         IsBounded (version_field b) (type_field b) n }
+{}
+
+/// The view of a unit and the unit that was read of the same bytes say the same.
+pub fn session_views_and_units()
+    ensures { (v : SessionView) (u : AnyUnit) → ShowsUnit v (any_bytes u) →
+        HasAnyFields (any_bytes u) (any_fields u) → ShowsFields v (any_fields u) }
+{}
+
+/// Of payload units and ends of data `SessionView` shows what `UnitView` does, with the same
+/// faults.
+pub fn same_as_unit_views()
+    ensures view { (v : SessionView) (b : List ℕ) → IsTrue (is_payload_or_end (type_field b)) →
+        ShowsUnit v b → (w : UnitView) × (v ≡ Data w) × IsViewOf w b }
+    ensures fault { (r : List ℕ) → IsTrue (is_payload_or_end (type_field r)) →
+        session_fault r ≡ first_fault r }
 {}

@@ -6,6 +6,10 @@ mod any_unit;
 pub mod laws;
 pub mod length;
 mod report;
+mod report_view;
+mod session_view;
 
 pub use any_unit::AnyUnit;
 pub use report::Report;
+pub use report_view::ReportView;
+pub use session_view::{SessionFault, SessionView};

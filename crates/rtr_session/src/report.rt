@@ -17,13 +17,12 @@ ghost use Rattle.rtr_units.specs.StopCauses.{HoldsReadError, HoldsWriteError};
 ghost use Rattle.rtr_units.specs.HeaderBytes.{header_bytes};
 ghost use Rattle.rtr_session.specs.SessionKinds.{report_unit};
 ghost use Rattle.rtr_session.specs.Reports.{IsReport, HasParts};
-ghost use Rattle.rtr_session.specs.PrivateHeaders.{IsCounted, IsCutShort};
 
+use crate::report_view::ReportView;
 use rtr_base::error_code::ErrorCode;
 use rtr_units::error::Error;
 use rtr_units::fault::Fault;
 use rtr_units::header::{Header, MAX_SIZE};
-use rtr_units::numbers::{u16_at, u32_at};
 use rtr_units::piece::{fill, put};
 use rtr_units::source::{Sink, Source};
 use std::alloc::Global;
@@ -106,14 +105,14 @@ impl Report {
     pub fn version(&self) -> u8
         ensures { result ≡ version_field self.now }
     {
-        self.bytes[0]
+        self.view().version()
     }
 
     /// Why the peer reports an error.
     pub fn code(&self) -> ErrorCode
         ensures { result.0 ≡ session_field self.now }
     {
-        ErrorCode(u16_at(self.bytes.as_slice(), 2))
+        self.view().code()
     }
 
     /// The unit that the report is about; empty if it is about none.
@@ -124,8 +123,7 @@ impl Report {
         ensures { MatchOption result ((p t : List ℕ) → HasParts self.now p t → ⊥)
             (λ p. (t : List ℕ) × HasParts self.now p.now t) }
     {
-        let (pdu, _) = self.parts()?;
-        Some(pdu)
+        self.view().pdu()
     }
 
     /// The text, which may be empty and need not be UTF-8. None if `pdu` answers none.
@@ -133,15 +131,14 @@ impl Report {
         ensures { MatchOption result ((p t : List ℕ) → HasParts self.now p t → ⊥)
             (λ t. (p : List ℕ) × HasParts self.now p t.now) }
     {
-        let (_, text) = self.parts()?;
-        Some(text)
+        self.view().text()
     }
 
     /// The number of bytes of the report.
     pub fn size(&self) -> u32
         ensures { result ≡ length self.now }
     {
-        self.bytes.len() as u32
+        self.view().size()
     }
 
     /// The bytes of the report.
@@ -160,29 +157,14 @@ impl Report {
         put(writer, self.as_ref())
     }
 
-    /// The unit that the report is about and the text, if they make up the report.
-    fn parts(&self) -> Option<(&[u8], &[u8])>
-        ensures { MatchOption result ((p t : List ℕ) → HasParts self.now p t → ⊥)
-            (λ r. HasParts self.now r.0.now r.1.now) }
+    /// The report as it lies in its bytes.
+    pub fn view(&self) -> ReportView<'_>
+        ensures { result.unit.now ≡ self.now }
     {
-        let (_, body) = self.bytes.split_at(8);
-        let (pdu, rest) = counted(body)?;
-        let (text, rest) = counted(rest)?;
-        if rest.is_empty() {
-            Some((pdu, text))
-        } else {
-            None
+        ReportView {
+            unit: self.bytes.as_slice(),
         }
     }
-}
-
-/// Splits off a length of four bytes and as many bytes as it says: these, and what follows them.
-fn counted(bytes: &[u8]) -> Option<(&[u8], &[u8])>
-    ensures { MatchOption result (IsCutShort bytes.now)
-        (λ r. IsCounted bytes.now r.0.now r.1.now) }
-{
-    let (size, rest) = bytes.split_at_checked(4)?;
-    rest.split_at_checked(u32_at(size, 0) as usize)
 }
 
 impl PartialEq for Report {

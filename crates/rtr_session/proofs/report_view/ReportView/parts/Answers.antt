@@ -3,23 +3,23 @@ use Rattle.rtr_session.specs.PrivateHeaders.{IsCounted, IsCutShort}
 use Rattle.rtr_session.specs.Reports.{IsReport}
 use Rattle.rtr_session.proofs.Parts.{at_none, none_left, some_left, parts_made}
 use Rattle.rtr_session.proofs.Parts.{none_cut, none_second, none_more}
-use Rattle.rtr_session.proofs.report.Report.parts.Goals as goal
+use Rattle.rtr_session.proofs.report_view.ReportView.parts.Goals as goal
 
 pub returns-in_err-pdu : goal.returns-in_err-pdu
 returns-in_err-pdu c =
-    let u = c.args.self.now in
+    let u = c.args.self.now.unit.now in
     let same : c.split_at.result.1.now ≡ drop 8 u =
-    c.split_at.ensures.back ∙ ap (drop 8) (c.deref.ensures.value ∙ c.self.view_is) in
-    let is : IsReport u = subst IsReport c.self.view_is c.self.invariant in
+    c.split_at.ensures.back in
+    let is : IsReport u = c.args.self.now.whole in
     at_none c.from_residual.result _ _ c.from_residual.ensures
     (none_cut u is (subst IsCutShort same c.in_err-pdu.ensures))
 
 pub returns-in_err-text : goal.returns-in_err-text
 returns-in_err-text c =
-    let u = c.args.self.now in
+    let u = c.args.self.now.unit.now in
     let same : c.split_at.result.1.now ≡ drop 8 u =
-    c.split_at.ensures.back ∙ ap (drop 8) (c.deref.ensures.value ∙ c.self.view_is) in
-    let is : IsReport u = subst IsReport c.self.view_is c.self.invariant in
+    c.split_at.ensures.back in
+    let is : IsReport u = c.args.self.now.whole in
     let x = c.in_ok-pdu.pdu.now in
     let r = c.in_ok-pdu.rest.now in
     at_none c.from_residual-in_err-text.result _ _ c.from_residual-in_err-text.ensures
@@ -28,10 +28,10 @@ returns-in_err-text c =
 
 pub returns-then-is_empty : goal.returns-then-is_empty
 returns-then-is_empty c =
-    let u = c.args.self.now in
+    let u = c.args.self.now.unit.now in
     let same : c.split_at.result.1.now ≡ drop 8 u =
-    c.split_at.ensures.back ∙ ap (drop 8) (c.deref.ensures.value ∙ c.self.view_is) in
-    let is : IsReport u = subst IsReport c.self.view_is c.self.invariant in
+    c.split_at.ensures.back in
+    let is : IsReport u = c.args.self.now.whole in
     let x = c.in_ok-pdu.pdu.now in
     let r = c.in_ok-pdu.rest.now in
     let y = c.in_ok-text.text.now in
@@ -41,10 +41,10 @@ returns-then-is_empty c =
 
 pub returns-else-is_empty : goal.returns-else-is_empty
 returns-else-is_empty c =
-    let u = c.args.self.now in
+    let u = c.args.self.now.unit.now in
     let same : c.split_at.result.1.now ≡ drop 8 u =
-    c.split_at.ensures.back ∙ ap (drop 8) (c.deref.ensures.value ∙ c.self.view_is) in
-    let is : IsReport u = subst IsReport c.self.view_is c.self.invariant in
+    c.split_at.ensures.back in
+    let is : IsReport u = c.args.self.now.whole in
     let x = c.in_ok-pdu.pdu.now in
     let r = c.in_ok-pdu.rest.now in
     let y = c.in_ok-text.text.now in
