@@ -1,20 +1,24 @@
 #!/usr/bin/env python3
-"""The one place that picks the built programs, and the archive of rtr_c, which checks run.
+"""The one place that picks the programs, and the archives of rtr_c, which checks run.
 
-usage: built.py NAME..
+usage: built.py [--fresh] NAME..
 
 `.ci/run`, `rt ci` and `rt run` leave a program in the folder `out/` of its crate: as LLVM builds it,
 and after `rt ci` also as Rattle's own compiler does. One that is older than a source of its crate,
-or of a library below it, is none. The script prints the programs of these names; the status is 1 if
-there is none of one.
+or of a library below it, is none. Where nothing was built, the one in prebuilt/ is picked, if
+prebuilt/SHA256SUMS has its sum, and a line on standard error says that it may be older than the
+sources; with --fresh it isn't picked. The script prints the programs of these names; the status is
+1 if there is none of one.
 """
 import functools
+import hashlib
 import os
 import sys
 
 TOP = os.path.realpath(os.path.join(os.path.dirname(os.path.abspath(__file__)), ".."))
 ENDINGS = ("", ".by-rattle")
-ARCHIVE = os.path.join(TOP, "bindings", "lib", "x86_64", "librtr_c.a")
+PREBUILT = os.path.join(TOP, "prebuilt")
+ARCHIVE = "librtr_wire.a"
 
 
 def crates(name):
@@ -36,19 +40,40 @@ def last_change(name):
     return max(os.path.getmtime(file) for file in files)
 
 
-@functools.cache
-def programs(name):
-    """The paths of the program that are there and no older than its sources."""
-    paths = [os.path.join(TOP, "crates", name, "out", name + ending) for ending in ENDINGS]
+def places(name):
+    """Where the program, or the archives for both machines, are once they are built."""
     if name == "rtr_c":
-        paths = [ARCHIVE]
+        return [os.path.join(TOP, "bindings", "lib", machine, ARCHIVE)
+                for machine in ("x86_64", "aarch64")]
+    return [os.path.join(TOP, "crates", name, "out", name + ending) for ending in ENDINGS]
+
+
+@functools.cache
+def fresh(name):
+    """The paths of the program that are there and no older than its sources."""
     since = last_change(name)
-    return [path for path in paths if os.path.isfile(path) and os.path.getmtime(path) >= since]
+    return [path for path in places(name)
+            if os.path.isfile(path) and os.path.getmtime(path) >= since]
 
 
-def needed(name):
-    """The same, where there has to be one as LLVM builds it."""
-    found = programs(name)
+@functools.cache
+def prebuilt(name):
+    """The path of the prebuilt program, or archive for x86-64, where nothing was built."""
+    file = os.path.join("x86_64", ARCHIVE if name == "rtr_c" else name)
+    path = os.path.join(PREBUILT, file)
+    if not os.path.isfile(path) or any(os.path.isfile(place) for place in places(name)):
+        return []
+    with open(path, "rb") as data, open(os.path.join(PREBUILT, "SHA256SUMS")) as sums:
+        if f"{hashlib.sha256(data.read()).hexdigest()}  {file}\n" not in sums:
+            sys.exit(f"prebuilt/{file} isn't the one that prebuilt/SHA256SUMS names")
+    print(f"!!! {name} wasn't built here: prebuilt/{file} is taken, which may be older than the "
+          "sources", file=sys.stderr)
+    return [path]
+
+
+def needed(name, only_fresh=False):
+    """What is picked of the program, where there has to be one as LLVM builds it."""
+    found = fresh(name) or ([] if only_fresh else prebuilt(name))
     if not found or found[0].endswith(ENDINGS[1]):
         call = "bindings/build" if name == "rtr_c" else "rt run in its folder"
         sys.exit(f"{name} is missing or older than its sources: call .ci/run, or {call}")
@@ -60,6 +85,11 @@ def program(name):
     return needed(name)[0]
 
 
+def main():
+    only_fresh = sys.argv[1:2] == ["--fresh"]
+    for asked in sys.argv[2 if only_fresh else 1:]:
+        print(*needed(asked, only_fresh), sep="\n")
+
+
 if __name__ == "__main__":
-    for asked in sys.argv[1:]:
-        print(*needed(asked), sep="\n")
+    main()

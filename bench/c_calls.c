@@ -3,7 +3,7 @@
  *
  * usage: c_calls < SEQUENCE, once `bindings/build` has made the archive:
  *
- *     cc -O3 -march=x86-64 -Ibindings/c -o c_calls bench/c_calls.c bindings/lib/x86_64/librtr_c.a
+ *     cc -O3 -march=x86-64 -Ibindings/c -o c_calls bench/c_calls.c prebuilt/x86_64/librtr_wire.a
  *
  * Prints for each job the best of 41 runs each way, interleaved, in nanoseconds a unit, and how
  * many times as long the calls take. It ends with status 1 if the two ways don't agree, on the

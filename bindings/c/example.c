@@ -2,7 +2,7 @@
  *
  * At the top of the repository, once bindings/build has made the archive:
  *
- *     cc -Ibindings/c -o example bindings/c/example.c bindings/lib/x86_64/librtr_c.a */
+ *     cc -Ibindings/c -o example bindings/c/example.c prebuilt/x86_64/librtr_wire.a */
 #include <inttypes.h>
 #include <stdio.h>
 #include <stdlib.h>

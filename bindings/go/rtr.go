@@ -11,8 +11,8 @@ package rtr
 
 /*
 #cgo CFLAGS: -I${SRCDIR}/../c
-#cgo amd64 LDFLAGS: -L${SRCDIR}/../lib/x86_64 -lrtr_c
-#cgo arm64 LDFLAGS: -L${SRCDIR}/../lib/aarch64 -lrtr_c
+#cgo amd64 LDFLAGS: -L${SRCDIR}/../../prebuilt/x86_64 -lrtr_wire
+#cgo arm64 LDFLAGS: -L${SRCDIR}/../../prebuilt/aarch64 -lrtr_wire
 #include "rtr.h"
 
 // What a call answers by value, so that nothing of it has to be kept outside of the stack.
