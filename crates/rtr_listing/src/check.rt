@@ -5,7 +5,7 @@ ghost use Rattle.std.specs.BTreeSet.{contains, IsEmpty, Updates};
 ghost use Rattle.std.specs.Ordering.{on};
 ghost use Rattle.rtr_units.specs.AnyEnd.{end_meaning};
 ghost use Rattle.rtr_units.specs.Header.{version_field, session_field};
-ghost use Rattle.rtr_units.specs.Queries.{response_bytes};
+ghost use Rattle.rtr_units.specs.FixedUnits.{fixed_bytes};
 ghost use Rattle.rtr_payload.specs.Meanings.{payload_of};
 ghost use Rattle.rtr_payload.specs.Orders.{payload_cmp};
 ghost use Rattle.rtr_payload.specs.UnitBytes.{unit_fields};
@@ -81,8 +81,8 @@ impl Checker {
 
     /// A sequence begins.
     fn begin(&mut self, unit: &CacheResponse)
-        ensures version { self.new.version ≡ Some (version_field (response_bytes unit.now)) }
-        ensures session { self.new.session ≡ Some (session_field (response_bytes unit.now)) }
+        ensures version { self.new.version ≡ Some (version_field (fixed_bytes unit.now)) }
+        ensures session { self.new.session ≡ Some (session_field (fixed_bytes unit.now)) }
         ensures none { IsEmpty self.new.announced }
     {
         self.version = Some(unit.version());

@@ -4,7 +4,8 @@ ghost use Rattle.std.specs.Prelude.{◌≡◌, ◌++◌, OnOk, Some, codes, deci
 ghost use Rattle.rtr_base.specs.Addresses.{v4, v6};
 ghost use Rattle.rtr_base.specs.PlainTexts.{action_text, address_text, asn_text};
 ghost use Rattle.rtr_units.specs.AnyEnd.{end_meaning};
-ghost use Rattle.rtr_units.specs.PrefixUnits.{ipv4_bytes, ipv6_bytes, prefix_at};
+ghost use Rattle.rtr_units.specs.FixedUnits.{fixed_bytes};
+ghost use Rattle.rtr_units.specs.PrefixUnits.{prefix_at};
 ghost use Rattle.rtr_payload.specs.AspaUnits.{aspa_at};
 ghost use Rattle.rtr_payload.specs.KeyUnits.{key_at};
 ghost use Rattle.rtr_payload.specs.UnitBytes.{unit_fields};
@@ -150,7 +151,7 @@ fn kind(unit: &Payload) -> &'static str
 
 fn describe_ipv4(line: &mut Line, unit: &Ipv4Prefix) -> Result<(), AllocError>
     ensures { OnOk result
-        (line.new ≡ line.old ++ origin_words (prefix_at v4 (ipv4_bytes unit.now)).origin) }
+        (line.new ≡ line.old ++ origin_words (prefix_at v4 (fixed_bytes unit.now)).origin) }
 {
     line.text(" ")?;
     show_ipv4(line, unit.prefix_bits())?;
@@ -159,7 +160,7 @@ fn describe_ipv4(line: &mut Line, unit: &Ipv4Prefix) -> Result<(), AllocError>
 
 fn describe_ipv6(line: &mut Line, unit: &Ipv6Prefix) -> Result<(), AllocError>
     ensures { OnOk result
-        (line.new ≡ line.old ++ origin_words (prefix_at v6 (ipv6_bytes unit.now)).origin) }
+        (line.new ≡ line.old ++ origin_words (prefix_at v6 (fixed_bytes unit.now)).origin) }
 {
     line.text(" ")?;
     show_ipv6(line, unit.prefix_bits())?;

@@ -5,7 +5,8 @@ ghost use Rattle.std.specs.Prelude.{string_bytes};
 ghost use Rattle.rtr_base.specs.Addresses.{v4, v6};
 ghost use Rattle.rtr_base.specs.PlainTexts.{action_text, address_text};
 ghost use Rattle.rtr_units.specs.AnyEnd.{end_meaning};
-ghost use Rattle.rtr_units.specs.PrefixUnits.{ipv4_bytes, ipv6_bytes, prefix_at};
+ghost use Rattle.rtr_units.specs.FixedUnits.{fixed_bytes};
+ghost use Rattle.rtr_units.specs.PrefixUnits.{prefix_at};
 ghost use Rattle.rtr_payload.specs.AspaUnits.{aspa_at};
 ghost use Rattle.rtr_payload.specs.KeyUnits.{key_at};
 ghost use Rattle.rtr_payload.specs.UnitBytes.{unit_fields};
@@ -191,7 +192,7 @@ fn parts_fields(
 
 fn ipv4_fields(out: &mut Writer, scratch: &mut String, unit: &Ipv4Prefix) -> Result<(), AllocError>
     ensures { Adds result out.old out.new
-        (origin_tokens (prefix_at v4 (ipv4_bytes unit.now)).origin) }
+        (origin_tokens (prefix_at v4 (fixed_bytes unit.now)).origin) }
 {
     show_ipv4(scratch, unit.prefix_bits())?;
     origin_fields(
@@ -205,7 +206,7 @@ fn ipv4_fields(out: &mut Writer, scratch: &mut String, unit: &Ipv4Prefix) -> Res
 
 fn ipv6_fields(out: &mut Writer, scratch: &mut String, unit: &Ipv6Prefix) -> Result<(), AllocError>
     ensures { Adds result out.old out.new
-        (origin_tokens (prefix_at v6 (ipv6_bytes unit.now)).origin) }
+        (origin_tokens (prefix_at v6 (fixed_bytes unit.now)).origin) }
 {
     show_ipv6(scratch, unit.prefix_bits())?;
     origin_fields(

@@ -8,7 +8,8 @@ use Rattle.rtr_base.specs.declared.action.Action.{Action}
 use Rattle.rtr_units.specs.StopCauses.{refused, Cause, no_memory, wrong}
 use Rattle.rtr_units.specs.End.{IsEnd}
 use Rattle.rtr_units.specs.Header.{version_field}
-use Rattle.rtr_units.specs.PrefixUnits.{ipv4_bytes, ipv6_bytes, prefix_at}
+use Rattle.rtr_units.specs.FixedUnits.{fixed_bytes}
+use Rattle.rtr_units.specs.PrefixUnits.{prefix_at}
 use Rattle.rtr_units.specs.AnyEnd.{end_bytes, end_meaning}
 use Rattle.rtr_units.specs.declared.end.EndOfData.{EndOfData}
 use Rattle.rtr_payload.specs.AspaUnits.{aspa_at}
@@ -29,15 +30,15 @@ use Rattle.rtr_payload.specs.declared.pdu.payload.Payload.{Payload}
 use Rattle.rtr_payload.specs.declared.pdu.payload.Payload.TheVariants as units
 
 abbrev pub unit_bytes : Payload → List ℕ
-unit_bytes (units.V4 u) = ipv4_bytes u
-unit_bytes (units.V6 u) = ipv6_bytes u
+unit_bytes (units.V4 u) = fixed_bytes u
+unit_bytes (units.V6 u) = fixed_bytes u
 unit_bytes (units.RouterKey u) = u
 unit_bytes (units.Aspa u) = u
 
 -- by the variant, whatever the bytes of type and length say
 abbrev pub unit_fields : Payload → Fields
-unit_fields (units.V4 u) = prefix_unit (prefix_at v4 (ipv4_bytes u))
-unit_fields (units.V6 u) = prefix_unit (prefix_at v6 (ipv6_bytes u))
+unit_fields (units.V4 u) = prefix_unit (prefix_at v4 (fixed_bytes u))
+unit_fields (units.V6 u) = prefix_unit (prefix_at v6 (fixed_bytes u))
 unit_fields (units.RouterKey u) = key_unit (key_at u)
 unit_fields (units.Aspa u) = aspa_unit (aspa_at u)
 
@@ -108,8 +109,8 @@ partial_len (units.Aspa u) = 12
 
 -- where the flags stand (RFC 8210 sections 5.6, 5.7 and 5.10; ASPA units as in the Rust crate)
 abbrev pub flags_in : Payload → ℕ
-flags_in (units.V4 u) = (prefix_at v4 (ipv4_bytes u)).flags
-flags_in (units.V6 u) = (prefix_at v6 (ipv6_bytes u)).flags
+flags_in (units.V4 u) = (prefix_at v4 (fixed_bytes u)).flags
+flags_in (units.V6 u) = (prefix_at v6 (fixed_bytes u)).flags
 flags_in (units.RouterKey u) = (key_at u).flags
 flags_in (units.Aspa u) = (aspa_at u).flags
 

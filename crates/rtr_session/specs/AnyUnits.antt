@@ -3,8 +3,8 @@
 use Rattle.std.specs.Prelude.{ℕ, List, drop}
 use Rattle.rtr_units.specs.AnyEnd.{end_bytes, end_meaning}
 use Rattle.rtr_units.specs.Header.{version_field, session_field}
-use Rattle.rtr_units.specs.Queries.{notify_bytes, query_bytes, reset_query_bytes, response_bytes}
-use Rattle.rtr_units.specs.Queries.{cache_reset_bytes, serial_field}
+use Rattle.rtr_units.specs.FixedUnits.{fixed_bytes}
+use Rattle.rtr_units.specs.Queries.{serial_field}
 use Rattle.rtr_payload.specs.UnitBytes.{unit_bytes, unit_fields}
 use Rattle.rtr_session.specs.AnyFields.{AnyFields, serial_notify, serial_query, reset_query}
 use Rattle.rtr_session.specs.AnyFields.{cache_response, payload, end_of_data, cache_reset}
@@ -13,13 +13,13 @@ use Rattle.rtr_session.specs.declared.any_unit.AnyUnit.{AnyUnit}
 use Rattle.rtr_session.specs.declared.any_unit.AnyUnit.TheVariants as units
 
 abbrev pub any_bytes : AnyUnit → List ℕ
-any_bytes (units.SerialNotify u) = notify_bytes u
-any_bytes (units.SerialQuery u) = query_bytes u
-any_bytes (units.ResetQuery u) = reset_query_bytes u
-any_bytes (units.CacheResponse u) = response_bytes u
+any_bytes (units.SerialNotify u) = fixed_bytes u
+any_bytes (units.SerialQuery u) = fixed_bytes u
+any_bytes (units.ResetQuery u) = fixed_bytes u
+any_bytes (units.CacheResponse u) = fixed_bytes u
 any_bytes (units.Payload u) = unit_bytes u
 any_bytes (units.EndOfData u) = end_bytes u
-any_bytes (units.CacheReset u) = cache_reset_bytes u
+any_bytes (units.CacheReset u) = fixed_bytes u
 any_bytes (units.Error u) = u
 
 abbrev pub serial_of : (ℕ → ℕ → ℕ → AnyFields) → List ℕ → AnyFields
@@ -30,11 +30,11 @@ bare_of kind b = kind (version_field b) (session_field b)
 
 -- by the variant, whatever the bytes of type and length say
 abbrev pub any_fields : AnyUnit → AnyFields
-any_fields (units.SerialNotify u) = serial_of serial_notify (notify_bytes u)
-any_fields (units.SerialQuery u) = serial_of serial_query (query_bytes u)
-any_fields (units.ResetQuery u) = bare_of reset_query (reset_query_bytes u)
-any_fields (units.CacheResponse u) = bare_of cache_response (response_bytes u)
+any_fields (units.SerialNotify u) = serial_of serial_notify (fixed_bytes u)
+any_fields (units.SerialQuery u) = serial_of serial_query (fixed_bytes u)
+any_fields (units.ResetQuery u) = bare_of reset_query (fixed_bytes u)
+any_fields (units.CacheResponse u) = bare_of cache_response (fixed_bytes u)
 any_fields (units.Payload u) = payload (unit_fields u)
 any_fields (units.EndOfData u) = end_of_data (end_meaning u)
-any_fields (units.CacheReset u) = bare_of cache_reset (cache_reset_bytes u)
+any_fields (units.CacheReset u) = bare_of cache_reset (fixed_bytes u)
 any_fields (units.Error u) = error_report (version_field u) (session_field u) (drop 8 u)

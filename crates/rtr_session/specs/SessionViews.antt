@@ -6,8 +6,7 @@ use Rattle.std.specs.Prelude.{if◌then◌else◌}
 use Rattle.std.specs.Option.{option_or}
 use Rattle.rtr_units.specs.AnyEnd.{end_meaning}
 use Rattle.rtr_units.specs.Header.{version_field, type_field, session_field, length_field}
-use Rattle.rtr_units.specs.Queries.{notify_bytes, query_bytes, reset_query_bytes, response_bytes}
-use Rattle.rtr_units.specs.Queries.{cache_reset_bytes}
+use Rattle.rtr_units.specs.FixedUnits.{fixed_bytes}
 use Rattle.rtr_units.specs.StopCauses.{Refusal, short}
 use Rattle.rtr_payload.specs.FaultSteps.{first_unit}
 use Rattle.rtr_payload.specs.FirstFault.{prefix_fault}
@@ -31,15 +30,15 @@ use Rattle.rtr_session.specs.declared.session_view.SessionView.TheVariants as vi
 -- place in the input.
 abbrev pub ShowsUnit : SessionView → List ℕ → Type 0
 ShowsUnit (views.SerialNotify u) b =
-    (notify_bytes u ≡ b) × HasAnyFields b (serial_of serial_notify b)
-ShowsUnit (views.SerialQuery u) b = (query_bytes u ≡ b) × HasAnyFields b (serial_of serial_query b)
+    (fixed_bytes u ≡ b) × HasAnyFields b (serial_of serial_notify b)
+ShowsUnit (views.SerialQuery u) b = (fixed_bytes u ≡ b) × HasAnyFields b (serial_of serial_query b)
 ShowsUnit (views.ResetQuery u) b =
-    (reset_query_bytes u ≡ b) × HasAnyFields b (bare_of reset_query b)
+    (fixed_bytes u ≡ b) × HasAnyFields b (bare_of reset_query b)
 ShowsUnit (views.CacheResponse u) b =
-    (response_bytes u ≡ b) × HasAnyFields b (bare_of cache_response b)
+    (fixed_bytes u ≡ b) × HasAnyFields b (bare_of cache_response b)
 ShowsUnit (views.Data v) b = IsViewOf v b
 ShowsUnit (views.CacheReset u) b =
-    (cache_reset_bytes u ≡ b) × HasAnyFields b (bare_of cache_reset b)
+    (fixed_bytes u ≡ b) × HasAnyFields b (bare_of cache_reset b)
 ShowsUnit (views.Error v) b = (v.unit.now ≡ b) × IsReport b
 
 -- Why a list of bytes begins with no unit that is shown: there are fewer than the 8 bytes of a
@@ -66,10 +65,10 @@ IsSessionFault r e size =
 -- The view shows just these fields; of a prefix it shows the address cleared, so of a payload unit
 -- what the fields mean, and that the lengths of a prefix are in order.
 abbrev pub ShowsFields : SessionView → AnyFields → Type 0
-ShowsFields (views.SerialNotify u) f = f ≡ serial_of serial_notify (notify_bytes u)
-ShowsFields (views.SerialQuery u) f = f ≡ serial_of serial_query (query_bytes u)
-ShowsFields (views.ResetQuery u) f = f ≡ bare_of reset_query (reset_query_bytes u)
-ShowsFields (views.CacheResponse u) f = f ≡ bare_of cache_response (response_bytes u)
+ShowsFields (views.SerialNotify u) f = f ≡ serial_of serial_notify (fixed_bytes u)
+ShowsFields (views.SerialQuery u) f = f ≡ serial_of serial_query (fixed_bytes u)
+ShowsFields (views.ResetQuery u) f = f ≡ bare_of reset_query (fixed_bytes u)
+ShowsFields (views.CacheResponse u) f = f ≡ bare_of cache_response (fixed_bytes u)
 ShowsFields (views.Data (End e)) f = f ≡ end_of_data (end_meaning e)
 ShowsFields (views.Data (Origin v)) f =
     (g : Fields) × (f ≡ payload g) × LengthsAgree g × ViewMeans (Origin v) (meaning g)
@@ -77,6 +76,6 @@ ShowsFields (views.Data (RouterKey v)) f =
     (g : Fields) × (f ≡ payload g) × LengthsAgree g × ViewMeans (RouterKey v) (meaning g)
 ShowsFields (views.Data (Aspa v)) f =
     (g : Fields) × (f ≡ payload g) × LengthsAgree g × ViewMeans (Aspa v) (meaning g)
-ShowsFields (views.CacheReset u) f = f ≡ bare_of cache_reset (cache_reset_bytes u)
+ShowsFields (views.CacheReset u) f = f ≡ bare_of cache_reset (fixed_bytes u)
 ShowsFields (views.Error v) f =
     f ≡ error_report (version_field v.unit.now) (session_field v.unit.now) (drop 8 v.unit.now)

@@ -4,19 +4,19 @@
 use Rattle.std.specs.Prelude.{ℕ, Bool, true, false, List, Some, nat_lt, ◌==◌, if◌then◌else◌}
 use Rattle.rtr_units.specs.StopCauses.{unit_version}
 use Rattle.rtr_units.specs.End.{EndMeaning, untimed_meaning, timed_meaning}
-use Rattle.rtr_units.specs.End.{end_v0_bytes, end_v1_bytes}
+use Rattle.rtr_units.specs.FixedUnits.{fixed_bytes}
 use Rattle.rtr_units.specs.Header.{version_field, length_field}
 use Rattle.rtr_units.specs.Reading.{Kind, exact_length}
 use Rattle.rtr_units.specs.declared.end.EndOfData.{EndOfData}
 use Rattle.rtr_units.specs.declared.end.EndOfData.TheVariants.{V0, V1}
 
 abbrev pub end_bytes : EndOfData → List ℕ
-end_bytes (V0 u) = end_v0_bytes u
-end_bytes (V1 u) = end_v1_bytes u
+end_bytes (V0 u) = fixed_bytes u
+end_bytes (V1 u) = fixed_bytes u
 
 abbrev pub end_meaning : EndOfData → EndMeaning
-end_meaning (V0 u) = untimed_meaning (end_v0_bytes u)
-end_meaning (V1 u) = timed_meaning (end_v1_bytes u)
+end_meaning (V0 u) = untimed_meaning (fixed_bytes u)
+end_meaning (V1 u) = timed_meaning (fixed_bytes u)
 
 -- whether it has timings
 abbrev pub is_timed : EndOfData → Bool

@@ -5,8 +5,6 @@ use Rattle.rtr_base.specs.declared.timing.Timing.{Timing}
 use Rattle.rtr_base.specs.Bytes.{be, value}
 use Rattle.rtr_units.specs.Header.{header, version_field, session_field}
 use Rattle.rtr_units.specs.Queries.{serial_field}
-use Rattle.rtr_units.specs.declared.end.EndOfDataV0.{EndOfDataV0}
-use Rattle.rtr_units.specs.declared.end.EndOfDataV1.{EndOfDataV1}
 
 -- what an end of data means: in version 0 without timings
 pub record EndMeaning : Type 0 where
@@ -69,11 +67,3 @@ timed_meaning b =
       serial = serial_field b;
       timing = Some (timing_fields b);
     }
-
--- ---- the values of these units as the lists of their bytes
-
-abbrev pub end_v0_bytes : EndOfDataV0 → List ℕ
-end_v0_bytes u = u.cells.bytes
-
-abbrev pub end_v1_bytes : EndOfDataV1 → List ℕ
-end_v1_bytes u = u.cells.bytes

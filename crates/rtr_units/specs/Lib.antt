@@ -1,6 +1,7 @@
 pub mod StopCauses
 pub mod Codes
 pub mod End
+pub mod FixedUnits
 pub mod AnyEnd
 pub mod Header
 pub mod Lending

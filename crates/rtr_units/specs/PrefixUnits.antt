@@ -4,8 +4,6 @@ use Rattle.std.specs.Prelude.{ℕ, ◌+◌, List, ◌∷◌, ◌++◌, take, dro
 use Rattle.rtr_base.specs.Addresses.{Family, v4, v6}
 use Rattle.rtr_base.specs.Bytes.{be, value}
 use Rattle.rtr_units.specs.Header.{header, version_field, session_field}
-use Rattle.rtr_units.specs.declared.prefixes.Ipv4Prefix.{Ipv4Prefix}
-use Rattle.rtr_units.specs.declared.prefixes.Ipv6Prefix.{Ipv6Prefix}
 
 -- a route origin: the autonomous system, and the prefix with the longest prefix length that it may
 -- announce (RFC 8210 sections 5.6 and 5.7)
@@ -65,11 +63,3 @@ prefix_at family b =
             asn = value (take 4 (drop (12 + address_bytes family) b));
           };
     }
-
--- ---- the values of these units as the lists of their bytes
-
-abbrev pub ipv4_bytes : Ipv4Prefix → List ℕ
-ipv4_bytes u = u.cells.bytes
-
-abbrev pub ipv6_bytes : Ipv6Prefix → List ℕ
-ipv6_bytes u = u.cells.bytes

@@ -3,12 +3,7 @@
 use Rattle.std.specs.Prelude.{ℕ, List, ◌++◌, take, drop}
 use Rattle.rtr_base.specs.Bytes.{be, value}
 use Rattle.rtr_units.specs.Header.{header}
-use Rattle.rtr_units.specs.declared.queries.SerialNotify.{SerialNotify}
-use Rattle.rtr_units.specs.declared.queries.SerialQuery.{SerialQuery}
 use Rattle.rtr_units.specs.declared.queries.SerialQueryPayload.{SerialQueryPayload}
-use Rattle.rtr_units.specs.declared.queries.ResetQuery.{ResetQuery}
-use Rattle.rtr_units.specs.declared.queries.CacheResponse.{CacheResponse}
-use Rattle.rtr_units.specs.declared.queries.CacheReset.{CacheReset}
 
 -- a header alone: reset query, cache response, cache reset (RFC 8210 sections 5.4, 5.5 and 5.9)
 abbrev pub bare_list : (version kind session : ℕ) → List ℕ
@@ -23,22 +18,6 @@ serial_list version kind session serial = header version kind session 12 ++ be s
 abbrev pub serial_field : List ℕ → ℕ
 serial_field u = value (take 4 (drop 8 u))
 
--- ---- the values of these units as the lists of their bytes
-
-abbrev pub notify_bytes : SerialNotify → List ℕ
-notify_bytes u = u.cells.bytes
-
-abbrev pub query_bytes : SerialQuery → List ℕ
-query_bytes u = u.cells.bytes
-
+-- what follows the header of a serial query, as the list of its bytes (RFC 8210 section 5.3)
 abbrev pub query_payload_bytes : SerialQueryPayload → List ℕ
 query_payload_bytes u = u.cells.bytes
-
-abbrev pub reset_query_bytes : ResetQuery → List ℕ
-reset_query_bytes u = u.cells.bytes
-
-abbrev pub response_bytes : CacheResponse → List ℕ
-response_bytes u = u.cells.bytes
-
-abbrev pub cache_reset_bytes : CacheReset → List ℕ
-cache_reset_bytes u = u.cells.bytes

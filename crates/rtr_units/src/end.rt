@@ -1,12 +1,11 @@
 //! The end of data (RFC 6810 and RFC 8210 section 5.8; version 2 as in the Rust crate `rpki`).
 
-ghost use Rattle.std.specs.Prelude.{◌≡◌, ℕ, List, length, IfOk, MatchResult, Some, not, ◌==◌};
-ghost use Rattle.std.specs.Prelude.{IfErr, replicate, refl};
-ghost use Rattle.std.proofs.Common.{rules};
+ghost use Rattle.std.specs.Prelude.{◌≡◌, IfOk, IfErr, Some, not, ◌==◌};
 ghost use Rattle.std.specs.Borrow.{sem};
 ghost use Rattle.rtr_base.specs.Bytes.{IsBytes};
-ghost use Rattle.rtr_units.specs.End.{IsEnd, timed_list, timing_fields, end_v0_bytes, end_v1_bytes};
+ghost use Rattle.rtr_units.specs.End.{IsEnd, timed_list, timing_fields};
 ghost use Rattle.rtr_units.specs.AnyEnd.{end_bytes, end_meaning, end_unit, is_timed};
+ghost use Rattle.rtr_units.specs.FixedUnits.{fixed_bytes};
 ghost use Rattle.rtr_units.specs.Header.{version_field, type_field};
 ghost use Rattle.rtr_units.specs.Queries.{serial_list, serial_field};
 ghost use Rattle.rtr_units.specs.Reading.{ReadsAfter, by_bytes};
@@ -14,8 +13,8 @@ ghost use Rattle.rtr_units.specs.Stream.{PutsForm};
 ghost use Rattle.rtr_units.specs.StopCauses.{HoldsReadError, HoldsWriteError};
 ghost use Rattle.rtr_units.specs.HeaderBytes.{header_bytes};
 
-use crate::cells::Cells;
 use crate::fault::Fault;
+use crate::fixed_unit::FixedUnit;
 use crate::header::{Header, LAST_VERSION};
 use crate::numbers::u32_at;
 use crate::queries::serial_after_header;
@@ -181,130 +180,34 @@ impl EndOfData {
 }
 
 /// An end of data in version 0 (RFC 6810 section 5.8): 12 bytes.
-#[derive(Clone, Copy, Debug, PartialEq, Eq, Hash)]
-pub struct EndOfDataV0 {
-    cells: Cells<12>,
-}
-
-impl Unit for EndOfDataV0 {
-    ghost bytes = { end_v0_bytes };
-
-    ghost with_bytes = { λ u l. record { cells = record { bytes = l } } };
-
-    ghost PDU = { 7 };
-
-    ghost LENGTH = { 12 };
-
-    const PDU: u8 = 7;
-
-    const LENGTH: usize = 12;
-
-    #[inline(always)]
-    fn zero() -> Self {
-        EndOfDataV0 {
-            cells: Cells::new([0; 12]),
-        }
-    }
-
-    #[inline(always)]
-    fn as_ref(&self) -> &[u8] {
-        self.cells.as_ref()
-    }
-
-    #[inline(always)]
-    fn as_mut(&mut self) -> &mut [u8] {
-        self.cells.as_mut()
-    }
-
-    ghost sized = { Prim.search rules };
-
-    ghost kept = { λ u l. refl };
-}
-
-impl Default for EndOfDataV0 {
-    ghost is_default = { λ u. end_v0_bytes u ≡ replicate 12 0 };
-
-    fn default() -> Self {
-        EndOfDataV0::zero()
-    }
-}
+pub type EndOfDataV0 = FixedUnit<7, 12>;
 
 impl EndOfDataV0 {
+    /// The type of the unit.
+    pub const PDU: u8 = 7;
+
     /// The end of data in this state, with version 0.
     #[inline(always)]
     pub fn new(state: State) -> Self
-        ensures { end_v0_bytes result ≡ serial_list 0 7 state.session state.serial }
+        ensures { fixed_bytes result ≡ serial_list 0 7 state.session state.serial }
     {
         let [s0, s1] = state.session().to_be_bytes();
         let [q0, q1, q2, q3] = state.serial().0.to_be_bytes();
-        EndOfDataV0 {
-            cells: Cells::new([0, 7, s0, s1, 0, 0, 0, 12, q0, q1, q2, q3]),
-        }
-    }
-
-    /// The serial number.
-    #[inline(always)]
-    pub fn serial(&self) -> Serial
-        ensures { result.0 ≡ serial_field (end_v0_bytes self.now) }
-    {
-        serial_after_header(self.as_ref())
+        FixedUnit::of([0, 7, s0, s1, 0, 0, 0, 12, q0, q1, q2, q3])
     }
 }
 
 /// An end of data since version 1 (RFC 8210 section 5.8): 24 bytes.
-#[derive(Clone, Copy, Debug, PartialEq, Eq, Hash)]
-pub struct EndOfDataV1 {
-    cells: Cells<24>,
-}
-
-impl Unit for EndOfDataV1 {
-    ghost bytes = { end_v1_bytes };
-
-    ghost with_bytes = { λ u l. record { cells = record { bytes = l } } };
-
-    ghost PDU = { 7 };
-
-    ghost LENGTH = { 24 };
-
-    const PDU: u8 = 7;
-
-    const LENGTH: usize = 24;
-
-    #[inline(always)]
-    fn zero() -> Self {
-        EndOfDataV1 {
-            cells: Cells::new([0; 24]),
-        }
-    }
-
-    #[inline(always)]
-    fn as_ref(&self) -> &[u8] {
-        self.cells.as_ref()
-    }
-
-    #[inline(always)]
-    fn as_mut(&mut self) -> &mut [u8] {
-        self.cells.as_mut()
-    }
-
-    ghost sized = { Prim.search rules };
-
-    ghost kept = { λ u l. refl };
-}
-
-impl Default for EndOfDataV1 {
-    ghost is_default = { λ u. end_v1_bytes u ≡ replicate 24 0 };
-
-    fn default() -> Self {
-        EndOfDataV1::zero()
-    }
-}
+pub type EndOfDataV1 = FixedUnit<7, 24>;
 
 impl EndOfDataV1 {
+    /// The type of the unit.
+    pub const PDU: u8 = 7;
+
     /// The end of data in this state, with these timings. The version is not checked.
     #[inline(always)]
     pub fn new(version: u8, state: State, timing: Timing) -> Self
-        ensures { end_v1_bytes result ≡
+        ensures { fixed_bytes result ≡
             timed_list version state.session state.serial (Some timing) }
     {
         let [s0, s1] = state.session().to_be_bytes();
@@ -312,18 +215,16 @@ impl EndOfDataV1 {
         let [r0, r1, r2, r3] = timing.refresh.to_be_bytes();
         let [y0, y1, y2, y3] = timing.retry.to_be_bytes();
         let [e0, e1, e2, e3] = timing.expire.to_be_bytes();
-        EndOfDataV1 {
-            cells: Cells::new([
-                version, 7, s0, s1, 0, 0, 0, 24, q0, q1, q2, q3, r0, r1, r2, r3, y0, y1, y2, y3,
-                e0, e1, e2, e3,
-            ]),
-        }
+        FixedUnit::of([
+            version, 7, s0, s1, 0, 0, 0, 24, q0, q1, q2, q3, r0, r1, r2, r3, y0, y1, y2, y3, e0,
+            e1, e2, e3,
+        ])
     }
 
     /// The serial number.
     #[inline(always)]
     pub fn serial(&self) -> Serial
-        ensures { result.0 ≡ serial_field (end_v1_bytes self.now) }
+        ensures { result.0 ≡ serial_field (fixed_bytes self.now) }
     {
         serial_after_header(self.as_ref())
     }
@@ -331,7 +232,7 @@ impl EndOfDataV1 {
     /// The timing parameters, in seconds.
     #[inline(always)]
     pub fn timing(&self) -> Timing
-        ensures { result ≡ timing_fields (end_v1_bytes self.now) }
+        ensures { result ≡ timing_fields (fixed_bytes self.now) }
     {
         let bytes = self.as_ref();
         Timing {

@@ -1,6 +1,6 @@
 //! Laws of units of a fixed size, and the constants of this crate.
 
-ghost use Rattle.std.specs.Prelude.{◌≡◌, ◌++◌, ℕ, List};
+ghost use Rattle.std.specs.Prelude.{◌≡◌, ◌++◌, ◌∷◌, [], ℕ, List};
 ghost use Rattle.rtr_units.specs.End.{IsEnd, IsEndMeaning, EndMeaning, end_list};
 
 use crate::end::{EndOfData, EndOfDataV0, EndOfDataV1};
@@ -31,6 +31,23 @@ pub fn types_and_sizes()
     ensures error_report { Error.PDU ≡ 10 }
     ensures last_version { LAST_VERSION ≡ 2 }
 {}
+
+/// The constants with the types of the units of a fixed size, in the order above.
+pub fn fixed_types() -> [u8; 9]
+    ensures { result ≡ 0 ∷ 1 ∷ 2 ∷ 3 ∷ 4 ∷ 6 ∷ 7 ∷ 7 ∷ 8 ∷ [] }
+{
+    [
+        SerialNotify::PDU,
+        SerialQuery::PDU,
+        ResetQuery::PDU,
+        CacheResponse::PDU,
+        Ipv4Prefix::PDU,
+        Ipv6Prefix::PDU,
+        EndOfDataV0::PDU,
+        EndOfDataV1::PDU,
+        CacheReset::PDU,
+    ]
+}
 
 /// The constants of any unit of a fixed size are those that contracts name.
 pub fn type_and_size<U: Unit>() -> (u8, usize)

@@ -7,6 +7,7 @@ mod copying;
 pub mod end;
 pub mod error;
 pub mod fault;
+pub mod fixed_unit;
 pub mod header;
 pub mod laws;
 pub mod numbers;

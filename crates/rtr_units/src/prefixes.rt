@@ -1,67 +1,24 @@
 //! Prefix units (RFC 6810 and RFC 8210 sections 5.6 and 5.7).
 
-ghost use Rattle.std.specs.Prelude.{◌≡◌, ℕ, List, length, replicate, refl};
-ghost use Rattle.std.proofs.Common.{rules};
+ghost use Rattle.std.specs.Prelude.{◌≡◌};
 ghost use Rattle.std.specs.Net.Addr.{ipv4_bits, ipv6_bits};
 ghost use Rattle.rtr_base.specs.Addresses.{v4, v6};
-ghost use Rattle.rtr_units.specs.PrefixUnits.{ipv4_bytes, ipv6_bytes, prefix_list, prefix_at};
+ghost use Rattle.rtr_units.specs.FixedUnits.{fixed_bytes};
+ghost use Rattle.rtr_units.specs.PrefixUnits.{prefix_list, prefix_at};
 
-use crate::cells::Cells;
+use crate::fixed_unit::FixedUnit;
 use crate::numbers::{u32_at, u128_at, u128_bytes};
 use crate::unit::Unit;
 use rtr_base::asn::Asn;
 use std::net::{Ipv4Addr, Ipv6Addr};
 
 /// An IPv4 prefix (RFC 8210 section 5.6): 20 bytes.
-#[derive(Clone, Copy, Debug, PartialEq, Eq, Hash)]
-pub struct Ipv4Prefix {
-    cells: Cells<20>,
-}
-
-impl Unit for Ipv4Prefix {
-    ghost bytes = { ipv4_bytes };
-
-    ghost with_bytes = { λ u l. record { cells = record { bytes = l } } };
-
-    ghost PDU = { 4 };
-
-    ghost LENGTH = { 20 };
-
-    const PDU: u8 = 4;
-
-    const LENGTH: usize = 20;
-
-    #[inline(always)]
-    fn zero() -> Self {
-        Ipv4Prefix {
-            cells: Cells::new([0; 20]),
-        }
-    }
-
-    #[inline(always)]
-    fn as_ref(&self) -> &[u8] {
-        self.cells.as_ref()
-    }
-
-    #[inline(always)]
-    fn as_mut(&mut self) -> &mut [u8] {
-        self.cells.as_mut()
-    }
-
-    ghost sized = { Prim.search rules };
-
-    ghost kept = { λ u l. refl };
-}
-
-impl Default for Ipv4Prefix {
-    ghost is_default = { λ u. ipv4_bytes u ≡ replicate 20 0 };
-
-    fn default() -> Self {
-        Ipv4Prefix::zero()
-    }
-}
+pub type Ipv4Prefix = FixedUnit<4, 20>;
 
 impl Ipv4Prefix {
+    /// The type of the unit.
+    pub const PDU: u8 = 4;
+
     /// The unit with these fields. The lengths are not checked.
     #[inline(always)]
     pub fn new(
@@ -72,7 +29,7 @@ impl Ipv4Prefix {
         prefix: Ipv4Addr,
         asn: Asn,
     ) -> Self
-        ensures { ipv4_bytes result ≡ prefix_list (record {
+        ensures { fixed_bytes result ≡ prefix_list (record {
           version = version;
           session = 0;
           flags = flags;
@@ -99,7 +56,7 @@ impl Ipv4Prefix {
         prefix: u32,
         asn: Asn,
     ) -> Self
-        ensures { ipv4_bytes result ≡ prefix_list (record {
+        ensures { fixed_bytes result ≡ prefix_list (record {
           version = version;
           session = 0;
           flags = flags;
@@ -118,15 +75,13 @@ impl Ipv4Prefix {
         bytes[..12].copy_from_slice(&front);
         bytes[12..16].copy_from_slice(&prefix.to_be_bytes());
         bytes[16..].copy_from_slice(&asn.into_u32().to_be_bytes());
-        Ipv4Prefix {
-            cells: Cells::new(bytes),
-        }
+        FixedUnit::of(bytes)
     }
 
     /// The flags, of which the lowest bit announces.
     #[inline(always)]
     pub fn flags(&self) -> u8
-        ensures { result ≡ (prefix_at v4 (ipv4_bytes self.now)).flags }
+        ensures { result ≡ (prefix_at v4 (fixed_bytes self.now)).flags }
     {
         self.as_ref()[8]
     }
@@ -134,7 +89,7 @@ impl Ipv4Prefix {
     /// The length of the prefix.
     #[inline(always)]
     pub fn prefix_len(&self) -> u8
-        ensures { result ≡ (prefix_at v4 (ipv4_bytes self.now)).origin.prefix_len }
+        ensures { result ≡ (prefix_at v4 (fixed_bytes self.now)).origin.prefix_len }
     {
         self.as_ref()[9]
     }
@@ -142,7 +97,7 @@ impl Ipv4Prefix {
     /// The max length: the longest prefix length that is meant.
     #[inline(always)]
     pub fn max_len(&self) -> u8
-        ensures { result ≡ (prefix_at v4 (ipv4_bytes self.now)).origin.max_len }
+        ensures { result ≡ (prefix_at v4 (fixed_bytes self.now)).origin.max_len }
     {
         self.as_ref()[10]
     }
@@ -151,7 +106,7 @@ impl Ipv4Prefix {
     #[inline(always)]
     #[tactic(auto, using(crate::proofs::Addresses::ipv4_of_bits))]
     pub fn prefix(&self) -> Ipv4Addr
-        ensures { ipv4_bits result ≡ (prefix_at v4 (ipv4_bytes self.now)).origin.address }
+        ensures { ipv4_bits result ≡ (prefix_at v4 (fixed_bytes self.now)).origin.address }
     {
         Ipv4Addr::from_bits(self.prefix_bits())
     }
@@ -159,7 +114,7 @@ impl Ipv4Prefix {
     /// The address as a number, host bits included.
     #[inline(always)]
     pub fn prefix_bits(&self) -> u32
-        ensures { result ≡ (prefix_at v4 (ipv4_bytes self.now)).origin.address }
+        ensures { result ≡ (prefix_at v4 (fixed_bytes self.now)).origin.address }
     {
         u32_at(self.as_ref(), 12)
     }
@@ -167,62 +122,19 @@ impl Ipv4Prefix {
     /// The autonomous system.
     #[inline(always)]
     pub fn asn(&self) -> Asn
-        ensures { result ≡ (prefix_at v4 (ipv4_bytes self.now)).origin.asn }
+        ensures { result ≡ (prefix_at v4 (fixed_bytes self.now)).origin.asn }
     {
         Asn::from_u32(u32_at(self.as_ref(), 16))
     }
 }
 
 /// An IPv6 prefix (RFC 8210 section 5.7): 32 bytes.
-#[derive(Clone, Copy, Debug, PartialEq, Eq, Hash)]
-pub struct Ipv6Prefix {
-    cells: Cells<32>,
-}
-
-impl Unit for Ipv6Prefix {
-    ghost bytes = { ipv6_bytes };
-
-    ghost with_bytes = { λ u l. record { cells = record { bytes = l } } };
-
-    ghost PDU = { 6 };
-
-    ghost LENGTH = { 32 };
-
-    const PDU: u8 = 6;
-
-    const LENGTH: usize = 32;
-
-    #[inline(always)]
-    fn zero() -> Self {
-        Ipv6Prefix {
-            cells: Cells::new([0; 32]),
-        }
-    }
-
-    #[inline(always)]
-    fn as_ref(&self) -> &[u8] {
-        self.cells.as_ref()
-    }
-
-    #[inline(always)]
-    fn as_mut(&mut self) -> &mut [u8] {
-        self.cells.as_mut()
-    }
-
-    ghost sized = { Prim.search rules };
-
-    ghost kept = { λ u l. refl };
-}
-
-impl Default for Ipv6Prefix {
-    ghost is_default = { λ u. ipv6_bytes u ≡ replicate 32 0 };
-
-    fn default() -> Self {
-        Ipv6Prefix::zero()
-    }
-}
+pub type Ipv6Prefix = FixedUnit<6, 32>;
 
 impl Ipv6Prefix {
+    /// The type of the unit.
+    pub const PDU: u8 = 6;
+
     /// The unit with these fields. The lengths are not checked.
     #[inline(always)]
     pub fn new(
@@ -233,7 +145,7 @@ impl Ipv6Prefix {
         prefix: Ipv6Addr,
         asn: Asn,
     ) -> Self
-        ensures { ipv6_bytes result ≡ prefix_list (record {
+        ensures { fixed_bytes result ≡ prefix_list (record {
           version = version;
           session = 0;
           flags = flags;
@@ -260,7 +172,7 @@ impl Ipv6Prefix {
         prefix: u128,
         asn: Asn,
     ) -> Self
-        ensures { ipv6_bytes result ≡ prefix_list (record {
+        ensures { fixed_bytes result ≡ prefix_list (record {
           version = version;
           session = 0;
           flags = flags;
@@ -279,15 +191,13 @@ impl Ipv6Prefix {
         bytes[..12].copy_from_slice(&front);
         bytes[12..28].copy_from_slice(&u128_bytes(prefix));
         bytes[28..].copy_from_slice(&asn.into_u32().to_be_bytes());
-        Ipv6Prefix {
-            cells: Cells::new(bytes),
-        }
+        FixedUnit::of(bytes)
     }
 
     /// The flags, of which the lowest bit announces.
     #[inline(always)]
     pub fn flags(&self) -> u8
-        ensures { result ≡ (prefix_at v6 (ipv6_bytes self.now)).flags }
+        ensures { result ≡ (prefix_at v6 (fixed_bytes self.now)).flags }
     {
         self.as_ref()[8]
     }
@@ -295,7 +205,7 @@ impl Ipv6Prefix {
     /// The length of the prefix.
     #[inline(always)]
     pub fn prefix_len(&self) -> u8
-        ensures { result ≡ (prefix_at v6 (ipv6_bytes self.now)).origin.prefix_len }
+        ensures { result ≡ (prefix_at v6 (fixed_bytes self.now)).origin.prefix_len }
     {
         self.as_ref()[9]
     }
@@ -303,7 +213,7 @@ impl Ipv6Prefix {
     /// The max length: the longest prefix length that is meant.
     #[inline(always)]
     pub fn max_len(&self) -> u8
-        ensures { result ≡ (prefix_at v6 (ipv6_bytes self.now)).origin.max_len }
+        ensures { result ≡ (prefix_at v6 (fixed_bytes self.now)).origin.max_len }
     {
         self.as_ref()[10]
     }
@@ -312,7 +222,7 @@ impl Ipv6Prefix {
     #[inline(always)]
     #[tactic(auto, using(crate::proofs::Addresses::ipv6_of_bits))]
     pub fn prefix(&self) -> Ipv6Addr
-        ensures { ipv6_bits result ≡ (prefix_at v6 (ipv6_bytes self.now)).origin.address }
+        ensures { ipv6_bits result ≡ (prefix_at v6 (fixed_bytes self.now)).origin.address }
     {
         Ipv6Addr::from_bits(self.prefix_bits())
     }
@@ -320,7 +230,7 @@ impl Ipv6Prefix {
     /// The address as a number, host bits included.
     #[inline(always)]
     pub fn prefix_bits(&self) -> u128
-        ensures { result ≡ (prefix_at v6 (ipv6_bytes self.now)).origin.address }
+        ensures { result ≡ (prefix_at v6 (fixed_bytes self.now)).origin.address }
     {
         u128_at(self.as_ref(), 12)
     }
@@ -328,7 +238,7 @@ impl Ipv6Prefix {
     /// The autonomous system.
     #[inline(always)]
     pub fn asn(&self) -> Asn
-        ensures { result ≡ (prefix_at v6 (ipv6_bytes self.now)).origin.asn }
+        ensures { result ≡ (prefix_at v6 (fixed_bytes self.now)).origin.asn }
     {
         Asn::from_u32(u32_at(self.as_ref(), 28))
     }

@@ -1,182 +1,85 @@
 //! Units by which a router and a cache speak of their states (RFC 6810 and RFC 8210 sections 5.2 to
 //! 5.5 and 5.9).
 
-ghost use Rattle.std.specs.Prelude.{◌≡◌, ◌≤◌, ℕ, List, length, replicate, refl, IfErr};
-ghost use Rattle.std.proofs.Common.{rules};
+ghost use Rattle.std.specs.Prelude.{◌≡◌, ◌≤◌, length, replicate, IfErr};
 ghost use Rattle.std.specs.Borrow.{sem};
 ghost use Rattle.rtr_base.specs.Bytes.{be, value, IsBytes};
-ghost use Rattle.rtr_units.specs.Queries.{bare_list, serial_list};
+ghost use Rattle.rtr_units.specs.FixedUnits.{fixed_bytes};
+ghost use Rattle.rtr_units.specs.Queries.{bare_list, serial_list, serial_field};
 ghost use Rattle.rtr_units.specs.Header.{session_field};
 ghost use Rattle.rtr_units.specs.Reading.{FillsPiece, by_bytes};
 ghost use Rattle.rtr_units.specs.Stream.{PutsForm};
 ghost use Rattle.rtr_units.specs.StopCauses.{HoldsReadError, HoldsWriteError};
-ghost use Rattle.rtr_units.specs.Queries.{notify_bytes, query_bytes, reset_query_bytes};
-ghost use Rattle.rtr_units.specs.Queries.{response_bytes, cache_reset_bytes, query_payload_bytes};
-ghost use Rattle.rtr_units.specs.Queries.{serial_field};
+ghost use Rattle.rtr_units.specs.Queries.{query_payload_bytes};
 
 use crate::cells::Cells;
 use crate::fault::Fault;
+use crate::fixed_unit::FixedUnit;
 use crate::numbers::u32_at;
 use crate::piece::{fill, put};
 use crate::source::{Sink, Source};
 use crate::unit::Unit;
 use rtr_base::state::{Serial, State};
 
+impl<const TYPE: u8> FixedUnit<TYPE, 12> {
+    /// The serial number, with which each unit of 12 bytes ends.
+    #[inline(always)]
+    pub fn serial(&self) -> Serial
+        ensures { result.0 ≡ serial_field (fixed_bytes self.now) }
+    {
+        serial_after_header(self.as_ref())
+    }
+}
+
 /// The cache says that it has new data (section 5.2): 12 bytes.
-#[derive(Clone, Copy, Debug, PartialEq, Eq, Hash)]
-pub struct SerialNotify {
-    cells: Cells<12>,
-}
-
-impl Unit for SerialNotify {
-    ghost bytes = { notify_bytes };
-
-    ghost with_bytes = { λ u l. record { cells = record { bytes = l } } };
-
-    ghost PDU = { 0 };
-
-    ghost LENGTH = { 12 };
-
-    const PDU: u8 = 0;
-
-    const LENGTH: usize = 12;
-
-    #[inline(always)]
-    fn zero() -> Self {
-        SerialNotify {
-            cells: Cells::new([0; 12]),
-        }
-    }
-
-    #[inline(always)]
-    fn as_ref(&self) -> &[u8] {
-        self.cells.as_ref()
-    }
-
-    #[inline(always)]
-    fn as_mut(&mut self) -> &mut [u8] {
-        self.cells.as_mut()
-    }
-
-    ghost sized = { Prim.search rules };
-
-    ghost kept = { λ u l. refl };
-}
-
-impl Default for SerialNotify {
-    ghost is_default = { λ u. notify_bytes u ≡ replicate 12 0 };
-
-    fn default() -> Self {
-        SerialNotify::zero()
-    }
-}
+pub type SerialNotify = FixedUnit<0, 12>;
 
 impl SerialNotify {
+    /// The type of the unit.
+    pub const PDU: u8 = 0;
+
     /// The serial notify with this version and state.
     #[inline(always)]
     pub fn new(version: u8, state: State) -> Self
-        ensures { notify_bytes result ≡ serial_list version 0 state.session state.serial }
+        ensures { fixed_bytes result ≡ serial_list version 0 state.session state.serial }
     {
         let [s0, s1] = state.session().to_be_bytes();
         let [q0, q1, q2, q3] = state.serial().0.to_be_bytes();
-        SerialNotify {
-            cells: Cells::new([version, 0, s0, s1, 0, 0, 0, 12, q0, q1, q2, q3]),
-        }
-    }
-
-    /// The serial number.
-    #[inline(always)]
-    pub fn serial(&self) -> Serial
-        ensures { result.0 ≡ serial_field (notify_bytes self.now) }
-    {
-        serial_after_header(self.as_ref())
+        FixedUnit::of([version, 0, s0, s1, 0, 0, 0, 12, q0, q1, q2, q3])
     }
 
     /// The session and the serial number.
     #[inline(always)]
     pub fn state(&self) -> State
-        ensures session { result.session ≡ session_field (notify_bytes self.now) }
-        ensures serial { result.serial ≡ serial_field (notify_bytes self.now) }
+        ensures session { result.session ≡ session_field (fixed_bytes self.now) }
+        ensures serial { result.serial ≡ serial_field (fixed_bytes self.now) }
     {
         State::from_parts(self.session(), self.serial())
     }
 }
 
 /// A router asks for what is new since a state (section 5.3): 12 bytes.
-#[derive(Clone, Copy, Debug, PartialEq, Eq, Hash)]
-pub struct SerialQuery {
-    cells: Cells<12>,
-}
-
-impl Unit for SerialQuery {
-    ghost bytes = { query_bytes };
-
-    ghost with_bytes = { λ u l. record { cells = record { bytes = l } } };
-
-    ghost PDU = { 1 };
-
-    ghost LENGTH = { 12 };
-
-    const PDU: u8 = 1;
-
-    const LENGTH: usize = 12;
-
-    #[inline(always)]
-    fn zero() -> Self {
-        SerialQuery {
-            cells: Cells::new([0; 12]),
-        }
-    }
-
-    #[inline(always)]
-    fn as_ref(&self) -> &[u8] {
-        self.cells.as_ref()
-    }
-
-    #[inline(always)]
-    fn as_mut(&mut self) -> &mut [u8] {
-        self.cells.as_mut()
-    }
-
-    ghost sized = { Prim.search rules };
-
-    ghost kept = { λ u l. refl };
-}
-
-impl Default for SerialQuery {
-    ghost is_default = { λ u. query_bytes u ≡ replicate 12 0 };
-
-    fn default() -> Self {
-        SerialQuery::zero()
-    }
-}
+pub type SerialQuery = FixedUnit<1, 12>;
 
 impl SerialQuery {
+    /// The type of the unit.
+    pub const PDU: u8 = 1;
+
     /// The serial query with this version and state.
     #[inline(always)]
     pub fn new(version: u8, state: State) -> Self
-        ensures { query_bytes result ≡ serial_list version 1 state.session state.serial }
+        ensures { fixed_bytes result ≡ serial_list version 1 state.session state.serial }
     {
         let [s0, s1] = state.session().to_be_bytes();
         let [q0, q1, q2, q3] = state.serial().0.to_be_bytes();
-        SerialQuery {
-            cells: Cells::new([version, 1, s0, s1, 0, 0, 0, 12, q0, q1, q2, q3]),
-        }
-    }
-
-    /// The serial number.
-    #[inline(always)]
-    pub fn serial(&self) -> Serial
-        ensures { result.0 ≡ serial_field (query_bytes self.now) }
-    {
-        serial_after_header(self.as_ref())
+        FixedUnit::of([version, 1, s0, s1, 0, 0, 0, 12, q0, q1, q2, q3])
     }
 
     /// The session and the serial number.
     #[inline(always)]
     pub fn state(&self) -> State
-        ensures session { result.session ≡ session_field (query_bytes self.now) }
-        ensures serial { result.serial ≡ serial_field (query_bytes self.now) }
+        ensures session { result.session ≡ session_field (fixed_bytes self.now) }
+        ensures serial { result.serial ≡ serial_field (fixed_bytes self.now) }
     {
         State::from_parts(self.session(), self.serial())
     }
@@ -264,186 +167,51 @@ impl SerialQueryPayload {
 }
 
 /// A router asks for all data (section 5.4): 8 bytes.
-#[derive(Clone, Copy, Debug, PartialEq, Eq, Hash)]
-pub struct ResetQuery {
-    cells: Cells<8>,
-}
-
-impl Unit for ResetQuery {
-    ghost bytes = { reset_query_bytes };
-
-    ghost with_bytes = { λ u l. record { cells = record { bytes = l } } };
-
-    ghost PDU = { 2 };
-
-    ghost LENGTH = { 8 };
-
-    const PDU: u8 = 2;
-
-    const LENGTH: usize = 8;
-
-    #[inline(always)]
-    fn zero() -> Self {
-        ResetQuery {
-            cells: Cells::new([0; 8]),
-        }
-    }
-
-    #[inline(always)]
-    fn as_ref(&self) -> &[u8] {
-        self.cells.as_ref()
-    }
-
-    #[inline(always)]
-    fn as_mut(&mut self) -> &mut [u8] {
-        self.cells.as_mut()
-    }
-
-    ghost sized = { Prim.search rules };
-
-    ghost kept = { λ u l. refl };
-}
-
-impl Default for ResetQuery {
-    ghost is_default = { λ u. reset_query_bytes u ≡ replicate 8 0 };
-
-    fn default() -> Self {
-        ResetQuery::zero()
-    }
-}
+pub type ResetQuery = FixedUnit<2, 8>;
 
 impl ResetQuery {
+    /// The type of the unit.
+    pub const PDU: u8 = 2;
+
     /// The reset query with this version. Its session field, which means nothing, is zero.
     #[inline(always)]
     pub fn new(version: u8) -> Self
-        ensures { reset_query_bytes result ≡ bare_list version 2 0 }
+        ensures { fixed_bytes result ≡ bare_list version 2 0 }
     {
-        ResetQuery {
-            cells: Cells::new([version, 2, 0, 0, 0, 0, 0, 8]),
-        }
+        FixedUnit::of([version, 2, 0, 0, 0, 0, 0, 8])
     }
 }
 
 /// The cache begins its answer (section 5.5): 8 bytes.
-#[derive(Clone, Copy, Debug, PartialEq, Eq, Hash)]
-pub struct CacheResponse {
-    cells: Cells<8>,
-}
-
-impl Unit for CacheResponse {
-    ghost bytes = { response_bytes };
-
-    ghost with_bytes = { λ u l. record { cells = record { bytes = l } } };
-
-    ghost PDU = { 3 };
-
-    ghost LENGTH = { 8 };
-
-    const PDU: u8 = 3;
-
-    const LENGTH: usize = 8;
-
-    #[inline(always)]
-    fn zero() -> Self {
-        CacheResponse {
-            cells: Cells::new([0; 8]),
-        }
-    }
-
-    #[inline(always)]
-    fn as_ref(&self) -> &[u8] {
-        self.cells.as_ref()
-    }
-
-    #[inline(always)]
-    fn as_mut(&mut self) -> &mut [u8] {
-        self.cells.as_mut()
-    }
-
-    ghost sized = { Prim.search rules };
-
-    ghost kept = { λ u l. refl };
-}
-
-impl Default for CacheResponse {
-    ghost is_default = { λ u. response_bytes u ≡ replicate 8 0 };
-
-    fn default() -> Self {
-        CacheResponse::zero()
-    }
-}
+pub type CacheResponse = FixedUnit<3, 8>;
 
 impl CacheResponse {
+    /// The type of the unit.
+    pub const PDU: u8 = 3;
+
     /// The cache response with this version and the session of this state.
     #[inline(always)]
     pub fn new(version: u8, state: State) -> Self
-        ensures { response_bytes result ≡ bare_list version 3 state.session }
+        ensures { fixed_bytes result ≡ bare_list version 3 state.session }
     {
         let [s0, s1] = state.session().to_be_bytes();
-        CacheResponse {
-            cells: Cells::new([version, 3, s0, s1, 0, 0, 0, 8]),
-        }
+        FixedUnit::of([version, 3, s0, s1, 0, 0, 0, 8])
     }
 }
 
 /// The cache can't say what is new since the state asked for (section 5.9): 8 bytes.
-#[derive(Clone, Copy, Debug, PartialEq, Eq, Hash)]
-pub struct CacheReset {
-    cells: Cells<8>,
-}
-
-impl Unit for CacheReset {
-    ghost bytes = { cache_reset_bytes };
-
-    ghost with_bytes = { λ u l. record { cells = record { bytes = l } } };
-
-    ghost PDU = { 8 };
-
-    ghost LENGTH = { 8 };
-
-    const PDU: u8 = 8;
-
-    const LENGTH: usize = 8;
-
-    #[inline(always)]
-    fn zero() -> Self {
-        CacheReset {
-            cells: Cells::new([0; 8]),
-        }
-    }
-
-    #[inline(always)]
-    fn as_ref(&self) -> &[u8] {
-        self.cells.as_ref()
-    }
-
-    #[inline(always)]
-    fn as_mut(&mut self) -> &mut [u8] {
-        self.cells.as_mut()
-    }
-
-    ghost sized = { Prim.search rules };
-
-    ghost kept = { λ u l. refl };
-}
-
-impl Default for CacheReset {
-    ghost is_default = { λ u. cache_reset_bytes u ≡ replicate 8 0 };
-
-    fn default() -> Self {
-        CacheReset::zero()
-    }
-}
+pub type CacheReset = FixedUnit<8, 8>;
 
 impl CacheReset {
+    /// The type of the unit.
+    pub const PDU: u8 = 8;
+
     /// The cache reset with this version. Its session field, which means nothing, is zero.
     #[inline(always)]
     pub fn new(version: u8) -> Self
-        ensures { cache_reset_bytes result ≡ bare_list version 8 0 }
+        ensures { fixed_bytes result ≡ bare_list version 8 0 }
     {
-        CacheReset {
-            cells: Cells::new([version, 8, 0, 0, 0, 0, 0, 8]),
-        }
+        FixedUnit::of([version, 8, 0, 0, 0, 0, 0, 8])
     }
 }
 
