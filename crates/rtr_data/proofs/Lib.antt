@@ -12,3 +12,4 @@ pub mod Fewest
 pub mod Fronts
 pub mod Written
 pub mod Versions
+pub mod Accepted

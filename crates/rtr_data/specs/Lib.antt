@@ -4,3 +4,4 @@ pub mod Contents
 pub mod Changes
 pub mod Deltas
 pub mod PrivateForms
+pub mod Sequences

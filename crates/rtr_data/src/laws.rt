@@ -1,15 +1,19 @@
 //! Laws of changes.
 
-ghost use Rattle.std.specs.Prelude.{◌≡◌, ◌≤◌, [], ℕ, List, Ok, false, length, true};
+ghost use Rattle.std.specs.Prelude.{◌≡◌, ◌≤◌, ◌<◌, ◌++◌, [], ℕ, List, Ok, false, length, map};
+ghost use Rattle.std.specs.Prelude.{true};
 ghost use Rattle.std.specs.Prelude.{if◌then◌else◌};
 ghost use Rattle.std.specs.BTreeMap.{is_at};
 ghost use Rattle.std.specs.List.{AllByRecursion};
+ghost use Rattle.rtr_units.specs.End.{EndMeaning, IsEndMeaning, end_list};
 ghost use Rattle.rtr_payload.specs.Orders.{payload_cmp};
-ghost use Rattle.rtr_payload.specs.Payloads.{Payload};
+ghost use Rattle.rtr_payload.specs.Payloads.{Meaning, Payload};
+ghost use Rattle.rtr_wire.specs.Sequences.{Accepts, IsSequence};
 ghost use Rattle.rtr_data.specs.Data.{Change, IsData, after, announcement, has, name_cmp};
 ghost use Rattle.rtr_data.specs.Data.{withdrawal};
 ghost use Rattle.rtr_data.specs.Changes.{AreApart, after_all, changes, touches};
-ghost use Rattle.rtr_data.specs.Deltas.{all_for, changes_for, data_for};
+ghost use Rattle.rtr_data.specs.Deltas.{all_for, change_forms, changes_for, data_for, unit_of};
+ghost use Rattle.rtr_data.specs.Sequences.{IsSendable, change_of};
 
 use crate::data::Data;
 
@@ -57,4 +61,33 @@ pub fn deltas_lead_to_new()
         after_all (changes_for v old new) (Ok (data_for v old)) ≡ Ok (data_for v new) }
     ensures all { (v : ℕ) (d : List Payload) → IsData d →
         after_all (all_for v d) (Ok []) ≡ Ok (data_for v d) }
+{}
+
+/// What a delta writes for a version, followed by an end of data, is accepted as a sequence, and so
+/// is what announces all of the data.
+pub fn deltas_are_accepted()
+    ensures delta { (v : ℕ) (old new : List Payload) (e : EndMeaning) → v < 256 →
+        AllByRecursion IsSendable old → AllByRecursion IsSendable new → IsEndMeaning e →
+        IsSequence (change_forms v (changes_for v old new) ++ end_list e)
+        (map (unit_of v) (changes_for v old new)) e }
+    ensures all { (v : ℕ) (d : List Payload) (e : EndMeaning) → v < 256 →
+        AllByRecursion IsSendable d → IsEndMeaning e →
+        IsSequence (change_forms v (all_for v d) ++ end_list e)
+        (map (unit_of v) (all_for v d)) e }
+{}
+
+/// Whoever reads what a delta writes, followed by an end of data, and makes the changes one after
+/// the other, makes of what the version has of old data what it has of new, and reads that end of
+/// data; of what announces all of the data he makes that from nothing.
+pub fn deltas_read_back()
+    ensures delta { (v : ℕ) (old new : List Payload) (b rest : List ℕ) (ms : List Meaning)
+        (d e : EndMeaning) → v < 256 → IsData old → IsData new →
+        AllByRecursion IsSendable old → AllByRecursion IsSendable new → IsEndMeaning e →
+        Accepts ((change_forms v (changes_for v old new) ++ end_list e) ++ rest) b ms d →
+        (after_all (map change_of ms) (Ok (data_for v old)) ≡ Ok (data_for v new)) × (d ≡ e) }
+    ensures all { (v : ℕ) (new : List Payload) (b rest : List ℕ) (ms : List Meaning)
+        (d e : EndMeaning) → v < 256 → IsData new →
+        AllByRecursion IsSendable new → IsEndMeaning e →
+        Accepts ((change_forms v (all_for v new) ++ end_list e) ++ rest) b ms d →
+        (after_all (map change_of ms) (Ok []) ≡ Ok (data_for v new)) × (d ≡ e) }
 {}
