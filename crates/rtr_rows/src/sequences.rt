@@ -4,7 +4,7 @@ use crate::answer::Answer;
 use crate::row::{Row, Way};
 use rtr_tests::support::{Pieces, Recorder};
 use rtr_wire::pdu::{CacheResponse, Counted, Fault, PrefixRule, Unit, ViewFault};
-use rtr_wire::{normalise, normalise_for, normalise_slice, same_meaning};
+use rtr_wire::{normalise, normalise_for, normalise_slice, same_meaning, same_meaning_slice};
 
 /// More units than any row has.
 const LIMIT: u64 = 4294967295;
@@ -18,6 +18,7 @@ pub fn answer(row: &Row<'_>, way: Way) -> Option<Answer> {
         "normalise_twice" => Some(normalised_twice(row, way)),
         "response" => Some(after_a_response(row, way)),
         "same_meaning" => Some(compared(row)),
+        "same_meaning_slice" => Some(compared_slices(row)),
         _ => None,
     }
 }
@@ -191,15 +192,44 @@ fn after_a_response(row: &Row<'_>, way: Way) -> Answer {
     seen
 }
 
-/// `same_meaning`.
+/// `same_meaning`, and `same_meaning_slice`; the answer of that follows if it differs.
 fn compared(row: &Row<'_>) -> Answer {
     let limit = row.number("limit", LIMIT);
     row.ready();
     let answer = same_meaning(row.alloc, &row.left, &row.right, limit);
     let mut seen = row.answer();
-    match answer {
-        Ok(is_same) => seen.word(is_same),
-        Err(fault) => seen.fault(&fault),
+    match &answer {
+        Ok(is_same) => seen.word(*is_same),
+        Err(fault) => seen.fault(fault),
+    }
+    if row.mark == 0 {
+        let sliced = same_meaning_slice(&row.left, &row.right, limit);
+        let is_same = match (&answer, &sliced) {
+            (Ok(left), Ok(right)) => left == right,
+            (Err(left), Err(right)) => is_same_fault(row, left, right),
+            _ => false,
+        };
+        if !is_same {
+            seen.word("slice");
+            tell_compared(&mut seen, &sliced);
+        }
     }
     seen
+}
+
+/// `same_meaning_slice`.
+fn compared_slices(row: &Row<'_>) -> Answer {
+    row.ready();
+    let answer = same_meaning_slice(&row.left, &row.right, row.number("limit", LIMIT));
+    let mut seen = row.answer();
+    tell_compared(&mut seen, &answer);
+    seen
+}
+
+/// Appends an answer of `same_meaning_slice`.
+fn tell_compared(seen: &mut Answer, answer: &Result<bool, ViewFault>) {
+    match answer {
+        Ok(is_same) => seen.word(*is_same),
+        Err(fault) => seen.view_fault(fault),
+    }
 }

@@ -2,16 +2,20 @@
 -- terms of the bytes that were taken and written. Only contracts of private functions cite these,
 -- and the law `plain_way`, which compares the plain calls with a step.
 use Rattle.std.specs.Prelude.{◌≡◌, ℕ, ◌≤◌, Bool, true, false, List, [], ◌++◌, length, drop}
-use Rattle.std.specs.Prelude.{Option, Some, None, Result, Ok, Err, IfSome}
+use Rattle.std.specs.Prelude.{Option, Some, None, Result, Ok, Err, IfSome, IsTrue, ◌↔◌}
 use Rattle.std.specs.Io.KnownBytes.{Consumes, Appends}
 use Rattle.rtr_units.specs.declared.fault.Fault.{Fault}
 use Rattle.rtr_units.specs.StopCauses.{Refusal, Cause, by_writer, no_memory, too_many, wrong}
 use Rattle.rtr_units.specs.StopCauses.{by_cause}
+use Rattle.rtr_units.specs.AnyEnd.{end_bytes}
 use Rattle.rtr_units.specs.End.{EndMeaning}
 use Rattle.rtr_units.specs.HeaderBytes.{AreBytes}
 use Rattle.rtr_payload.specs.Payloads.{Meaning}
 use Rattle.rtr_payload.specs.Units.{IsUnit, form_of}
-use Rattle.rtr_payload.specs.UnitFields.{LengthsAgree, meaning}
+use Rattle.rtr_payload.specs.AspaUnits.{aspa_at}
+use Rattle.rtr_payload.specs.KeyUnits.{key_at}
+use Rattle.rtr_payload.specs.UnitFields.{LengthsAgree, meaning, key_unit, aspa_unit}
+use Rattle.rtr_views.specs.Origins.{origin_meaning}
 use Rattle.rtr_payload.specs.UnitBytes.{unit_fields, HasNoPayload}
 use Rattle.rtr_payload.specs.declared.pdu.payload.Payload.{Payload}
 use Rattle.rtr_views.specs.Placing.{Places}
@@ -26,7 +30,8 @@ use Rattle.rtr_wire.specs.declared.run.Passed.TheVariants as passes
 use Rattle.rtr_wire.specs.Comparison.{Accepted}
 use Rattle.rtr_wire.specs.Into.{LacksRoom}
 use Rattle.rtr_wire.specs.Run.{IsProperPrefix, Ends}
-use Rattle.rtr_wire.specs.Sequences.{Output, everything, in_version, sequence_form}
+use Rattle.rtr_wire.specs.Sequences.{Output, Accepts, everything, in_version}
+use Rattle.rtr_wire.specs.Sequences.{sequence_form}
 use Rattle.rtr_wire.specs.SliceRun.{view_cause}
 
 -- ---- a step from a reader to a writer
@@ -142,3 +147,36 @@ in_memory_cause c = c
 abbrev pub IsFormOf : ℕ → List ℕ → List ℕ → Type 0
 IsFormOf limit input form =
     (ms : List Meaning) × (e : EndMeaning) × Accepted limit input ms e × (form ≡ sequence_form ms e)
+
+-- ---- two views compared
+
+-- what is viewed: the meaning of a payload unit, or the bytes of an end of data
+pub data Viewed : Type 0 where
+  unit : Meaning → Viewed
+  end : List ℕ → Viewed
+
+abbrev pub viewed : UnitView → Viewed
+viewed (views.Origin v) = unit (origin_meaning v)
+viewed (views.RouterKey v) = unit (meaning (key_unit (key_at v.unit.now)))
+viewed (views.Aspa v) = unit (meaning (aspa_unit (aspa_at v.unit.now)))
+viewed (views.End e) = end (end_bytes e)
+
+-- so many units and an end of data are at the front of the input
+pub record HasUnits (input : List ℕ) (count : ℕ) : Type 0 where
+  pub bytes : List ℕ
+  pub meanings : List Meaning
+  pub end : EndMeaning
+  pub accepts : Accepts input bytes meanings end
+  pub counted : length meanings ≡ count
+
+-- two inputs begin with sequences, and this says whether they mean the same
+pub record TellsEqual (same : Bool) (left right : List ℕ) : Type 0 where
+  pub a : List ℕ
+  pub b : List ℕ
+  pub ms : List Meaning
+  pub ns : List Meaning
+  pub d : EndMeaning
+  pub e : EndMeaning
+  pub accepts : Accepts left a ms d
+  pub accepts_other : Accepts right b ns e
+  pub equal : IsTrue same ↔ ((ms ≡ ns) × (d ≡ e))

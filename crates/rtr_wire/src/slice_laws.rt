@@ -1,10 +1,12 @@
 //! Laws of the calls on slices.
 
-ghost use Rattle.std.specs.Prelude.{◌≡◌, ◌+◌, ◌++◌, ℕ, List, take, drop, Some, Result, Err};
+ghost use Rattle.std.specs.Prelude.{◌≡◌, ◌≢◌, ◌+◌, ◌++◌, ℕ, Bool, List};
+ghost use Rattle.std.specs.Prelude.{take, drop, Some, Result, Err};
 ghost use Rattle.rtr_units.specs.declared.fault.Fault.{Fault};
 ghost use Rattle.rtr_units.specs.StopCauses.{ReaderState, WriterState};
 ghost use Rattle.rtr_views.specs.declared.fault.ViewFault.{ViewFault};
-ghost use Rattle.rtr_units.specs.StopCauses.{by_cause};
+ghost use Rattle.rtr_units.specs.StopCauses.{by_cause, no_memory};
+ghost use Rattle.rtr_wire.specs.Comparison.{Compares, ComparesSlices, by_view_cause};
 ghost use Rattle.rtr_wire.specs.Promise.{SlicePromises};
 ghost use Rattle.rtr_wire.specs.Run.{BlamesNobody, Normalises};
 ghost use Rattle.rtr_wire.specs.Into.{NormalisesInto};
@@ -26,6 +28,15 @@ pub fn same_answer()
         BlamesNobody (by_cause first) → BlamesNobody (slice_answer q.last second) →
         (by_cause first ≡ slice_answer q.last second) × (p.taken ≡ q.taken)
         × (new.left ≡ Some q.left) × (p.written ≡ q.written) }
+{}
+
+/// `same_meaning` and `same_meaning_slice` over the same inputs, with the same limit, answer the
+/// same, or faults of one cause, unless memory ran out.
+pub fn same_comparison()
+    ensures { (limit : ℕ) (first : Result Bool Fault) (second : Result Bool ViewFault)
+        (left right : List ℕ) →
+        Compares limit first left right → (q : ComparesSlices limit second left right) →
+        by_cause first ≢ Err no_memory → by_cause first ≡ by_view_cause q.last second }
 {}
 
 /// What follows from the contract of `normalise_slice`, by the answer.
