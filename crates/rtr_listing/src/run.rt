@@ -4,6 +4,7 @@ ghost use Rattle.std.specs.Prelude.{◌≡◌, [], drop, IsNone, IfSome, None};
 ghost use Rattle.std.specs.Process.{exit_status};
 ghost use Rattle.rtr_units.specs.StopCauses.{by_cause};
 ghost use Rattle.rtr_listing.specs.PrivateFollowing.{HasSeen};
+ghost use Rattle.rtr_listing.specs.PrivateWords.{asks_help};
 ghost use Rattle.rtr_listing.specs.Listing.{Lists};
 ghost use Rattle.rtr_listing.specs.ListStatus.{Runs, listing_status};
 ghost use Rattle.rtr_listing.specs.ListWords.{wanted_by_words, wanted_by_word};
@@ -51,7 +52,7 @@ pub fn program<R: Source, W: Sink, F: Write>(
 {
     let status = match words {
         Some(words) => run(alloc, words_after_name(&words), input, output, faults),
-        None => usage(faults),
+        None => usage(false, faults),
     };
     ExitCode::from(status)
 }
@@ -100,7 +101,7 @@ fn form_named(word: &str) -> Option<Wanted>
 /// output once, and answers the exit status:
 /// - 0 if all that succeeded and no broken rule was found;
 /// - 1 if one was found, or the input has a fault;
-/// - 2 with words other than `--json` or `--check`;
+/// - 2 with words other than `--json` or `--check`; for `--help` a line says first what it does;
 /// - 3 if reading, writing, flushing or memory failed.
 ///
 /// A fault and statuses 2 and 3 come with a line on `faults`, and with a second one if the flush
@@ -123,7 +124,7 @@ pub fn run<R: Source, W: Sink, F: Write>(
         (R.state input.old) (R.state input.new) (W.state output.old) (W.state output.new)) }
 {
     let Some(wanted) = form_wanted(args) else {
-        return usage(faults);
+        return usage(asks_for_help(args), faults);
     };
     let mut printer = Printer::new(alloc);
     let answer = list(alloc, wanted, &mut printer, input, output);
@@ -138,10 +139,27 @@ pub fn run<R: Source, W: Sink, F: Write>(
     FAILED
 }
 
-/// Prints how the program is called, and answers status 2.
-fn usage<F: Write>(faults: &mut F) -> u8
+/// Whether the one word is that for help.
+fn asks_for_help(words: &[String]) -> bool
+    ensures { result ≡ asks_help words.now }
+{
+    match words {
+        [word] => word.as_str() == "--help",
+        _ => false,
+    }
+}
+
+/// Prints how the program is called, before that for help what it does, as its man page begins, and
+/// answers status 2.
+fn usage<F: Write>(help: bool, faults: &mut F) -> u8
     ensures { result ≡ 2 }
 {
+    if help {
+        let _ = writeln!(
+            faults,
+            "rtr_list - list the units of a recorded RTR session"
+        );
+    }
     let _ = writeln!(faults, "usage: rtr_list [--json | --check]");
     USAGE
 }
