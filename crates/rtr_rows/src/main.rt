@@ -16,6 +16,7 @@
 
 mod answer;
 mod call;
+mod data;
 mod fixed;
 mod into;
 mod meanings;

@@ -1,0 +1,130 @@
+//! Data, its changes, and what leads from one to another.
+
+use crate::answer::Answer;
+use crate::row::{Row, Way};
+use rtr_data::{ChangeError, Data};
+use rtr_tests::support::Recorder;
+use rtr_wire::payload;
+use rtr_wire::payload::Action;
+use rtr_wire::pdu::{Counted, Fault, Payload, SliceSource};
+
+/// Makes the call of a row if it is one of these.
+pub fn answer(row: &Row<'_>, way: Way) -> Option<Answer> {
+    match row.call {
+        "data" => Some(changed(row)),
+        "write_all" => Some(written(row, way)),
+        "write_delta" => Some(delta(row, way)),
+        _ => None,
+    }
+}
+
+/// The actions and payloads of the units that these bytes begin with.
+fn changes_of(row: &Row<'_>, bytes: &[u8]) -> Vec<(Action, payload::Payload)> {
+    let mut changes = Vec::new(row.alloc);
+    let mut source = SliceSource::new(bytes);
+    for _most in 0..bytes.len() {
+        let Ok(Ok(Some(unit))) = Payload::read(row.alloc, &mut source) else {
+            return changes;
+        };
+        let Ok(change) = unit.into_payload(row.alloc) else {
+            return changes;
+        };
+        if changes.push(change).is_err() {
+            return changes;
+        }
+    }
+    changes
+}
+
+/// `Data::announce` or `Data::withdraw`.
+fn change(data: &mut Data, action: Action, payload: payload::Payload) -> Result<(), ChangeError> {
+    match action {
+        Action::Announce => data.announce(payload),
+        Action::Withdraw => data.withdraw(&payload.as_ref()),
+    }
+}
+
+/// The name of what came of a change.
+fn name(outcome: Result<(), ChangeError>) -> &'static str {
+    match outcome {
+        Ok(()) => "Ok",
+        Err(ChangeError::Duplicate) => "Duplicate",
+        Err(ChangeError::Unknown) => "Unknown",
+        Err(ChangeError::KeyTooLong) => "KeyTooLong",
+        Err(ChangeError::NoProviders) => "NoProviders",
+        Err(ChangeError::Memory) => "Memory",
+    }
+}
+
+/// What the announcements and withdrawals of these bytes make of nothing.
+fn data_of(row: &Row<'_>, bytes: &[u8]) -> Data {
+    let mut data = Data::new(row.alloc);
+    for (action, payload) in changes_of(row, bytes) {
+        let _ = change(&mut data, action, payload);
+    }
+    data
+}
+
+/// A writer with room for the units of both sides, so that it allocates nothing later; if there is
+/// memory.
+fn writer(row: &Row<'_>, size: usize) -> Recorder {
+    let room = row.left.len().saturating_add(row.right.len());
+    let mut writer = Recorder::with_room(row.alloc, size, room);
+    writer.set_troubles(row.place("breaks"), row.place("stops"));
+    writer
+}
+
+/// The units as changes, one after the other, of data without payloads: what came of each, how many
+/// payloads there are then, and the units that announce them.
+fn changed(row: &Row<'_>) -> Answer {
+    let changes = changes_of(row, &row.left);
+    let mut outcomes = Vec::new(row.alloc);
+    let _ = outcomes.reserve(changes.len());
+    let mut data = Data::new(row.alloc);
+    row.ready();
+    for (action, payload) in changes {
+        let _ = outcomes.push(name(change(&mut data, action, payload)));
+    }
+    let mut seen = row.answer();
+    for outcome in outcomes {
+        seen.word(outcome);
+    }
+    seen.word(data.len());
+    let mut writer = Counted::new(writer(row, usize::MAX));
+    let answer = data.write_all(2, &mut writer);
+    tell(&mut seen, &answer, &writer.into_inner());
+    seen
+}
+
+/// Appends `Ok` or the fault, and what was written.
+fn tell(seen: &mut Answer, answer: &Result<(), Fault>, writer: &Recorder) {
+    match answer {
+        Ok(()) => seen.word("Ok"),
+        Err(fault) => seen.fault(fault),
+    }
+    seen.word(":");
+    seen.bytes(writer.held());
+}
+
+/// `Data::write_all` of what the units make of nothing, for the version.
+fn written(row: &Row<'_>, way: Way) -> Answer {
+    let data = data_of(row, &row.left);
+    let mut writer = Counted::new(writer(row, way.size));
+    row.ready();
+    let answer = data.write_all(row.byte("version", 2), &mut writer);
+    let mut seen = row.answer();
+    tell(&mut seen, &answer, &writer.into_inner());
+    seen
+}
+
+/// `Data::write_delta` from what the units of the left side make of nothing to what those of the
+/// right side make, for the version.
+fn delta(row: &Row<'_>, way: Way) -> Answer {
+    let (old, new) = (data_of(row, &row.left), data_of(row, &row.right));
+    let mut writer = Counted::new(writer(row, way.size));
+    row.ready();
+    let answer = old.write_delta(&new, row.byte("version", 2), &mut writer);
+    let mut seen = row.answer();
+    tell(&mut seen, &answer, &writer.into_inner());
+    seen
+}
