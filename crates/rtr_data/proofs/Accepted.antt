@@ -1,9 +1,9 @@
 -- The forms of changes are units, and a delta with an end of data is a sequence.
 use Rattle.std.proofs.Common.{◌≡◌, ℕ, ◌<◌, ◌≤◌, ◌+◌, ◌*◌, Bool, true, false, not, cond, List, []}
-use Rattle.std.proofs.Common.{◌∷◌, ◌++◌, map, length, Ok, None, Some, refl, sym, ap, ◌∙◌, subst, arith}
+use Rattle.std.proofs.Common.{◌∷◌, ◌++◌, map, length, Ok, refl, sym, ap, ◌∙◌, arith}
 use Rattle.std.proofs.lemmas.Bool.Decides.{nat_tests}
 use Rattle.std.specs.List.{filter, AllByRecursion}
-use Rattle.std.specs.Prelude.{nat_le, nat_lt}
+use Rattle.std.specs.Prelude.{nat_le}
 use Rattle.rtr_base.specs.Actions.{flags_of, act}
 use Rattle.rtr_base.specs.Addresses.{Family, v4, v6, width}
 use Rattle.rtr_base.specs.Bytes.{IsBytes, be, words}
@@ -13,10 +13,9 @@ use Rattle.rtr_base.proofs.Numbers.{IsBytes-cons, IsBytes-be, IsBytes-append, Is
 use Rattle.rtr_units.specs.End.{EndMeaning, IsEndMeaning, end_list}
 use Rattle.rtr_units.specs.PrefixUnits.{prefix_type, prefix_size, address_bytes}
 use Rattle.rtr_units.proofs.Ends.{end_made}
-use Rattle.rtr_payload.specs.AspaUnits.{HasProviders}
 use Rattle.rtr_payload.specs.Payloads.{Payload, origin, key, aspa, IsPayload, Meaning}
 use Rattle.rtr_payload.specs.Payloads.{smallest_version}
-use Rattle.rtr_payload.specs.UnitFields.{Fields, LengthsAgree, WithinLimits, meaning, stripped}
+use Rattle.rtr_payload.specs.UnitFields.{LengthsAgree, WithinLimits, meaning, stripped}
 use Rattle.rtr_payload.specs.UnitFields.{written_fields}
 use Rattle.rtr_payload.specs.Units.{IsUnit, form, form_of}
 use Rattle.rtr_payload.proofs.ByFields.{form_is, unit_of_fields}
@@ -25,7 +24,7 @@ use Rattle.rtr_wire.specs.Sequences.{Accepts, AreUnits, IsSequence}
 use Rattle.rtr_wire.proofs.Runs.{accepted_same}
 use Rattle.rtr_data.specs.Contents.{IsFit}
 use Rattle.rtr_data.specs.Data.{Change, IsData, announcement, has, has_name, name_of, withdrawal}
-use Rattle.rtr_data.specs.Changes.{after_all, announcements, changes, withdrawals}
+use Rattle.rtr_data.specs.Changes.{after_all, announcements, withdrawals}
 use Rattle.rtr_data.specs.Deltas.{all_for, change_forms, changes_for, data_for, unit_of}
 use Rattle.rtr_data.specs.Sequences.{HasBytes, IsSendable, change_of}
 use Rattle.rtr_data.proofs.Once.{all_changes}

@@ -1,5 +1,5 @@
 -- Deltas as sequences of units: which payloads they can be of, and what is read back.
-use Rattle.std.specs.Prelude.{List, ⊤}
+use Rattle.std.specs.Prelude.{⊤}
 use Rattle.rtr_base.specs.Bytes.{IsBytes}
 use Rattle.rtr_payload.specs.Payloads.{Payload, origin, key, aspa, IsPayload, Meaning}
 use Rattle.rtr_data.specs.Contents.{IsFit}

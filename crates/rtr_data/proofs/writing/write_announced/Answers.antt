@@ -1,4 +1,4 @@
-use Rattle.std.proofs.Common.{◌≡◌, ℕ, List, Bor, ap, sym, ◌∙◌, ◌++◌, ◌∷◌, [], map, not, true, refl}
+use Rattle.std.proofs.Common.{◌≡◌, ℕ, List, Bor, ap, sym, ◌∙◌, [], map, not, true, refl}
 use Rattle.std.proofs.lemmas.Result.{err_from_is_err_and}
 use Rattle.std.specs.List.{filter}
 use Rattle.std.specs.Map.Iter.{deref_pair}
