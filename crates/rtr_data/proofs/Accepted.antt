@@ -239,7 +239,8 @@ again v [] = refl
 again v (c ∷ cs) = ap (λ l. c ∷ l) (again v cs)
 
 -- whoever reads a sequence that changes were written as has these changes and this end
-pub read_back : (v : ℕ) (cs : List Change) (b rest : List ℕ) (ms : List Meaning) (d e : EndMeaning) →
+pub read_back : (v : ℕ) (cs : List Change) (b rest : List ℕ) (ms : List Meaning)
+    (d e : EndMeaning) →
     IsSequence (change_forms v cs ++ end_list e) (map (unit_of v) cs) e →
     Accepts ((change_forms v cs ++ end_list e) ++ rest) b ms d →
     (map change_of ms ≡ cs) × (d ≡ e)

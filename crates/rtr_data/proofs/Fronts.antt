@@ -78,7 +78,8 @@ sent_more v action a b c ps qs p e w f =
     subst (λ l. Wrote a c l)
     (sym (ap (payload_forms v action) e ∙ forms_push v action ps p []
     ∙ ap (λ l. payload_forms v action ps ++ l) (append-nil (form v (flags_of action) p))))
-    (both_put {T = Unit {0}} (Ok tt) a b c (payload_forms v action ps) (form v (flags_of action) p) w f)
+    (both_put {T = Unit {0}} (Ok tt) a b c (payload_forms v action ps)
+    (form v (flags_of action) p) w f)
 
 pub sent_front : (v : ℕ) (action : Action) (a b c : WriterState) (ps qs all : List Payload)
     (p : Payload) (e : Fault) → all ≡ ps ++ p ∷ qs → Sent v action a b ps →
@@ -90,7 +91,8 @@ sent_front v action a b c ps qs all p e is w f =
     (then_front a b c (payload_forms v action ps) _ (Err e) w
     (stopped_front b c (form v (flags_of action) p) (payload_forms v action qs) e f))
 
-pub sent_all : (v : ℕ) (action : Action) (a b : WriterState) (ps all : List Payload) (x : Unit {0}) →
+pub sent_all : (v : ℕ) (action : Action) (a b : WriterState) (ps all : List Payload)
+    (x : Unit {0}) →
     all ≡ ps → Sent v action a b ps →
     PutsForm {T = Unit {0}} (Ok x) a b (payload_forms v action all)
 sent_all v action a b ps all x is w =
@@ -149,7 +151,8 @@ pub picked_cut : {A B C : Type 0} (f : A → B) (g : B → C) (test : B → Bool
 picked_cut f g test xs x all s t e h is =
     ap (λ l. map g (filter test l)) (e ∙ ap (λ l. map f xs ++ l) h)
     ∙ picked_append g test (map f xs) (f x ∷ t)
-    ∙ ap (λ b. map g (filter test (map f xs)) ++ map g (cond b (f x ∷ filter test t) (filter test t))) is
+    ∙ ap (λ b. map g (filter test (map f xs))
+    ++ map g (cond b (f x ∷ filter test t) (filter test t))) is
 
 -- ---- what a version has
 

@@ -189,11 +189,13 @@ impl Data {
         }
     }
 
-    /// Writes all that a router of this version is to have: the units that announce the payloads
-    /// that the version has, in their order. Version 0 has origins alone, version 1 router keys
-    /// too, and any other ASPAs too. The end of data is the caller's to write.
+    /// Writes what answers a reset query (RFC 8210 section 8.1), between the cache response and the
+    /// end of data, which are the caller's to write: the units of this version that announce the
+    /// payloads that it has, in their order. Version 0 has origins alone, version 1 router keys
+    /// too, and any other ASPAs too.
     ///
-    /// `Writer` is the only fault, and no memory is asked for.
+    /// A unit has 20 or 32 bytes for an origin, 32 and its key info for a router key, 12 and four
+    /// for each provider for an ASPA. `Writer` is the only fault: no memory is asked for.
     pub fn write_all<W: Sink>(&self, version: u8, writer: &mut W) -> Result<(), Fault>
         ensures bytes { PutsForm result (W.state writer.old) (W.state writer.new)
             (change_forms version (all_for version self.now)) }
@@ -204,12 +206,13 @@ impl Data {
         write_all_aspas(version, &self.aspas, writer)
     }
 
-    /// Writes what leads a router of this version from this data, the old, to new data: the units
-    /// of the changes, of what the version has as in `write_all`. First come all announcements and
-    /// then the withdrawals, each in the order of payloads. The end of data is the caller's to
-    /// write.
+    /// Writes what answers a serial query (RFC 8210 section 8.2), between the cache response and the
+    /// end of data, which are the caller's to write: the units that lead a router of this version
+    /// from this data, the old, to new data, of what the version has as in `write_all`. First come
+    /// all announcements and then the withdrawals, each in the order of payloads. An ASPA that
+    /// takes the place of another is announced, and a withdrawn one is written without providers.
     ///
-    /// `Writer` is the only fault, and no memory is asked for.
+    /// `Writer` is the only fault: no memory is asked for.
     pub fn write_delta<W: Sink>(&self, new: &Data, version: u8, writer: &mut W) -> Result<(), Fault>
         ensures bytes { PutsForm result (W.state writer.old) (W.state writer.new)
             (change_forms version (changes_for version self.now new.now)) }

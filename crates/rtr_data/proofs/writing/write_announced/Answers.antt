@@ -21,7 +21,8 @@ loop-customer-preserved g c =
     let ys = c.loop-customer.yielded in
     let x : Bor ℕ × Bor (List ℕ) = (c.in-Some.customer, c.in-Some.providers) in
     let test = lacks_entry c.args.old.now in
-    let lacks : test (deref_pair x) ≡ true = ap not (sym c.is_there.ensures ∙ c.if-is_there.false) in (
+    let lacks : test (deref_pair x) ≡ true =
+    ap not (sym c.is_there.ensures ∙ c.if-is_there.false) in (
       turn deref_pair ys x _ _ _ c.loop-customer.invariant.0 c.in-Some.ensures.steps,
       sent_more c.args.version Announce _ _ _ _ _ (entry_of (deref_pair x))
           (picked_one deref_pair entry_of test ys x lacks)
@@ -33,7 +34,8 @@ returns-in_err-announce_aspa-clause-bytes g c =
     let ys = c.loop-customer.yielded in
     let x : Bor ℕ × Bor (List ℕ) = (c.in-Some.customer, c.in-Some.providers) in
     let test = lacks_entry c.args.old.now in
-    let lacks : test (deref_pair x) ≡ true = ap not (sym c.is_there.ensures ∙ c.if-is_there.false) in
+    let lacks : test (deref_pair x) ≡ true =
+    ap not (sym c.is_there.ensures ∙ c.if-is_there.false) in
     let p = err_from_is_err_and c.from_residual.result c.from_residual.ensures.1 in
     rw (p.1, p.2)
     (sent_front c.args.version Announce _ _ _ _ (map entry_of (filter test c.next.new.self)) _
