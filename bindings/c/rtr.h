@@ -14,14 +14,11 @@
  *   - an output, and what the last pointer points at, overlap nothing else that is passed. What is
  *     only read may overlap;
  *   - until the call returns, no other thread writes to anything that was passed, nor reads an
- *     output or what the last pointer points at;
- *   - for rtr_same_meaning alone: malloc, realloc and free are those of one allocator, and it is
- *     called neither from a signal handler nor in a forked child of a process with threads.
+ *     output or what the last pointer points at.
  * Outputs and what the last pointer points at needn't be initialized.
  *
  * If these hold, no call crashes, reads or writes a byte outside of what was passed, or keeps a
- * pointer or any state. Several threads may call at once. rtr_same_meaning calls malloc, realloc
- * and free, and may wait for their lock. All other calls allocate nothing and wait for nothing.
+ * pointer or any state. Several threads may call at once. No call allocates or waits for anything.
  *
  * ASPA units are read in one layout: the flags in byte 2, of which the lowest bit announces; byte
  * 3, whose value is ignored; the length in bytes 4 to 7; the customer AS in bytes 8 to 11; the
@@ -56,8 +53,8 @@ enum rtr_status {
     RTR_PREFIX = 7,          /* `detail`, an rtr_prefix_rule, is broken by a prefix */
     RTR_TOO_MANY = 8,        /* `limit` units were taken, and no end of data was among them */
     RTR_NO_ROOM = 9,         /* the output is too short for what comes next */
-    RTR_NO_FORM = 10,        /* rtr_write_unit: no such action, family or part */
-    RTR_NO_MEMORY = 11       /* rtr_same_meaning: out of memory */
+    RTR_NO_FORM = 10         /* rtr_write_unit: no such action, family or part */
+                             /* 11 was "out of memory", which no call answers any more */
 };
 
 enum rtr_prefix_rule {
@@ -173,11 +170,10 @@ uint8_t rtr_write_unit(const struct rtr_unit *unit, const uint8_t *input, size_t
                        uint8_t *output, size_t output_length, size_t *written);
 
 /* Whether both inputs begin with sequences that mean the same, of fewer than `limit` payload units
- * each. It allocates both forms, each router key and ASPA, and a report on a refused prefix with
- * malloc, and frees them all.
+ * each.
  *
- * RTR_OK with the answer in `same`. Otherwise `same` is unchanged, and the status is RTR_NO_MEMORY,
- * or RTR_SHORT to RTR_PREFIX (without a detail) or RTR_TOO_MANY: that of the left input, or if the
+ * RTR_OK with the answer in `same`. Otherwise `same` is unchanged, and the status is one of
+ * RTR_SHORT to RTR_PREFIX (without a detail) or RTR_TOO_MANY: that of the left input, or if the
  * left one is accepted, that of the right one. */
 uint8_t rtr_same_meaning(const uint8_t *left, size_t left_length,
                          const uint8_t *right, size_t right_length,
@@ -198,7 +194,6 @@ static inline const char *rtr_status_text(uint8_t status)
         "too many units",
         "no room in the output",
         "no unit has these fields",
-        "out of memory",
     };
     return status < sizeof texts / sizeof texts[0] ? texts[status] : "unknown status";
 }

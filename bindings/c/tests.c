@@ -6,7 +6,6 @@
  * usage: tests CASES */
 #define _DEFAULT_SOURCE /* MAP_ANONYMOUS */
 #include <pthread.h>
-#include <stdalign.h>
 #include <stdio.h>
 #include <stdlib.h>
 #include <string.h>
@@ -24,38 +23,6 @@ static void check(int holds, const char *what, int line)
         fprintf(stderr, "tests.c:%d: %s\n", line, what);
         exit(1);
     }
-}
-
-/* What heap.c answers, and how often this thread called it: linked with --wrap=rattle_alloc and
- * --wrap=rattle_realloc. */
-struct rattle_tried {
-    bool granted;
-    void *block;
-};
-
-static _Thread_local uint64_t asked;
-
-struct rattle_tried __real_rattle_alloc(size_t size, size_t align);
-struct rattle_tried __real_rattle_realloc(void *block, size_t kept, size_t size, size_t align);
-struct rattle_tried __wrap_rattle_alloc(size_t size, size_t align);
-struct rattle_tried __wrap_rattle_realloc(void *block, size_t kept, size_t size, size_t align);
-void rattle_dealloc(void *block);
-
-static struct rattle_tried aligned(struct rattle_tried tried, size_t align)
-{
-    CHECK(tried.granted && (uintptr_t)tried.block % align == 0);
-    asked++;
-    return tried;
-}
-
-struct rattle_tried __wrap_rattle_alloc(size_t size, size_t align)
-{
-    return aligned(__real_rattle_alloc(size, align), align);
-}
-
-struct rattle_tried __wrap_rattle_realloc(void *block, size_t kept, size_t size, size_t align)
-{
-    return aligned(__real_rattle_realloc(block, kept, size, align), align);
 }
 
 /* One case: a version or 255, and what is expected of a call. The numbers are little-endian. */
@@ -270,13 +237,10 @@ static void check_case(const struct place *place, const struct test_case *one)
     check_room(place, one, input);
     if (one->input_length < 1 << 16)
         check_in_turns(place, one, input, 16);
-    if (one->version == 255)
+    if (one->version == 255) {
         check_units(place, one, input);
-    CHECK(asked == 0);
-    if (one->version == 255)
         check_same(place, one, input);
-    CHECK(asked > 0 || one->version != 255 || one->status != RTR_OK);
-    asked = 0;
+    }
     CHECK(memcmp(input, one->input, one->input_length) == 0);
 }
 
@@ -411,22 +375,6 @@ static void check_bounds(const struct place *place)
         CHECK(rtr_status_text((uint8_t)status)[0] != '\0');
 }
 
-/* heap.c gives each alignment that malloc can, for blocks of any length, and refuses others. */
-static void check_heap(void)
-{
-    for (size_t align = 1; align <= alignof(max_align_t); align *= 2)
-        for (size_t size = 0; size < 40; size++) {
-            struct rattle_tried tried = __wrap_rattle_alloc(size, align);
-            tried = __wrap_rattle_realloc(tried.block, size, 3 * size, align);
-            rattle_dealloc(tried.block);
-        }
-    size_t over = 2 * alignof(max_align_t);
-    struct rattle_tried tried = __real_rattle_alloc(over, over);
-    CHECK(!tried.granted && tried.block != NULL);
-    tried = __real_rattle_realloc(tried.block, over, over, over);
-    CHECK(!tried.granted && tried.block != NULL);
-}
-
 int main(int count, char **words)
 {
     FILE *file = count == 2 ? fopen(words[1], "rb") : NULL;
@@ -445,7 +393,6 @@ int main(int count, char **words)
         check_refused(&place);
         check_bounds(&place);
     }
-    check_heap();
     struct cases cases = {bytes, length};
     pthread_t threads[THREADS];
     for (int i = 0; i < THREADS; i++)

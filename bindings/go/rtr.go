@@ -2,8 +2,7 @@
 // in memory, over the proved library rtr_c. What the functions promise is proved; this package is not.
 //
 // Slices may be nil or empty. What is written must not overlap what is read. Until a call returns, no other
-// goroutine may write to its arguments or read its output. Only SameMeaning calls C's malloc. Several
-// goroutines may call at once.
+// goroutine may write to its arguments or read its output. Several goroutines may call at once.
 //
 // Copyright (c) 2026, the authors of Fishreef; copyright (c) 2018, NLnet Labs. BSD 3-Clause License: see the
 // file LICENSE at the top of the repository.
@@ -67,7 +66,6 @@ const (
 	TooMany               // as many units as were allowed were taken
 	NoRoom                // the output is too short for what comes next
 	NoForm                // no unit has these fields
-	NoMemory              // out of memory
 )
 
 // Error is the text of the status.
@@ -175,8 +173,8 @@ func NormaliseFor(input, output []byte, limit uint64, version uint8) (Progress, 
 }
 
 // SameMeaning says whether both inputs begin with sequences that mean the same, of fewer than limit payload
-// units each. The error is NoMemory, or one of Short to TooMany, whose Detail is 0: that of left, or if left
-// is accepted, that of right.
+// units each. The error is one of Short to TooMany, whose Detail is 0: that of left, or if left is accepted,
+// that of right.
 func SameMeaning(left, right []byte, limit uint64) (bool, error) {
 	var same C.bool
 	l, n := place(left)

@@ -404,7 +404,6 @@ func TestStatus(t *testing.T) {
 		"too many units",
 		"no room in the output",
 		"no unit has these fields",
-		"out of memory",
 		"unknown status",
 	} {
 		var err error = Status(status)

@@ -33,8 +33,6 @@ pub enum Fault {
     NoRoom,
     /// No unit has these fields.
     NoForm,
-    /// Out of memory.
-    Memory,
     /// A status that this version of the wrapper doesn't know.
     Unknown(u8),
 }
@@ -68,7 +66,6 @@ impl Fault {
             8 => Fault::TooMany,
             9 => Fault::NoRoom,
             10 => Fault::NoForm,
-            11 => Fault::Memory,
             status => Fault::Unknown(status),
         }
     }
@@ -87,7 +84,6 @@ impl fmt::Display for Fault {
             Fault::TooMany => f.write_str("too many units"),
             Fault::NoRoom => f.write_str("no room in the output"),
             Fault::NoForm => f.write_str("no unit has these fields"),
-            Fault::Memory => f.write_str("out of memory"),
             Fault::Unknown(status) => write!(f, "unknown status {status}"),
         }
     }
@@ -157,11 +153,10 @@ pub fn normalise_for(
 }
 
 /// Whether both inputs begin with sequences that mean the same, of fewer than `limit` payload
-/// units each. It allocates both forms, each router key and ASPA, and a report on a refused prefix
-/// with C's `malloc`, and frees them all.
+/// units each.
 ///
-/// The fault is `Memory`, or one of `Short` to `TooMany`: that of the left input, or if the left
-/// one is accepted, that of the right one.
+/// The fault is one of `Short` to `TooMany`: that of the left input, or if the left one is
+/// accepted, that of the right one.
 pub fn same_meaning(left: &[u8], right: &[u8], limit: u64) -> Result<bool, Fault> {
     // The call reports the status alone. So look for the first fault, which has the type, the
     // version or the broken rule.

@@ -241,7 +241,7 @@ mod tests {
     /// A status that isn't known isn't said to be another.
     #[test]
     fn unknown_status() {
-        assert_eq!(Fault::of(11, 0), Fault::Memory);
+        assert_eq!(Fault::of(11, 0), Fault::Unknown(11));
         assert_eq!(Fault::of(12, 0), Fault::Unknown(12));
         assert_eq!(Fault::of(12, 0).to_string(), "unknown status 12");
     }

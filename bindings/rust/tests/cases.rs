@@ -63,7 +63,6 @@ fn numbers(fault: Fault) -> (u8, u8) {
         Fault::TooMany => (8, 0),
         Fault::NoRoom => (9, 0),
         Fault::NoForm => (10, 0),
-        Fault::Memory => (11, 0),
         fault => panic!("{fault}"),
     }
 }

@@ -54,9 +54,6 @@ rtr_no_room = 9
 abbrev pub rtr_no_form : ℕ
 rtr_no_form = 10
 
-abbrev pub rtr_no_memory : ℕ
-rtr_no_memory = 11
-
 -- a reader or a writer failed, as none does here
 abbrev pub rtr_failed : ℕ
 rtr_failed = 255

@@ -29,8 +29,6 @@ pub(crate) const TOO_MANY: u8 = 8;
 pub(crate) const NO_ROOM: u8 = 9;
 /// No unit has these fields.
 pub(crate) const NO_FORM: u8 = 10;
-/// Out of memory.
-pub(crate) const NO_MEMORY: u8 = 11;
 /// A reader or a writer failed; none here does.
 pub(crate) const WRITER: u8 = 255;
 

@@ -1,5 +1,4 @@
-//! What programs in C, Go and Rust call: units and sequences in memory. Only `rtr_same_meaning`
-//! allocates.
+//! What programs in C, Go and Rust call: units and sequences in memory. Nothing allocates.
 //!
 //! Each call reads and writes the slices that it is given, and nothing else. Its answers are
 //! numbers; `bindings/c/rtr.h` says what each means.
