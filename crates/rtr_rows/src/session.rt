@@ -7,7 +7,9 @@ use crate::views::tell_view;
 use rtr_session::length::unit_length;
 use rtr_session::{AnyUnit, Report, ReportView, SessionView};
 use rtr_tests::support::Recorder;
-use rtr_wire::pdu::{Counted, Fault, Payload, SliceSource, Unit};
+use rtr_wire::pdu::{
+    Counted, ErrorCode, Fault, Header, Payload, SliceSource, Unit, UnitView, owed_code,
+};
 
 /// Makes the call of a row if it is one of these.
 pub fn answer(row: &Row<'_>, way: Way) -> Option<Answer> {
@@ -17,6 +19,7 @@ pub fn answer(row: &Row<'_>, way: Way) -> Option<Answer> {
         "AnyUnit::write" => Some(write_any(row, way)),
         "unit_length" => Some(length(row)),
         "SessionView::first" => Some(first(row)),
+        "owed_code" => Some(owed(row)),
         "Report::read" => Some(read_report(row, way)),
         "Report::read_payload" => Some(read_report_after(row, way)),
         "Report::write" => Some(write_report(row, way)),
@@ -217,5 +220,37 @@ fn tell_report_view(seen: &mut Answer, view: &ReportView<'_>) {
         }
         (None, None) => seen.word("lengths"),
         _ => seen.word("one part"),
+    }
+}
+
+/// `owed_code` of what refuses the row's bytes: of each fault its code, and what is owed. The faults
+/// are those of `AnyUnit::read`, `SessionView::first` and `UnitView::first`.
+fn owed(row: &Row<'_>) -> Answer {
+    let Ok(header) = Header::read(&mut SliceSource::new(&row.left)) else {
+        return row.no_unit();
+    };
+    let mut seen = row.answer();
+    if let Err(fault) = AnyUnit::read(row.alloc, &mut SliceSource::new(&row.left)) {
+        seen.word("read");
+        tell_codes(&mut seen, fault.code(), owed_code(header, &fault));
+    }
+    if let Err(fault) = SessionView::first(&row.left) {
+        seen.word("view");
+        tell_codes(&mut seen, fault.fault.code(), fault.fault.owed_code(header));
+    }
+    if let Err(fault) = UnitView::first(&row.left) {
+        seen.word("unit");
+        tell_codes(&mut seen, fault.code(), fault.owed_code(header));
+    }
+    seen
+}
+
+/// Appends the code of a fault, and what is owed.
+fn tell_codes(seen: &mut Answer, code: Option<ErrorCode>, owed: Option<ErrorCode>) {
+    for code in [code, owed] {
+        match code {
+            Some(code) => seen.word(code.0),
+            None => seen.word("none"),
+        }
     }
 }

@@ -20,7 +20,7 @@ use Rattle.rtr_payload.specs.KeyUnits.{key_at}
 use Rattle.rtr_payload.specs.FaultSteps.{first_unit}
 use Rattle.rtr_payload.specs.FirstFault.{first_fault, header_fault, prefix_fault, refusal_report}
 use Rattle.rtr_payload.specs.UnitFields.{prefix_unit, key_unit, aspa_unit}
-use Rattle.rtr_views.specs.Faults.{IsFirstFault}
+use Rattle.rtr_views.specs.Faults.{IsFirstFault, NamesRefusal}
 use Rattle.rtr_views.specs.Views.{IsViewOf}
 use Rattle.rtr_views.specs.declared.fault.ViewFault.{ViewFault}
 use Rattle.rtr_views.specs.declared.fault.ViewFault.TheVariants as faults
@@ -28,7 +28,7 @@ use Rattle.rtr_views.specs.declared.view.UnitView.{UnitView}
 use Rattle.rtr_views.specs.declared.view.UnitView.TheVariants as views
 use Rattle.rtr_views.proofs.Fronts.{at_front}
 use Rattle.rtr_session.specs.AnyFields.{AnyFields, payload, end_of_data, HasAnyFields}
-use Rattle.rtr_session.specs.Lengths.{IsBounded, NamesRefusal, SaysLength}
+use Rattle.rtr_session.specs.Lengths.{IsBounded, SaysLength}
 use Rattle.rtr_session.specs.PrivateHeaders.{IsPlainType, size_beside}
 use Rattle.rtr_session.specs.Reports.{IsReport}
 use Rattle.rtr_session.specs.SessionKinds.{any_header_fault, session_unit}

@@ -2,29 +2,10 @@
 -- The faults, and which comes first, are this library's own.
 use Rattle.std.specs.Prelude.{◌≡◌, ℕ, ◌%◌, ◌<◌, ◌≤◌, List, length, Option, Some, None}
 use Rattle.std.specs.Prelude.{Result, Ok, Err}
-use Rattle.rtr_units.specs.StopCauses.{Refusal, short, unit_type, unit_version, too_long}
-use Rattle.rtr_units.specs.StopCauses.{unit_length, empty_providers, refused}
 use Rattle.rtr_units.specs.Header.{length_field}
-use Rattle.rtr_payload.specs.FirstFault.{refusal_report}
+use Rattle.rtr_views.specs.Faults.{NamesRefusal}
 use Rattle.rtr_views.specs.declared.fault.ViewFault.{ViewFault}
-use Rattle.rtr_views.specs.declared.fault.ViewFault.TheVariants.{Writer, Short, UnitType}
-use Rattle.rtr_views.specs.declared.fault.ViewFault.TheVariants.{UnitLength, TooLong}
-use Rattle.rtr_views.specs.declared.fault.ViewFault.TheVariants.{EmptyProviders, UnitVersion}
-use Rattle.rtr_views.specs.declared.fault.ViewFault.TheVariants.{Prefix, TooMany}
 use Rattle.rtr_session.specs.SessionKinds.{session_unit}
-
--- The fault names what is wrong with the unit u. Of a prefix that breaks its rule it names the part
--- that is broken, and of the report that part is told alone.
-abbrev pub NamesRefusal : List ℕ → Option Refusal → ViewFault → Type 0
-NamesRefusal u wrong (Writer e) = ⊥
-NamesRefusal u wrong Short = wrong ≡ Some short
-NamesRefusal u wrong (UnitType t) = wrong ≡ Some (unit_type t)
-NamesRefusal u wrong UnitLength = wrong ≡ Some unit_length
-NamesRefusal u wrong TooLong = wrong ≡ Some too_long
-NamesRefusal u wrong EmptyProviders = wrong ≡ Some empty_providers
-NamesRefusal u wrong (UnitVersion v) = wrong ≡ Some (unit_version v)
-NamesRefusal u wrong (Prefix rule) = wrong ≡ Some (refused (refusal_report u rule))
-NamesRefusal u wrong TooMany = ⊥
 
 -- What is said of the length of the unit that b begins: nothing of fewer than the 8 bytes of a
 -- header; the length field, where the header is in order; or the fault of the header.

@@ -10,7 +10,7 @@ use Rattle.rtr_units.specs.HeaderBytes.{header_bytes}
 use Rattle.rtr_units.specs.declared.fault.Fault.{Fault}
 use Rattle.rtr_units.specs.declared.header.Header.{Header}
 use Rattle.rtr_session.specs.AnyReading.{HasEnded, StopsInAny}
-use Rattle.rtr_session.specs.Lengths.{NamesRefusal}
+use Rattle.rtr_views.specs.Faults.{NamesRefusal}
 use Rattle.rtr_units.specs.StopCauses.{Refusal}
 use Rattle.rtr_views.specs.declared.fault.ViewFault.{ViewFault}
 use Rattle.rtr_views.specs.declared.fault.ViewFault.TheVariants.{Prefix}

@@ -20,7 +20,7 @@ use Rattle.rtr_session.specs.AnyFields.{AnyFields, HasAnyFields, serial_notify, 
 use Rattle.rtr_session.specs.AnyFields.{reset_query, cache_response, payload, end_of_data}
 use Rattle.rtr_session.specs.AnyFields.{cache_reset, error_report}
 use Rattle.rtr_session.specs.AnyUnits.{serial_of, bare_of}
-use Rattle.rtr_session.specs.Lengths.{NamesRefusal}
+use Rattle.rtr_views.specs.Faults.{NamesRefusal}
 use Rattle.rtr_session.specs.Reports.{IsReport}
 use Rattle.rtr_session.specs.SessionKinds.{session_unit}
 use Rattle.rtr_session.specs.declared.session_view.SessionView.{SessionView}

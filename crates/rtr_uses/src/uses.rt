@@ -5,7 +5,7 @@ use rtr_wire::base::{Asn, MaxLenPrefix, ParseMaxLenPrefixError};
 use rtr_wire::payload::{Action, Aspa, Payload, RouteOrigin, Timing};
 use rtr_wire::pdu::{
     CacheResponse, Counted, EndOfData, Error, ErrorCode, Fault, Header, LAST_VERSION, ResetQuery,
-    Sink, Source, Unit, UnitView, ViewFault,
+    Sink, Source, Unit, UnitView, ViewFault, owed_code,
 };
 use rtr_wire::state::State;
 use rtr_wire::{normalise, pdu, same_meaning};
@@ -156,13 +156,13 @@ pub fn withdrawal(alloc: Global, aspa: &Aspa) -> Result<pdu::Payload, AllocError
 }
 
 /// The report to the peer on a fault in the unit with this header, or none if the fault isn't the
-/// peer's.
+/// peer's, or the unit is a report itself.
 pub fn report_on(
     alloc: Global,
     header: Header,
     fault: &Fault,
 ) -> Result<Option<Error>, AllocError> {
-    match fault.code() {
+    match owed_code(header, fault) {
         Some(code) => {
             let text = b"the unit was refused";
             let report = Error::new(alloc, header.version(), code.0, header.as_ref(), text)?;

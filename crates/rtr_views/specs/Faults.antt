@@ -1,9 +1,9 @@
 -- What a fault of a call on views says (this library's own; which fault comes first, as of units).
-use Rattle.std.specs.Prelude.{◌≡◌, ℕ, Bool, true, false, not, List, Some, Result, Err}
+use Rattle.std.specs.Prelude.{◌≡◌, ℕ, Bool, true, false, not, List, Option, Some, Result, Err}
 use Rattle.std.specs.Prelude.{MatchResult, ⊤}
 use Rattle.std.specs.Io.KnownBytes.{Appends}
 use Rattle.std.specs.declared.io.Error.{Error}
-use Rattle.rtr_units.specs.StopCauses.{short, unit_type, unit_version, too_long, unit_length}
+use Rattle.rtr_units.specs.StopCauses.{Refusal, short, unit_type, unit_version, too_long, unit_length}
 use Rattle.rtr_units.specs.StopCauses.{empty_providers, refused}
 use Rattle.rtr_units.specs.Stream.{WritesPart}
 use Rattle.rtr_units.specs.StopCauses.{WriterState, IsWriteError, count_after}
@@ -15,19 +15,22 @@ use Rattle.rtr_views.specs.declared.fault.ViewFault.TheVariants.{UnitLength, Too
 use Rattle.rtr_views.specs.declared.fault.ViewFault.TheVariants.{EmptyProviders, UnitVersion}
 use Rattle.rtr_views.specs.declared.fault.ViewFault.TheVariants.{Prefix, TooMany}
 
--- The fault names the first fault of the list r. Of a prefix that breaks its rule it names the part
+-- The fault names what is wrong with the unit u. Of a prefix that breaks its rule it names the part
 -- that is broken, and of the report that part is told alone.
+abbrev pub NamesRefusal : List ℕ → Option Refusal → ViewFault → Type 0
+NamesRefusal u wrong (Writer e) = ⊥
+NamesRefusal u wrong Short = wrong ≡ Some short
+NamesRefusal u wrong (UnitType t) = wrong ≡ Some (unit_type t)
+NamesRefusal u wrong UnitLength = wrong ≡ Some unit_length
+NamesRefusal u wrong TooLong = wrong ≡ Some too_long
+NamesRefusal u wrong EmptyProviders = wrong ≡ Some empty_providers
+NamesRefusal u wrong (UnitVersion v) = wrong ≡ Some (unit_version v)
+NamesRefusal u wrong (Prefix rule) = wrong ≡ Some (refused (refusal_report u rule))
+NamesRefusal u wrong TooMany = ⊥
+
+-- the fault names the first fault of the list r
 abbrev pub IsFirstFault : List ℕ → ViewFault → Type 0
-IsFirstFault r (Writer e) = ⊥
-IsFirstFault r Short = first_fault r ≡ Some short
-IsFirstFault r (UnitType t) = first_fault r ≡ Some (unit_type t)
-IsFirstFault r UnitLength = first_fault r ≡ Some unit_length
-IsFirstFault r TooLong = first_fault r ≡ Some too_long
-IsFirstFault r EmptyProviders = first_fault r ≡ Some empty_providers
-IsFirstFault r (UnitVersion v) = first_fault r ≡ Some (unit_version v)
-IsFirstFault r (Prefix rule) =
-    first_fault r ≡ Some (refused (refusal_report (first_unit r) rule))
-IsFirstFault r TooMany = ⊥
+IsFirstFault r e = NamesRefusal (first_unit r) (first_fault r) e
 
 -- whether the writer gave the fault
 abbrev pub is_view_writer_fault : {T : Type 0} → Result T ViewFault → Bool

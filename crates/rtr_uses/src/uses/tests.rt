@@ -232,6 +232,9 @@ fn peers_are_told(rt: HostRuntime) -> Result<(), Fail> {
         None => assert!(rt; false, "no report"),
     }
     assert!(rt; report_on(alloc, header, &Fault::Memory)?.is_none());
+    let report = Header::new(1, 10, 0, 65536);
+    assert!(rt; report_on(alloc, report, &Fault::UnitType(10))?.is_none());
+    assert!(rt; report_on(alloc, report, &Fault::TooLong)?.is_none());
     assert!(rt; Fault::Short.code() == Some(ErrorCode::CORRUPT_DATA));
     Ok(())
 }

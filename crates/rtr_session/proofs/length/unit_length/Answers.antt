@@ -1,6 +1,6 @@
 use Rattle.std.proofs.Common.{ap, subst, get_or}
 use Rattle.rtr_session.specs.SessionKinds.{any_header_fault}
-use Rattle.rtr_session.specs.Lengths.{NamesRefusal}
+use Rattle.rtr_views.specs.Faults.{NamesRefusal}
 use Rattle.rtr_session.proofs.length.unit_length.Goals as goal
 
 pub returns-in-Err : goal.returns-in-Err
