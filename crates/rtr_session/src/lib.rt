@@ -5,6 +5,7 @@
 mod any_unit;
 pub mod laws;
 pub mod length;
+pub mod placing;
 mod report;
 mod report_view;
 mod session_view;
