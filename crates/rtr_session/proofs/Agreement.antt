@@ -1,15 +1,14 @@
 -- Views of units of any type and units that were read of the same bytes say the same.
-use Rattle.std.proofs.Common.{◌≡◌, ◌⊎◌, inl, inr, ℕ, Bool, cond, List, [], ◌++◌, length, drop, Option}
+use Rattle.std.proofs.Common.{◌≡◌, ◌⊎◌, inl, inr, ℕ, cond, List, [], drop, Option}
 use Rattle.std.proofs.Common.{None, Some, refl, sym, ap, subst, ◌∙◌, arith}
 use Rattle.std.specs.Prelude.{◌==◌, IsTrue}
 use Rattle.std.proofs.lemmas.Bool.Decides.{nat_tests}
 use Rattle.rtr_base.specs.Addresses.{Family, v4, v6}
-use Rattle.rtr_base.specs.Bytes.{be, value}
 use Rattle.rtr_base.specs.declared.timing.Timing.{Timing}
 use Rattle.rtr_base.proofs.Numbers.{value-be}
 use Rattle.rtr_units.specs.AnyEnd.{end_meaning}
 use Rattle.rtr_units.specs.End.{EndMeaning, IsEnd, timed_list}
-use Rattle.rtr_units.specs.Header.{version_field, type_field, session_field, length_field}
+use Rattle.rtr_units.specs.Header.{version_field, type_field, session_field}
 use Rattle.rtr_units.specs.PrefixUnits.{prefix_type, prefix_at}
 use Rattle.rtr_units.proofs.Ends.{end_one}
 use Rattle.rtr_payload.specs.AspaUnits.{aspa_at}
@@ -26,7 +25,6 @@ use Rattle.rtr_session.specs.AnyFields.{reset_query, cache_response, payload, en
 use Rattle.rtr_session.specs.AnyFields.{cache_reset, error_report}
 use Rattle.rtr_session.specs.AnyUnits.{serial_of, bare_of}
 use Rattle.rtr_session.specs.PrivateHeaders.{IsPlainType}
-use Rattle.rtr_session.specs.Reports.{IsReport}
 use Rattle.rtr_session.specs.SessionViews.{ShowsUnit, ShowsFields, session_fault}
 use Rattle.rtr_session.specs.declared.session_view.SessionView.{SessionView}
 use Rattle.rtr_session.specs.declared.session_view.SessionView.TheVariants as session

@@ -1,19 +1,19 @@
 -- What headers say of the lengths of their units.
-use Rattle.std.proofs.Common.{◌≡◌, ◌≢◌, ◌⊎◌, inl, inr, ℕ, ◌≤◌, ◌<◌, ◌%◌, Bool, true, false, not, cond}
-use Rattle.std.proofs.Common.{List, length, Option, Some, None, Result, Ok, Err, refl, sym, ap, subst}
+use Rattle.std.proofs.Common.{◌≡◌, ◌≢◌, ◌⊎◌, inl, inr, ℕ, ◌≤◌, Bool, true, false, not, cond}
+use Rattle.std.proofs.Common.{List, Option, Some, None, Result, Ok, refl, sym, ap, subst}
 use Rattle.std.proofs.Common.{◌∙◌, arith, get_or}
 use Rattle.std.specs.Prelude.{◌==◌}
 use Rattle.std.proofs.lemmas.Bool.{cases_lt}
 use Rattle.std.proofs.lemmas.Bool.Decides.{nat_tests}
-use Rattle.rtr_units.specs.StopCauses.{Refusal, unit_type, unit_length}
+use Rattle.rtr_units.specs.StopCauses.{Refusal, unit_length}
 use Rattle.rtr_units.specs.Header.{version_field, type_field, length_field}
 use Rattle.rtr_units.specs.Reading.{exact_length, least_length}
 use Rattle.rtr_payload.specs.FirstFault.{header_fault}
 use Rattle.rtr_views.specs.declared.fault.ViewFault.{ViewFault}
-use Rattle.rtr_session.specs.SessionKinds.{any_header_fault, session_unit}
+use Rattle.rtr_session.specs.SessionKinds.{any_header_fault}
 use Rattle.rtr_session.specs.Lengths.{SaysLength, IsBounded}
 use Rattle.rtr_session.specs.PrivateHeaders.{SaysSize}
-use Rattle.rtr_session.proofs.Stops.{of_twelve, of_eight, of_ten, of_payload, unknown_header}
+use Rattle.rtr_session.proofs.Stops.{of_twelve, of_eight, of_ten, of_payload}
 
 -- what is said of one fault is said of the same
 pub same_size : (n : ℕ) (a b : Option Refusal) (r : Result ℕ ViewFault) → b ≡ a → SaysSize n a r →

@@ -14,7 +14,6 @@ use Rattle.rtr_payload.specs.UnitFields.{Fields, LengthsAgree, meaning}
 use Rattle.rtr_views.specs.Views.{IsViewOf, ViewMeans}
 use Rattle.rtr_views.specs.declared.fault.ViewFault.{ViewFault}
 use Rattle.rtr_views.specs.declared.fault.ViewFault.TheVariants.{Prefix}
-use Rattle.rtr_views.specs.declared.view.UnitView.{UnitView}
 use Rattle.rtr_views.specs.declared.view.UnitView.TheVariants.{Origin, RouterKey, Aspa, End}
 use Rattle.rtr_session.specs.AnyFields.{AnyFields, HasAnyFields, serial_notify, serial_query}
 use Rattle.rtr_session.specs.AnyFields.{reset_query, cache_response, payload, end_of_data}

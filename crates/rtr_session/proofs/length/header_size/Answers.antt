@@ -1,4 +1,4 @@
-use Rattle.std.proofs.Common.{arith, inl, inr, refl}
+use Rattle.std.proofs.Common.{arith, inl, inr}
 use Rattle.rtr_session.proofs.Stops.{unknown_header}
 use Rattle.rtr_session.proofs.Lengths.{size_twelve, size_eight, size_four, size_six, size_seven}
 use Rattle.rtr_session.proofs.Lengths.{size_nine, size_ten, size_eleven}

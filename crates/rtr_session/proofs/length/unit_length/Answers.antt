@@ -1,4 +1,4 @@
-use Rattle.std.proofs.Common.{ap, subst, get_or}
+use Rattle.std.proofs.Common.{subst, get_or}
 use Rattle.rtr_session.specs.SessionKinds.{any_header_fault}
 use Rattle.rtr_views.specs.Faults.{NamesRefusal}
 use Rattle.rtr_session.proofs.length.unit_length.Goals as goal

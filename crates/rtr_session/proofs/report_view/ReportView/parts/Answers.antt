@@ -1,4 +1,4 @@
-use Rattle.std.proofs.Common.{◌≡◌, ◌∙◌, ap, drop, subst}
+use Rattle.std.proofs.Common.{◌≡◌, drop, subst}
 use Rattle.rtr_session.specs.PrivateHeaders.{IsCounted, IsCutShort}
 use Rattle.rtr_session.specs.Reports.{IsReport}
 use Rattle.rtr_session.proofs.Parts.{at_none, none_left, some_left, parts_made}
