@@ -1,5 +1,6 @@
 mod Agreement
 mod Parts
+mod Placed
 mod Headers
 mod Lengths
 mod Reports

@@ -6,3 +6,4 @@ pub mod Reports
 pub mod AnyUnits
 pub mod Lengths
 pub mod SessionViews
+pub mod Placed

@@ -1,7 +1,14 @@
 //! Units of a session, written into a slice.
 
+ghost use Rattle.std.specs.Prelude.{◌≡◌, ◌+◌, ◌++◌, ◌≤◌, length, take, drop};
+ghost use Rattle.rtr_base.specs.Bytes.{be};
+ghost use Rattle.rtr_units.specs.Report.{report};
 ghost use Rattle.rtr_views.specs.Placing.{Places};
+ghost use Rattle.rtr_session.specs.Placed.{held_report};
 
+use crate::report::Report;
+use rtr_base::error_code::ErrorCode;
+use rtr_units::header::Header;
 use rtr_units::unit::Unit;
 use rtr_views::placing::place;
 
@@ -12,4 +19,72 @@ pub fn place_unit<U: Unit>(unit: &U, output: &mut [u8]) -> Option<usize>
     ensures { Places result (U.bytes unit.now) output.old output.new }
 {
     place(unit.as_ref(), &[], output)
+}
+
+/// Writes the error report (RFC 8210 section 5.11) with this version and error code, the unit that
+/// it is about (or none) and text to the front of the output, and answers its length in bytes. If
+/// the output is shorter, it answers none and leaves the output unchanged. It allocates nothing.
+///
+/// A report has at most 65535 bytes: of the unit it holds the first 65519 bytes, and of the text as
+/// many as are then left. So 65535 bytes of output are always enough. The RFC wants the text in
+/// UTF-8; where it is cut, its last character may be cut too.
+pub fn place_report(
+    version: u8,
+    code: ErrorCode,
+    pdu: &[u8],
+    text: &[u8],
+    output: &mut [u8],
+) -> Option<usize>
+    ensures { Places result (held_report version code.0 pdu.now text.now) output.old output.new }
+{
+    let pdu = front(pdu, 65519);
+    let text = front(text, 65519 - pdu.len());
+    place_parts(version, code, pdu, text, output)
+}
+
+/// As many of the first bytes as this, or all if there are fewer.
+fn front(bytes: &[u8], most: usize) -> &[u8]
+    ensures held { result.now ≡ take most bytes.now }
+    ensures most { length result.now ≤ most }
+{
+    if bytes.len() <= most {
+        return bytes;
+    }
+    let (front, _) = bytes.split_at(most);
+    front
+}
+
+/// Writes the report with these parts, which has at most 65535 bytes.
+fn place_parts(
+    version: u8,
+    code: ErrorCode,
+    pdu: &[u8],
+    text: &[u8],
+    output: &mut [u8],
+) -> Option<usize>
+    requires { length pdu.now + length text.now ≤ 65519 }
+    ensures { Places result (report version code.0 pdu.now text.now) output.old output.new }
+{
+    let size = 16 + pdu.len() + text.len();
+    if output.len() < size {
+        return None;
+    }
+    let header = Header::new(version, Report::PDU, code.0, size as u32);
+    let (head, rest) = output.split_at_mut(8);
+    head.copy_from_slice(header.as_ref());
+    let (middle, rest) = rest.split_at_mut(4 + pdu.len());
+    lay_counted(pdu, middle);
+    let (last, _) = rest.split_at_mut(4 + text.len());
+    lay_counted(text, last);
+    Some(size)
+}
+
+/// Writes the length of these bytes, and then them.
+fn lay_counted(bytes: &[u8], output: &mut [u8])
+    requires size { length output.old ≡ 4 + length bytes.now }
+    requires fits { length bytes.now ≤ 65519 }
+    ensures { output.new ≡ be (length bytes.now) 4 ++ bytes.now }
+{
+    output[..4].copy_from_slice(&(bytes.len() as u32).to_be_bytes());
+    output[4..].copy_from_slice(bytes);
 }
