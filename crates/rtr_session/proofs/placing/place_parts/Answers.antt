@@ -6,8 +6,7 @@ use Rattle.rtr_session.proofs.placing.place_parts.Goals as goal
 pub returns : goal.returns
 returns c =
     let p = c.args.pdu.now in
-    let t = c.args.text.now in
-    (
+    let t = c.args.text.now in (
       omega (arith, length-append (p ++ be (length t) 4) t, length-append p (be (length t) 4)),
       omega (arith, c.if-output-size.false),
       laid c.args.version c.args.code.0 p t c.args.output.now _ _ _ _ _ _
