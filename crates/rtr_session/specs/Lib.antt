@@ -6,4 +6,5 @@ pub mod Reports
 pub mod AnyUnits
 pub mod Lengths
 pub mod SessionViews
+pub mod SessionForms
 pub mod Placed

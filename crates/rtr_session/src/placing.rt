@@ -5,10 +5,13 @@ ghost use Rattle.rtr_base.specs.Bytes.{be};
 ghost use Rattle.rtr_units.specs.Report.{report};
 ghost use Rattle.rtr_views.specs.Placing.{Places};
 ghost use Rattle.rtr_session.specs.Placed.{held_report};
+ghost use Rattle.rtr_session.specs.SessionForms.{shown_form};
 
 use crate::report::Report;
+use crate::session_view::SessionView;
 use rtr_base::error_code::ErrorCode;
 use rtr_units::header::Header;
+use rtr_units::queries::{CacheReset, ResetQuery};
 use rtr_units::unit::Unit;
 use rtr_views::placing::place;
 
@@ -19,6 +22,30 @@ pub fn place_unit<U: Unit>(unit: &U, output: &mut [u8]) -> Option<usize>
     ensures { Places result (U.bytes unit.now) output.old output.new }
 {
     place(unit.as_ref(), &[], output)
+}
+
+impl<'a> SessionView<'a> {
+    /// Writes the written form of the unit to the front of the output and answers its length in
+    /// bytes, at most 65535. If the output is shorter, it answers none and leaves the output
+    /// unchanged. It allocates nothing.
+    ///
+    /// The form of a payload unit is that of what it means: all free bytes are zero, and a
+    /// withdrawn ASPA has no providers. A reset query and a cache reset have zero where others have
+    /// a session (RFC 8210 sections 5.4 and 5.9). All other units are written as they are.
+    #[inline(always)]
+    pub fn place_form(&self, output: &mut [u8]) -> Option<usize>
+        ensures { Places result (shown_form self.now) output.old output.new }
+    {
+        match self {
+            SessionView::SerialNotify(unit) => place_unit(unit, output),
+            SessionView::SerialQuery(unit) => place_unit(unit, output),
+            SessionView::ResetQuery(unit) => place_unit(&ResetQuery::new(unit.version()), output),
+            SessionView::CacheResponse(unit) => place_unit(unit, output),
+            SessionView::Data(view) => view.place_form(output),
+            SessionView::CacheReset(unit) => place_unit(&CacheReset::new(unit.version()), output),
+            SessionView::Error(report) => place(report.unit, &[], output),
+        }
+    }
 }
 
 /// Writes the error report (RFC 8210 section 5.11) with this version and error code, the unit that
