@@ -1,4 +1,5 @@
 pub mod Names
+pub mod NamesThere
 pub mod Segments
 pub mod Membership
 pub mod Changes

@@ -5,7 +5,7 @@ ghost use Rattle.rtr_base.specs.declared.action.Action.TheVariants.{Announce, Wi
 ghost use Rattle.rtr_units.specs.StopCauses.{HoldsWriteError};
 ghost use Rattle.rtr_units.specs.Stream.{PutsForm};
 ghost use Rattle.rtr_payload.specs.Meanings.{payload_of, payload_of_ref};
-ghost use Rattle.rtr_data.specs.Data.{IsData, changed, has};
+ghost use Rattle.rtr_data.specs.Data.{IsData, changed, has, has_name};
 ghost use Rattle.rtr_data.specs.Contents.{AreFit, IsFit, Leaves, Makes, announcing, joined};
 ghost use Rattle.rtr_data.specs.Contents.{unfit};
 ghost use Rattle.rtr_data.specs.Changes.{announcements, withdrawals};
@@ -115,6 +115,17 @@ impl Data {
                     None => false,
                 }
             }
+        }
+    }
+
+    /// Whether a payload of this name is there: of an ASPA, any of the same customer.
+    pub fn contains_name(&self, payload: &PayloadRef<'_>) -> bool
+        ensures { result ≡ has_name self.now (payload_of_ref payload.now) }
+    {
+        match payload {
+            PayloadRef::Origin(origin) => self.origins.contains(origin),
+            PayloadRef::RouterKey(key) => self.router_keys.contains(*key),
+            PayloadRef::Aspa(aspa) => self.aspas.contains_key(&aspa.customer),
         }
     }
 
