@@ -34,10 +34,10 @@ use Rattle.rtr_session.proofs.Viewed.{same_fault}
 
 -- ---- types
 
-abbrev IsPayloadType : ℕ → Type 0
+abbrev pub IsPayloadType : ℕ → Type 0
 IsPayloadType t = (t ≡ 4) ⊎ ((t ≡ 6) ⊎ ((t ≡ 9) ⊎ (t ≡ 11)))
 
-payload_type : (g : Fields) → IsPayloadType (type_field (unit_list g))
+pub payload_type : (g : Fields) → IsPayloadType (type_field (unit_list g))
 payload_type (prefix_unit u) = by_family u.origin.family
   where
     by_family : (f : Family) → IsPayloadType (prefix_type f)
@@ -50,11 +50,11 @@ timed_type : (v s q : ℕ) (t : Option Timing) → type_field (timed_list v s q 
 timed_type v s q None = refl
 timed_type v s q (Some t) = refl
 
-end_type : (b : List ℕ) (e : EndMeaning) → IsEnd b e → type_field b ≡ 7
+pub end_type : (b : List ℕ) (e : EndMeaning) → IsEnd b e → type_field b ≡ 7
 end_type b e is = ap type_field is.bytes ∙ timed_type e.version e.session e.serial e.timing
 
 -- the types of units by their fields
-abbrev HasType : ℕ → AnyFields → Type 0
+abbrev pub HasType : ℕ → AnyFields → Type 0
 HasType t (serial_notify v s q) = t ≡ 0
 HasType t (serial_query v s q) = t ≡ 1
 HasType t (reset_query v s) = t ≡ 2
@@ -64,7 +64,7 @@ HasType t (end_of_data e) = t ≡ 7
 HasType t (cache_reset v s) = t ≡ 8
 HasType t (error_report v c body) = t ≡ 10
 
-has_type : (b : List ℕ) (f : AnyFields) → HasAnyFields b f → HasType (type_field b) f
+pub has_type : (b : List ℕ) (f : AnyFields) → HasAnyFields b f → HasType (type_field b) f
 has_type b (serial_notify v s q) has = ap type_field has.bytes
 has_type b (serial_query v s q) has = ap type_field has.bytes
 has_type b (reset_query v s) has = ap type_field has.bytes

@@ -1,6 +1,7 @@
 mod Agreement
 mod Parts
 mod Placed
+mod Forms
 mod Headers
 mod Lengths
 mod Reports

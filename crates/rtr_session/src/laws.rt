@@ -1,6 +1,6 @@
 //! Laws of units of any type and of error reports.
 
-ghost use Rattle.std.specs.Prelude.{◌≡◌, ◌++◌, ℕ, List, Some, Ok, IsTrue};
+ghost use Rattle.std.specs.Prelude.{◌≡◌, ◌++◌, ◌≤◌, ℕ, List, Some, None, Ok, IsTrue, length};
 ghost use Rattle.rtr_units.specs.Header.{version_field, type_field};
 ghost use Rattle.rtr_units.specs.Reading.{IsWhole};
 ghost use Rattle.rtr_session.specs.AnyFields.{AnyFields, HasAnyFields};
@@ -8,6 +8,7 @@ ghost use Rattle.rtr_payload.specs.FirstFault.{first_fault, is_payload_or_end};
 ghost use Rattle.rtr_views.specs.Views.{IsViewOf};
 ghost use Rattle.rtr_views.specs.declared.view.UnitView.{UnitView};
 ghost use Rattle.rtr_session.specs.AnyUnits.{any_bytes, any_fields};
+ghost use Rattle.rtr_session.specs.SessionForms.{session_form, shown_form};
 ghost use Rattle.rtr_session.specs.SessionViews.{ShowsUnit, ShowsFields, session_fault};
 ghost use Rattle.rtr_session.specs.declared.any_unit.AnyUnit.{AnyUnit};
 ghost use Rattle.rtr_session.specs.declared.session_view.SessionView.{SessionView};
@@ -63,4 +64,23 @@ pub fn same_as_unit_views()
         ShowsUnit v b → (w : UnitView) × (v ≡ Data w) × IsViewOf w b }
     ensures fault { (r : List ℕ) → IsTrue (is_payload_or_end (type_field r)) →
         session_fault r ≡ first_fault r }
+{}
+
+/// The form of what a view shows is that of the unit's fields.
+pub fn forms_of_session_views()
+    ensures { (v : SessionView) (b : List ℕ) (f : AnyFields) → ShowsUnit v b → HasAnyFields b f →
+        shown_form v ≡ session_form f }
+{}
+
+/// The form of what a view shows is a unit of at most 65535 bytes, without a fault, whatever
+/// follows it. Its own form is the same.
+pub fn session_forms()
+    ensures unit { (v : SessionView) (b : List ℕ) → ShowsUnit v b →
+        (f : AnyFields) × HasAnyFields (shown_form v) f }
+    ensures most { (v : SessionView) (b : List ℕ) → ShowsUnit v b →
+        length (shown_form v) ≤ 65535 }
+    ensures shown { (v : SessionView) (b r : List ℕ) → ShowsUnit v b →
+        session_fault (shown_form v ++ r) ≡ None }
+    ensures again { (v w : SessionView) (b : List ℕ) → ShowsUnit v b → ShowsUnit w (shown_form v) →
+        shown_form w ≡ shown_form v }
 {}
