@@ -5,34 +5,39 @@
     _Static_assert(offsetof(struct type, field) == (offset), #type " " #field)
 
 #if SIZE_MAX == UINT64_MAX
-_Static_assert(sizeof(struct rtr_answer) == 40, "rtr_answer");
+_Static_assert(sizeof(struct rtr_answer) == 48, "rtr_answer");
 AT(rtr_answer, units, 0);
 AT(rtr_answer, forms, 8);
 AT(rtr_answer, taken, 16);
 AT(rtr_answer, written, 24);
-AT(rtr_answer, status, 32);
-AT(rtr_answer, detail, 33);
+AT(rtr_answer, wanted, 32);
+AT(rtr_answer, status, 40);
+AT(rtr_answer, detail, 41);
 
-_Static_assert(sizeof(struct rtr_unit) == 96, "rtr_unit");
+_Static_assert(sizeof(struct rtr_unit) == 120, "rtr_unit");
 AT(rtr_unit, size, 0);
-AT(rtr_unit, part_start, 8);
-AT(rtr_unit, part_length, 16);
-AT(rtr_unit, asn, 24);
-AT(rtr_unit, customer, 28);
-AT(rtr_unit, serial, 32);
-AT(rtr_unit, refresh, 36);
-AT(rtr_unit, retry, 40);
-AT(rtr_unit, expire, 44);
-AT(rtr_unit, session, 48);
-AT(rtr_unit, kind, 50);
-AT(rtr_unit, version, 51);
-AT(rtr_unit, action, 52);
-AT(rtr_unit, family, 53);
-AT(rtr_unit, prefix_length, 54);
-AT(rtr_unit, max_length, 55);
-AT(rtr_unit, address, 56);
-AT(rtr_unit, key_identifier, 72);
-AT(rtr_unit, detail, 92);
+AT(rtr_unit, wanted, 8);
+AT(rtr_unit, part_start, 16);
+AT(rtr_unit, part_length, 24);
+AT(rtr_unit, text_start, 32);
+AT(rtr_unit, text_length, 40);
+AT(rtr_unit, asn, 48);
+AT(rtr_unit, customer, 52);
+AT(rtr_unit, serial, 56);
+AT(rtr_unit, refresh, 60);
+AT(rtr_unit, retry, 64);
+AT(rtr_unit, expire, 68);
+AT(rtr_unit, session, 72);
+AT(rtr_unit, code, 74);
+AT(rtr_unit, kind, 76);
+AT(rtr_unit, version, 77);
+AT(rtr_unit, action, 78);
+AT(rtr_unit, family, 79);
+AT(rtr_unit, prefix_length, 80);
+AT(rtr_unit, max_length, 81);
+AT(rtr_unit, address, 82);
+AT(rtr_unit, key_identifier, 98);
+AT(rtr_unit, detail, 118);
 #endif
 
 _Static_assert(sizeof(bool) == 1, "bool");

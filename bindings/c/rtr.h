@@ -1,4 +1,4 @@
-/* Payload units and sequences of the RPKI to Router protocol (RFC 6810, RFC 8210), in memory.
+/* Units and sequences of the RPKI to Router protocol (RFC 6810, RFC 8210), in memory.
  *
  * Copyright (c) 2026, the authors of Fishreef
  * Copyright (c) 2018, NLnet Labs
@@ -10,7 +10,8 @@
  *
  * Preconditions of every call:
  *   - a slice is passed as a pointer and a length: that many bytes can be read there, or written if
- *     it is an output. No pointer is null; with length 0 any other pointer will do;
+ *     it is an output. With length 0 any pointer will do, a null pointer too. No other pointer is
+ *     null;
  *   - an output, and what the last pointer points at, overlap nothing else that is passed. What is
  *     only read may overlap;
  *   - until the call returns, no other thread writes to anything that was passed, nor reads an
@@ -36,6 +37,9 @@
 /* The version of this header and of the archive built with it, as in CHANGELOG.md. */
 #define RTR_WIRE_VERSION "0.2.0"
 
+/* The same as a number: 10000 times the first number, 100 times the second, and the third. */
+#define RTR_WIRE_VERSION_NUMBER 200
+
 #ifdef __cplusplus
 extern "C" {
 #endif
@@ -47,7 +51,7 @@ enum rtr_status {
     RTR_SHORT = 1,           /* the input ends inside a unit, or before one */
     RTR_UNIT_TYPE = 2,       /* `detail` is a type that is not allowed here */
     RTR_UNIT_VERSION = 3,    /* `detail` is a version that is not allowed here */
-    RTR_TOO_LONG = 4,        /* a router key or an ASPA of more than 65535 bytes */
+    RTR_TOO_LONG = 4,        /* a router key, an ASPA or a report of more than 65535 bytes */
     RTR_UNIT_LENGTH = 5,     /* a length that doesn't suit the type */
     RTR_EMPTY_PROVIDERS = 6, /* an ASPA that is announced without providers */
     RTR_PREFIX = 7,          /* `detail`, an rtr_prefix_rule, is broken by a prefix */
@@ -65,37 +69,61 @@ enum rtr_prefix_rule {
 
 /* The kinds of units, by their type. */
 enum rtr_kind {
-    RTR_IPV4_PREFIX = 4, /* RFC 8210 section 5.6 */
-    RTR_IPV6_PREFIX = 6, /* RFC 8210 section 5.7 */
-    RTR_END_OF_DATA = 7, /* RFC 6810 and RFC 8210 section 5.8 */
-    RTR_ROUTER_KEY = 9,  /* RFC 8210 section 5.10 */
+    RTR_SERIAL_NOTIFY = 0,  /* RFC 8210 section 5.2 */
+    RTR_SERIAL_QUERY = 1,   /* RFC 8210 section 5.3 */
+    RTR_RESET_QUERY = 2,    /* RFC 8210 section 5.4 */
+    RTR_CACHE_RESPONSE = 3, /* RFC 8210 section 5.5 */
+    RTR_IPV4_PREFIX = 4,    /* RFC 8210 section 5.6 */
+    RTR_IPV6_PREFIX = 6,    /* RFC 8210 section 5.7 */
+    RTR_END_OF_DATA = 7,    /* RFC 6810 and RFC 8210 section 5.8 */
+    RTR_CACHE_RESET = 8,    /* RFC 8210 section 5.9 */
+    RTR_ROUTER_KEY = 9,     /* RFC 8210 section 5.10 */
+    RTR_ERROR_REPORT = 10,  /* RFC 8210 section 5.11 */
     RTR_ASPA = 11
+};
+
+/* The order of two serial numbers (RFC 1982 section 3.2). */
+enum rtr_order {
+    RTR_SERIAL_EQUAL = 0,
+    RTR_SERIAL_LESS = 1,    /* the left one is less */
+    RTR_SERIAL_GREATER = 2, /* the left one is greater */
+    RTR_SERIAL_NO_ORDER = 3 /* they are 2^31 apart */
 };
 
 /* The result of a call that normalises. */
 struct rtr_answer {
     uint64_t units; /* payload units that were taken from the input, without the end of data */
     uint64_t forms; /* how many of them were written; fewer than `units` only for one version */
-    size_t taken;   /* bytes of the input that were taken: whole units, and the end of data */
+    size_t taken;   /* bytes of the input that were taken: whole units, and the end of data. Where
+                       the call stopped, the offset of the unit that it stopped at */
     size_t written; /* bytes of the output that were written, from its front */
+    size_t wanted;  /* after RTR_SHORT, how many bytes from input + taken on are wanted for certain,
+                       as in an rtr_unit; else 0 */
     uint8_t status; /* an rtr_status, as the call returns it */
     uint8_t detail; /* as enum rtr_status says of RTR_UNIT_TYPE, RTR_UNIT_VERSION and RTR_PREFIX;
                        else 0 */
 };
 
-/* A payload unit or an end of data. Fields that its kind doesn't have are 0. */
+/* A unit of any kind. Fields that its kind doesn't have are 0. */
 struct rtr_unit {
-    size_t size;        /* bytes of the unit in the input, header included */
-    size_t part_start;  /* where the key info of a router key, or the providers of an ASPA, begin:
-                           counted from the front of the unit */
+    size_t size;        /* bytes of the unit in the input, header included; of a unit that
+                           rtr_next refuses by RTR_PREFIX, too */
+    size_t wanted;      /* if rtr_next answers RTR_SHORT, how many bytes of input are wanted for
+                           certain: 8 without a whole header, and then the length of the unit */
+    size_t part_start;  /* where the key info of a router key, the providers of an ASPA, or the
+                           unit that a report is about begin: counted from the front of the unit */
     size_t part_length; /* their length in bytes; a provider has 4, in network order */
+    size_t text_start;  /* where the text of a report begins. A report whose inner lengths don't
+                           fit has 0 here and in part_start and both lengths */
+    size_t text_length; /* its length in bytes; it should be UTF-8, which isn't checked */
     uint32_t asn;       /* of a prefix or a router key */
     uint32_t customer;  /* of an ASPA */
-    uint32_t serial;    /* of an end of data */
+    uint32_t serial;    /* of a serial notify, a serial query or an end of data */
     uint32_t refresh;   /* of an end of data, in seconds; 0 in version 0 */
     uint32_t retry;
     uint32_t expire;
-    uint16_t session;   /* of an end of data */
+    uint16_t session;   /* of a serial notify, a serial query, a cache response or an end of data */
+    uint16_t code;      /* the error code of a report (RFC 8210 section 12) */
     uint8_t kind;       /* an rtr_kind */
     uint8_t version;    /* of the protocol */
     uint8_t action;     /* 1 where the payload is announced, 0 where it is withdrawn */
@@ -107,6 +135,43 @@ struct rtr_unit {
     uint8_t key_identifier[20]; /* the subject key identifier of a router key */
     uint8_t detail;             /* if rtr_next refuses, as in an rtr_answer; else 0 */
 };
+
+/* The functions of the archive that take slices. They are those below, without the ending of their
+ * names, but no pointer may be null: with length 0 any other pointer will do. */
+uint8_t rtr_normalise_slice_nonnull(const uint8_t *input, size_t input_length,
+                                    uint8_t *output, size_t output_length,
+                                    uint64_t limit, struct rtr_answer *answer);
+uint8_t rtr_normalise_for_slice_nonnull(const uint8_t *input, size_t input_length,
+                                        uint8_t *output, size_t output_length,
+                                        uint64_t limit, uint8_t version,
+                                        struct rtr_answer *answer);
+uint8_t rtr_unit_size_nonnull(const uint8_t *input, size_t input_length, size_t *size,
+                              uint8_t *detail);
+uint8_t rtr_next_nonnull(const uint8_t *input, size_t input_length, struct rtr_unit *unit);
+bool rtr_provider_nonnull(const struct rtr_unit *unit, const uint8_t *input, size_t input_length,
+                          size_t index, uint32_t *provider);
+bool rtr_error_code_nonnull(uint8_t status, const uint8_t *input, size_t input_length,
+                            uint16_t *code);
+uint8_t rtr_write_unit_nonnull(const struct rtr_unit *unit,
+                               const uint8_t *input, size_t input_length,
+                               uint8_t *output, size_t output_length, size_t *written);
+uint8_t rtr_same_meaning_nonnull(const uint8_t *left, size_t left_length,
+                                 const uint8_t *right, size_t right_length,
+                                 uint64_t limit, bool *same);
+
+/* The pointer of a slice to be read; in place of a null pointer, whose length is 0, another. */
+static inline const uint8_t *rtr_readable(const uint8_t *bytes)
+{
+    static const uint8_t nowhere = 0;
+    return bytes ? bytes : &nowhere;
+}
+
+/* The same of a slice to be written, of which nothing is written where its length is 0. */
+static inline uint8_t *rtr_writable(uint8_t *bytes)
+{
+    static uint8_t nowhere;
+    return bytes ? bytes : &nowhere;
+}
 
 /* Normalises the sequence that the input begins with: reads payload units up to an end of data,
  * and writes the form of what each means, and the end of data, to the front of the output.
@@ -126,9 +191,13 @@ struct rtr_unit {
  * The rest of the output is unchanged. An output at least as long as the input always suffices:
  * then the call never answers RTR_NO_ROOM. Two sequences have the same form exactly if they mean
  * the same. */
-uint8_t rtr_normalise_slice(const uint8_t *input, size_t input_length,
-                            uint8_t *output, size_t output_length,
-                            uint64_t limit, struct rtr_answer *answer);
+static inline uint8_t rtr_normalise_slice(const uint8_t *input, size_t input_length,
+                                          uint8_t *output, size_t output_length,
+                                          uint64_t limit, struct rtr_answer *answer)
+{
+    return rtr_normalise_slice_nonnull(rtr_readable(input), input_length, rtr_writable(output),
+                                       output_length, limit, answer);
+}
 
 /* The same for clients of one version of the protocol. Units that the version doesn't have are
  * checked and counted in `units` but not written. All others, and the end of data, are written in
@@ -139,16 +208,69 @@ uint8_t rtr_normalise_slice(const uint8_t *input, size_t input_length,
  *
  * For a version above 2 the call answers RTR_UNIT_VERSION before anything else, with that version
  * as `detail` and nothing taken or written. */
-uint8_t rtr_normalise_for_slice(const uint8_t *input, size_t input_length,
-                                uint8_t *output, size_t output_length,
-                                uint64_t limit, uint8_t version, struct rtr_answer *answer);
+static inline uint8_t rtr_normalise_for_slice(const uint8_t *input, size_t input_length,
+                                              uint8_t *output, size_t output_length,
+                                              uint64_t limit, uint8_t version,
+                                              struct rtr_answer *answer)
+{
+    return rtr_normalise_for_slice_nonnull(rtr_readable(input), input_length,
+                                           rtr_writable(output), output_length, limit, version,
+                                           answer);
+}
 
-/* Decodes the payload unit or the end of data that the input begins with. The next one begins
- * `size` bytes later; what follows doesn't matter. Only fixed fields are copied: key info and
- * providers are input[part_start .. part_start + part_length), unchanged, on a withdrawal too.
+/* How long the unit is that the input begins with, by its header alone: what follows may be
+ * missing. For one of a fixed size it is the size of its type, for a router key, a report or an
+ * ASPA at most 65535; no other length is answered.
  *
- * RTR_OK; or, with all fields 0 except `detail`, RTR_SHORT to RTR_PREFIX. */
-uint8_t rtr_next(const uint8_t *input, size_t input_length, struct rtr_unit *unit);
+ * RTR_OK with the length in `size`; RTR_SHORT for fewer than the 8 bytes of a header, with 8, which
+ * are wanted, in `size`; or RTR_UNIT_TYPE to RTR_EMPTY_PROVIDERS with 0 in `size` and the detail.
+ * Else `detail` is 0. */
+static inline uint8_t rtr_unit_size(const uint8_t *input, size_t input_length, size_t *size,
+                                    uint8_t *detail)
+{
+    return rtr_unit_size_nonnull(rtr_readable(input), input_length, size, detail);
+}
+
+/* Decodes the unit that the input begins with. The next one begins `size` bytes later; what follows
+ * doesn't matter. Only fixed fields are copied: key info, providers, and the unit that a report is
+ * about are input[part_start .. part_start + part_length), unchanged, on a withdrawal too, and the
+ * text of a report is input[text_start .. text_start + text_length).
+ *
+ * RTR_OK; or, with all fields 0 except `detail`, RTR_SHORT to RTR_PREFIX. After RTR_SHORT also
+ * `wanted` is there, and after RTR_PREFIX `size`, so that a caller may go on after the unit. */
+static inline uint8_t rtr_next(const uint8_t *input, size_t input_length, struct rtr_unit *unit)
+{
+    return rtr_next_nonnull(rtr_readable(input), input_length, unit);
+}
+
+/* Whether the unit is an ASPA with a provider of this index, counted from 0. The provider is then
+ * in `provider`, and else 0. The input is the one that part_start counts from. */
+static inline bool rtr_provider(const struct rtr_unit *unit, const uint8_t *input,
+                                size_t input_length, size_t index, uint32_t *provider)
+{
+    return rtr_provider_nonnull(unit, rtr_readable(input), input_length, index, provider);
+}
+
+/* Whether a report is owed to the peer for this status of rtr_next or rtr_unit_size, or for that of
+ * a sequence, where the input begins with the unit that it is about. The error code of the report
+ * (RFC 8210 section 12) is then in `code`, and else 0. None is owed for RTR_OK, for RTR_TOO_MANY
+ * and what follows it, nor for any unit that is itself a report (RFC 8210 section 5.11). */
+static inline bool rtr_error_code(uint8_t status, const uint8_t *input, size_t input_length,
+                                  uint16_t *code)
+{
+    return rtr_error_code_nonnull(status, rtr_readable(input), input_length, code);
+}
+
+/* The order of two serial numbers, an rtr_order. */
+uint8_t rtr_serial_order(uint32_t left, uint32_t right);
+
+/* Whether a version of the protocol has units of this kind: 0 all but router keys and ASPAs, 1 all
+ * but ASPAs, 2 all, and versions above 2 none. The calls check the version of an end of data alone:
+ * who wants the others checked asks here. */
+bool rtr_version_has(uint8_t version, uint8_t kind);
+
+/* The version of the archive, as RTR_WIRE_VERSION_NUMBER is that of the header. */
+uint32_t rtr_wire_version(void);
 
 /* Writes the written form of the unit to the front of the output, and its length to `written`: at
  * most 65535. Key info and providers are input[part_start .. part_start + part_length). An address
@@ -157,7 +279,7 @@ uint8_t rtr_next(const uint8_t *input, size_t input_length, struct rtr_unit *uni
  * have, and the input unless the kind has key info or providers.
  *
  * RTR_OK; or, with nothing written and `written` 0, in this order:
- *   RTR_UNIT_TYPE        `kind` is no rtr_kind
+ *   RTR_UNIT_TYPE        `kind` is neither that of a payload unit nor RTR_END_OF_DATA
  *   RTR_NO_FORM          `action` is above 1, or above 0 for an end of data; `family` isn't that
  *                        of the kind; key info or providers lie outside of the input
  *   RTR_PREFIX           the lengths of a prefix break their rule; which part isn't reported
@@ -166,8 +288,13 @@ uint8_t rtr_next(const uint8_t *input, size_t input_length, struct rtr_unit *uni
  *   RTR_EMPTY_PROVIDERS  an ASPA is announced without providers
  *   RTR_UNIT_VERSION     an end of data of a version above 2
  *   RTR_NO_ROOM          the output is shorter than the form */
-uint8_t rtr_write_unit(const struct rtr_unit *unit, const uint8_t *input, size_t input_length,
-                       uint8_t *output, size_t output_length, size_t *written);
+static inline uint8_t rtr_write_unit(const struct rtr_unit *unit,
+                                     const uint8_t *input, size_t input_length,
+                                     uint8_t *output, size_t output_length, size_t *written)
+{
+    return rtr_write_unit_nonnull(unit, rtr_readable(input), input_length, rtr_writable(output),
+                                  output_length, written);
+}
 
 /* Whether both inputs begin with sequences that mean the same, of fewer than `limit` payload units
  * each.
@@ -175,9 +302,13 @@ uint8_t rtr_write_unit(const struct rtr_unit *unit, const uint8_t *input, size_t
  * RTR_OK with the answer in `same`. Otherwise `same` is unchanged, and the status is one of
  * RTR_SHORT to RTR_PREFIX (without a detail) or RTR_TOO_MANY: that of the left input, or if the
  * left one is accepted, that of the right one. */
-uint8_t rtr_same_meaning(const uint8_t *left, size_t left_length,
-                         const uint8_t *right, size_t right_length,
-                         uint64_t limit, bool *same);
+static inline uint8_t rtr_same_meaning(const uint8_t *left, size_t left_length,
+                                       const uint8_t *right, size_t right_length,
+                                       uint64_t limit, bool *same)
+{
+    return rtr_same_meaning_nonnull(rtr_readable(left), left_length, rtr_readable(right),
+                                    right_length, limit, same);
+}
 
 /* A text for a status, never null; any number may be passed. */
 static inline const char *rtr_status_text(uint8_t status)

@@ -30,8 +30,16 @@ struct test_case {
     uint8_t version, status, detail;
     uint64_t units, forms, taken;
     const uint8_t *input, *form;
-    size_t input_length, form_length;
+    size_t input_length, form_length, wanted;
 };
+
+/* How many bytes are wanted of a unit that is cut off: a header, and then as many as it says. */
+static size_t wanted(const uint8_t *bytes, size_t length)
+{
+    if (length < 8)
+        return 8;
+    return (size_t)bytes[4] << 24 | (size_t)bytes[5] << 16 | (size_t)bytes[6] << 8 | bytes[7];
+}
 
 static uint64_t number(const uint8_t **at)
 {
@@ -44,7 +52,7 @@ static uint64_t number(const uint8_t **at)
 
 static struct test_case next_case(const uint8_t **at)
 {
-    struct test_case one = {(*at)[0], (*at)[1], (*at)[2], 0, 0, 0, NULL, NULL, 0, 0};
+    struct test_case one = {(*at)[0], (*at)[1], (*at)[2], 0, 0, 0, NULL, NULL, 0, 0, 0};
     *at += 3;
     one.units = number(at);
     one.forms = number(at);
@@ -54,6 +62,8 @@ static struct test_case next_case(const uint8_t **at)
     one.input = *at;
     one.form = *at += one.input_length;
     *at += one.form_length;
+    if (one.status == RTR_SHORT)
+        one.wanted = wanted(one.input + one.taken, one.input_length - one.taken);
     return one;
 }
 
@@ -125,7 +135,7 @@ static void check_whole(const struct place *place, const struct test_case *one,
     CHECK(normalised(one, input, output, room, UINT32_MAX, answer) == one->status);
     CHECK(answer->detail == one->detail && answer->units == one->units);
     CHECK(answer->forms == one->forms && answer->taken == one->taken);
-    CHECK(answer->written == one->form_length);
+    CHECK(answer->written == one->form_length && answer->wanted == one->wanted);
     CHECK(memcmp(output, one->form, one->form_length) == 0);
     for (size_t i = answer->written; i < room; i++)
         CHECK(output[i] == 0xa5);
@@ -168,6 +178,7 @@ static void check_in_turns(const struct place *place, const struct test_case *on
             room *= 2;
         else if (status != RTR_NO_ROOM && status != RTR_TOO_MANY) {
             CHECK(status == one->status && answer->detail == one->detail);
+            CHECK(answer->wanted == one->wanted);
             break;
         }
     }
@@ -190,7 +201,13 @@ static size_t check_unit(const struct place *place, const struct rtr_unit *unit,
     return size;
 }
 
-/* Unit by unit. */
+/* Whether a sequence is refused for a unit of this type, which rtr_next knows. */
+static bool is_plain(uint8_t kind)
+{
+    return kind <= RTR_CACHE_RESPONSE || kind == RTR_CACHE_RESET || kind == RTR_ERROR_REPORT;
+}
+
+/* Unit by unit, up to where the sequence ends or is refused. */
 static void check_units(const struct place *place, const struct test_case *one,
                         const uint8_t *input)
 {
@@ -198,7 +215,12 @@ static void check_units(const struct place *place, const struct test_case *one,
     uint64_t units = 0;
     struct rtr_unit *unit = FILLED(place->unit, struct rtr_unit);
     uint8_t status;
-    while ((status = rtr_next(input + at, one->input_length - at, unit)) == RTR_OK) {
+    for (;;) {
+        if (at == one->taken && one->status == RTR_UNIT_TYPE && is_plain(one->detail))
+            return;
+        status = rtr_next(input + at, one->input_length - at, unit);
+        if (status != RTR_OK)
+            break;
         CHECK(unit->size <= one->input_length - at && unit->detail == 0);
         CHECK(unit->part_start + unit->part_length <= unit->size);
         formed += check_unit(place, unit, input + at, one->form + formed,
@@ -214,6 +236,9 @@ static void check_units(const struct place *place, const struct test_case *one,
         struct rtr_unit nothing;
         memset(&nothing, 0, sizeof nothing);
         nothing.detail = one->detail;
+        nothing.wanted = one->wanted;
+        if (status == RTR_PREFIX)
+            nothing.size = input[at + 1] == RTR_IPV4_PREFIX ? 20 : 32;
         CHECK(memcmp(unit, &nothing, offsetof(struct rtr_unit, detail) + 1) == 0);
     }
 }
@@ -375,6 +400,114 @@ static void check_bounds(const struct place *place)
         CHECK(rtr_status_text((uint8_t)status)[0] != '\0');
 }
 
+/* A null pointer is a slice without bytes, for each call that takes slices. */
+static void check_null(const struct place *place)
+{
+    struct rtr_unit *unit = FILLED(place->unit, struct rtr_unit);
+    struct rtr_answer *answer = FILLED(place->told, struct rtr_answer);
+    CHECK(rtr_normalise_slice(NULL, 0, NULL, 0, 1, answer) == RTR_SHORT);
+    CHECK(answer->taken == 0 && answer->written == 0 && answer->wanted == 8);
+    CHECK(rtr_normalise_for_slice(NULL, 0, NULL, 0, 1, 2, answer) == RTR_SHORT);
+    CHECK(answer->taken == 0 && answer->written == 0 && answer->wanted == 8);
+    CHECK(rtr_next(NULL, 0, unit) == RTR_SHORT && unit->wanted == 8 && unit->size == 0);
+    size_t *size = FILLED(place->told, size_t);
+    uint8_t detail = 1;
+    CHECK(rtr_unit_size(NULL, 0, size, &detail) == RTR_SHORT && *size == 8 && detail == 0);
+    bool *same = memset(lie(place, place->told, sizeof *same), 0, sizeof *same);
+    CHECK(rtr_same_meaning(NULL, 0, NULL, 0, 1, same) == RTR_SHORT && !*same);
+    uint16_t *code = FILLED(place->told, uint16_t);
+    CHECK(rtr_error_code(RTR_SHORT, NULL, 0, code) && *code == 0);
+    uint32_t *provider = FILLED(place->told, uint32_t);
+    memset(unit, 0, sizeof *unit);
+    unit->kind = RTR_ASPA;
+    CHECK(!rtr_provider(unit, NULL, 0, 0, provider) && *provider == 0);
+    size_t *written = FILLED(place->told, size_t);
+    CHECK(rtr_write_unit(unit, NULL, 0, NULL, 0, written) == RTR_NO_ROOM && *written == 0);
+    uint8_t *output = lie(place, place->output, 12);
+    CHECK(rtr_write_unit(unit, NULL, 0, output, 12, written) == RTR_OK && *written == 12);
+}
+
+/* The order of serial numbers (RFC 1982 section 3.2): half the circle is 2^31. */
+static void check_serials(void)
+{
+    static const struct {
+        uint32_t left, right;
+        uint8_t order;
+    } rows[] = {
+        {0, 0, RTR_SERIAL_EQUAL},
+        {0xffffffff, 0xffffffff, RTR_SERIAL_EQUAL},
+        {0, 1, RTR_SERIAL_LESS},
+        {1, 0, RTR_SERIAL_GREATER},
+        {0xffffffff, 0, RTR_SERIAL_LESS},
+        {0, 0xffffffff, RTR_SERIAL_GREATER},
+        {0, 0x7fffffff, RTR_SERIAL_LESS},
+        {0x7fffffff, 0, RTR_SERIAL_GREATER},
+        {0, 0x80000000, RTR_SERIAL_NO_ORDER},
+        {0x80000000, 0, RTR_SERIAL_NO_ORDER},
+        {5, 0x80000005, RTR_SERIAL_NO_ORDER},
+        {5, 0x80000006, RTR_SERIAL_GREATER},
+        {5, 0x80000004, RTR_SERIAL_LESS},
+        {0xfffffff0, 0x10, RTR_SERIAL_LESS},
+    };
+    for (size_t i = 0; i < sizeof rows / sizeof rows[0]; i++)
+        CHECK(rtr_serial_order(rows[i].left, rows[i].right) == rows[i].order);
+}
+
+/* Which versions have which kinds: those of RFC 6810, router keys from 1 on, ASPAs in 2. */
+static void check_versions(void)
+{
+    for (int version = 0; version < 256; version++)
+        for (int kind = 0; kind < 256; kind++) {
+            bool known = kind <= 11 && kind != 5;
+            int first = kind == RTR_ROUTER_KEY ? 1 : kind == RTR_ASPA ? 2 : 0;
+            CHECK(rtr_version_has((uint8_t)version, (uint8_t)kind)
+                  == (known && first <= version && version <= 2));
+        }
+    char text[16];
+    snprintf(text, sizeof text, "%d.%d.%d", RTR_WIRE_VERSION_NUMBER / 10000,
+             RTR_WIRE_VERSION_NUMBER / 100 % 100, RTR_WIRE_VERSION_NUMBER % 100);
+    CHECK(strcmp(text, RTR_WIRE_VERSION) == 0 && rtr_wire_version() == RTR_WIRE_VERSION_NUMBER);
+}
+
+/* The error codes of RFC 8210 section 12, and that none is owed for a report (section 5.11). */
+static void check_codes(const struct place *place)
+{
+    static const int codes[] = {-1, 0, 5, 4, 0, 0, 9, 0};
+    uint8_t bytes[] = {1, RTR_IPV4_PREFIX, 0, 0, 0, 0, 0, 20};
+    for (int status = 0; status < 256; status++)
+        for (size_t length = 0; length <= sizeof bytes; length++)
+            for (int report = 0; report < 2; report++) {
+                bytes[1] = report ? RTR_ERROR_REPORT : RTR_IPV4_PREFIX;
+                const uint8_t *input = copied(place, place->input, bytes, length);
+                uint16_t *code = FILLED(place->told, uint16_t);
+                int owed = status < 8 && !(report && length >= 2) ? codes[status] : -1;
+                CHECK(rtr_error_code((uint8_t)status, input, length, code) == (owed >= 0));
+                CHECK(*code == (owed >= 0 ? owed : 0));
+            }
+}
+
+/* The providers of an ASPA by their index: none past the last, outside the input, or of another
+ * kind. */
+static void check_providers(const struct place *place)
+{
+    static const uint8_t aspa[] = {2, 11, 1, 0, 0, 0, 0, 20, 0, 0, 0xfd, 0xe8,
+                                   0, 0, 0xfd, 0xe9, 0xff, 1, 0, 15};
+    const uint8_t *input = copied(place, place->input, aspa, sizeof aspa);
+    struct rtr_unit *unit = FILLED(place->unit, struct rtr_unit);
+    CHECK(rtr_next(input, sizeof aspa, unit) == RTR_OK);
+    uint32_t *provider = FILLED(place->told, uint32_t);
+    CHECK(rtr_provider(unit, input, sizeof aspa, 0, provider) && *provider == 65001);
+    CHECK(rtr_provider(unit, input, sizeof aspa, 1, provider) && *provider == 0xff01000f);
+    CHECK(!rtr_provider(unit, input, sizeof aspa, 2, provider) && *provider == 0);
+    CHECK(!rtr_provider(unit, input, sizeof aspa, SIZE_MAX, provider) && *provider == 0);
+    CHECK(!rtr_provider(unit, input, sizeof aspa, SIZE_MAX / 4 + 1, provider));
+    CHECK(!rtr_provider(unit, input, sizeof aspa - 1, 0, provider) && *provider == 0);
+    unit->part_length = 7;
+    CHECK(!rtr_provider(unit, input, sizeof aspa, 1, provider) && *provider == 0);
+    unit->kind = RTR_ROUTER_KEY;
+    CHECK(!rtr_provider(unit, input, sizeof aspa, 0, provider) && *provider == 0);
+}
+
 int main(int count, char **words)
 {
     FILE *file = count == 2 ? fopen(words[1], "rb") : NULL;
@@ -392,7 +525,12 @@ int main(int count, char **words)
         check_older_aspa(&place);
         check_refused(&place);
         check_bounds(&place);
+        check_null(&place);
+        check_codes(&place);
+        check_providers(&place);
     }
+    check_serials();
+    check_versions();
     struct cases cases = {bytes, length};
     pthread_t threads[THREADS];
     for (int i = 0; i < THREADS; i++)

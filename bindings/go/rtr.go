@@ -124,13 +124,10 @@ type Progress struct {
 	Written int    // bytes of the output that were written
 }
 
-// A place for slices without bytes.
-var nowhere byte
-
-// The address of a slice, which is never nil, and its length.
+// The address of a slice, which is nil where it has no bytes, and its length.
 func place(b []byte) (*C.uint8_t, C.size_t) {
 	if len(b) == 0 {
-		return (*C.uint8_t)(unsafe.Pointer(&nowhere)), 0
+		return nil, 0
 	}
 	return (*C.uint8_t)(unsafe.Pointer(&b[0])), C.size_t(len(b))
 }
@@ -256,6 +253,9 @@ func (unit *Unit) Clone() Unit {
 //
 // Errors: Short to PrefixRule, with the whole input.
 func Next(input []byte) (Unit, []byte, error) {
+	if len(input) >= 8 && isPlain(input[1]) {
+		return Unit{}, input, &Fault{Status: UnitType, Detail: input[1]}
+	}
 	in, n := place(input)
 	shown := C.next(in, n)
 	if shown.status != 0 {
@@ -282,6 +282,11 @@ func Next(input []byte) (Unit, []byte, error) {
 		unit.Providers = Providers(part)
 	}
 	return unit, input[u.size:], nil
+}
+
+// Whether units of this type have no payload and are no ends of data: Next refuses them.
+func isPlain(unitType byte) bool {
+	return unitType <= C.RTR_CACHE_RESPONSE || unitType == C.RTR_CACHE_RESET || unitType == C.RTR_ERROR_REPORT
 }
 
 func prefix(address netip.Addr, u *C.struct_rtr_unit) netip.Prefix {

@@ -10,17 +10,21 @@ pub(crate) struct Answer {
     pub(crate) forms: u64,
     pub(crate) taken: usize,
     pub(crate) written: usize,
+    pub(crate) wanted: usize,
     pub(crate) status: u8,
     pub(crate) detail: u8,
 }
 
-/// A payload unit or an end of data, in numbers.
+/// A unit of any kind, in numbers.
 #[repr(C)]
 #[derive(Default)]
 pub(crate) struct Unit {
     pub(crate) size: usize,
+    pub(crate) wanted: usize,
     pub(crate) part_start: usize,
     pub(crate) part_length: usize,
+    pub(crate) text_start: usize,
+    pub(crate) text_length: usize,
     pub(crate) asn: u32,
     pub(crate) customer: u32,
     pub(crate) serial: u32,
@@ -28,6 +32,7 @@ pub(crate) struct Unit {
     pub(crate) retry: u32,
     pub(crate) expire: u32,
     pub(crate) session: u16,
+    pub(crate) code: u16,
     pub(crate) kind: u8,
     pub(crate) version: u8,
     pub(crate) action: u8,
@@ -40,7 +45,7 @@ pub(crate) struct Unit {
 }
 
 extern "C" {
-    fn rtr_normalise_slice(
+    fn rtr_normalise_slice_nonnull(
         input: *const u8,
         input_length: usize,
         output: *mut u8,
@@ -48,7 +53,7 @@ extern "C" {
         limit: u64,
         answer: *mut Answer,
     ) -> u8;
-    fn rtr_normalise_for_slice(
+    fn rtr_normalise_for_slice_nonnull(
         input: *const u8,
         input_length: usize,
         output: *mut u8,
@@ -57,8 +62,8 @@ extern "C" {
         version: u8,
         answer: *mut Answer,
     ) -> u8;
-    fn rtr_next(input: *const u8, input_length: usize, unit: *mut Unit) -> u8;
-    fn rtr_write_unit(
+    fn rtr_next_nonnull(input: *const u8, input_length: usize, unit: *mut Unit) -> u8;
+    fn rtr_write_unit_nonnull(
         unit: *const Unit,
         input: *const u8,
         input_length: usize,
@@ -66,7 +71,7 @@ extern "C" {
         output_length: usize,
         written: *mut usize,
     ) -> u8;
-    fn rtr_same_meaning(
+    fn rtr_same_meaning_nonnull(
         left: *const u8,
         left_length: usize,
         right: *const u8,
@@ -98,7 +103,7 @@ pub(crate) fn normalise(input: &[u8], output: &mut [u8], limit: u64) -> Result<P
     // SAFETY: both slices are live and of these lengths, never null, and the output and the answer
     // overlap nothing, since they are borrowed mutably.
     unsafe {
-        rtr_normalise_slice(
+        rtr_normalise_slice_nonnull(
             input.as_ptr(),
             input.len(),
             output.as_mut_ptr(),
@@ -119,7 +124,7 @@ pub(crate) fn normalise_for(
     let mut answer = Answer::default();
     // SAFETY: as in `normalise`.
     unsafe {
-        rtr_normalise_for_slice(
+        rtr_normalise_for_slice_nonnull(
             input.as_ptr(),
             input.len(),
             output.as_mut_ptr(),
@@ -132,10 +137,14 @@ pub(crate) fn normalise_for(
     told(answer)
 }
 
+/// Units without a payload, other than ends of data, are refused for their type.
 pub(crate) fn next(input: &[u8]) -> Result<Unit, Fault> {
+    if let [_, kind @ (0..=3 | 8 | 10), _, _, _, _, _, _, ..] = input {
+        return Err(Fault::UnitType(*kind));
+    }
     let mut unit = Unit::default();
     // SAFETY: the slice is live and of this length, and the unit overlaps nothing.
-    match unsafe { rtr_next(input.as_ptr(), input.len(), &mut unit) } {
+    match unsafe { rtr_next_nonnull(input.as_ptr(), input.len(), &mut unit) } {
         0 => Ok(unit),
         status => Err(Fault::of(status, unit.detail)),
     }
@@ -148,7 +157,7 @@ pub(crate) fn write(unit: &Unit, part: &[u8], output: &mut [u8]) -> Result<usize
     // SAFETY: all slices are live and of these lengths, and the output and the count overlap
     // nothing.
     let status = unsafe {
-        rtr_write_unit(
+        rtr_write_unit_nonnull(
             unit,
             part.as_ptr(),
             part.len(),
@@ -182,7 +191,7 @@ pub(crate) fn same_meaning(left: &[u8], right: &[u8], limit: u64) -> Result<bool
     let mut same = false;
     // SAFETY: both slices are live and of these lengths, and `same` overlaps nothing.
     let status = unsafe {
-        rtr_same_meaning(
+        rtr_same_meaning_nonnull(
             left.as_ptr(),
             left.len(),
             right.as_ptr(),
@@ -250,21 +259,25 @@ mod tests {
     #[test]
     #[cfg(target_pointer_width = "64")]
     fn layout() {
-        assert_eq!(size_of::<Answer>(), 40);
+        assert_eq!(size_of::<Answer>(), 48);
         let answer = [
             offset_of!(Answer, units),
             offset_of!(Answer, forms),
             offset_of!(Answer, taken),
             offset_of!(Answer, written),
+            offset_of!(Answer, wanted),
             offset_of!(Answer, status),
             offset_of!(Answer, detail),
         ];
-        assert_eq!(answer, [0, 8, 16, 24, 32, 33]);
-        assert_eq!(size_of::<Unit>(), 96);
+        assert_eq!(answer, [0, 8, 16, 24, 32, 40, 41]);
+        assert_eq!(size_of::<Unit>(), 120);
         let unit = [
             offset_of!(Unit, size),
+            offset_of!(Unit, wanted),
             offset_of!(Unit, part_start),
             offset_of!(Unit, part_length),
+            offset_of!(Unit, text_start),
+            offset_of!(Unit, text_length),
             offset_of!(Unit, asn),
             offset_of!(Unit, customer),
             offset_of!(Unit, serial),
@@ -272,6 +285,7 @@ mod tests {
             offset_of!(Unit, retry),
             offset_of!(Unit, expire),
             offset_of!(Unit, session),
+            offset_of!(Unit, code),
             offset_of!(Unit, kind),
             offset_of!(Unit, version),
             offset_of!(Unit, action),
@@ -283,7 +297,8 @@ mod tests {
             offset_of!(Unit, detail),
         ];
         let expected = [
-            0, 8, 16, 24, 28, 32, 36, 40, 44, 48, 50, 51, 52, 53, 54, 55, 56, 72, 92,
+            0, 8, 16, 24, 32, 40, 48, 52, 56, 60, 64, 68, 72, 74, 76, 77, 78, 79, 80, 81, 82, 98,
+            118,
         ];
         assert_eq!(unit, expected);
     }

@@ -44,11 +44,31 @@ stop_some NoRoom = λ i. omega (arith, i)
 stop_some TooMany = λ i. omega (arith, i)
 stop_some (Refused e) = fault_some e
 
+-- ---- what was taken lies in the input
+
+pub within : (what : Output) (limit : ℕ) (r : Result Unit IntoFault) (input before after : List ℕ)
+    (p : Progress) → NormalisesInto what limit r input before after p → p.taken ≤ length input
+within what limit (Ok done) input before after p f =
+    omega (arith, f.taken, ap length f.parts, length-append f.viewed f.left)
+within what limit (Err g) input before after p f =
+    omega (
+      arith,
+      f.taken,
+      ap length f.parts,
+      length-append f.viewed f.left,
+      ap length f.run.taken_parts,
+      length-append f.run.units f.run.last,
+    )
+
+pub nothing_taken : (version : ℕ) (r : Result Unit IntoFault) (input before after : List ℕ)
+    (p : Progress) → RefusesVersion version p r before after → p.taken ≤ length input
+nothing_taken version r input before after p f = omega (arith, ap (λ q. q.taken) f.progress)
+
 -- ---- a run that came to the end of data
 
 pub only : (what : Output) (limit : ℕ) (r : Result Unit IntoFault) (input before after : List ℕ)
     (p : Progress) (a : RtrAnswer) (code : ℕ) → NormalisesInto what limit r input before after p →
-    Tells p r a code → CallSucceedsOnly what limit input before after a code
+    Tells input p r a code → CallSucceedsOnly what limit input before after a code
 only what limit (Err g) input before after p a code f t zero =
     absurd (stop_some g (sym t.answered ∙ zero))
 only what limit (Ok done) input before after p a code f t zero =
@@ -78,6 +98,7 @@ only what limit (Ok done) input before after p a code f t zero =
         written = t.written ∙ f.written ∙ ap length is;
         fits = omega (arith, t.written, f.fits);
         output = f.output ∙ (λ i. is i ++ drop (sym t.written i) before);
+        wanted = t.wanted;
         status = t.status;
         detail = t.detail;
         answered = t.answered;
@@ -85,10 +106,10 @@ only what limit (Ok done) input before after p a code f t zero =
     )
 
 -- a version that is refused hasn't status 0
-pub unknown : (version : ℕ) (r : Result Unit IntoFault) (before after : List ℕ) (p : Progress)
-    (a : RtrAnswer) (code : ℕ) → RefusesVersion version p r before after → Tells p r a code →
-    code ≢ 0
-unknown version r before after p a code f t zero =
+pub unknown : (version : ℕ) (r : Result Unit IntoFault) (input before after : List ℕ)
+    (p : Progress) (a : RtrAnswer) (code : ℕ) → RefusesVersion version p r before after →
+    Tells input p r a code → code ≢ 0
+unknown version r input before after p a code f t zero =
     let three : run_status r ≡ 3 = ap run_status f.fault in
     omega (arith, three, sym t.answered ∙ zero)
 
@@ -225,7 +246,7 @@ NotNoRoom r = r ≢ Err NoRoom
 
 pub accepted : (what : Output) (limit enough : ℕ) (r : Result Unit IntoFault)
     (input before after : List ℕ) (p : Progress) (a : RtrAnswer) (code : ℕ) →
-    NormalisesInto what limit r input before after p → Tells p r a code →
+    NormalisesInto what limit r input before after p → Tells input p r a code →
     (enough ≤ length before → r ≢ Err NoRoom) →
     CallSucceeds what limit enough input before after a code
 accepted what limit enough (Err g) input before after p a code f t always b ms e acc

@@ -1,7 +1,8 @@
 -- What C gets of a call, in numbers (this library's own).
 use Rattle.std.specs.Prelude.{◌≡◌, ◌<◌, ◌≤◌, ◌⊎◌, ℕ, List, ◌++◌, length, drop}
-use Rattle.std.specs.Prelude.{Result, Ok, Err}
+use Rattle.std.specs.Prelude.{Result, Ok, Err, nat_lt, if◌then◌else◌}
 use Rattle.rtr_units.specs.End.{EndMeaning}
+use Rattle.rtr_units.specs.Header.{length_field}
 use Rattle.rtr_payload.specs.Payloads.{Meaning}
 use Rattle.rtr_payload.specs.declared.pdu.prefix_rule.PrefixRule.{PrefixRule}
 use Rattle.rtr_payload.specs.declared.pdu.prefix_rule.PrefixRule.TheVariants.{LenOverflow}
@@ -104,13 +105,24 @@ abbrev pub run_detail : Result Unit IntoFault → ℕ
 run_detail (Ok done) = 0
 run_detail (Err f) = stop_detail f
 
--- a run is reported: how far it came and how it ended
-pub record Tells (p : Progress) (r : Result Unit IntoFault) (a : RtrAnswer) (code : ℕ)
-    : Type 0 where
+-- How many bytes are wanted for certain of a unit that b begins: those of a header, and then as
+-- many as it says (RFC 8210 section 5.1).
+abbrev pub wanted : List ℕ → ℕ
+wanted b = if nat_lt (length b) 8 then 8 else length_field b
+
+-- the same of a run that left these bytes, where they are too few
+abbrev pub run_wanted : Result Unit IntoFault → List ℕ → ℕ
+run_wanted (Err (Refused Short)) left = wanted left
+run_wanted r left = 0
+
+-- a run over this input is reported: how far it came and how it ended
+pub record Tells (input : List ℕ) (p : Progress) (r : Result Unit IntoFault) (a : RtrAnswer)
+    (code : ℕ) : Type 0 where
   pub units : a.units ≡ p.units
   pub forms : a.forms ≡ p.forms
   pub taken : a.taken ≡ p.taken
   pub written : a.written ≡ p.written
+  pub wanted : a.wanted ≡ run_wanted r (drop p.taken input)
   pub status : a.status ≡ run_status r
   pub detail : a.detail ≡ run_detail r
   pub answered : code ≡ run_status r
@@ -124,6 +136,7 @@ pub record TellsSequence (what : Output) (b : List ℕ) (ms : List Meaning) (e :
   pub written : a.written ≡ length (sequence_form (written_units what ms) (what.end e))
   pub fits : a.written ≤ length before
   pub output : after ≡ sequence_form (written_units what ms) (what.end e) ++ drop a.written before
+  pub wanted : a.wanted ≡ 0
   pub status : a.status ≡ rtr_ok
   pub detail : a.detail ≡ 0
   pub answered : code ≡ rtr_ok

@@ -1,6 +1,7 @@
 -- What a unit in numbers says, and what is written for it (this library's own order of refusals;
 -- the forms are those of RFC 8210 sections 5.6 to 5.8 and 5.10, of an ASPA as in the Rust crate).
-use Rattle.std.specs.Prelude.{◌≡◌, ℕ, ◌+◌, ◌%◌, ◌||◌, not, List, [], length, take, drop}
+use Rattle.std.specs.Prelude.{◌≡◌, ℕ, ◌+◌, ◌*◌, ◌/◌, ◌%◌, ◌||◌, not, List, [], length, take, drop}
+use Rattle.std.specs.Prelude.{Bool, true, false}
 use Rattle.std.specs.Prelude.{Option, Some, None, Result, Ok}
 use Rattle.std.specs.Prelude.{Err, nat_lt, nat_le, ◌==◌, if◌then◌else◌}
 use Rattle.rtr_base.specs.Addresses.{Family, v4, v6, width, cleared, ip_version}
@@ -25,6 +26,21 @@ part_said u input =
     if nat_le (u.part_start + u.part_length) (length input)
     then Some (take u.part_length (drop u.part_start input))
     else None
+
+-- the provider of this index, of four bytes each
+abbrev pub provider_in : Option (List ℕ) → ℕ → Option ℕ
+provider_in None i = None
+provider_in (Some ps) i =
+    if nat_lt i (length ps / 4) then Some (value (take 4 (drop (4 * i) ps))) else None
+
+-- the provider of this index of an ASPA, where its providers lie in the input
+abbrev pub provider_said : RtrUnit → List ℕ → ℕ → Option ℕ
+provider_said u input i = if u.kind == 11 then provider_in (part_said u input) i else None
+
+-- a provider and that there is one, or 0 and that there is none
+abbrev pub TellsProvider : Option ℕ → ℕ → Bool → Type 0
+TellsProvider (Some p) provider said = (provider ≡ p) × (said ≡ true)
+TellsProvider None provider said = (provider ≡ 0) × (said ≡ false)
 
 -- a form, where the rule on prefix lengths is kept
 abbrev pub unless_broken : Option PrefixRule → List ℕ → Result (List ℕ) ℕ

@@ -1,31 +1,36 @@
--- What C is shown of a unit (this library's own; the fields by RFC 8210 sections 5.6 to 5.8 and
--- 5.10, of an ASPA as in the Rust crate).
-use Rattle.std.specs.Prelude.{◌≡◌, ℕ, ◌%◌, ◌≤◌, List}
-use Rattle.std.specs.Prelude.{◌++◌, length, take, drop, Option, Some, None}
-use Rattle.std.specs.Prelude.{Result, Ok, Err, replicate}
-use Rattle.rtr_base.specs.Addresses.{Family, v4, v6, ip_version, resolved_len}
+-- What C is shown of a unit (this library's own; the fields by RFC 8210 sections 5.2 to 5.11, of an
+-- ASPA as in the Rust crate).
+use Rattle.std.specs.Prelude.{◌≡◌, ◌⊎◌, ℕ, ◌+◌, ◌*◌, ◌%◌, List, ◌++◌, length, Option, Some, None}
+use Rattle.std.specs.Prelude.{Result, Ok, Err, replicate, ⊤}
+use Rattle.rtr_base.specs.Addresses.{Family, v4, v6, ip_version}
 use Rattle.rtr_base.specs.Bytes.{be}
 use Rattle.rtr_base.specs.declared.timing.Timing.{Timing}
 use Rattle.rtr_units.specs.End.{EndMeaning}
-use Rattle.rtr_units.specs.AnyEnd.{end_meaning}
-use Rattle.rtr_units.specs.PrefixUnits.{prefix_type}
-use Rattle.rtr_payload.specs.AspaUnits.{AspaFields, aspa_at}
-use Rattle.rtr_payload.specs.KeyUnits.{KeyFields, key_at}
-use Rattle.rtr_payload.specs.declared.payload.RouteOrigin.{RouteOrigin}
-use Rattle.rtr_views.specs.Faults.{IsFirstFault}
-use Rattle.rtr_views.specs.Views.{IsViewOf}
+use Rattle.rtr_units.specs.Header.{version_field, session_field, length_field}
+use Rattle.rtr_units.specs.PrefixUnits.{PrefixFields, prefix_type}
+use Rattle.rtr_payload.specs.AspaUnits.{AspaFields}
+use Rattle.rtr_payload.specs.KeyUnits.{KeyFields}
+use Rattle.rtr_payload.specs.RouteOrigins.{meant_origin}
+use Rattle.rtr_payload.specs.UnitFields.{Fields, prefix_unit, key_unit, aspa_unit, LengthsAgree}
 use Rattle.rtr_views.specs.declared.fault.ViewFault.{ViewFault}
-use Rattle.rtr_views.specs.declared.view.UnitView.{UnitView}
-use Rattle.rtr_views.specs.declared.view.UnitView.TheVariants as views
-use Rattle.rtr_c.specs.Answers.{rtr_ok, fault_status, fault_detail}
+use Rattle.rtr_views.specs.declared.fault.ViewFault.TheVariants.{Short, Prefix}
+use Rattle.rtr_session.specs.AnyFields.{AnyFields, HasAnyFields, serial_notify, serial_query}
+use Rattle.rtr_session.specs.AnyFields.{reset_query, cache_response, payload, end_of_data}
+use Rattle.rtr_session.specs.AnyFields.{cache_reset, error_report}
+use Rattle.rtr_session.specs.Reports.{HasParts}
+use Rattle.rtr_session.specs.SessionViews.{IsSessionFault}
+use Rattle.rtr_c.specs.Answers.{rtr_ok, fault_status, fault_detail, wanted}
 use Rattle.rtr_c.specs.declared.unit.RtrUnit.{RtrUnit}
 
 -- a unit of no kind
 abbrev pub none : RtrUnit
 none = record {
   size = 0;
+  wanted = 0;
   part_start = 0;
   part_length = 0;
+  text_start = 0;
+  text_length = 0;
   asn = 0;
   customer = 0;
   serial = 0;
@@ -33,6 +38,7 @@ none = record {
   retry = 0;
   expire = 0;
   session = 0;
+  code = 0;
   kind = 0;
   version = 0;
   action = 0;
@@ -44,37 +50,35 @@ none = record {
   detail = 0;
 }
 
+-- ---- what is shown of a unit of n bytes
+
+-- a serial notify or a serial query (RFC 8210 sections 5.2 and 5.3)
+abbrev pub serial_shown : (kind n version session serial : ℕ) → RtrUnit
+serial_shown k n v s q =
+    record none { size = n; serial = q; session = s; kind = k; version = v }
+
+-- a header alone (sections 5.4, 5.5 and 5.9)
+abbrev pub bare_shown : (kind n version session : ℕ) → RtrUnit
+bare_shown k n v s = record none { size = n; session = s; kind = k; version = v }
+
 -- the bytes of an address at the front of sixteen
 abbrev pub address_shown : Family → ℕ → List ℕ
 address_shown v4 a = be a 4 ++ replicate 12 0
 address_shown v6 a = be a 16
 
-abbrev pub origin_shown : (version flags size : ℕ) → RouteOrigin → RtrUnit
-origin_shown v g n o = record none {
+-- the address is shown with the bits after the prefix length zero
+abbrev pub prefix_shown : ℕ → PrefixFields → RtrUnit
+prefix_shown n u = record none {
   size = n;
-  asn = o.asn;
-  kind = prefix_type o.prefix.prefix.family;
-  version = v;
-  action = g % 2;
-  family = ip_version o.prefix.prefix.family;
-  prefix_length = o.prefix.prefix.len;
-  max_length = resolved_len o.prefix;
-  address = address_shown o.prefix.prefix.family o.prefix.prefix.address;
+  asn = u.origin.asn;
+  kind = prefix_type u.origin.family;
+  version = u.version;
+  action = u.flags % 2;
+  family = ip_version u.origin.family;
+  prefix_length = u.origin.prefix_len;
+  max_length = u.origin.max_len;
+  address = address_shown u.origin.family (meant_origin u.origin).address;
 }
-
--- the timings of an end of data
-abbrev pub timed : Option Timing → RtrUnit → RtrUnit
-timed None u = u
-timed (Some t) u = record u { refresh = t.refresh; retry = t.retry; expire = t.expire }
-
-abbrev pub end_shown : ℕ → EndMeaning → RtrUnit
-end_shown n e = timed e.timing (record none {
-  size = n;
-  serial = e.serial;
-  session = e.session;
-  kind = 7;
-  version = e.version;
-})
 
 -- the key info follows 32 bytes
 abbrev pub key_shown : ℕ → KeyFields → RtrUnit
@@ -101,17 +105,78 @@ aspa_shown n providers u = record none {
   action = u.flags % 2;
 }
 
--- what is shown of a view of n bytes at the front of an input
-abbrev pub shown : UnitView → ℕ → RtrUnit
-shown (views.Origin v) n = origin_shown v.version v.flags n v.origin
-shown (views.RouterKey v) n = key_shown n (key_at v.unit.now)
-shown (views.Aspa v) n = aspa_shown n (length (drop 12 v.unit.now)) (aspa_at v.unit.now)
-shown (views.End e) n = end_shown n (end_meaning e)
+abbrev pub payload_shown : ℕ → Fields → RtrUnit
+payload_shown n (prefix_unit u) = prefix_shown n u
+payload_shown n (key_unit u) = key_shown n u
+payload_shown n (aspa_unit u) = aspa_shown n (4 * length u.aspa.providers) u
 
--- the first unit or end of data of the input is shown, or its first fault is reported
-abbrev pub ShowsFirst : Result (UnitView × ℕ) ViewFault → List ℕ → RtrUnit → ℕ → Type 0
-ShowsFirst (Ok (v, n)) input u code =
-    IsViewOf v (take n input) × (n ≤ length input) × (u ≡ shown v n) × (code ≡ rtr_ok)
-ShowsFirst (Err e) input u code =
-    IsFirstFault input e × (u ≡ record none { detail = fault_detail e })
-    × (code ≡ fault_status e)
+-- the timings of an end of data
+abbrev pub timed : Option Timing → RtrUnit → RtrUnit
+timed None u = u
+timed (Some t) u = record u { refresh = t.refresh; retry = t.retry; expire = t.expire }
+
+abbrev pub end_shown : ℕ → EndMeaning → RtrUnit
+end_shown n e = timed e.timing (record none {
+  size = n;
+  serial = e.serial;
+  session = e.session;
+  kind = 7;
+  version = e.version;
+})
+
+-- a report of which no parts are shown
+abbrev pub report_shown : (n version code : ℕ) → RtrUnit
+report_shown n v c = record none { size = n; code = c; kind = 10; version = v }
+
+-- the unit that a report is about follows 12 bytes, and the text follows its own length
+abbrev pub with_parts : (part text : ℕ) → RtrUnit → RtrUnit
+with_parts p t u = record u {
+  part_start = 12;
+  part_length = p;
+  text_start = 16 + p;
+  text_length = t;
+}
+
+-- the report b is shown with its parts, or without them where its inner lengths don't fit
+abbrev pub ShowsReport : List ℕ → RtrUnit → Type 0
+ShowsReport b u =
+    ((p t : List ℕ) × HasParts b p t × (u ≡ with_parts (length p) (length t)
+    (report_shown (length b) (version_field b) (session_field b))))
+    ⊎ (((p t : List ℕ) → HasParts b p t → ⊥)
+    × (u ≡ report_shown (length b) (version_field b) (session_field b)))
+
+-- the unit b with these fields is shown
+abbrev pub Shows : List ℕ → AnyFields → RtrUnit → Type 0
+Shows b (serial_notify v s q) u = u ≡ serial_shown 0 (length b) v s q
+Shows b (serial_query v s q) u = u ≡ serial_shown 1 (length b) v s q
+Shows b (reset_query v s) u = u ≡ bare_shown 2 (length b) v 0
+Shows b (cache_response v s) u = u ≡ bare_shown 3 (length b) v s
+Shows b (payload f) u = u ≡ payload_shown (length b) f
+Shows b (end_of_data e) u = u ≡ end_shown (length b) e
+Shows b (cache_reset v s) u = u ≡ bare_shown 8 (length b) v 0
+Shows b (error_report v c body) u = ShowsReport b u
+
+-- the lengths of a prefix are in order
+abbrev pub InOrder : AnyFields → Type 0
+InOrder (payload f) = LengthsAgree f
+InOrder f = ⊤
+
+-- ---- what is shown where there is none
+
+-- the size of a unit that is refused for its prefix lengths, how many bytes are wanted, and the
+-- detail
+abbrev pub refused_shown : ViewFault → List ℕ → RtrUnit
+refused_shown Short b = record none { wanted = wanted b }
+refused_shown (Prefix rule) b =
+    record none { size = length_field b; detail = fault_detail (Prefix rule) }
+refused_shown e b = record none { detail = fault_detail e }
+
+-- ---- the whole promise
+
+-- The unit at the front of the input is shown, which has these bytes and fields; or this is its
+-- first fault.
+abbrev pub ShowsFirst : Result (List ℕ × AnyFields) ViewFault → List ℕ → RtrUnit → ℕ → Type 0
+ShowsFirst (Ok (b, f)) input u code = (rest : List ℕ) × (input ≡ b ++ rest) × HasAnyFields b f
+    × InOrder f × Shows b f u × (code ≡ rtr_ok)
+ShowsFirst (Err e) input u code = (size : Option ℕ) × IsSessionFault input e size
+    × (u ≡ refused_shown e input) × (code ≡ fault_status e)

@@ -44,6 +44,9 @@ pub struct RtrAnswer {
     pub taken: usize,
     /// Bytes of the output that were written.
     pub written: usize,
+    /// With `SHORT`, how many bytes from `taken` on are wanted for certain: 8 without a whole
+    /// header, and then the length of the unit. Otherwise 0.
+    pub wanted: usize,
     /// How the call ended.
     pub status: u8,
     /// With `UNIT_TYPE` the refused type, with `UNIT_VERSION` the refused version. With `PREFIX` 1
@@ -53,7 +56,7 @@ pub struct RtrAnswer {
 }
 
 // The fields stand one after the other, and six bytes are left at the end.
-const _: () = prove!(size_of::<RtrAnswer>() == 40);
+const _: () = prove!(size_of::<RtrAnswer>() == 48);
 
 /// The number of a part of the rule on the lengths of a prefix.
 pub(crate) fn rule_number(rule: PrefixRule) -> u8

@@ -10,7 +10,12 @@ use crate::answer::{ACCEPTED, fault_status};
 /// As `rtr_wire::same_meaning_slice`. If both inputs are accepted, `same` says whether they mean
 /// the same.
 #[unsafe(no_mangle)]
-pub extern "C" fn rtr_same_meaning(left: &[u8], right: &[u8], limit: u64, same: &mut bool) -> u8
+pub extern "C" fn rtr_same_meaning_nonnull(
+    left: &[u8],
+    right: &[u8],
+    limit: u64,
+    same: &mut bool,
+) -> u8
     ensures { (r : Result Bool ViewFault) × ComparesSlices limit r left.now right.now
         × TellsSame r same.old same.new result }
 {

@@ -7,6 +7,9 @@
 mod answer;
 mod compare;
 mod next;
+mod numbers;
+mod providers;
 mod sequence;
+mod size;
 mod unit;
 mod write;

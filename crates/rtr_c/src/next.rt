@@ -1,42 +1,143 @@
 //! Units one after the other.
 
-ghost use Rattle.std.specs.Prelude.{◌≡◌, ℕ, Result};
+ghost use Rattle.std.specs.Prelude.{◌≡◌, ℕ, List, Result, length};
 ghost use Rattle.rtr_units.specs.AnyEnd.{end_meaning};
+ghost use Rattle.rtr_units.specs.FixedUnits.{fixed_bytes};
+ghost use Rattle.rtr_units.specs.Header.{version_field};
 ghost use Rattle.rtr_views.specs.declared.fault.ViewFault.{ViewFault};
-ghost use Rattle.rtr_views.specs.declared.view.UnitView.{UnitView};
 ghost use Rattle.rtr_views.specs.declared.view.UnitView.TheVariants as views;
-ghost use Rattle.rtr_c.specs.Shown.{ShowsFirst, none, shown, end_shown};
+ghost use Rattle.rtr_session.specs.AnyFields.{AnyFields};
+ghost use Rattle.rtr_session.specs.SessionViews.{IsSessionFault};
+ghost use Rattle.rtr_c.specs.Answers.{wanted};
+ghost use Rattle.rtr_c.specs.PrivateShown.{ShowsView, IsOfSize, shown, serial_at, Refuses};
+ghost use Rattle.rtr_c.specs.Shown.{ShowsFirst, ShowsReport, none, bare_shown, end_shown};
 
 use crate::answer::{ACCEPTED, fault_detail, fault_status};
 use crate::unit::RtrUnit;
+use rtr_session::{ReportView, SessionFault, SessionView};
+use rtr_units::fixed_unit::FixedUnit;
+use rtr_units::numbers::u32_at;
 use rtr_wire::payload::Action;
 use rtr_wire::pdu::{
-    Aspa, AspaView, EndOfData, Ipv4Prefix, Ipv6Prefix, OriginView, RouterKey, RouterKeyView, Unit,
-    UnitView,
+    Aspa, AspaView, EndOfData, Error, Ipv4Prefix, Ipv6Prefix, OriginView, RouterKey, RouterKeyView,
+    Unit, UnitView, ViewFault,
 };
 use std::net::IpAddr;
 
-/// The unit or the end of data that the input begins with, as `rtr_wire::pdu::UnitView::first`.
+/// The bytes of a report beside its parts: a header and two lengths.
+pub(crate) const REPORT_FIXED: usize = 16;
+/// Where the unit begins that a report is about.
+const PART_OF_REPORT: usize = 12;
+
+/// The unit that the input begins with, as `rtr_session::SessionView::first`.
 #[unsafe(no_mangle)]
-pub extern "C" fn rtr_next(input: &[u8], unit: &mut RtrUnit) -> u8
-    ensures { (r : Result (UnitView × ℕ) ViewFault) × ShowsFirst r input.now unit.new result }
+pub extern "C" fn rtr_next_nonnull(input: &[u8], unit: &mut RtrUnit) -> u8
+    ensures { (r : Result (List ℕ × AnyFields) ViewFault) ×
+        ShowsFirst r input.now unit.new result }
 {
     *unit = RtrUnit::none();
-    match UnitView::first(input) {
+    match SessionView::first(input) {
         Ok((view, size)) => {
             show(&view, size, unit);
             ACCEPTED
         }
-        Err(fault) => {
-            unit.detail = fault_detail(&fault);
-            fault_status(&fault)
-        }
+        Err(refusal) => refuse(&refusal, input, unit),
     }
+}
+
+/// Shows why no unit is shown.
+#[inline(always)]
+fn refuse(refusal: &SessionFault, input: &[u8], unit: &mut RtrUnit) -> u8
+    requires { IsSessionFault input.now refusal.now.fault refusal.now.size }
+    ensures { unit.old ≡ none → Refuses refusal.now.fault input.now unit.new result }
+{
+    unit.detail = fault_detail(&refusal.fault);
+    unit.size = refusal.size.unwrap_or(0);
+    if let ViewFault::Short = refusal.fault {
+        unit.wanted = wanted(input);
+    }
+    fault_status(&refusal.fault)
+}
+
+/// How many bytes are wanted for certain of a unit that isn't all in the input: those of a header,
+/// and then as many as it says.
+#[inline(always)]
+pub(crate) fn wanted(input: &[u8]) -> usize
+    ensures { result ≡ wanted input.now }
+{
+    if input.len() < 8 {
+        return 8;
+    }
+    u32_at(input, 4) as usize
 }
 
 /// Puts a view of this size into a unit of no kind.
 #[inline(always)]
-fn show(view: &UnitView<'_>, size: usize, unit: &mut RtrUnit)
+fn show(view: &SessionView<'_>, size: usize, unit: &mut RtrUnit)
+    requires { IsOfSize view.now size }
+    ensures { unit.old ≡ none → ShowsView view.now size unit.new }
+{
+    match view {
+        SessionView::SerialNotify(view) => show_serial(view, size, unit),
+        SessionView::SerialQuery(view) => show_serial(view, size, unit),
+        SessionView::ResetQuery(view) => show_bare(view, 0, size, unit),
+        SessionView::CacheResponse(view) => show_bare(view, view.session(), size, unit),
+        SessionView::Data(view) => show_data(view, size, unit),
+        SessionView::CacheReset(view) => show_bare(view, 0, size, unit),
+        SessionView::Error(view) => show_report(view, size, unit),
+    }
+}
+
+/// Shows a serial notify or a serial query.
+#[inline(always)]
+fn show_serial<const TYPE: u8>(view: &FixedUnit<TYPE, 12>, size: usize, unit: &mut RtrUnit)
+    ensures { unit.old ≡ none → unit.new ≡ serial_at TYPE size (fixed_bytes view.now) }
+{
+    unit.size = size;
+    unit.serial = view.serial().0;
+    unit.session = view.session();
+    unit.kind = TYPE;
+    unit.version = view.version();
+}
+
+/// Shows a unit that is a header alone, with its session, or 0 if it has none.
+#[inline(always)]
+fn show_bare<const TYPE: u8>(
+    view: &FixedUnit<TYPE, 8>,
+    session: u16,
+    size: usize,
+    unit: &mut RtrUnit,
+)
+    ensures { unit.old ≡ none →
+        unit.new ≡ bare_shown TYPE size (version_field (fixed_bytes view.now)) session }
+{
+    unit.size = size;
+    unit.session = session;
+    unit.kind = TYPE;
+    unit.version = view.version();
+}
+
+/// Shows an error report, with its parts if its inner lengths fit.
+#[inline(always)]
+fn show_report(view: &ReportView<'_>, size: usize, unit: &mut RtrUnit)
+    requires { length view.now.unit.now ≡ size }
+    ensures { unit.old ≡ none → ShowsReport view.now.unit.now unit.new }
+{
+    unit.size = size;
+    unit.code = view.code().0;
+    unit.kind = Error::PDU;
+    unit.version = view.version();
+    if let Some(pdu) = view.pdu() {
+        unit.part_start = PART_OF_REPORT;
+        unit.part_length = pdu.len();
+        unit.text_start = REPORT_FIXED + pdu.len();
+        unit.text_length = size - REPORT_FIXED - pdu.len();
+    }
+}
+
+/// Shows a payload unit or an end of data.
+#[inline(always)]
+fn show_data(view: &UnitView<'_>, size: usize, unit: &mut RtrUnit)
     ensures { unit.old ≡ none → unit.new ≡ shown view.now size }
 {
     match view {

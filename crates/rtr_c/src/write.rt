@@ -39,7 +39,7 @@ const MAX_PROVIDERS: usize = 4 * ProviderAsns::MAX_COUNT;
 /// - `UNIT_VERSION` for an end of data of a version above 2;
 /// - `NO_ROOM`.
 #[unsafe(no_mangle)]
-pub extern "C" fn rtr_write_unit(
+pub extern "C" fn rtr_write_unit_nonnull(
     unit: &RtrUnit,
     input: &[u8],
     output: &mut [u8],
@@ -180,7 +180,7 @@ fn aspa_front(unit: &RtrUnit, size: u32) -> [u8; Aspa::FIXED]
 }
 
 /// The key info or the providers, if they lie in the input.
-fn part_of<'a>(unit: &RtrUnit, input: &'a [u8]) -> Option<&'a [u8]>
+pub(crate) fn part_of<'a>(unit: &RtrUnit, input: &'a [u8]) -> Option<&'a [u8]>
     ensures part { option_copied result ≡ part_said unit.now input.now }
     ensures bytes { IfSome result (λ part. IsBytes part.now) }
 {

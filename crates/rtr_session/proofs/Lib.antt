@@ -1,11 +1,11 @@
-mod Agreement
-mod Parts
+pub mod Agreement
+pub mod Parts
 mod Placed
 mod Forms
 mod Headers
-mod Lengths
-mod Reports
+pub mod Lengths
+pub mod Reports
 mod Stops
-mod Units
-mod Viewed
-mod Wholes
+pub mod Units
+pub mod Viewed
+pub mod Wholes

@@ -1,6 +1,6 @@
 use Rattle.rtr_wire.specs.Sequences.{everything}
 use Rattle.rtr_c.proofs.Accepted.{accepted, only}
-use Rattle.rtr_c.proofs.sequence.rtr_normalise_slice.Goals as goal
+use Rattle.rtr_c.proofs.sequence.rtr_normalise_slice_nonnull.Goals as goal
 
 pub returns-clause-succeeds : goal.returns-clause-succeeds
 returns-clause-succeeds c =

@@ -1,0 +1,87 @@
+//! What numbers of the protocol say: error codes, serial numbers, versions.
+
+ghost use Rattle.std.specs.Prelude.{◌≡◌};
+ghost use Rattle.std.specs.Option.{option_map};
+ghost use Rattle.rtr_base.specs.Serial.{serial_cmp};
+ghost use Rattle.rtr_c.specs.Numbers.{order_number, has_kind, status_code, code_owed, TellsCode};
+
+use crate::answer::{
+    EMPTY_PROVIDERS, PREFIX, SHORT, TOO_LONG, UNIT_LENGTH, UNIT_TYPE, UNIT_VERSION,
+};
+use rtr_units::header::LAST_VERSION;
+use rtr_wire::pdu::{Error, ErrorCode};
+use rtr_wire::state::Serial;
+use std::cmp::Ordering;
+
+/// The version of this library, 100 times 100 times the first number of it, 100 times the second,
+/// and the third.
+const WIRE_VERSION: u32 = 200;
+
+/// The version of this library as one number.
+#[unsafe(no_mangle)]
+pub extern "C" fn rtr_wire_version() -> u32
+    ensures { result ≡ 200 }
+{
+    WIRE_VERSION
+}
+
+/// The order of two serial numbers (RFC 1982 section 3.2): 0 if they are equal, 1 if the left one
+/// is less, 2 if it is greater, 3 if they are half the circle apart and so have no order.
+#[unsafe(no_mangle)]
+pub extern "C" fn rtr_serial_order(left: u32, right: u32) -> u8
+    ensures { result ≡ order_number (serial_cmp left right) }
+{
+    match Serial(left).partial_cmp(&Serial(right)) {
+        Some(Ordering::Equal) => 0,
+        Some(Ordering::Less) => 1,
+        Some(Ordering::Greater) => 2,
+        None => 3,
+    }
+}
+
+/// Whether this version of the protocol has units of this type. Versions above 2 have none.
+#[unsafe(no_mangle)]
+pub extern "C" fn rtr_version_has(version: u8, kind: u8) -> bool
+    ensures { result ≡ has_kind version kind }
+{
+    let first = match kind {
+        0..=4 | 6..=8 | 10 => 0,
+        9 => 1,
+        11 => 2,
+        _ => return false,
+    };
+    first <= version && version <= LAST_VERSION
+}
+
+/// Whether a report is owed to the peer for this status of the unit that the input begins with, as
+/// `rtr_views::fault::owed_code`: none for an error report. The error code is put into `code`, or 0
+/// if none is owed.
+#[unsafe(no_mangle)]
+pub extern "C" fn rtr_error_code_nonnull(status: u8, input: &[u8], code: &mut u16) -> bool
+    ensures { TellsCode (code_owed status input.now) code.new result }
+{
+    *code = 0;
+    if input.len() >= 2 && input[1] == Error::PDU {
+        return false;
+    }
+    match code_of(status) {
+        Some(owed) => {
+            *code = owed.0;
+            true
+        }
+        None => false,
+    }
+}
+
+/// The error code of a status (RFC 8210 section 12), as `ViewFault::code`.
+fn code_of(status: u8) -> Option<ErrorCode>
+    ensures { option_map (λ c. c.0) result ≡ status_code status }
+{
+    match status {
+        SHORT | TOO_LONG | UNIT_LENGTH | PREFIX => Some(ErrorCode::CORRUPT_DATA),
+        UNIT_TYPE => Some(ErrorCode::UNSUPPORTED_PDU_TYPE),
+        UNIT_VERSION => Some(ErrorCode::UNSUPPORTED_PROTOCOL_VERSION),
+        EMPTY_PROVIDERS => Some(ErrorCode::ASPA_PROVIDER_LIST_ERROR),
+        _ => None,
+    }
+}

@@ -1,0 +1,32 @@
+//! How long a unit is, by its header alone.
+
+ghost use Rattle.std.specs.Prelude.{◌≡◌, ℕ, Option, Result};
+ghost use Rattle.rtr_units.specs.Header.{version_field, type_field};
+ghost use Rattle.rtr_views.specs.declared.fault.ViewFault.{ViewFault};
+ghost use Rattle.rtr_session.specs.Lengths.{SaysLength, IsBounded};
+ghost use Rattle.rtr_c.specs.Sizes.{TellsSize};
+
+use crate::answer::{ACCEPTED, SHORT, fault_detail, fault_status};
+use rtr_session::length::unit_length;
+
+/// The bytes of a header.
+const HEADER: usize = 8;
+
+/// As `rtr_session::length::unit_length`. If fewer bytes than a header's are there, `size` is how
+/// many are wanted.
+#[unsafe(no_mangle)]
+pub extern "C" fn rtr_unit_size_nonnull(input: &[u8], size: &mut usize, detail: &mut u8) -> u8
+    ensures says { (r : Result (Option ℕ) ViewFault) × SaysLength input.now r
+        × TellsSize r size.new detail.new result }
+    ensures bounded { result ≡ 0 →
+        IsBounded (version_field input.now) (type_field input.now) size.new }
+{
+    let (status, length, refused) = match unit_length(input) {
+        Ok(Some(length)) => (ACCEPTED, length, 0),
+        Ok(None) => (SHORT, HEADER, 0),
+        Err(fault) => (fault_status(&fault), 0, fault_detail(&fault)),
+    };
+    *size = length;
+    *detail = refused;
+    status
+}
