@@ -223,8 +223,8 @@ fn tell_report_view(seen: &mut Answer, view: &ReportView<'_>) {
     }
 }
 
-/// `owed_code` of what refuses the row's bytes: of each fault its code, and what is owed. The faults
-/// are those of `AnyUnit::read`, `SessionView::first` and `UnitView::first`.
+/// `owed_code` of what refuses the row's bytes: of each fault its code, and what is owed. The
+/// faults are those of `AnyUnit::read`, `SessionView::first` and `UnitView::first`.
 fn owed(row: &Row<'_>) -> Answer {
     let Ok(header) = Header::read(&mut SliceSource::new(&row.left)) else {
         return row.no_unit();

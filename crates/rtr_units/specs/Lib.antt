@@ -13,5 +13,6 @@ pub mod Queries
 pub mod Reading
 pub mod Report
 pub mod Stream
+pub mod Calls
 pub mod CountedFailures
 pub mod HeaderBytes

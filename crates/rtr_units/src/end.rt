@@ -3,6 +3,7 @@
 ghost use Rattle.std.specs.Prelude.{◌≡◌, IfOk, IfErr, Some, not, ◌==◌};
 ghost use Rattle.std.specs.Borrow.{sem};
 ghost use Rattle.rtr_base.specs.Bytes.{IsBytes};
+ghost use Rattle.rtr_units.specs.Calls.{WritesTo};
 ghost use Rattle.rtr_units.specs.End.{IsEnd, timed_list, timing_fields};
 ghost use Rattle.rtr_units.specs.AnyEnd.{end_bytes, end_meaning, end_unit, is_timed};
 ghost use Rattle.rtr_units.specs.FixedUnits.{fixed_bytes};
@@ -144,9 +145,7 @@ impl EndOfData {
     /// Writes all bytes.
     #[inline(always)]
     pub fn write<W: Sink>(&self, writer: &mut W) -> Result<(), Fault>
-        ensures bytes { PutsForm result (W.state writer.old) (W.state writer.new)
-            (end_bytes self.now) }
-        ensures error { IfErr result (HoldsWriteError (W.fails writer.new) (W.stalls writer.new)) }
+        ensures { WritesTo W.Sink result writer.old writer.new (end_bytes self.now) }
     {
         match self {
             EndOfData::V0(unit) => unit.write(writer),

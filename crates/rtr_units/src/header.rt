@@ -4,6 +4,7 @@ ghost use Rattle.std.specs.Prelude.{◌≡◌, ◌<◌, ◌≤◌, ◌^◌, ℕ,
 ghost use Rattle.std.specs.Prelude.{IfOk, IsOk, IfErr, ◌↔◌};
 ghost use Rattle.std.specs.Borrow.{sem};
 ghost use Rattle.rtr_base.specs.Bytes.{IsBytes};
+ghost use Rattle.rtr_units.specs.Calls.{ReadsFrom, WritesTo};
 ghost use Rattle.rtr_units.specs.Header.{header, version_field, type_field, session_field};
 ghost use Rattle.rtr_units.specs.Header.{length_field};
 ghost use Rattle.rtr_units.specs.Reading.{FillsPiece, by_bytes};
@@ -61,9 +62,7 @@ impl Header {
     /// came before are taken.
     #[inline(always)]
     pub fn read<R: Source>(reader: &mut R) -> Result<Self, Fault>
-        ensures bytes { FillsPiece 8 (by_bytes header_bytes result)
-            (R.state reader.old) (R.state reader.new) }
-        ensures error { IfErr result (HoldsReadError (R.fails reader.new)) }
+        ensures { ReadsFrom R.Source header_bytes result reader.old reader.new (FillsPiece 8) }
     {
         let mut header = Header::default();
         fill(reader, header.as_mut())?;
@@ -73,9 +72,7 @@ impl Header {
     /// Writes the eight bytes.
     #[inline(always)]
     pub fn write<W: Sink>(&self, writer: &mut W) -> Result<(), Fault>
-        ensures bytes { PutsForm result (W.state writer.old) (W.state writer.new)
-            (header_bytes self.now) }
-        ensures error { IfErr result (HoldsWriteError (W.fails writer.new) (W.stalls writer.new)) }
+        ensures { WritesTo W.Sink result writer.old writer.new (header_bytes self.now) }
     {
         put(writer, self.as_ref())
     }

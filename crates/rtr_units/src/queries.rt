@@ -4,6 +4,7 @@
 ghost use Rattle.std.specs.Prelude.{◌≡◌, ◌≤◌, length, replicate, IfErr};
 ghost use Rattle.std.specs.Borrow.{sem};
 ghost use Rattle.rtr_base.specs.Bytes.{be, value, IsBytes};
+ghost use Rattle.rtr_units.specs.Calls.{ReadsFrom, WritesTo};
 ghost use Rattle.rtr_units.specs.FixedUnits.{fixed_bytes};
 ghost use Rattle.rtr_units.specs.Queries.{bare_list, serial_list, serial_field};
 ghost use Rattle.rtr_units.specs.Header.{session_field};
@@ -118,9 +119,8 @@ impl SerialQueryPayload {
     /// Reads four bytes. At `Short` and `Reader` the bytes that came before are taken.
     #[inline(always)]
     pub fn read<R: Source>(reader: &mut R) -> Result<Self, Fault>
-        ensures bytes { FillsPiece 4 (by_bytes query_payload_bytes result)
-            (R.state reader.old) (R.state reader.new) }
-        ensures error { IfErr result (HoldsReadError (R.fails reader.new)) }
+        ensures { ReadsFrom R.Source query_payload_bytes result reader.old reader.new
+            (FillsPiece 4) }
     {
         let mut payload = SerialQueryPayload::default();
         fill(reader, payload.as_mut())?;
@@ -138,9 +138,7 @@ impl SerialQueryPayload {
     /// Writes the four bytes.
     #[inline(always)]
     pub fn write<W: Sink>(&self, writer: &mut W) -> Result<(), Fault>
-        ensures bytes { PutsForm result (W.state writer.old) (W.state writer.new)
-            (query_payload_bytes self.now) }
-        ensures error { IfErr result (HoldsWriteError (W.fails writer.new) (W.stalls writer.new)) }
+        ensures { WritesTo W.Sink result writer.old writer.new (query_payload_bytes self.now) }
     {
         put(writer, self.as_ref())
     }

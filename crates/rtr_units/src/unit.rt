@@ -7,6 +7,7 @@ ghost use Rattle.std.specs.Prelude.{MatchResult, Ok, []};
 ghost use Rattle.std.specs.Borrow.{sem, Lends, Array, u8};
 ghost use Rattle.std.specs.Io.KnownBytes.{Consumes};
 ghost use Rattle.rtr_base.specs.Bytes.{IsBytes};
+ghost use Rattle.rtr_units.specs.Calls.{ReadsFrom, WritesTo};
 ghost use Rattle.rtr_units.specs.StopCauses.{by_cause, cause_of};
 ghost use Rattle.rtr_units.specs.Header.{version_field, type_field, session_field};
 ghost use Rattle.rtr_units.specs.Reading.{LeavesUnit, Reads, ReadsAfter, ReadsBytes, Stops};
@@ -95,9 +96,8 @@ pub trait Unit: Drop + Copy {
     /// `UnitLength` with the header taken; `Short` or `Reader` inside the unit.
     #[inline(always)]
     final fn read<R: Source>(reader: &mut R) -> Result<Self, Fault>
-        ensures bytes { Reads (of_type PDU (of_size LENGTH)) [] (by_bytes bytes result)
-            (R.state reader.old) (R.state reader.new) }
-        ensures error { IfErr result (HoldsReadError (R.fails reader.new)) }
+        ensures { ReadsFrom R.Source bytes result reader.old reader.new
+            (Reads (of_type PDU (of_size LENGTH)) []) }
     {
         let header = Header::read(reader)?;
         if header.pdu() != Self::PDU {
@@ -138,9 +138,8 @@ pub trait Unit: Drop + Copy {
     /// Faults: `UnitLength`, with nothing read; `Short` or `Reader` inside the unit.
     #[inline(always)]
     final fn read_payload<R: Source>(header: Header, reader: &mut R) -> Result<Self, Fault>
-        ensures bytes { ReadsAfter (of_size LENGTH) (header_bytes header) (by_bytes bytes result)
-            (R.state reader.old) (R.state reader.new) }
-        ensures error { IfErr result (HoldsReadError (R.fails reader.new)) }
+        ensures { ReadsFrom R.Source bytes result reader.old reader.new
+            (ReadsAfter (of_size LENGTH) (header_bytes header)) }
     {
         let mut unit = Self::zero();
         unit.read_rest(header, reader)?;
@@ -171,9 +170,7 @@ pub trait Unit: Drop + Copy {
     /// Writes all bytes of the unit.
     #[inline(always)]
     final fn write<W: Sink>(&self, writer: &mut W) -> Result<(), Fault>
-        ensures bytes { PutsForm result (W.state writer.old) (W.state writer.new)
-            (bytes self.now) }
-        ensures error { IfErr result (HoldsWriteError (W.fails writer.new) (W.stalls writer.new)) }
+        ensures { WritesTo W.Sink result writer.old writer.new (bytes self.now) }
     {
         put(writer, self.as_ref())
     }

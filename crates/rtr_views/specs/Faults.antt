@@ -1,12 +1,13 @@
 -- What a fault of a call on views says (this library's own; which fault comes first, as of units).
 use Rattle.std.specs.Prelude.{◌≡◌, ℕ, Bool, true, false, not, List, Option, Some, Result, Err}
-use Rattle.std.specs.Prelude.{MatchResult, ⊤}
+use Rattle.std.specs.Prelude.{MatchResult, IfErr, ⊤}
 use Rattle.std.specs.Io.KnownBytes.{Appends}
 use Rattle.std.specs.declared.io.Error.{Error}
-use Rattle.rtr_units.specs.StopCauses.{Refusal, short, unit_type, unit_version, too_long, unit_length}
-use Rattle.rtr_units.specs.StopCauses.{empty_providers, refused}
+use Rattle.rtr_units.specs.StopCauses.{Refusal, short, unit_type, unit_version, too_long}
+use Rattle.rtr_units.specs.StopCauses.{unit_length, empty_providers, refused}
 use Rattle.rtr_units.specs.Stream.{WritesPart}
 use Rattle.rtr_units.specs.StopCauses.{WriterState, IsWriteError, count_after}
+use Rattle.rtr_units.specs.declared.source.Sink as sinks
 use Rattle.rtr_payload.specs.FirstFault.{first_fault, refusal_report}
 use Rattle.rtr_payload.specs.FaultSteps.{first_unit}
 use Rattle.rtr_views.specs.declared.fault.ViewFault.{ViewFault}
@@ -53,3 +54,11 @@ PutsPiece r old new piece =
     MatchResult r (λ _. Appends old.held new.held piece)
     (λ e. WritesPart (IsWriterFault e) old.held new.held piece)
     × (new.failed ≡ count_after old.failed (not (is_view_writer_fault r)))
+
+-- A call that writes this piece to a writer of type W, which is `old` before it and `new` after it.
+pub record WritesPiece {W : Type 0} (sink : sinks.Ghosts W) {T : Type 0}
+    (result : Result T ViewFault) (old new : W) (piece : List ℕ) : Type 0 where
+  -- all of it was written, or a part of it and then the writer failed, which is counted
+  pub bytes : PutsPiece result (sink.state old) (sink.state new) piece
+  -- the error in a writer's fault is one of the last write
+  pub error : IfErr result (HoldsViewWriteError (sink.fails new) (sink.stalls new))

@@ -1,5 +1,5 @@
 -- What a fault owes the peer (RFC 8210 sections 5.11 and 12).
-use Rattle.std.specs.Prelude.{ℕ, List, Option, Some, None, ◌==◌, if◌then◌else◌}
+use Rattle.std.specs.Prelude.{ℕ, List, Option, None, ◌==◌, if◌then◌else◌}
 use Rattle.rtr_units.specs.declared.fault.Fault.{Fault}
 use Rattle.rtr_units.specs.declared.fault.Fault.TheVariants as faults
 use Rattle.rtr_views.specs.declared.fault.ViewFault.{ViewFault}

@@ -4,26 +4,23 @@ ghost use Rattle.std.specs.Prelude.{◌≡◌, ◌+◌, ◌<◌, ◌^◌, ◌∷
 ghost use Rattle.rtr_base.specs.Actions.{flags_of};
 ghost use Rattle.rtr_base.specs.Bytes.{be};
 ghost use Rattle.rtr_units.specs.AnyEnd.{end_bytes};
-ghost use Rattle.rtr_views.specs.Faults.{PutsPiece, HoldsViewWriteError};
+ghost use Rattle.rtr_views.specs.Faults.{WritesPiece};
 
 use crate::fault::ViewFault;
 use crate::placing::flagged_header;
 use rtr_base::action::Action;
 use rtr_units::end::EndOfData;
-use rtr_units::fault::Fault;
-use rtr_units::piece::put;
+use rtr_units::piece::write_all;
 use rtr_units::source::Sink;
 
-/// Writes all of the piece, as `rtr_units::piece::put`.
+/// Writes all of the piece, as `write_all`, and answers `Writer` with its error.
 #[inline(always)]
 pub fn put_piece<W: Sink>(writer: &mut W, piece: &[u8]) -> Result<(), ViewFault>
-    ensures bytes { PutsPiece result (W.state writer.old) (W.state writer.new) piece.now }
-    ensures error { IfErr result (HoldsViewWriteError (W.fails writer.new) (W.stalls writer.new)) }
+    ensures { WritesPiece W.Sink result writer.old writer.new piece.now }
 {
-    match put(writer, piece) {
+    match write_all(writer, piece) {
         Ok(()) => Ok(()),
-        Err(Fault::Writer(e)) => Err(ViewFault::Writer(e)),
-        Err(_) => unreachable!(),
+        Err(e) => Err(ViewFault::Writer(e)),
     }
 }
 
@@ -38,9 +35,8 @@ pub fn put_flagged<W: Sink>(
     rest: &[u8],
 ) -> Result<(), ViewFault>
     requires size { 8 + length rest.now < 2 ^ 32 }
-    ensures bytes { PutsPiece result (W.state writer.old) (W.state writer.new)
+    ensures { WritesPiece W.Sink result writer.old writer.new
         ((version ∷ pdu ∷ flags_of action ∷ 0 ∷ be (8 + length rest.now) 4) ++ rest.now) }
-    ensures error { IfErr result (HoldsViewWriteError (W.fails writer.new) (W.stalls writer.new)) }
 {
     let size = 8 + rest.len() as u32;
     let header = flagged_header(version, pdu, action.into_flags(), size);
@@ -53,9 +49,7 @@ pub fn put_flagged<W: Sink>(
 /// Writes the bytes of the end of data. It is out of line, so that the code that writes units stays
 /// small enough to be inlined: a sequence has only one end.
 pub fn put_end<W: Sink>(writer: &mut W, end: &EndOfData) -> Result<(), ViewFault>
-    ensures bytes { PutsPiece result (W.state writer.old) (W.state writer.new)
-        (end_bytes end.now) }
-    ensures error { IfErr result (HoldsViewWriteError (W.fails writer.new) (W.stalls writer.new)) }
+    ensures { WritesPiece W.Sink result writer.old writer.new (end_bytes end.now) }
 {
     put_piece(writer, end.as_ref())
 }

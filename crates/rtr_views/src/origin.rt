@@ -6,7 +6,7 @@ ghost use Rattle.rtr_units.specs.PrefixUnits.{prefix_at, prefix_type, prefix_siz
 ghost use Rattle.rtr_payload.specs.FaultSteps.{first_unit, rule_of};
 ghost use Rattle.rtr_payload.specs.UnitFields.{prefix_unit, LengthsAgree};
 ghost use Rattle.rtr_payload.specs.Units.{form_of};
-ghost use Rattle.rtr_views.specs.Faults.{IsFirstFault, PutsPiece, HoldsViewWriteError};
+ghost use Rattle.rtr_views.specs.Faults.{IsFirstFault, WritesPiece};
 ghost use Rattle.rtr_views.specs.Origins.{IsOriginOf, ShowsOrigin, origin_meaning};
 
 use crate::fault::ViewFault;
@@ -103,10 +103,8 @@ impl OriginView {
     /// Writes the form of what the unit means.
     #[inline(always)]
     pub(crate) fn write_form<W: Sink>(&self, writer: &mut W) -> Result<(), ViewFault>
-        ensures bytes { PutsPiece result (W.state writer.old) (W.state writer.new)
+        ensures { WritesPiece W.Sink result writer.old writer.new
             (form_of (origin_meaning self.now)) }
-        ensures error { IfErr result
-            (HoldsViewWriteError (W.fails writer.new) (W.stalls writer.new)) }
     {
         let flags = Action::from_flags(self.flags).into_flags();
         let prefix = self.origin.prefix.prefix();

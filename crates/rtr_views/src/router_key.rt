@@ -9,7 +9,7 @@ ghost use Rattle.rtr_payload.specs.UnitKinds.{variable_unit};
 ghost use Rattle.rtr_payload.specs.UnitFields.{key_unit, meaning};
 ghost use Rattle.rtr_payload.specs.Units.{form_of};
 ghost use Rattle.rtr_views.specs.PrivateFirst.{IsFirstUnit};
-ghost use Rattle.rtr_views.specs.Faults.{IsFirstFault, PutsPiece, HoldsViewWriteError};
+ghost use Rattle.rtr_views.specs.Faults.{IsFirstFault, WritesPiece};
 
 use crate::fault::ViewFault;
 use crate::form::put_flagged;
@@ -106,10 +106,8 @@ impl<'a> RouterKeyView<'a> {
     /// Writes the form of what the unit means.
     #[inline(always)]
     pub(crate) fn write_form<W: Sink>(&self, writer: &mut W) -> Result<(), ViewFault>
-        ensures bytes { PutsPiece result (W.state writer.old) (W.state writer.new)
+        ensures { WritesPiece W.Sink result writer.old writer.new
             (form_of (meaning (key_unit (key_at self.now.unit.now)))) }
-        ensures error { IfErr result
-            (HoldsViewWriteError (W.fails writer.new) (W.stalls writer.new)) }
     {
         let action = Action::from_flags(self.flags());
         put_flagged(

@@ -1,7 +1,7 @@
 //! Views of what a slice begins with.
 
 ghost use Rattle.std.specs.Prelude.{◌≤◌, length, take, IfOk, IfErr};
-ghost use Rattle.rtr_views.specs.Faults.{IsFirstFault, PutsPiece, HoldsViewWriteError};
+ghost use Rattle.rtr_views.specs.Faults.{IsFirstFault, WritesPiece};
 ghost use Rattle.rtr_views.specs.Views.{IsViewOf, view_form};
 
 use crate::aspa::AspaView;
@@ -79,10 +79,7 @@ impl<'a> UnitView<'a> {
     /// The only fault is `Writer`; then a part of the form was written.
     #[inline(always)]
     pub fn write_form<W: Sink>(&self, writer: &mut W) -> Result<(), ViewFault>
-        ensures bytes { PutsPiece result (W.state writer.old) (W.state writer.new)
-            (view_form self.now) }
-        ensures error { IfErr result
-            (HoldsViewWriteError (W.fails writer.new) (W.stalls writer.new)) }
+        ensures { WritesPiece W.Sink result writer.old writer.new (view_form self.now) }
     {
         match self {
             UnitView::Origin(view) => view.write_form(writer),

@@ -1,5 +1,5 @@
--- What a run from a slice into another writes and answers: a run as one of `normalise`, with the one
--- case more that there is no room (this library's own).
+-- What a run from a slice into another writes and answers: a run as one of `normalise`, with the
+-- one case more that there is no room (this library's own).
 use Rattle.std.specs.Prelude.{◌≡◌, ℕ, ◌+◌, ◌<◌, ◌≤◌, List, [], ◌++◌, length, drop}
 use Rattle.std.specs.Prelude.{Result, Ok, Err, IfErr, MatchResult, ⊤}
 use Rattle.rtr_units.specs.StopCauses.{Refusal, Cause, by_writer, too_many, wrong}
@@ -23,8 +23,8 @@ into_answer n u (Err (Refused e)) = Err (view_cause u e)
 abbrev pub LacksRoom : Output → List ℕ → ℕ → Type 0
 LacksRoom what bytes room = (form : List ℕ) × IsToWrite what bytes form × (room < length form)
 
--- what a stop says beside how the run ended: of the last bytes, of what was written for them, and of
--- the room that is left in the output
+-- what a stop says beside how the run ended: of the last bytes, of what was written for them, and
+-- of the room that is left in the output
 abbrev pub StopsInto : Output → IntoFault → List ℕ → List ℕ → ℕ → Type 0
 -- no room: nothing is written for the last bytes, and not all that is to be written fits
 StopsInto what NoRoom last written room = LacksRoom what last room × (written ≡ [])
@@ -32,8 +32,8 @@ StopsInto what TooMany last written room = ⊤
 -- refused: the input is to blame
 StopsInto what (Refused e) last written room = (f : Refusal) × (view_cause last e ≡ wrong f)
 
--- The whole promise of a run from the input into the output, with its limit and its result: `before`
--- and `after` are what the output holds before and after it.
+-- The whole promise of a run from the input into the output, with its limit and its result:
+-- `before` and `after` are what the output holds before and after it.
 pub record NormalisesInto (what : Output) (limit : ℕ) (result : Result Unit IntoFault)
     (input before after : List ℕ) (p : Progress) : Type 0 where
   -- the call viewed these bytes at the front of the input, left these, and wrote these

@@ -123,7 +123,8 @@ pub record Stepped (what : Output) (s : Step) (rest before after : List ℕ) : T
   pub output : after ≡ wrote ++ drop s.written before
   pub tells : StepTells what (Ok s.passed) took wrote (Some (drop s.taken rest))
 
--- why a step stopped at the front of the rest, of which it wrote nothing, where there is so much room
+-- why a step stopped at the front of the rest, of which it wrote nothing, where there is so much
+-- room
 abbrev pub StopsStepInto : Output → IntoFault → List ℕ → ℕ → Type 0
 StopsStepInto what NoRoom rest room =
     (last left : List ℕ) × (rest ≡ last ++ left) × LacksRoom what last room

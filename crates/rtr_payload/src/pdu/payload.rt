@@ -3,6 +3,7 @@
 ghost use Rattle.std.specs.Prelude.{◌≡◌, ◌≢◌, ◌≤◌, ◌↔◌, Ok, Err, None, IfOk, IfErr, IsOk};
 ghost use Rattle.std.specs.Prelude.{[], IfSome, IsSome, length, take};
 ghost use Rattle.rtr_base.specs.Actions.{act};
+ghost use Rattle.rtr_units.specs.Calls.{WritesTo};
 ghost use Rattle.rtr_units.specs.StopCauses.{by_cause, by_writer, cause_of};
 ghost use Rattle.rtr_units.specs.Header.{type_field, version_field};
 ghost use Rattle.rtr_units.specs.Reading.{Reads, ReadsAfter, by_bytes};
@@ -214,9 +215,7 @@ impl Payload {
     /// Writes all bytes of the unit.
     #[inline(always)]
     pub fn write<W: Sink>(&self, writer: &mut W) -> Result<(), Fault>
-        ensures bytes { PutsForm result (W.state writer.old) (W.state writer.new)
-            (unit_bytes self.now) }
-        ensures error { IfErr result (HoldsWriteError (W.fails writer.new) (W.stalls writer.new)) }
+        ensures { WritesTo W.Sink result writer.old writer.new (unit_bytes self.now) }
     {
         match self {
             Payload::V4(unit) => unit.put(writer),

@@ -3,6 +3,7 @@
 ghost use Rattle.std.specs.Prelude.{◌≡◌, ◌≢◌, ℕ, List, Option, replicate, Err, IfOk, IfErr, IsOk};
 ghost use Rattle.std.specs.Prelude.{⊤};
 ghost use Rattle.std.specs.Prelude.{refl};
+ghost use Rattle.rtr_units.specs.Calls.{WritesTo};
 ghost use Rattle.rtr_units.specs.StopCauses.{Cause, by_cause, by_writer, cause_of};
 ghost use Rattle.rtr_units.specs.Header.{type_field, version_field};
 ghost use Rattle.rtr_units.specs.Reading.{LeavesUnit, ReadsAfter, by_bytes};
@@ -11,8 +12,10 @@ ghost use Rattle.rtr_units.specs.StopCauses.{HoldsReadError, HoldsWriteError};
 ghost use Rattle.rtr_units.specs.HeaderBytes.{header_bytes};
 ghost use Rattle.rtr_payload.specs.declared.payload.Payload.{Payload as Value};
 ghost use Rattle.rtr_payload.specs.declared.payload.Payload.TheVariants as payloads;
-ghost use Rattle.rtr_payload.specs.declared.pdu.aspa.TheConstants.{PDU as ASPA_TYPE, FIXED as ASPA_FIXED};
-ghost use Rattle.rtr_payload.specs.declared.pdu.router_key.TheConstants.{PDU as KEY_TYPE, FIXED as KEY_FIXED};
+ghost use Rattle.rtr_payload.specs.declared.pdu.aspa.TheConstants.{PDU as ASPA_TYPE};
+ghost use Rattle.rtr_payload.specs.declared.pdu.aspa.TheConstants.{FIXED as ASPA_FIXED};
+ghost use Rattle.rtr_payload.specs.declared.pdu.router_key.TheConstants.{PDU as KEY_TYPE};
+ghost use Rattle.rtr_payload.specs.declared.pdu.router_key.TheConstants.{FIXED as KEY_FIXED};
 ghost use Rattle.rtr_payload.specs.declared.pdu.payload.Payload.{Payload};
 ghost use Rattle.rtr_payload.specs.declared.pdu.payload.Payload.TheVariants as units;
 ghost use Rattle.rtr_payload.specs.Payloads.{smallest_version};
@@ -117,9 +120,7 @@ pub trait PayloadUnit: Drop {
 
     /// Writes all bytes of the unit.
     fn put<W: Sink>(&self, writer: &mut W) -> Result<(), Fault>
-        ensures bytes { PutsForm result (W.state writer.old) (W.state writer.new)
-            (unit_bytes (unit self.now)) }
-        ensures error { IfErr result (HoldsWriteError (W.fails writer.new) (W.stalls writer.new)) };
+        ensures { WritesTo W.Sink result writer.old writer.new (unit_bytes (unit self.now)) };
 
     /// The unit as one of any type.
     fn into_unit(self) -> Payload

@@ -3,7 +3,8 @@
 ghost use Rattle.std.specs.Prelude.{◌≡◌, ◌≤◌, length, replicate, refl};
 ghost use Rattle.std.proofs.Common.{rules};
 ghost use Rattle.rtr_payload.specs.declared.pdu.key_info.TheConstants.{MAX_LEN as MOST};
-ghost use Rattle.rtr_payload.specs.declared.pdu.router_key.TheConstants.{PDU as KEY_TYPE, FIXED as KEY_FIXED};
+ghost use Rattle.rtr_payload.specs.declared.pdu.router_key.TheConstants.{PDU as KEY_TYPE};
+ghost use Rattle.rtr_payload.specs.declared.pdu.router_key.TheConstants.{FIXED as KEY_FIXED};
 ghost use Rattle.rtr_payload.specs.KeyUnits.{key_at};
 ghost use Rattle.rtr_payload.specs.Payloads.{IsKey, key};
 ghost use Rattle.rtr_payload.specs.Units.{form};

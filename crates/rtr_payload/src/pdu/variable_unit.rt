@@ -6,6 +6,7 @@ ghost use Rattle.std.specs.Prelude.{slice_index, nat_eq, IfOk, MatchResult, None
 ghost use Rattle.std.specs.Cmp.{partial_equiv_from_equiv};
 ghost use Rattle.std.specs.Cmp.Lexicographic.{bytes_decides, nat_list_eq_equiv, pointwise};
 ghost use Rattle.std.specs.Hash as fed;
+ghost use Rattle.rtr_units.specs.Calls.{WritesTo};
 ghost use Rattle.rtr_units.specs.StopCauses.{cause_of};
 ghost use Rattle.rtr_units.specs.Header.{version_field, type_field};
 ghost use Rattle.rtr_units.specs.Reading.{IsWhole, Reads, ReadsAfter, by_bytes, of_type};
@@ -232,8 +233,7 @@ impl<const FIXED: usize, B: Body<FIXED>> VariableUnit<FIXED, B> {
     /// Writes the unit.
     #[inline(always)]
     pub fn write<W: Sink>(&self, writer: &mut W) -> Result<(), Fault>
-        ensures bytes { PutsForm result (W.state writer.old) (W.state writer.new) self.now }
-        ensures error { IfErr result (HoldsWriteError (W.fails writer.new) (W.stalls writer.new)) }
+        ensures { WritesTo W.Sink result writer.old writer.new self.now }
     {
         put(writer, &self.fixed)?;
         put(writer, self.body.as_slice())

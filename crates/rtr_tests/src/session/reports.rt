@@ -19,8 +19,8 @@ type Row = (&'static str, Option<&'static str>, Option<&'static str>);
 const ON_TYPE_5: &str =
     "00 0a 00 03 00 00 00 1a 00 00 00 08 01 05 00 00 00 00 00 08 00 00 00 02 6e ff";
 
-/// Reports whose lengths make them up, then reports whose first or second length is too great, is cut,
-/// or leaves bytes over.
+/// Reports whose lengths make them up, then reports whose first or second length is too great, is
+/// cut, or leaves bytes over.
 #[rattlefmt::skip]
 const ROWS: &[Row] = &[
     ("00 0a 00 03 00 00 00 10 00 00 00 00 00 00 00 00", Some(""), Some("")),

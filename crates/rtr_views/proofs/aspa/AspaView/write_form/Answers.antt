@@ -1,4 +1,4 @@
-use Rattle.std.proofs.Common.{◌≡◌, ℕ, ◌-◌, take, drop, sym, ap, ◌∙◌}
+use Rattle.std.proofs.Common.{rules, ◌≡◌, ℕ, ◌-◌, take, drop, sym, ap, ◌∙◌}
 use Rattle.std.proofs.lemmas.List.{take_rest}
 use Rattle.rtr_base.specs.Actions.{act}
 use Rattle.rtr_views.proofs.Forms.{aspa_form, kept_rest}
@@ -6,8 +6,8 @@ use Rattle.rtr_views.proofs.Puts.{same_put}
 use Rattle.rtr_views.proofs.aspa.AspaView.write_form.Goals as goal
 use Rattle.rtr_views.proofs.aspa.AspaView.write_form.Goals.{in-Announce, in-Withdraw}
 
-pub returns-clause-bytes : goal.returns-clause-bytes
-returns-clause-bytes g c =
+pub returns : goal.returns
+returns g c =
     let u = c.args.self.now.unit.now in
     let rest : take (c.match-action.kept - 8) (drop 8 u) ≡ kept_rest c.from_flags-action.result u =
     elim c.match-action.branch [
@@ -18,7 +18,11 @@ returns-clause-bytes g c =
           ap (λ (n : ℕ). take (n - 8) (drop 8 u)) w.kept-is
           ∙ ap (λ a. kept_rest a u) (sym w.in-Withdraw.is)
     ] in
-    same_put c.put_flagged.result _ _ _ _
-    (aspa_form u _ _ c.from_flags-action.result c.args.self.now.whole c.version.ensures
-    (c.from_flags-action.ensures ∙ ap act c.flags.ensures) rest)
-    c.put_flagged.ensures.bytes
+    record {
+      bytes =
+          same_put c.put_flagged.result _ _ _ _
+          (aspa_form u _ _ c.from_flags-action.result c.args.self.now.whole c.version.ensures
+          (c.from_flags-action.ensures ∙ ap act c.flags.ensures) rest)
+          c.put_flagged.ensures.bytes;
+      error = search rules;
+    }
