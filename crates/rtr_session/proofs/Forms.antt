@@ -99,7 +99,7 @@ no_lengths t u (inr (inl (inr (inl e)))) = rw e refl
 no_lengths t u (inr (inl (inr (inr e)))) = rw e refl
 no_lengths t u (inr (inr e)) = rw e refl
 
-plain_shown : (b r : List ℕ) → IsWhole session_unit b → IsPlainType (type_field b) →
+pub plain_shown : (b r : List ℕ) → IsWhole session_unit b → IsPlainType (type_field b) →
     session_fault (b ++ r) ≡ None
 plain_shown b r w plain =
     let same = same_header b r w.header in

@@ -3,7 +3,9 @@ pub mod Parts
 mod Placed
 mod Forms
 mod Headers
+mod Held
 pub mod Lengths
+mod Replies
 pub mod Reports
 mod Stops
 pub mod Units

@@ -8,3 +8,4 @@ pub mod Lengths
 pub mod SessionViews
 pub mod SessionForms
 pub mod Placed
+pub mod Replies

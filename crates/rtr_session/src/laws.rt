@@ -1,7 +1,9 @@
 //! Laws of units of any type and of error reports.
 
-ghost use Rattle.std.specs.Prelude.{◌≡◌, ◌++◌, ◌≤◌, ℕ, List, Some, None, Ok, IsTrue, length};
-ghost use Rattle.rtr_units.specs.Header.{version_field, type_field};
+ghost use Rattle.std.specs.Prelude.{◌≡◌, ◌++◌, ◌≤◌, ◌<◌, ◌^◌, ℕ, List, Option, Some, None, Ok};
+ghost use Rattle.std.specs.Prelude.{IsTrue, length};
+ghost use Rattle.rtr_base.specs.Bytes.{IsBytes};
+ghost use Rattle.rtr_units.specs.Header.{version_field, type_field, session_field};
 ghost use Rattle.rtr_units.specs.Reading.{IsWhole};
 ghost use Rattle.rtr_session.specs.AnyFields.{AnyFields, HasAnyFields};
 ghost use Rattle.rtr_payload.specs.FirstFault.{first_fault, is_payload_or_end};
@@ -12,10 +14,13 @@ ghost use Rattle.rtr_session.specs.SessionForms.{session_form, shown_form};
 ghost use Rattle.rtr_session.specs.SessionViews.{ShowsUnit, ShowsFields, session_fault};
 ghost use Rattle.rtr_session.specs.declared.any_unit.AnyUnit.{AnyUnit};
 ghost use Rattle.rtr_session.specs.declared.session_view.SessionView.{SessionView};
-ghost use Rattle.rtr_session.specs.declared.session_view.SessionView.TheVariants.{Data};
+ghost use Rattle.rtr_session.specs.declared.session_view.SessionView.TheVariants.{Data, Error};
 ghost use Rattle.rtr_session.specs.Lengths.{SaysLength, IsBounded};
 ghost use Rattle.rtr_session.specs.SessionKinds.{session_unit};
+ghost use Rattle.rtr_session.specs.Placed.{held_unit, held_text, held_report};
+ghost use Rattle.rtr_session.specs.Replies.{owed_report};
 ghost use Rattle.rtr_session.specs.Reports.{IsReport, HasParts};
+ghost use Rattle.rtr_session.specs.declared.report_view.ReportView.{ReportView};
 
 use crate::report::{MIN_SIZE, Report};
 use rtr_units::header::MAX_SIZE;
@@ -83,4 +88,30 @@ pub fn session_forms()
         session_fault (shown_form v ++ r) ≡ None }
     ensures again { (v w : SessionView) (b : List ℕ) → ShowsUnit v b → ShowsUnit w (shown_form v) →
         shown_form w ≡ shown_form v }
+{}
+
+/// What `place_report` writes is an error report of at most 65535 bytes, with its version and code,
+/// about the unit and with the text that it holds. It has no fault, whatever follows it, and its
+/// view is that of a report.
+pub fn placed_reports()
+    ensures most { (v c : ℕ) (p t : List ℕ) → length (held_report v c p t) ≤ 65535 }
+    ensures report { (v c : ℕ) (p t : List ℕ) → v < 2 ^ 8 → IsBytes p → IsBytes t →
+        IsReport (held_report v c p t) }
+    ensures version { (v c : ℕ) (p t : List ℕ) → version_field (held_report v c p t) ≡ v }
+    ensures code { (v c : ℕ) (p t : List ℕ) → c < 2 ^ 16 →
+        session_field (held_report v c p t) ≡ c }
+    ensures parts { (v c : ℕ) (p t : List ℕ) → c < 2 ^ 16 →
+        HasParts (held_report v c p t) (held_unit p) (held_text p t) }
+    ensures shown { (v c : ℕ) (p t r : List ℕ) → v < 2 ^ 8 → IsBytes p → IsBytes t →
+        session_fault (held_report v c p t ++ r) ≡ None }
+    ensures view { (v c : ℕ) (p t : List ℕ) (w : SessionView) → ShowsUnit w (held_report v c p t) →
+        (x : ReportView) × (w ≡ Error x) × (x.unit.now ≡ held_report v c p t) }
+{}
+
+/// No report is owed for an error report, so none for one that was owed itself.
+pub fn no_report_about_a_report()
+    ensures unit { (v : ℕ) (code : Option ℕ) (p t : List ℕ) → type_field p ≡ 10 →
+        owed_report v code p t ≡ None }
+    ensures reply { (v w : ℕ) (c d : Option ℕ) (p t r m s : List ℕ) →
+        owed_report v c p t ≡ Some r → owed_report w d (r ++ m) s ≡ None }
 {}

@@ -2,6 +2,7 @@
 //! after the other, as in a session.
 #![tactic(auto)]
 
+pub mod answering;
 mod any_unit;
 pub mod laws;
 pub mod length;

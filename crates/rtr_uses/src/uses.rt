@@ -1,11 +1,13 @@
-//! Uses of `rtr_wire` as a caller would write them, with no other library than std and no proofs.
+//! Uses of `rtr_wire` as a caller would write them, with no proofs, and with no other library than
+//! std, but for `rtr_session` where a fault is answered.
 //! `docs/CALLING.md` shows them. The program needs none of them: they are built for their tests.
 
+use rtr_session::answering::{Reply, reply_to_fault};
 use rtr_wire::base::{Asn, MaxLenPrefix, ParseMaxLenPrefixError};
 use rtr_wire::payload::{Action, Aspa, Payload, RouteOrigin, Timing};
 use rtr_wire::pdu::{
     CacheResponse, Counted, EndOfData, Error, ErrorCode, Fault, Header, LAST_VERSION, ResetQuery,
-    Sink, Source, Unit, UnitView, ViewFault, owed_code,
+    Sink, Source, Unit, UnitView, ViewFault,
 };
 use rtr_wire::state::State;
 use rtr_wire::{normalise, pdu, same_meaning};
@@ -155,21 +157,12 @@ pub fn withdrawal(alloc: Global, aspa: &Aspa) -> Result<pdu::Payload, AllocError
     Ok(pdu::Payload::from_payload(LAST_VERSION, Action::Withdraw.into_flags(), withdrawn))
 }
 
-/// The report to the peer on a fault in the unit with this header, or none if the fault isn't the
-/// peer's, or the unit is a report itself.
-pub fn report_on(
-    alloc: Global,
-    header: Header,
-    fault: &Fault,
-) -> Result<Option<Error>, AllocError> {
-    match owed_code(header, fault) {
-        Some(code) => {
-            let text = b"the unit was refused";
-            let report = Error::new(alloc, header.version(), code.0, header.as_ref(), text)?;
-            Ok(Some(report))
-        }
-        None => Ok(None),
-    }
+/// Writes the report to the peer on a fault in the unit with this header to the front of the output,
+/// in the version of the session. Nothing is owed if the fault isn't the peer's, or the unit is a
+/// report itself.
+pub fn report_on(version: u8, header: Header, fault: &Fault, output: &mut [u8]) -> Reply {
+    let text = b"the unit was refused";
+    reply_to_fault(version, header.as_ref(), fault, text, output)
 }
 
 /// Writes a line for each unit of a sequence in memory, and allocates nothing.

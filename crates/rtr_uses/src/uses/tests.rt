@@ -4,6 +4,7 @@ use super::{
     Data, Unlisted, answer_reset, compare, list, normalise_file, origin, report_on,
     response_or_code, take_response, withdrawal, words,
 };
+use rtr_session::answering::Reply;
 use rtr_wire::base::Asn;
 use rtr_wire::payload::{Action, Payload};
 use rtr_wire::pdu::{Counted, ErrorCode, Fault, Header, Unit, ViewFault};
@@ -219,7 +220,6 @@ fn an_aspa_is_withdrawn(rt: HostRuntime) -> Result<(), Fail> {
 
 #[test]
 fn peers_are_told(rt: HostRuntime) -> Result<(), Fail> {
-    let alloc = rt.alloc();
     let header = Header::new(1, 5, 0, 8);
     #[rattlefmt::skip]
     let want: &[u8] = &[
@@ -227,14 +227,16 @@ fn peers_are_told(rt: HostRuntime) -> Result<(), Fail> {
         b't', b'h', b'e', b' ', b'u', b'n', b'i', b't', b' ',
         b'w', b'a', b's', b' ', b'r', b'e', b'f', b'u', b's', b'e', b'd',
     ];
-    match report_on(alloc, header, &Fault::UnitType(5))? {
-        Some(report) => assert!(rt; report.as_ref() == want),
-        None => assert!(rt; false, "no report"),
-    }
-    assert!(rt; report_on(alloc, header, &Fault::Memory)?.is_none());
+    let mut output = [0; 44];
+    assert!(rt; report_on(1, header, &Fault::UnitType(5), &mut output[..43]) == Reply::NoRoom);
+    assert!(rt; output == [0; 44]);
+    assert!(rt; report_on(1, header, &Fault::Memory, &mut output) == Reply::Nothing);
     let report = Header::new(1, 10, 0, 65536);
-    assert!(rt; report_on(alloc, report, &Fault::UnitType(10))?.is_none());
-    assert!(rt; report_on(alloc, report, &Fault::TooLong)?.is_none());
+    assert!(rt; report_on(1, report, &Fault::UnitType(10), &mut output) == Reply::Nothing);
+    assert!(rt; report_on(1, report, &Fault::TooLong, &mut output) == Reply::Nothing);
+    assert!(rt; output == [0; 44]);
+    assert!(rt; report_on(1, header, &Fault::UnitType(5), &mut output) == Reply::Report(44));
+    assert!(rt; output.as_slice() == want);
     assert!(rt; Fault::Short.code() == Some(ErrorCode::CORRUPT_DATA));
     Ok(())
 }
