@@ -1,10 +1,11 @@
 #!/usr/bin/env python3
 """Writes a sequence of payload units and an end of data to standard output.
 
-usage: generate.py [--units N] [--seed N] [--mix KIND=SHARE,..]
+usage: generate.py [--units N] [--seed N] [--mix KIND=SHARE,..] [--clean]
 
 KIND is ipv4, ipv6, key (91 bytes of key info) or aspa (1 to 8 providers), SHARE a whole number; without --mix all units
-are ipv4. The same arguments give the same bytes.
+are ipv4. The same arguments give the same bytes. With --clean all units are of version 2 and announce, no bit stands
+where none means anything, and providers ascend: a full table as a cache sends it.
 """
 import argparse
 import random
@@ -37,6 +38,22 @@ def aspa(rng):
     return header(2, 11, rng.randint(0, 255) << 8, 8 + len(body)) + body
 
 
+def cleaned(unit):
+    """The unit as one of a full table."""
+    kind, fields = unit[1], bytearray(unit)
+    if kind in (4, 6):
+        width = 32 if kind == 4 else 128
+        shift = width - fields[9]
+        address = int.from_bytes(fields[12:-4], "big") >> shift << shift
+        fields[8:12] = 1, fields[9], fields[10], 0
+        fields[12:-4] = address.to_bytes(width // 8, "big")
+    if kind == 11:
+        providers = sorted({bytes(fields[at:at + 4]) for at in range(12, len(fields), 4)})
+        fields[12:] = b"".join(providers)
+    fields[:8] = header(2, kind, 0 if kind in (4, 6) else 0x100, len(fields))
+    return bytes(fields)
+
+
 KINDS = {
     "ipv4": lambda rng: prefix(rng, 4, 32),
     "ipv6": lambda rng: prefix(rng, 6, 128),
@@ -50,15 +67,17 @@ def main():
     parser.add_argument("--units", type=int, default=1_000_000)
     parser.add_argument("--seed", type=int, default=1)
     parser.add_argument("--mix", default="ipv4=1")
+    parser.add_argument("--clean", action="store_true")
     args = parser.parse_args()
     shares = dict((kind, int(share)) for kind, share in (part.split("=") for part in args.mix.split(",")))
     rng = random.Random(args.seed)
     kinds = rng.choices(list(shares), weights=list(shares.values()), k=args.units)
     out = sys.stdout.buffer
     for kind in kinds:
-        out.write(KINDS[kind](rng))
+        unit = KINDS[kind](rng)
+        out.write(cleaned(unit) if args.clean else unit)
     timings = struct.pack(">III", 3600, 600, 7200)
-    out.write(header(1, 7, 0x1234, 24) + struct.pack(">I", 7) + timings)
+    out.write(header(2 if args.clean else 1, 7, 0x1234, 24) + struct.pack(">I", 7) + timings)
 
 
 if __name__ == "__main__":

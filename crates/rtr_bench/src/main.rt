@@ -1,15 +1,16 @@
 //! Times `normalise` and `normalise_slice` over memory. It reads a sequence from standard input and
-//! normalises it 21 times in each way. On standard error it prints the best time of each, in
-//! nanoseconds a unit and megabytes a second, or the fault if there is one. It ends with status 0;
-//! 1 if the input is refused; 3 if reading, printing, the clock or memory failed.
+//! normalises it 21 times in each way, or only in the one whose name is its argument. On standard
+//! error it prints the best time of each, in nanoseconds a unit and megabytes a second, or the fault
+//! if there is one. It ends with status 0; 1 if the input is refused; 3 if reading, printing, the
+//! clock or memory failed.
 #![tactic(auto)]
 
 use rtr_wire::pdu::{Counted, Fault, SliceSource, ViewFault};
 use rtr_wire::{normalise, normalise_slice};
-use std::io;
 use std::io::{Read, Write};
 use std::process::ExitCode;
 use std::time::Instant;
+use std::{env, io};
 
 /// How often the sequence is normalised in each way.
 const RUNS: u32 = 21;
@@ -102,29 +103,72 @@ fn print(rt: &HostRuntime, way: &str, best: &Best) -> io::Result<()> {
     )
 }
 
-/// Times both ways, prints their best times or the fault, and answers the exit status.
-fn measure(rt: &HostRuntime) -> io::Result<u8> {
+/// Prints the best time of `normalise`, or its fault, and answers the exit status.
+fn report(rt: &HostRuntime, answer: Result<Best, Fault>) -> io::Result<u8> {
+    match answer {
+        Ok(best) => {
+            print(rt, "", &best)?;
+            Ok(0)
+        }
+        Err(fault) => {
+            writeln!(rt.stderr(), "{fault}")?;
+            Ok(status_of(&fault))
+        }
+    }
+}
+
+/// The same of `normalise_slice`.
+fn report_slice(rt: &HostRuntime, answer: Result<Best, ViewFault>) -> io::Result<u8> {
+    match answer {
+        Ok(best) => {
+            print(rt, "slice: ", &best)?;
+            Ok(0)
+        }
+        Err(fault) => {
+            writeln!(rt.stderr(), "{fault}")?;
+            Ok(slice_status_of(&fault))
+        }
+    }
+}
+
+/// Whether this way is to be timed: the one that the first argument names, or else each.
+fn is_asked(words: &[String], way: &str) -> bool {
+    match words {
+        [_, asked, ..] => asked.as_str() == way,
+        _ => true,
+    }
+}
+
+/// Times the ways that are asked for up to the first that fails, prints the best time of each or
+/// the fault, and answers the exit status.
+fn measure(rt: &HostRuntime, words: &[String]) -> io::Result<u8> {
     let mut input: Vec<u8> = Vec::new(rt.alloc());
     rt.stdin().read_to_end(&mut input)?;
-    match time_reader(rt, &input)? {
-        Ok(best) => print(rt, "", &best)?,
-        Err(fault) => {
-            writeln!(rt.stderr(), "{fault}")?;
-            return Ok(status_of(&fault));
-        }
+    let mut status = 0;
+    if is_asked(words, "normalise") {
+        status = report(rt, time_reader(rt, &input)?)?;
     }
-    match time_slice(rt, &input)? {
-        Ok(best) => print(rt, "slice: ", &best)?,
-        Err(fault) => {
-            writeln!(rt.stderr(), "{fault}")?;
-            return Ok(slice_status_of(&fault));
-        }
+    if status == 0 && is_asked(words, "normalise_slice") {
+        status = report_slice(rt, time_slice(rt, &input)?)?;
     }
-    Ok(0)
+    Ok(status)
+}
+
+/// The words that the program was started with, its name first, or none if they can't be had as
+/// texts.
+fn words(rt: &HostRuntime) -> Vec<String> {
+    match env::args(rt) {
+        Ok(words) => match words.collect(rt.alloc()) {
+            Ok(words) => words,
+            Err(_) => Vec::new(rt.alloc()),
+        },
+        Err(_) => Vec::new(rt.alloc()),
+    }
 }
 
 fn main(rt: HostRuntime) -> ExitCode {
-    match measure(&rt) {
+    let words = words(&rt);
+    match measure(&rt, &words) {
         Ok(status) => ExitCode::from(status),
         Err(error) => {
             let _ = writeln!(rt.stderr(), "{error}");

@@ -1,0 +1,527 @@
+/* The calls of rtr.h by hand in C: see by_hand.h. */
+#include "by_hand.h"
+
+/* The bytes of an error report beside its two parts. */
+enum { REPORT_FIXED = 16 };
+
+/* The status of a unit of each kind whose header is there, by its length. */
+static inline uint8_t prefix_status(const uint8_t *in, size_t left, size_t size, unsigned width,
+                                    uint8_t *detail)
+{
+    if (size != 16 + width / 8)
+        return RTR_UNIT_LENGTH;
+    if (left < 16 + width / 8)
+        return RTR_SHORT;
+    if (in[9] <= in[10] && in[10] <= width)
+        return RTR_OK;
+    *detail = in[9] > width ? RTR_LENGTH_OVER
+        : in[10] > width ? RTR_MAX_LENGTH_OVER : RTR_MAX_LENGTH_UNDER;
+    return RTR_PREFIX;
+}
+
+static inline uint8_t end_status(const uint8_t *in, size_t left, size_t size, uint8_t *detail)
+{
+    if (in[0] > 2) {
+        *detail = in[0];
+        return RTR_UNIT_VERSION;
+    }
+    if (size != (in[0] ? 24 : 12))
+        return RTR_UNIT_LENGTH;
+    return left < size ? RTR_SHORT : RTR_OK;
+}
+
+static inline uint8_t key_status(size_t left, size_t size)
+{
+    if (size > 65535)
+        return RTR_TOO_LONG;
+    if (size < 32)
+        return RTR_UNIT_LENGTH;
+    return left < size ? RTR_SHORT : RTR_OK;
+}
+
+static inline uint8_t aspa_status(const uint8_t *in, size_t left, size_t size)
+{
+    if (size > 65535)
+        return RTR_TOO_LONG;
+    if (size < 12 || size % 4)
+        return RTR_UNIT_LENGTH;
+    if (size == 12 && in[2] & 1)
+        return RTR_EMPTY_PROVIDERS;
+    return left < size ? RTR_SHORT : RTR_OK;
+}
+
+/* The status of the payload unit or the end of data at the front, and its length; or what is
+ * refused. */
+static inline uint8_t checked(const uint8_t *in, size_t left, size_t *size, uint8_t *detail)
+{
+    if (left < 8)
+        return RTR_SHORT;
+    *size = get32(in + 4);
+    switch (in[1]) {
+    case RTR_IPV4_PREFIX:
+        return prefix_status(in, left, *size, 32, detail);
+    case RTR_IPV6_PREFIX:
+        return prefix_status(in, left, *size, 128, detail);
+    case RTR_END_OF_DATA:
+        return end_status(in, left, *size, detail);
+    case RTR_ROUTER_KEY:
+        return key_status(left, *size);
+    case RTR_ASPA:
+        return aspa_status(in, left, *size);
+    default:
+        *detail = in[1];
+        return RTR_UNIT_TYPE;
+    }
+}
+
+/* Puts the form of a prefix unit that was checked: the session, the free byte and all flags but the
+ * lowest are cleared, and the bits of the address after the prefix length. */
+static inline void put_prefix(uint8_t *to, const uint8_t *at, size_t size)
+{
+    put64(to, get64(at) & UINT64_C(0xffff0000ffffffff));
+    put32(to + 8, get32(at + 8) & 0x01ffff00);
+    put_cleared(to + 12, at + 12, (unsigned)size - 16, at[9]);
+    memcpy(to + size - 4, at + size - 4, 4);
+}
+
+/* Puts the end of data in its version, or in the one that is asked for, and answers its length. */
+static size_t put_end(uint8_t *to, const uint8_t *at, size_t size, int version)
+{
+    if (version < 0) {
+        memcpy(to, at, size);
+        return size;
+    }
+    memcpy(to, at, 12);
+    to[0] = (uint8_t)version;
+    put32(to + 4, version ? 24 : 12);
+    if (version && at[0]) {
+        memcpy(to + 12, at + 12, 12);
+    } else if (version) {
+        put32(to + 12, 3600);
+        put32(to + 16, 600);
+        put32(to + 20, 7200);
+    }
+    return version ? 24 : 12;
+}
+
+static void answer_with(struct rtr_answer *answer, uint8_t status, uint8_t detail, size_t wanted)
+{
+    memset(answer, 0, sizeof *answer);
+    answer->status = status;
+    answer->detail = detail;
+    answer->wanted = wanted;
+}
+
+/* Normalises for a version, or with -1 for each unit's own. */
+static inline uint8_t normalise(const uint8_t *in, size_t length, uint8_t *out, size_t room,
+                                uint64_t limit, int version, struct rtr_answer *answer)
+{
+    const uint8_t *at = in;
+    uint8_t *to = out, status = RTR_TOO_MANY, detail = 0;
+    uint64_t units = 0, forms = 0;
+    size_t left = length, size = 0, made;
+    for (; units < limit; units++, at += size, left -= size) {
+        status = RTR_SHORT;
+        if (left < 8)
+            break;
+        size = get32(at + 4);
+        switch (at[1]) {
+        case RTR_IPV4_PREFIX:
+            status = prefix_status(at, left, size, 32, &detail);
+            made = 20;
+            if (status != RTR_OK || room < made)
+                goto stopped;
+            put_prefix(to, at, 20);
+            break;
+        case RTR_IPV6_PREFIX:
+            status = prefix_status(at, left, size, 128, &detail);
+            made = 32;
+            if (status != RTR_OK || room < made)
+                goto stopped;
+            put_prefix(to, at, 32);
+            break;
+        case RTR_END_OF_DATA:
+            status = end_status(at, left, size, &detail);
+            made = version < 0 ? size : version ? 24 : 12;
+            if (status != RTR_OK || room < made)
+                goto stopped;
+            to += put_end(to, at, size, version);
+            at += size;
+            made = 0;
+            goto stopped;
+        case RTR_ROUTER_KEY:
+            status = key_status(left, size);
+            made = size;
+            goto long_unit;
+        case RTR_ASPA:
+            status = aspa_status(at, left, size);
+            made = at[2] & 1 ? size : 12;
+        long_unit:
+            if (status == RTR_OK && (version == 0 || (version == 1 && at[1] == RTR_ASPA)))
+                continue;
+            if (status != RTR_OK || room < made)
+                goto stopped;
+            memcpy(to + 8, at + 8, made - 8);
+            put32(to, get32(at) & 0xffff0100);
+            put32(to + 4, (uint32_t)made);
+            break;
+        default:
+            detail = at[1];
+            status = RTR_UNIT_TYPE;
+            goto stopped;
+        }
+        if (version >= 0)
+            to[0] = (uint8_t)version;
+        to += made;
+        room -= made;
+        forms++;
+    }
+    if (units == limit)
+        status = RTR_TOO_MANY;
+    made = 0;
+stopped:
+    if (status == RTR_OK && room < made)
+        status = RTR_NO_ROOM;
+    answer_with(answer, status, detail, status != RTR_SHORT ? 0 : left < 8 ? 8 : size);
+    answer->units = units;
+    answer->forms = forms;
+    answer->taken = (size_t)(at - in);
+    answer->written = (size_t)(to - out);
+    return status;
+}
+
+uint8_t normalise_by_hand(const uint8_t *in, size_t left, uint8_t *out, size_t room,
+                          uint64_t limit, struct rtr_answer *answer)
+{
+    return normalise(in, left, out, room, limit, -1, answer);
+}
+
+uint8_t normalise_for_by_hand(const uint8_t *in, size_t left, uint8_t *out, size_t room,
+                              uint64_t limit, uint8_t version, struct rtr_answer *answer)
+{
+    if (version > 2) {
+        answer_with(answer, RTR_UNIT_VERSION, version, 0);
+        return RTR_UNIT_VERSION;
+    }
+    return normalise(in, left, out, room, limit, version, answer);
+}
+
+/* The status of a unit of a kind that no sequence has, whose header is there. */
+static uint8_t other_status(const uint8_t *in, size_t left, size_t size, uint8_t *detail)
+{
+    switch (in[1]) {
+    case RTR_SERIAL_NOTIFY:
+    case RTR_SERIAL_QUERY:
+        *detail = 0;
+        if (size != 12)
+            return RTR_UNIT_LENGTH;
+        break;
+    case RTR_RESET_QUERY:
+    case RTR_CACHE_RESPONSE:
+    case RTR_CACHE_RESET:
+        *detail = 0;
+        if (size != 8)
+            return RTR_UNIT_LENGTH;
+        break;
+    case RTR_ERROR_REPORT:
+        *detail = 0;
+        if (size > 65535)
+            return RTR_TOO_LONG;
+        if (size < REPORT_FIXED)
+            return RTR_UNIT_LENGTH;
+        break;
+    default:
+        return RTR_UNIT_TYPE;
+    }
+    return left < size ? RTR_SHORT : RTR_OK;
+}
+
+/* As `checked`, of a unit of any kind. */
+static inline uint8_t checked_any(const uint8_t *in, size_t left, size_t *size, uint8_t *detail)
+{
+    uint8_t status = checked(in, left, size, detail);
+    return status == RTR_UNIT_TYPE ? other_status(in, left, *size, detail) : status;
+}
+
+/* Shows what a unit says that no sequence has. */
+static void show_other(const uint8_t *in, size_t size, struct rtr_unit *unit)
+{
+    uint16_t second = (uint16_t)(in[2] << 8 | in[3]);
+    if (in[1] == RTR_ERROR_REPORT) {
+        unit->code = second;
+        size_t inner = get32(in + 8);
+        if (inner > size - REPORT_FIXED || get32(in + 12 + inner) != size - REPORT_FIXED - inner)
+            return;
+        unit->part_start = 12;
+        unit->part_length = inner;
+        unit->text_start = REPORT_FIXED + inner;
+        unit->text_length = size - REPORT_FIXED - inner;
+    } else if (in[1] != RTR_RESET_QUERY && in[1] != RTR_CACHE_RESET) {
+        unit->session = second;
+        if (in[1] != RTR_CACHE_RESPONSE)
+            unit->serial = get32(in + 8);
+    }
+}
+
+uint8_t next_by_hand(const uint8_t *in, size_t left, struct rtr_unit *unit)
+{
+    size_t size = 0;
+    /* In two pieces, which gcc clears without a loop. */
+    memset(unit, 0, 64);
+    memset((uint8_t *)unit + 64, 0, sizeof *unit - 64);
+    uint8_t status = checked_any(in, left, &size, &unit->detail);
+    if (status != RTR_OK) {
+        if (status == RTR_SHORT)
+            unit->wanted = left < 8 ? 8 : size;
+        if (status == RTR_PREFIX)
+            unit->size = size;
+        return status;
+    }
+    unit->size = size;
+    unit->kind = in[1];
+    unit->version = in[0];
+    switch (in[1]) {
+    case RTR_IPV4_PREFIX:
+    case RTR_IPV6_PREFIX:
+        unit->family = in[1];
+        unit->action = in[8] & 1;
+        unit->prefix_length = in[9];
+        unit->max_length = in[10];
+        put_cleared(unit->address, in + 12, in[1] == RTR_IPV4_PREFIX ? 4 : 16, in[9]);
+        unit->asn = get32(in + size - 4);
+        break;
+    case RTR_END_OF_DATA:
+        unit->session = (uint16_t)(in[2] << 8 | in[3]);
+        unit->serial = get32(in + 8);
+        if (in[0]) {
+            unit->refresh = get32(in + 12);
+            unit->retry = get32(in + 16);
+            unit->expire = get32(in + 20);
+        }
+        break;
+    case RTR_ROUTER_KEY:
+        unit->action = in[2] & 1;
+        memcpy(unit->key_identifier, in + 8, 20);
+        unit->asn = get32(in + 28);
+        unit->part_start = 32;
+        unit->part_length = size - 32;
+        break;
+    case RTR_ASPA:
+        unit->action = in[2] & 1;
+        unit->customer = get32(in + 8);
+        unit->part_start = 12;
+        unit->part_length = size - 12;
+        break;
+    default:
+        show_other(in, size, unit);
+    }
+    return RTR_OK;
+}
+
+static inline bool is_part(size_t start, size_t length, size_t all)
+{
+    return start <= all && length <= all - start;
+}
+
+/* The length of the form of a unit, or the status that refuses it, in the order of rtr.h. */
+static inline uint8_t formed(const struct rtr_unit *unit, size_t length, size_t *size)
+{
+    switch (unit->kind) {
+    case RTR_IPV4_PREFIX:
+    case RTR_IPV6_PREFIX: {
+        unsigned width = unit->kind == RTR_IPV4_PREFIX ? 32 : 128;
+        if (unit->action > 1 || unit->family != unit->kind)
+            return RTR_NO_FORM;
+        *size = unit->kind == RTR_IPV4_PREFIX ? 20 : 32;
+        return unit->prefix_length <= unit->max_length && unit->max_length <= width
+            ? RTR_OK : RTR_PREFIX;
+    }
+    case RTR_END_OF_DATA:
+        if (unit->action > 0)
+            return RTR_NO_FORM;
+        *size = unit->version ? 24 : 12;
+        return unit->version > 2 ? RTR_UNIT_VERSION : RTR_OK;
+    case RTR_ROUTER_KEY:
+    case RTR_ASPA:
+        if (!is_part(unit->part_start, unit->part_length, length) || unit->action > 1)
+            return RTR_NO_FORM;
+        if (unit->kind == RTR_ROUTER_KEY) {
+            *size = 32 + unit->part_length;
+            return unit->part_length > 65503 ? RTR_TOO_LONG : RTR_OK;
+        }
+        *size = unit->action ? 12 + unit->part_length : 12;
+        if (!unit->action)
+            return RTR_OK;
+        if (unit->part_length > 65520)
+            return RTR_TOO_LONG;
+        if (unit->part_length % 4)
+            return RTR_UNIT_LENGTH;
+        return unit->part_length ? RTR_OK : RTR_EMPTY_PROVIDERS;
+    case RTR_SERIAL_NOTIFY:
+    case RTR_SERIAL_QUERY:
+        *size = 12;
+        return unit->action > 0 ? RTR_NO_FORM : RTR_OK;
+    case RTR_RESET_QUERY:
+    case RTR_CACHE_RESPONSE:
+    case RTR_CACHE_RESET:
+        *size = 8;
+        return unit->action > 0 ? RTR_NO_FORM : RTR_OK;
+    case RTR_ERROR_REPORT:
+        if (unit->action > 0 || !is_part(unit->part_start, unit->part_length, length)
+            || !is_part(unit->text_start, unit->text_length, length))
+            return RTR_NO_FORM;
+        if (unit->part_length > 65535 || unit->text_length > 65535)
+            return RTR_TOO_LONG;
+        *size = REPORT_FIXED + unit->part_length + unit->text_length;
+        return *size > 65535 ? RTR_TOO_LONG : RTR_OK;
+    default:
+        return RTR_UNIT_TYPE;
+    }
+}
+
+/* Puts what a unit says that no sequence has. */
+static void put_other(uint8_t *out, const struct rtr_unit *unit, const uint8_t *in)
+{
+    uint16_t second = unit->kind == RTR_ERROR_REPORT ? unit->code
+        : unit->kind == RTR_RESET_QUERY || unit->kind == RTR_CACHE_RESET ? 0 : unit->session;
+    out[2] = (uint8_t)(second >> 8);
+    out[3] = (uint8_t)second;
+    if (unit->kind == RTR_ERROR_REPORT) {
+        put32(out + 8, (uint32_t)unit->part_length);
+        memcpy(out + 12, in + unit->part_start, unit->part_length);
+        put32(out + 12 + unit->part_length, (uint32_t)unit->text_length);
+        memcpy(out + REPORT_FIXED + unit->part_length, in + unit->text_start, unit->text_length);
+    } else if (unit->kind == RTR_SERIAL_NOTIFY || unit->kind == RTR_SERIAL_QUERY) {
+        put32(out + 8, unit->serial);
+    }
+}
+
+uint8_t write_by_hand(const struct rtr_unit *unit, const uint8_t *in, size_t length, uint8_t *out,
+                      size_t room, size_t *written)
+{
+    size_t size = 0;
+    uint8_t status = formed(unit, length, &size);
+    if (status == RTR_OK && size > room)
+        status = RTR_NO_ROOM;
+    if (status != RTR_OK) {
+        *written = 0;
+        return status;
+    }
+    out[0] = unit->version;
+    out[1] = unit->kind;
+    out[2] = out[3] = 0;
+    put32(out + 4, (uint32_t)size);
+    switch (unit->kind) {
+    case RTR_IPV4_PREFIX:
+    case RTR_IPV6_PREFIX:
+        out[8] = unit->action;
+        out[9] = unit->prefix_length;
+        out[10] = unit->max_length;
+        out[11] = 0;
+        put_cleared(out + 12, unit->address, unit->kind == RTR_IPV4_PREFIX ? 4 : 16,
+                    unit->prefix_length);
+        put32(out + size - 4, unit->asn);
+        break;
+    case RTR_END_OF_DATA:
+        out[2] = (uint8_t)(unit->session >> 8);
+        out[3] = (uint8_t)unit->session;
+        put32(out + 8, unit->serial);
+        if (unit->version) {
+            put32(out + 12, unit->refresh);
+            put32(out + 16, unit->retry);
+            put32(out + 20, unit->expire);
+        }
+        break;
+    case RTR_ROUTER_KEY:
+        out[2] = unit->action;
+        memcpy(out + 8, unit->key_identifier, 20);
+        put32(out + 28, unit->asn);
+        memcpy(out + 32, in + unit->part_start, size - 32);
+        break;
+    case RTR_ASPA:
+        out[2] = unit->action;
+        put32(out + 8, unit->customer);
+        memcpy(out + 12, in + unit->part_start, size - 12);
+        break;
+    default:
+        put_other(out, unit, in);
+    }
+    *written = size;
+    return RTR_OK;
+}
+
+/* The status of the rest of a sequence, of which so many units may be taken. */
+static uint8_t rest(const uint8_t *in, size_t left, uint64_t limit)
+{
+    uint8_t detail;
+    for (size_t size; limit > 0; limit--, in += size, left -= size) {
+        uint8_t status = checked(in, left, &size, &detail);
+        if (status != RTR_OK || in[1] == RTR_END_OF_DATA)
+            return status;
+    }
+    return RTR_TOO_MANY;
+}
+
+/* Whether two addresses are alike in their first bits. */
+static inline bool same_address(const uint8_t *left, const uint8_t *right, unsigned size,
+                                unsigned bits)
+{
+    uint8_t cleared[2][16];
+    put_cleared(cleared[0], left, size, bits);
+    put_cleared(cleared[1], right, size, bits);
+    return memcmp(cleared[0], cleared[1], size) == 0;
+}
+
+/* Whether two units that were checked mean the same. */
+static inline bool same_unit(const uint8_t *left, size_t left_size,
+                             const uint8_t *right, size_t right_size)
+{
+    if (left[0] != right[0] || left[1] != right[1])
+        return false;
+    switch (left[1]) {
+    case RTR_IPV4_PREFIX:
+    case RTR_IPV6_PREFIX:
+        return (left[8] & 1) == (right[8] & 1) && left[9] == right[9] && left[10] == right[10]
+            && memcmp(left + left_size - 4, right + left_size - 4, 4) == 0
+            && same_address(left + 12, right + 12, left[1] == RTR_IPV4_PREFIX ? 4 : 16, left[9]);
+    case RTR_END_OF_DATA:
+        return memcmp(left, right, left_size) == 0;
+    case RTR_ASPA:
+        if (!((left[2] | right[2]) & 1))
+            return memcmp(left + 8, right + 8, 4) == 0;
+        break;
+    }
+    return (left[2] & 1) == (right[2] & 1) && left_size == right_size
+        && memcmp(left + 8, right + 8, left_size - 8) == 0;
+}
+
+uint8_t same_meaning_by_hand(const uint8_t *left, size_t left_length,
+                             const uint8_t *right, size_t right_length,
+                             uint64_t limit, bool *same)
+{
+    for (uint64_t units = 0; units < limit; units++) {
+        size_t left_size, right_size;
+        uint8_t detail;
+        uint8_t status = checked(left, left_length, &left_size, &detail);
+        if (status != RTR_OK)
+            return status;
+        status = checked(right, right_length, &right_size, &detail);
+        if (status != RTR_OK || !same_unit(left, left_size, right, right_size)) {
+            uint8_t first = rest(left, left_length, limit - units);
+            if (first == RTR_OK && status == RTR_OK)
+                status = rest(right, right_length, limit - units);
+            if (first == RTR_OK && status == RTR_OK)
+                *same = false;
+            return first != RTR_OK ? first : status;
+        }
+        if (left[1] == RTR_END_OF_DATA) {
+            *same = true;
+            return RTR_OK;
+        }
+        left += left_size;
+        left_length -= left_size;
+        right += right_size;
+        right_length -= right_size;
+    }
+    return RTR_TOO_MANY;
+}

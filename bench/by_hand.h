@@ -1,0 +1,62 @@
+/* What rtr.h has, written by hand in C: what the calls are measured against. Nothing here is
+ * proved; bench/calls.c tests that both answer alike. */
+#ifndef FISHREEF_BY_HAND_H
+#define FISHREEF_BY_HAND_H
+
+#include <string.h>
+#include "rtr.h"
+
+static inline uint32_t get32(const uint8_t *at)
+{
+    uint32_t value;
+    memcpy(&value, at, 4);
+    return __builtin_bswap32(value);
+}
+
+static inline void put32(uint8_t *at, uint32_t value)
+{
+    value = __builtin_bswap32(value);
+    memcpy(at, &value, 4);
+}
+
+static inline uint64_t get64(const uint8_t *at)
+{
+    uint64_t value;
+    memcpy(&value, at, 8);
+    return __builtin_bswap64(value);
+}
+
+static inline void put64(uint8_t *at, uint64_t value)
+{
+    value = __builtin_bswap64(value);
+    memcpy(at, &value, 8);
+}
+
+/* An address of 4 or 16 bytes with the bits after the first so many cleared. */
+static inline void put_cleared(uint8_t *to, const uint8_t *from, unsigned size, unsigned bits)
+{
+    const uint64_t all = UINT64_MAX;
+    if (size == 4) {
+        put32(to, get32(from) & ~(uint32_t)(all >> 32 >> bits));
+        return;
+    }
+    put64(to, bits < 64 ? get64(from) & ~(all >> bits) : get64(from));
+    put64(to + 8, bits > 64 ? get64(from + 8) & all << (128 - bits) : 0);
+}
+
+/* As rtr_normalise_slice, rtr_normalise_for_slice, rtr_next, rtr_write_unit and
+ * rtr_same_meaning. */
+uint8_t normalise_by_hand(const uint8_t *input, size_t input_length,
+                          uint8_t *output, size_t output_length,
+                          uint64_t limit, struct rtr_answer *answer);
+uint8_t normalise_for_by_hand(const uint8_t *input, size_t input_length,
+                              uint8_t *output, size_t output_length,
+                              uint64_t limit, uint8_t version, struct rtr_answer *answer);
+uint8_t next_by_hand(const uint8_t *input, size_t input_length, struct rtr_unit *unit);
+uint8_t write_by_hand(const struct rtr_unit *unit, const uint8_t *input, size_t input_length,
+                      uint8_t *output, size_t output_length, size_t *written);
+uint8_t same_meaning_by_hand(const uint8_t *left, size_t left_length,
+                             const uint8_t *right, size_t right_length,
+                             uint64_t limit, bool *same);
+
+#endif

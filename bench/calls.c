@@ -1,0 +1,334 @@
+/* Compares the calls from C with the same jobs written by hand, in by_hand.c.
+ *
+ * usage: calls < SEQUENCE          times each job
+ *        calls --count FILE..      does each job once over each file, to be counted by callgrind
+ *
+ * once `bindings/build` has made the archive, or with that in prebuilt/:
+ *
+ *     cc -O3 -march=x86-64-v2 -Ibindings/c -o calls bench/calls.c bench/by_hand.c \
+ *         prebuilt/x86_64/librtr_wire.a
+ *
+ * The first prints for each job the best of 41 runs each way, interleaved, in nanoseconds a unit,
+ * and how many times as long the calls take. With --count callgrind dumps what each job took, and
+ * says of it `JOB WAY FILE`: bench/count reads that. Both end with status 1 if the two ways don't
+ * agree, on an input or with any bit of its front flipped. */
+#include <stdio.h>
+#include <stdlib.h>
+#include <string.h>
+#include <time.h>
+#include "by_hand.h"
+#include "counting.h"
+
+#define RUNS 41
+
+/* The version of the protocol that is written where one is asked for. */
+#define VERSION 1
+
+enum job { NORMALISE, NORMALISE_FOR, SAME_MEANING, NEXT, WRITE_UNIT, JOBS };
+
+static const char *const names[JOBS] = {
+    "rtr_normalise_slice", "rtr_normalise_for_slice", "rtr_same_meaning", "rtr_next",
+    "rtr_write_unit",
+};
+
+/* A sequence, its form, and its units with the end of data. */
+struct sample {
+    uint8_t *input, *form;
+    size_t length, form_length;
+    struct rtr_unit *units;
+    uint64_t count;
+};
+
+typedef uint8_t next_call(const uint8_t *, size_t, struct rtr_unit *);
+
+/* Goes over all units, and answers how many bytes they have. */
+static inline __attribute__((always_inline)) size_t read_units(next_call *next,
+                                                               const struct sample *sample)
+{
+    struct rtr_unit unit;
+    size_t taken = 0;
+    do {
+        if (next(sample->input + taken, sample->length - taken, &unit) != RTR_OK)
+            return 0;
+        taken += unit.size;
+    } while (unit.kind != RTR_END_OF_DATA);
+    return taken;
+}
+
+typedef uint8_t write_call(const struct rtr_unit *, const uint8_t *, size_t, uint8_t *, size_t,
+                           size_t *);
+
+/* Writes all units, and answers how many bytes it wrote. */
+static inline __attribute__((always_inline)) size_t write_units(write_call *write,
+                                                                const struct sample *sample,
+                                                                uint8_t *out, size_t room)
+{
+    const uint8_t *in = sample->input;
+    size_t made = 0, written;
+    for (uint64_t i = 0; i < sample->count; in += sample->units[i++].size) {
+        const struct rtr_unit *unit = &sample->units[i];
+        if (write(unit, in, unit->size, out + made, room - made, &written) != RTR_OK)
+            return 0;
+        made += written;
+    }
+    return made;
+}
+
+/* Does a job with the calls, and answers how much it made; 0 if it was refused. */
+static __attribute__((noinline)) size_t with_calls(enum job job, const struct sample *sample,
+                                                   uint8_t *out, size_t room)
+{
+    struct rtr_answer answer;
+    bool same = false;
+    switch (job) {
+    case NORMALISE:
+        return rtr_normalise_slice(sample->input, sample->length, out, room, UINT32_MAX,
+                                   &answer) == RTR_OK ? answer.written : 0;
+    case NORMALISE_FOR:
+        return rtr_normalise_for_slice(sample->input, sample->length, out, room, UINT32_MAX,
+                                       VERSION, &answer) == RTR_OK ? answer.written : 0;
+    case SAME_MEANING:
+        rtr_same_meaning(sample->input, sample->length, sample->form, sample->form_length,
+                         UINT32_MAX, &same);
+        return same;
+    case NEXT:
+        return read_units(rtr_next, sample);
+    default:
+        return write_units(rtr_write_unit, sample, out, room);
+    }
+}
+
+/* The same by hand. */
+static __attribute__((noinline)) size_t by_hand(enum job job, const struct sample *sample,
+                                                uint8_t *out, size_t room)
+{
+    struct rtr_answer answer;
+    bool same = false;
+    switch (job) {
+    case NORMALISE:
+        return normalise_by_hand(sample->input, sample->length, out, room, UINT32_MAX,
+                                 &answer) == RTR_OK ? answer.written : 0;
+    case NORMALISE_FOR:
+        return normalise_for_by_hand(sample->input, sample->length, out, room, UINT32_MAX,
+                                     VERSION, &answer) == RTR_OK ? answer.written : 0;
+    case SAME_MEANING:
+        same_meaning_by_hand(sample->input, sample->length, sample->form, sample->form_length,
+                             UINT32_MAX, &same);
+        return same;
+    case NEXT:
+        return read_units(next_by_hand, sample);
+    default:
+        return write_units(write_by_hand, sample, out, room);
+    }
+}
+
+/* Whether both ways decode a unit alike, and write it alike with any bit of its fields flipped. */
+static int agree_on_unit(const uint8_t *in, size_t left)
+{
+    static uint8_t out[2][65536];
+    struct rtr_unit unit[2];
+    size_t fields = offsetof(struct rtr_unit, detail) + 1, made[2];
+    uint8_t status = rtr_next(in, left, &unit[0]);
+    if (status != next_by_hand(in, left, &unit[1]) || memcmp(&unit[0], &unit[1], fields) != 0)
+        return 0;
+    for (size_t bit = 0; status == RTR_OK && bit < 8 * fields; bit++) {
+        uint8_t *turned = (uint8_t *)&unit[0] + bit / 8;
+        *turned ^= (uint8_t)(1 << bit % 8);
+        if (rtr_write_unit(&unit[0], in, left, out[0], sizeof out[0], &made[0])
+                != write_by_hand(&unit[0], in, left, out[1], sizeof out[1], &made[1])
+            || made[0] != made[1] || memcmp(out[0], out[1], made[0]) != 0)
+            return 0;
+        *turned ^= (uint8_t)(1 << bit % 8);
+    }
+    return 1;
+}
+
+/* Whether both ways normalise alike, for one version too. */
+static int agree_on_form(const uint8_t *in, size_t length)
+{
+    static uint8_t out[2][2048];
+    struct rtr_answer answer[2];
+    for (int version = -1; version < 4; version++) {
+        if (version < 0) {
+            rtr_normalise_slice(in, length, out[0], length, UINT32_MAX, &answer[0]);
+            normalise_by_hand(in, length, out[1], length, UINT32_MAX, &answer[1]);
+        } else {
+            rtr_normalise_for_slice(in, length, out[0], length + 12, UINT32_MAX,
+                                    (uint8_t)version, &answer[0]);
+            normalise_for_by_hand(in, length, out[1], length + 12, UINT32_MAX, (uint8_t)version,
+                                  &answer[1]);
+        }
+        if (memcmp(&answer[0], &answer[1], offsetof(struct rtr_answer, detail) + 1) != 0
+            || memcmp(out[0], out[1], answer[0].written) != 0)
+            return 0;
+    }
+    return 1;
+}
+
+/* Whether both ways compare two inputs alike. */
+static int agree_on_meaning(const uint8_t *left, size_t left_length, const uint8_t *right,
+                            size_t right_length)
+{
+    bool same[2] = {false, false};
+    return rtr_same_meaning(left, left_length, right, right_length, UINT32_MAX, &same[0])
+            == same_meaning_by_hand(left, left_length, right, right_length, UINT32_MAX, &same[1])
+        && same[0] == same[1];
+}
+
+/* Whether both ways answer alike with any bit of the front of the input flipped. */
+static int agree_on_damaged(const struct sample *sample)
+{
+    uint8_t *in = sample->input;
+    size_t left = sample->length, most = left < 1024 ? left : 1024, begin = 0, end = 0;
+    struct rtr_unit unit;
+    for (size_t bit = 0; bit < 8 * most; bit++) {
+        if (bit == 8 * end) {
+            if (rtr_next(in + end, left - end, &unit) != RTR_OK)
+                return 1;
+            begin = end;
+            end += unit.size;
+        }
+        in[bit / 8] ^= (uint8_t)(1 << bit % 8);
+        if (!agree_on_form(in, most) || !agree_on_unit(in + begin, most - begin)
+            || !agree_on_meaning(in, left, sample->form, sample->form_length)
+            || !agree_on_meaning(sample->form, sample->form_length, in, left))
+            return 0;
+        in[bit / 8] ^= (uint8_t)(1 << bit % 8);
+    }
+    return 1;
+}
+
+/* Reads a sequence to its end, and answers whether it is one and there was memory for it. */
+static int take_sample(FILE *from, struct sample *sample)
+{
+    size_t room = 1 << 16;
+    memset(sample, 0, sizeof *sample);
+    sample->input = malloc(room);
+    for (size_t n; sample->input
+            && (n = fread(sample->input + sample->length, 1, room - sample->length, from)) > 0;) {
+        sample->length += n;
+        if (sample->length == room)
+            sample->input = realloc(sample->input, room *= 2);
+    }
+    struct rtr_answer answer;
+    sample->form = malloc(sample->length + 1);
+    if (!sample->input || !sample->form
+        || rtr_normalise_slice(sample->input, sample->length, sample->form, sample->length,
+                               UINT32_MAX, &answer) != RTR_OK)
+        return 0;
+    sample->form_length = answer.written;
+    sample->count = answer.units + 1;
+    sample->units = malloc(sample->count * sizeof *sample->units);
+    for (uint64_t i = 0, at = 0; sample->units && i < sample->count; at += sample->units[i++].size)
+        if (rtr_next(sample->input + at, sample->length - at, &sample->units[i]) != RTR_OK)
+            return 0;
+    return sample->units != NULL;
+}
+
+static void drop_sample(struct sample *sample)
+{
+    free(sample->input);
+    free(sample->form);
+    free(sample->units);
+}
+
+/* Whether each job makes the same in both ways. */
+static int agree(const struct sample *sample, uint8_t *out[2], size_t room)
+{
+    for (enum job job = 0; job < JOBS; job++) {
+        memset(out[0], 1, room);
+        memset(out[1], 1, room);
+        size_t made = with_calls(job, sample, out[0], room);
+        if (made == 0 || made != by_hand(job, sample, out[1], room)
+            || memcmp(out[0], out[1], room) != 0)
+            return 0;
+    }
+    return 1;
+}
+
+/* Does each job in each way, and has callgrind dump what it took. */
+static void count(const char *file, const struct sample *sample, uint8_t *out, size_t room)
+{
+    char said[4096];
+    for (enum job job = 0; job < JOBS; job++) {
+        snprintf(said, sizeof said, "%s ours %s", names[job], file);
+        CALLGRIND_ZERO_STATS;
+        with_calls(job, sample, out, room);
+        CALLGRIND_DUMP_STATS_AT(said);
+        snprintf(said, sizeof said, "%s by-hand %s", names[job], file);
+        CALLGRIND_ZERO_STATS;
+        by_hand(job, sample, out, room);
+        CALLGRIND_DUMP_STATS_AT(said);
+    }
+}
+
+static double now(void)
+{
+    struct timespec time;
+    clock_gettime(CLOCK_MONOTONIC, &time);
+    return (double)time.tv_sec * 1e9 + (double)time.tv_nsec;
+}
+
+static void best(double *least, double begun)
+{
+    double taken = now() - begun;
+    if (*least == 0 || taken < *least)
+        *least = taken;
+}
+
+static void print_times(const struct sample *sample, uint8_t *out, size_t room)
+{
+    for (enum job job = 0; job < JOBS; job++) {
+        double ours = 0, hand = 0, units = (double)sample->count;
+        for (int i = 0; i < RUNS; i++) {
+            double begun = now();
+            with_calls(job, sample, out, room);
+            best(&ours, begun);
+            begun = now();
+            by_hand(job, sample, out, room);
+            best(&hand, begun);
+        }
+        printf("%s: calls %.2f ns a unit, by hand %.2f ns, %.2f times as long\n", names[job],
+               ours / units, hand / units, ours / hand);
+    }
+}
+
+/* Takes a file, tests that both ways agree on it, and counts or times them. */
+static int measure(FILE *from, const char *counted)
+{
+    struct sample sample;
+    if (!from || !take_sample(from, &sample)) {
+        fprintf(stderr, "no sequence, or no memory for it\n");
+        return 0;
+    }
+    size_t room = sample.length + 12;
+    uint8_t *out[2] = {malloc(room), malloc(room)};
+    int alike = out[0] && out[1] && agree(&sample, out, room);
+    if (alike && counted)
+        count(counted, &sample, out[0], room);
+    else if (alike && (alike = agree_on_damaged(&sample)))
+        print_times(&sample, out[0], room);
+    if (!alike)
+        fprintf(stderr, "the calls and the code by hand differ\n");
+    free(out[0]);
+    free(out[1]);
+    drop_sample(&sample);
+    return alike;
+}
+
+int main(int words, char **word)
+{
+    if (words == 1)
+        return !measure(stdin, NULL);
+    if (words < 3 || strcmp(word[1], "--count") != 0) {
+        fprintf(stderr, "usage: calls < SEQUENCE, or calls --count FILE..\n");
+        return 2;
+    }
+    for (int i = 2; i < words; i++) {
+        FILE *from = fopen(word[i], "rb");
+        if (!measure(from, word[i]))
+            return 1;
+        fclose(from);
+    }
+    return 0;
+}

@@ -1,0 +1,13 @@
+/* How a program has callgrind count a part of it alone. Without valgrind's header nothing is
+ * counted. */
+#ifndef FISHREEF_COUNTING_H
+#define FISHREEF_COUNTING_H
+
+#if __has_include(<valgrind/callgrind.h>)
+#include <valgrind/callgrind.h>
+#else
+#define CALLGRIND_ZERO_STATS ((void)0)
+#define CALLGRIND_DUMP_STATS_AT(text) ((void)(text))
+#endif
+
+#endif

@@ -1,0 +1,623 @@
+/* The programs by hand in C: what rtr_normalise and rtr_list are measured against.
+ *
+ * usage: programs normalise|version1|list|json|check < SEQUENCE
+ *        programs --count FILE..      does each job over each file, to be counted by callgrind
+ *
+ *     cc -O3 -march=x86-64-v2 -Ibindings/c -o programs bench/programs.c bench/by_hand.c
+ *
+ * They write what `rtr_normalise`, `rtr_normalise --version 1`, `rtr_list`, `rtr_list --json` and
+ * `rtr_list --check` write of sequences of payload units, through buffers of 64 KiB; of units of
+ * other types they know nothing. With --count callgrind dumps what each job took, and says of it
+ * `JOB FILE`. Nothing here is proved: bench/count compares what both write, and counts both. */
+#include <fcntl.h>
+#include <stdio.h>
+#include <stdlib.h>
+#include <unistd.h>
+#include "by_hand.h"
+#include "counting.h"
+
+enum { BUFFER = 65536, LINE = 400000 };
+
+static uint8_t input[2 * BUFFER];
+static size_t input_at, input_end;
+static char output[BUFFER + LINE];
+static size_t output_end;
+static uint64_t offset;
+static bool found_any;
+
+static void stop(const char *why)
+{
+    fprintf(stderr, "programs: %s\n", why);
+    exit(3);
+}
+
+/* Reads on, keeping what was not taken, and answers whether anything came. */
+static bool refill(void)
+{
+    memmove(input, input + input_at, input_end - input_at);
+    input_end -= input_at;
+    input_at = 0;
+    ssize_t got = read(STDIN_FILENO, input + input_end, BUFFER);
+    if (got < 0)
+        stop("read failed");
+    input_end += (size_t)got;
+    return got > 0;
+}
+
+static void flush(void)
+{
+    for (size_t put = 0; put < output_end;) {
+        ssize_t took = write(STDOUT_FILENO, output + put, output_end - put);
+        if (took <= 0)
+            stop("write failed");
+        put += (size_t)took;
+    }
+    output_end = 0;
+}
+
+/* ---- rtr_normalise */
+
+static int normalise_all(int version)
+{
+    struct rtr_answer answer;
+    for (;;) {
+        const uint8_t *from = input + input_at;
+        size_t left = input_end - input_at, room = sizeof output - output_end;
+        uint8_t *to = (uint8_t *)output + output_end;
+        uint8_t status = version < 0
+            ? normalise_by_hand(from, left, to, room, UINT32_MAX, &answer)
+            : normalise_for_by_hand(from, left, to, room, UINT32_MAX, (uint8_t)version, &answer);
+        input_at += answer.taken;
+        output_end += answer.written;
+        if (output_end >= BUFFER || status != RTR_SHORT)
+            flush();
+        if (status == RTR_OK || (status == RTR_SHORT && !refill()))
+            return status != RTR_OK;
+        if (status != RTR_SHORT && status != RTR_NO_ROOM)
+            return 1;
+    }
+}
+
+/* ---- text */
+
+static void put_text(const char *text)
+{
+    size_t length = strlen(text);
+    memcpy(output + output_end, text, length);
+    output_end += length;
+}
+
+static void put_byte(char byte)
+{
+    output[output_end++] = byte;
+}
+
+static void put_number(uint64_t number)
+{
+    char digits[20];
+    int at = 20;
+    do
+        digits[--at] = (char)('0' + number % 10);
+    while (number /= 10);
+    memcpy(output + output_end, digits + at, (size_t)(20 - at));
+    output_end += (size_t)(20 - at);
+}
+
+static void put_labelled(const char *label, uint64_t number)
+{
+    put_text(label);
+    put_number(number);
+}
+
+static const char hex_digits[] = "0123456789abcdef";
+
+static void put_hex(const uint8_t *at, size_t length)
+{
+    for (size_t i = 0; i < length; i++) {
+        put_byte(hex_digits[at[i] >> 4]);
+        put_byte(hex_digits[at[i] & 15]);
+    }
+}
+
+static void put_ipv4(const uint8_t *at)
+{
+    put_number(at[0]);
+    for (int i = 1; i < 4; i++) {
+        put_byte('.');
+        put_number(at[i]);
+    }
+}
+
+static void put_group(unsigned group)
+{
+    int shift = group > 0xfff ? 12 : group > 0xff ? 8 : group > 0xf ? 4 : 0;
+    for (; shift >= 0; shift -= 4)
+        put_byte(hex_digits[group >> shift & 15]);
+}
+
+/* As RFC 5952 has it: the first of the longest runs of two and more zeros is left out. */
+static void put_ipv6(const uint8_t *at)
+{
+    static const uint8_t mapped[12] = {0, 0, 0, 0, 0, 0, 0, 0, 0, 0, 0xff, 0xff};
+    if (memcmp(at, mapped, 12) == 0) {
+        put_text("::ffff:");
+        put_ipv4(at + 12);
+        return;
+    }
+    unsigned group[8];
+    int start = 8, longest = 1;
+    for (int i = 0, run = 0; i < 8; i++) {
+        group[i] = (unsigned)at[2 * i] << 8 | at[2 * i + 1];
+        run = group[i] ? 0 : run + 1;
+        if (run > longest) {
+            longest = run;
+            start = i + 1 - run;
+        }
+    }
+    for (int i = 0; i < 8; i++) {
+        if (i == start) {
+            put_text("::");
+            i += longest - 1;
+            continue;
+        }
+        if (i > 0 && i != start + longest)
+            put_byte(':');
+        put_group(group[i]);
+    }
+}
+
+/* Base64 with the alphabet of RFC 4648 section 5, without padding. */
+static void put_base64(const uint8_t *at, size_t length)
+{
+    static const char digits[] =
+        "ABCDEFGHIJKLMNOPQRSTUVWXYZabcdefghijklmnopqrstuvwxyz0123456789-_";
+    for (; length >= 3; at += 3, length -= 3) {
+        uint32_t group = (uint32_t)at[0] << 16 | (uint32_t)at[1] << 8 | at[2];
+        put_byte(digits[group >> 18]);
+        put_byte(digits[group >> 12 & 63]);
+        put_byte(digits[group >> 6 & 63]);
+        put_byte(digits[group & 63]);
+    }
+    if (length > 0) {
+        uint32_t group = (uint32_t)at[0] << 16 | (length > 1 ? (uint32_t)at[1] << 8 : 0);
+        put_byte(digits[group >> 18]);
+        put_byte(digits[group >> 12 & 63]);
+        if (length > 1)
+            put_byte(digits[group >> 6 & 63]);
+    }
+}
+
+/* ---- rtr_list */
+
+static bool is_prefix(const uint8_t *in)
+{
+    return in[1] == RTR_IPV4_PREFIX || in[1] == RTR_IPV6_PREFIX;
+}
+
+static uint8_t flags_of(const uint8_t *in)
+{
+    return is_prefix(in) ? in[8] : in[2];
+}
+
+static void put_address(const uint8_t *in)
+{
+    if (in[1] == RTR_IPV4_PREFIX)
+        put_ipv4(in + 12);
+    else
+        put_ipv6(in + 12);
+}
+
+static void list_unit(const uint8_t *in, size_t size)
+{
+    put_number(offset);
+    put_labelled(" v", in[0]);
+    if (in[1] == RTR_END_OF_DATA) {
+        put_labelled(" end of data session ", (unsigned)in[2] << 8 | in[3]);
+        put_labelled(" serial ", get32(in + 8));
+        if (in[0]) {
+            put_labelled(" refresh ", get32(in + 12));
+            put_labelled(" retry ", get32(in + 16));
+            put_labelled(" expire ", get32(in + 20));
+        }
+        put_byte('\n');
+        return;
+    }
+    put_text(in[1] == RTR_IPV4_PREFIX ? " IPv4 prefix" : in[1] == RTR_IPV6_PREFIX ? " IPv6 prefix"
+             : in[1] == RTR_ROUTER_KEY ? " router key" : " ASPA");
+    put_text(flags_of(in) & 1 ? " announce" : " withdraw");
+    if (is_prefix(in)) {
+        put_byte(' ');
+        put_address(in);
+        put_labelled("/", in[9]);
+        put_labelled("-", in[10]);
+        put_labelled(" AS", get32(in + size - 4));
+    } else if (in[1] == RTR_ROUTER_KEY) {
+        put_byte(' ');
+        put_hex(in + 8, 20);
+        put_labelled(" AS", get32(in + 28));
+        put_byte(' ');
+        put_base64(in + 32, size - 32);
+    } else {
+        put_labelled(" AS", get32(in + 8));
+        put_text(" providers");
+        for (size_t at = 12; at < size; at += 4)
+            put_labelled(" AS", get32(in + at));
+    }
+    put_byte('\n');
+}
+
+static void object_of_payload(const uint8_t *in, size_t size)
+{
+    put_labelled(",\"flags\":", flags_of(in));
+    put_text(flags_of(in) & 1 ? ",\"action\":\"announce\"" : ",\"action\":\"withdraw\"");
+    if (is_prefix(in)) {
+        put_labelled(",\"zero\":[", (unsigned)in[2] << 8 | in[3]);
+        put_labelled(",", in[11]);
+        put_text("],\"prefix\":\"");
+        put_address(in);
+        put_labelled("\",\"prefix_length\":", in[9]);
+        put_labelled(",\"max_length\":", in[10]);
+        put_labelled(",\"asn\":", get32(in + size - 4));
+    } else if (in[1] == RTR_ROUTER_KEY) {
+        put_labelled(",\"zero\":[", in[3]);
+        put_text("],\"subject_key_identifier\":\"");
+        put_hex(in + 8, 20);
+        put_labelled("\",\"asn\":", get32(in + 28));
+        put_text(",\"subject_public_key_info\":\"");
+        put_base64(in + 32, size - 32);
+        put_byte('"');
+    } else {
+        put_labelled(",\"zero\":[", in[3]);
+        put_labelled("],\"customer_asn\":", get32(in + 8));
+        put_text(",\"provider_asns\":[");
+        for (size_t at = 12; at < size; at += 4)
+            put_labelled(at > 12 ? "," : "", get32(in + at));
+        put_byte(']');
+    }
+}
+
+static void object_of(const uint8_t *in, size_t size)
+{
+    put_labelled("{\"offset\":", offset);
+    put_labelled(",\"length\":", size);
+    put_text(",\"kind\":\"");
+    put_text(in[1] == RTR_IPV4_PREFIX ? "ipv4_prefix" : in[1] == RTR_IPV6_PREFIX ? "ipv6_prefix"
+             : in[1] == RTR_ROUTER_KEY ? "router_key" : in[1] == RTR_ASPA ? "aspa"
+             : "end_of_data");
+    put_labelled("\",\"version\":", in[0]);
+    if (in[1] == RTR_END_OF_DATA) {
+        put_labelled(",\"session_id\":", (unsigned)in[2] << 8 | in[3]);
+        put_labelled(",\"serial_number\":", get32(in + 8));
+        if (in[0]) {
+            put_labelled(",\"refresh_interval\":", get32(in + 12));
+            put_labelled(",\"retry_interval\":", get32(in + 16));
+            put_labelled(",\"expire_interval\":", get32(in + 20));
+        }
+    } else {
+        object_of_payload(in, size);
+    }
+    put_text("}\n");
+}
+
+/* ---- rtr_list --check */
+
+/* What is announced in the sequence: a table by hash with open addresses. A payload is its type,
+ * and the bytes that tell it from others of its type, from `start` on in `kept`. */
+struct slot {
+    uint64_t hash;
+    size_t start;
+    uint32_t length;
+    enum { FREE, TAKEN, GONE } state;
+};
+
+static struct slot *table;
+static size_t table_size, table_used;
+static uint8_t *kept;
+static size_t kept_length, kept_room;
+static int sequence_version = -1;
+
+static uint64_t hash_of(const uint8_t *at, size_t length)
+{
+    uint64_t hash = length;
+    for (; length >= 8; at += 8, length -= 8)
+        hash = (hash ^ get64(at)) * UINT64_C(0x9e3779b97f4a7c15), hash ^= hash >> 32;
+    for (; length > 0; at++, length--)
+        hash = (hash ^ *at) * UINT64_C(0x9e3779b97f4a7c15), hash ^= hash >> 32;
+    return hash;
+}
+
+static void grow_table(void)
+{
+    size_t size = table_size ? 2 * table_size : 1024;
+    struct slot *larger = calloc(size, sizeof *larger);
+    if (!larger)
+        stop("out of memory");
+    table_used = 0;
+    for (size_t i = 0; i < table_size; i++) {
+        if (table[i].state != TAKEN)
+            continue;
+        size_t place = table[i].hash & (size - 1);
+        while (larger[place].state == TAKEN)
+            place = (place + 1) & (size - 1);
+        larger[place] = table[i];
+        table_used++;
+    }
+    free(table);
+    table = larger;
+    table_size = size;
+}
+
+/* The slot of a payload, or the first free one. */
+static struct slot *slot_of(const uint8_t *payload, size_t length, uint64_t hash)
+{
+    size_t place = hash & (table_size - 1);
+    while (table[place].state != FREE) {
+        const struct slot *slot = &table[place];
+        if (slot->state == TAKEN && slot->hash == hash && slot->length == length
+            && memcmp(kept + slot->start, payload, length) == 0)
+            break;
+        place = (place + 1) & (table_size - 1);
+    }
+    return &table[place];
+}
+
+/* Counts a payload as announced or withdrawn, and answers whether it was announced before. */
+static bool count_payload(const uint8_t *payload, size_t length, bool announced)
+{
+    if (2 * table_used >= table_size)
+        grow_table();
+    uint64_t hash = hash_of(payload, length);
+    struct slot *slot = slot_of(payload, length, hash);
+    bool was = slot->state == TAKEN;
+    if (!announced && was)
+        slot->state = GONE;
+    if (!announced || was)
+        return was;
+    if (kept_length + length > kept_room) {
+        kept_room = 2 * kept_room + length + BUFFER;
+        kept = realloc(kept, kept_room);
+        if (!kept)
+            stop("out of memory");
+    }
+    memcpy(kept + kept_length, payload, length);
+    *slot = (struct slot){hash, kept_length, (uint32_t)length, TAKEN};
+    kept_length += length;
+    table_used++;
+    return false;
+}
+
+static void begin_sequence(void)
+{
+    if (table)
+        memset(table, 0, table_size * sizeof *table);
+    table_used = kept_length = 0;
+    sequence_version = -1;
+}
+
+static void begin_finding(void)
+{
+    put_labelled("offset ", offset);
+    put_text(": ");
+    found_any = true;
+}
+
+static void find(const char *what)
+{
+    begin_finding();
+    put_text(what);
+    put_byte('\n');
+}
+
+static void check_reserved(unsigned place, uint8_t byte)
+{
+    if (byte == 0)
+        return;
+    begin_finding();
+    put_labelled("reserved byte ", place);
+    put_text(" is not zero\n");
+}
+
+static void check_flags(uint8_t flags)
+{
+    if (flags > 1)
+        find("reserved bits of the flags are not zero");
+}
+
+static void check_version(uint8_t version)
+{
+    if (sequence_version < 0 || sequence_version == version)
+        return;
+    begin_finding();
+    put_labelled("version ", version);
+    put_labelled(" differs from version ", (unsigned)sequence_version);
+    put_text(" of the sequence\n");
+}
+
+static void check_lacks(uint8_t version, uint8_t first)
+{
+    if (version >= first)
+        return;
+    begin_finding();
+    put_labelled("version ", version);
+    put_text(" has no unit of this type\n");
+}
+
+static void check_twice(const uint8_t *payload, size_t length, uint8_t flags)
+{
+    if (count_payload(payload, length, flags & 1) && flags & 1)
+        find("announced twice in the sequence");
+}
+
+static void check_prefix(const uint8_t *in, size_t size)
+{
+    check_reserved(2, in[2]);
+    check_reserved(3, in[3]);
+    check_flags(in[8]);
+    check_reserved(11, in[11]);
+    unsigned width = in[1] == RTR_IPV4_PREFIX ? 32 : 128;
+    if (in[9] > width) {
+        find("prefix length is too large");
+    } else if (in[10] > width) {
+        find("max length is too large");
+    } else if (in[10] < in[9]) {
+        find("max length is below the prefix length");
+    } else {
+        uint8_t payload[24];
+        payload[0] = in[1];
+        payload[1] = in[9];
+        payload[2] = in[10];
+        payload[3] = 0;
+        put_cleared(payload + 4, in + 12, width / 8, in[9]);
+        if (memcmp(payload + 4, in + 12, width / 8) != 0)
+            find("host bits of the prefix are not zero");
+        memcpy(payload + 4 + width / 8, in + size - 4, 4);
+        check_twice(payload, 8 + width / 8, in[8]);
+    }
+}
+
+static void check_key(const uint8_t *in, size_t size)
+{
+    static uint8_t payload[BUFFER];
+    check_flags(in[2]);
+    check_reserved(3, in[3]);
+    check_lacks(in[0], 1);
+    payload[0] = in[1];
+    memcpy(payload + 1, in + 8, size - 8);
+    check_twice(payload, size - 7, in[2]);
+}
+
+static void check_aspa(const uint8_t *in, size_t size)
+{
+    check_flags(in[2]);
+    check_reserved(3, in[3]);
+    check_lacks(in[0], 2);
+    if (!(in[2] & 1) && size > 12) {
+        bool older = in[2] == 0 && in[3] == 0 && in[8] <= 1 && in[9] <= 1
+            && ((size_t)in[10] << 8 | in[11]) + 1 == (size - 12) / 4;
+        find(older ? "withdrawn ASPA has providers; looks like the layout of an older draft"
+             : "withdrawn ASPA has providers");
+    }
+    for (size_t at = 16; at < size; at += 4) {
+        if (get32(in + at - 4) >= get32(in + at)) {
+            find("providers are not in ascending order");
+            break;
+        }
+    }
+    uint8_t payload[5] = {in[1]};
+    memcpy(payload + 1, in + 8, 4);
+    check_twice(payload, sizeof payload, in[2]);
+}
+
+static void check_unit(const uint8_t *in, size_t size)
+{
+    check_version(in[0]);
+    if (in[1] == RTR_END_OF_DATA) {
+        begin_sequence();
+        return;
+    }
+    if (sequence_version < 0)
+        sequence_version = in[0];
+    if (is_prefix(in))
+        check_prefix(in, size);
+    else if (in[1] == RTR_ROUTER_KEY)
+        check_key(in, size);
+    else
+        check_aspa(in, size);
+}
+
+/* ---- the loop */
+
+/* Whether a unit of this type has this length. */
+static bool is_length(const uint8_t *in, size_t size)
+{
+    switch (in[1]) {
+    case RTR_IPV4_PREFIX:
+        return size == 20;
+    case RTR_IPV6_PREFIX:
+        return size == 32;
+    case RTR_END_OF_DATA:
+        return in[0] <= 2 && size == (in[0] ? 24 : 12);
+    case RTR_ROUTER_KEY:
+        return size >= 32 && size <= 65535;
+    case RTR_ASPA:
+        return size >= 12 && size <= 65535 && size % 4 == 0 && (size > 12 || !(in[2] & 1));
+    default:
+        return false;
+    }
+}
+
+static int list_all(void (*put_unit)(const uint8_t *, size_t))
+{
+    for (;;) {
+        const uint8_t *in = input + input_at;
+        size_t left = input_end - input_at, size = left < 8 ? 8 : get32(in + 4);
+        if (left >= 8 && !is_length(in, size))
+            stop("a unit that isn't known here, or is refused");
+        if (left < size) {
+            if (refill())
+                continue;
+            if (left > 0)
+                stop("unexpected end of input");
+            flush();
+            return found_any;
+        }
+        put_unit(in, size);
+        offset += size;
+        input_at += size;
+        if (output_end >= BUFFER)
+            flush();
+    }
+}
+
+static const char *const jobs[] = {"normalise", "version1", "list", "json", "check"};
+
+enum { JOBS = sizeof jobs / sizeof jobs[0] };
+
+static int run(int job)
+{
+    switch (job) {
+    case 0:
+        return normalise_all(-1);
+    case 1:
+        return normalise_all(1);
+    case 2:
+        return list_all(list_unit);
+    case 3:
+        return list_all(object_of);
+    default:
+        return list_all(check_unit);
+    }
+}
+
+/* Does each job over a file as if the program had just begun, but for the memory that it has. */
+static void count(const char *file)
+{
+    char said[4096];
+    for (int job = 0; job < JOBS; job++) {
+        int from = open(file, O_RDONLY);
+        if (from < 0 || dup2(from, STDIN_FILENO) < 0)
+            stop("no such file");
+        close(from);
+        input_at = input_end = 0;
+        offset = 0;
+        begin_sequence();
+        snprintf(said, sizeof said, "%s %s", jobs[job], file);
+        CALLGRIND_ZERO_STATS;
+        run(job);
+        CALLGRIND_DUMP_STATS_AT(said);
+    }
+}
+
+int main(int words, char **word)
+{
+    for (int i = 2; words > 2 && strcmp(word[1], "--count") == 0; i++) {
+        if (i == words)
+            return 0;
+        count(word[i]);
+    }
+    for (int job = 0; words == 2 && job < JOBS; job++)
+        if (strcmp(word[1], jobs[job]) == 0)
+            return run(job);
+    fprintf(stderr, "usage: programs normalise|version1|list|json|check, or --count FILE..\n");
+    return 2;
+}
