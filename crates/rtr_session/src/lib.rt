@@ -4,6 +4,7 @@
 
 pub mod answering;
 mod any_unit;
+mod convert;
 pub mod laws;
 pub mod length;
 pub mod placing;

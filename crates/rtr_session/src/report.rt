@@ -36,7 +36,7 @@ pub(crate) const MIN_SIZE: u32 = 16;
 /// many as its length field says.
 #[derive(Debug, Drop)]
 pub struct Report {
-    bytes: Vec<u8>,
+    pub(crate) bytes: Vec<u8>,
 }
 
 impl Model for Report {

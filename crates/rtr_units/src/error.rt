@@ -124,6 +124,24 @@ impl Error {
     }
 }
 
+/// The bytes as a report. None of them is checked.
+impl From<Vec<u8>> for Error {
+    ghost from_gives = { λ bytes error. error ≡ bytes.items };
+
+    fn from(bytes: Vec<u8>) -> Self {
+        Error { bytes }
+    }
+}
+
+/// The bytes of the report. None is copied.
+impl From<Error> for Vec<u8> {
+    ghost from_gives = { λ error bytes. bytes.items ≡ error };
+
+    fn from(error: Error) -> Self {
+        error.bytes
+    }
+}
+
 /// Skips this many bytes.
 fn skip<R: Source>(reader: &mut R, size: usize) -> Result<(), Fault>
     ensures bytes { (t : List ℕ) × FillsPiece size (by_bytes (λ _. t) result)
