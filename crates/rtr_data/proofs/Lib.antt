@@ -14,3 +14,4 @@ pub mod Fronts
 pub mod Written
 pub mod Versions
 pub mod Accepted
+pub mod Applied

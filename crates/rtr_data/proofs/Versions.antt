@@ -24,11 +24,11 @@ filter_all [] = refl
 filter_all (x ∷ xs) = ap (λ l. x ∷ l) (filter_all xs)
 
 -- the changes from nothing
-from_nothing : (d : List Payload) → changes [] d ≡ map announcement d
+pub from_nothing : (d : List Payload) → changes [] d ≡ map announcement d
 from_nothing d =
     append-nil (map announcement (filter (λ x. true) d)) ∙ ap (map announcement) (filter_all d)
 
-no_data : IsData []
+pub no_data : IsData []
 unfolding IsStrictlySortedBy
 no_data = tt
 

@@ -5,3 +5,4 @@ pub mod Changes
 pub mod Deltas
 pub mod PrivateForms
 pub mod Sequences
+pub mod Applying

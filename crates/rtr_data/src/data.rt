@@ -11,6 +11,9 @@ ghost use Rattle.rtr_data.specs.Contents.{unfit};
 ghost use Rattle.rtr_data.specs.Changes.{announcements, withdrawals};
 ghost use Rattle.rtr_data.specs.Deltas.{all_for, change_forms, changes_for, data_for};
 
+mod applying;
+mod copying;
+
 use crate::change_error::ChangeError;
 use crate::writing::{
     write_all_aspas, write_all_keys, write_all_origins, write_announced, write_keys, write_origins,

@@ -2,10 +2,12 @@
 //! how announcements and withdrawals change them.
 #![tactic(auto)]
 
+mod apply_error;
 mod change_error;
 mod data;
 pub mod laws;
 mod writing;
 
+pub use apply_error::{ApplyCause, ApplyError};
 pub use change_error::ChangeError;
 pub use data::Data;
