@@ -11,7 +11,8 @@
  * The first prints for each job the best of 41 runs each way, interleaved, in nanoseconds a unit,
  * and how many times as long the calls take. With --count callgrind dumps what each job took, and
  * says of it `JOB WAY FILE`: bench/count reads that. Both end with status 1 if the two ways don't
- * agree, on an input or with any bit of its front flipped. */
+ * agree on an input; the first also if they don't with any bit of its front flipped, or on units of
+ * all kinds with lengths at the limits. */
 #include <stdio.h>
 #include <stdlib.h>
 #include <string.h>
@@ -122,57 +123,89 @@ static __attribute__((noinline)) size_t by_hand(enum job job, const struct sampl
     }
 }
 
-/* Whether both ways decode a unit alike, and write it alike with any bit of its fields flipped. */
+/* Longer than any unit. */
+enum { LONGEST = 70000 };
+
+/* What the two ways write. */
+static uint8_t written[2][LONGEST];
+
+/* Whether both ways write a unit alike, also with a byte too little room. */
+static int agree_on_writing(const struct rtr_unit *unit, const uint8_t *in, size_t left)
+{
+    size_t made[2], room = LONGEST;
+    for (int i = 0; i < 2; i++, room = made[0] ? made[0] - 1 : 0)
+        if (rtr_write_unit(unit, in, left, written[0], room, &made[0])
+                != write_by_hand(unit, in, left, written[1], room, &made[1])
+            || made[0] != made[1] || memcmp(written[0], written[1], made[0]) != 0)
+            return 0;
+    return 1;
+}
+
+/* Whether both ways decode the unit at the front alike, and write it alike. */
 static int agree_on_unit(const uint8_t *in, size_t left)
 {
-    static uint8_t out[2][65536];
     struct rtr_unit unit[2];
-    size_t fields = offsetof(struct rtr_unit, detail) + 1, made[2];
-    uint8_t status = rtr_next(in, left, &unit[0]);
-    if (status != next_by_hand(in, left, &unit[1]) || memcmp(&unit[0], &unit[1], fields) != 0)
-        return 0;
-    for (size_t bit = 0; status == RTR_OK && bit < 8 * fields; bit++) {
-        uint8_t *turned = (uint8_t *)&unit[0] + bit / 8;
+    return rtr_next(in, left, &unit[0]) == next_by_hand(in, left, &unit[1])
+        && memcmp(&unit[0], &unit[1], offsetof(struct rtr_unit, detail) + 1) == 0
+        && agree_on_writing(&unit[0], in, left);
+}
+
+/* Whether both ways write the unit at the front alike with any bit of its fields flipped. */
+static int agree_on_fields(const uint8_t *in, size_t left)
+{
+    struct rtr_unit unit;
+    if (rtr_next(in, left, &unit) != RTR_OK)
+        return 1;
+    for (size_t bit = 0; bit < 8 * offsetof(struct rtr_unit, detail); bit++) {
+        uint8_t *turned = (uint8_t *)&unit + bit / 8;
         *turned ^= (uint8_t)(1 << bit % 8);
-        if (rtr_write_unit(&unit[0], in, left, out[0], sizeof out[0], &made[0])
-                != write_by_hand(&unit[0], in, left, out[1], sizeof out[1], &made[1])
-            || made[0] != made[1] || memcmp(out[0], out[1], made[0]) != 0)
+        if (!agree_on_writing(&unit, in, left))
             return 0;
         *turned ^= (uint8_t)(1 << bit % 8);
     }
     return 1;
 }
 
-/* Whether both ways normalise alike, for one version too. */
+/* Whether both ways normalise alike, for a version or with -1 for none, with this limit and room. */
+static int agree_on_run(const uint8_t *in, size_t length, int version, uint64_t limit, size_t room)
+{
+    struct rtr_answer answer[2];
+    if (version < 0) {
+        rtr_normalise_slice(in, length, written[0], room, limit, &answer[0]);
+        normalise_by_hand(in, length, written[1], room, limit, &answer[1]);
+    } else {
+        rtr_normalise_for_slice(in, length, written[0], room, limit, (uint8_t)version, &answer[0]);
+        normalise_for_by_hand(in, length, written[1], room, limit, (uint8_t)version, &answer[1]);
+    }
+    return memcmp(&answer[0], &answer[1], offsetof(struct rtr_answer, detail) + 1) == 0
+        && memcmp(written[0], written[1], answer[0].written) == 0;
+}
+
+/* Whether both ways normalise alike for each version, with room and with too little of it. */
 static int agree_on_form(const uint8_t *in, size_t length)
 {
-    static uint8_t out[2][2048];
-    struct rtr_answer answer[2];
-    for (int version = -1; version < 4; version++) {
-        if (version < 0) {
-            rtr_normalise_slice(in, length, out[0], length, UINT32_MAX, &answer[0]);
-            normalise_by_hand(in, length, out[1], length, UINT32_MAX, &answer[1]);
-        } else {
-            rtr_normalise_for_slice(in, length, out[0], length + 12, UINT32_MAX,
-                                    (uint8_t)version, &answer[0]);
-            normalise_for_by_hand(in, length, out[1], length + 12, UINT32_MAX, (uint8_t)version,
-                                  &answer[1]);
-        }
-        if (memcmp(&answer[0], &answer[1], offsetof(struct rtr_answer, detail) + 1) != 0
-            || memcmp(out[0], out[1], answer[0].written) != 0)
+    for (int version = -1; version < 4; version++)
+        if (!agree_on_run(in, length, version, UINT32_MAX, LONGEST)
+            || !agree_on_run(in, length, version, UINT32_MAX, length / 2)
+            || !agree_on_run(in, length, version, 1, 23)
+            || !agree_on_run(in, length, version, 0, 0))
             return 0;
-    }
     return 1;
 }
 
-/* Whether both ways compare two inputs alike. */
+/* Whether both ways compare two inputs alike, also with a low limit. */
 static int agree_on_meaning(const uint8_t *left, size_t left_length, const uint8_t *right,
                             size_t right_length)
 {
-    bool same[2] = {false, false};
-    return rtr_same_meaning(left, left_length, right, right_length, UINT32_MAX, &same[0])
-            == same_meaning_by_hand(left, left_length, right, right_length, UINT32_MAX, &same[1])
-        && same[0] == same[1];
+    for (int i = 0; i < 4; i++) {
+        bool same[2] = {i % 2, i % 2};
+        uint64_t limit = i < 2 ? UINT32_MAX : 20;
+        if (rtr_same_meaning(left, left_length, right, right_length, limit, &same[0])
+                != same_meaning_by_hand(left, left_length, right, right_length, limit, &same[1])
+            || same[0] != same[1])
+            return 0;
+    }
+    return 1;
 }
 
 /* Whether both ways answer alike with any bit of the front of the input flipped. */
@@ -183,8 +216,9 @@ static int agree_on_damaged(const struct sample *sample)
     struct rtr_unit unit;
     for (size_t bit = 0; bit < 8 * most; bit++) {
         if (bit == 8 * end) {
-            if (rtr_next(in + end, left - end, &unit) != RTR_OK)
-                return 1;
+            if (rtr_next(in + end, left - end, &unit) != RTR_OK
+                || !agree_on_fields(in + end, left - end))
+                return end > 0;
             begin = end;
             end += unit.size;
         }
@@ -195,6 +229,68 @@ static int agree_on_damaged(const struct sample *sample)
             return 0;
         in[bit / 8] ^= (uint8_t)(1 << bit % 8);
     }
+    return 1;
+}
+
+/* Lengths at the limits of units and of their parts. */
+static const uint32_t lengths[] = {
+    0, 4, 8, 12, 13, 16, 17, 18, 20, 24, 31, 32, 33, 36, 65503, 65504, 65519, 65520, 65521, 65524,
+    65532, 65535, 65536, 65540,
+};
+
+enum { LENGTHS = sizeof lengths / sizeof lengths[0] };
+
+/* Whether both ways answer alike on a unit with this header, of which more and less is there. */
+static int agree_on_header(uint8_t *in, uint8_t version, uint8_t kind, uint8_t flags,
+                           uint32_t length)
+{
+    const size_t lefts[] = {0, 7, 8, length - (length > 0), length, LONGEST};
+    in[0] = version;
+    in[1] = kind;
+    in[2] = flags;
+    put32(in + 4, length);
+    for (size_t i = 0; i < sizeof lefts / sizeof lefts[0]; i++)
+        if (!agree_on_unit(in, lefts[i]) || !agree_on_form(in, lefts[i])
+            || !agree_on_meaning(in, lefts[i], in, LONGEST))
+            return 0;
+    return 1;
+}
+
+/* Whether both ways write units of this kind alike, whose parts have lengths at the limits. */
+static int agree_on_parts(const uint8_t *in, uint8_t version, uint8_t kind, uint8_t action)
+{
+    struct rtr_unit unit;
+    memset(&unit, 0, sizeof unit);
+    unit.version = version;
+    unit.kind = kind;
+    unit.action = action;
+    for (int i = 0; i < LENGTHS * LENGTHS; i++) {
+        unit.part_start = i % 3;
+        unit.part_length = lengths[i % LENGTHS];
+        unit.text_start = i % 5;
+        unit.text_length = lengths[i / LENGTHS] - (i % 2 && lengths[i / LENGTHS] >= 16 ? 16 : 0);
+        if (!agree_on_writing(&unit, in, 65536))
+            return 0;
+    }
+    return 1;
+}
+
+/* Whether both ways answer alike on all kinds of units with lengths at the limits. */
+static int agree_at_limits(void)
+{
+    static uint8_t in[LONGEST];
+    for (size_t i = 0; i < LONGEST; i++)
+        in[i] = (uint8_t)(i * 37 >> 3);
+    in[9] = 8;
+    in[10] = 24;
+    for (uint8_t kind = 0; kind < 13; kind++)
+        for (uint8_t which = 0; which < 8; which++) {
+            for (int i = 0; i < LENGTHS; i++)
+                if (!agree_on_header(in, which / 2, kind, which % 2, lengths[i]))
+                    return 0;
+            if (!agree_on_parts(in, which / 2, kind, which % 2))
+                return 0;
+        }
     return 1;
 }
 
@@ -306,7 +402,7 @@ static int measure(FILE *from, const char *counted)
     int alike = out[0] && out[1] && agree(&sample, out, room);
     if (alike && counted)
         count(counted, &sample, out[0], room);
-    else if (alike && (alike = agree_on_damaged(&sample)))
+    else if (alike && (alike = agree_at_limits() && agree_on_damaged(&sample)))
         print_times(&sample, out[0], room);
     if (!alike)
         fprintf(stderr, "the calls and the code by hand differ\n");
