@@ -5,6 +5,7 @@ mod Forms
 mod Headers
 mod Held
 pub mod Lengths
+mod Plain
 mod Replies
 pub mod Reports
 mod Stops

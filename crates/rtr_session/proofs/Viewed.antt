@@ -167,12 +167,6 @@ header_named r (faults.Prefix rule) long is =
     (refusal_report r rule) is)
 header_named r faults.TooMany long is = absurd is
 
--- units of the other types have the faults of payload units and ends of data
-of_other : (v t g n : ℕ) → t ≢ 0 → t ≢ 1 → t ≢ 2 → t ≢ 3 → t ≢ 8 → t ≢ 10 →
-    any_header_fault v t g n ≡ header_fault v t g n
-unfolding any_header_fault
-of_other v t g n n0 n1 n2 n3 n8 n10 = grind (arith, nat_tests)
-
 not_cut : (early cut : Bool) (h p : Option Refusal) (x : List ℕ) → (h ≡ Some (refused x) → ⊥) →
     cond early (Some short) (option_or h (cond cut (Some short) p)) ≡ Some (refused x) →
     cut ≡ false
@@ -199,7 +193,7 @@ same_fault r e = λ i.
     (cond (ltb (length r) (length_field r)) (Some short)
     (prefix_fault (type_field r) (first_unit r))))
 
-other_named : (r : List ℕ) (e : ViewFault) (n : ℕ) → session_fault r ≡ first_fault r →
+pub other_named : (r : List ℕ) (e : ViewFault) (n : ℕ) → session_fault r ≡ first_fault r →
     n ≡ length_field r → IsFirstFault r e → IsSessionFault r e (size_beside e n)
 other_named r (faults.Writer e) n same size is = absurd is
 other_named r faults.Short n same size is = (same ∙ is, refl)
@@ -211,15 +205,3 @@ other_named r (faults.UnitVersion v) n same size is = (same ∙ is, refl)
 other_named r (faults.Prefix rule) n same size is =
     (same ∙ is, (ap Some size, refused_within r (refusal_report (first_unit r) rule) is))
 other_named r faults.TooMany n same size is = absurd is
-
-pub other_refused : (r : List ℕ) (e d : ViewFault) (n : ℕ) (size : Option ℕ) →
-    type_field r ≢ 0 → type_field r ≢ 1 → type_field r ≢ 2 → type_field r ≢ 3 →
-    type_field r ≢ 8 → type_field r ≢ 10 → n ≡ length_field r → IsFirstFault r e → d ≡ e →
-    size ≡ size_beside e n → IsSessionFault r d size
-other_refused r e d n size n0 n1 n2 n3 n8 n10 field is fault beside =
-    rw (fault, beside)
-    (other_named r e n
-    (same_fault r
-    (of_other (version_field r) (type_field r) (get_or r 2 0) (length_field r) n0 n1 n2 n3 n8
-    n10))
-    field is)

@@ -89,7 +89,7 @@ any_whole b f has =
 
 -- ---- and what is whole is a unit
 
-kinds : (v t g n : ℕ) → any_header_fault v t g n ≡ None →
+pub kinds : (v t g n : ℕ) → any_header_fault v t g n ≡ None →
     ((t ≡ 0) × (n ≡ 12))
     ⊎ (((t ≡ 1) × (n ≡ 12))
     ⊎ (((t ≡ 2) × (n ≡ 8))

@@ -1,9 +1,10 @@
 //! Views of units of any type.
 
-ghost use Rattle.std.specs.Prelude.{◌≡◌, ◌≤◌, length, take, Ok, Some, None, IfOk, IfErr};
+ghost use Rattle.std.specs.Prelude.{◌≡◌, ◌≤◌, length, take, false, Ok, Some, None, IfOk, IfErr};
 ghost use Rattle.rtr_units.specs.Header.{type_field};
 ghost use Rattle.rtr_units.specs.Reading.{IsWhole};
 ghost use Rattle.rtr_payload.specs.FaultSteps.{first_unit};
+ghost use Rattle.rtr_payload.specs.FirstFault.{is_payload_or_end};
 ghost use Rattle.rtr_session.specs.SessionKinds.{session_unit};
 ghost use Rattle.rtr_session.specs.Lengths.{SaysLength};
 ghost use Rattle.rtr_session.specs.SessionViews.{ShowsUnit, IsSessionFault};
@@ -68,20 +69,33 @@ impl<'a> SessionView<'a> {
         if input.len() < 8 {
             return Err(plain(ViewFault::Short));
         }
-        match input[1] {
-            SerialNotify::PDU
-            | SerialQuery::PDU
-            | ResetQuery::PDU
-            | CacheResponse::PDU
-            | CacheReset::PDU
-            | Report::PDU => match whole(input) {
-                Ok(unit) => Ok((SessionView::of(unit), unit.len())),
-                Err(fault) => Err(plain(fault)),
+        match UnitView::first(input) {
+            Ok((view, size)) => Ok((SessionView::Data(view), size)),
+            Err(fault) => match fault {
+                ViewFault::UnitType(_) => match SessionView::first_plain(input) {
+                    Ok((view, size)) => Ok((view, size)),
+                    Err(fault) => Err(fault),
+                },
+                fault => Err(refused(fault, u32_at(input, 4) as usize)),
             },
-            _ => match UnitView::first(input) {
-                Ok((view, size)) => Ok((SessionView::Data(view), size)),
-                Err(fault) => Err(refused(fault, u32_at(input, 4) as usize)),
-            },
+        }
+    }
+
+    /// The view of the unit that the input begins with, if it is no payload unit and no end of
+    /// data, as `first`. It is out of line, so that the way of those units stays short: there are
+    /// many of them in a session, and few others.
+    #[inline(never)]
+    fn first_plain(input: &'a [u8]) -> Result<(SessionView<'a>, usize), SessionFault>
+        requires header { 8 ≤ length input.now }
+        requires kind { is_payload_or_end (type_field input.now) ≡ false }
+        ensures view { IfOk result (λ p. ShowsUnit p.0 (take p.1 input.now)) }
+        ensures within { IfOk result (λ p. p.1 ≤ length input.now) }
+        ensures size { IfOk result (λ p. SaysLength input.now (Ok (Some p.1))) }
+        ensures fault { IfErr result (λ e. IsSessionFault input.now e.fault e.size) }
+    {
+        match whole(input) {
+            Ok(unit) => Ok((SessionView::of(unit), unit.len())),
+            Err(fault) => Err(plain(fault)),
         }
     }
 
