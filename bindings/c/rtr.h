@@ -273,17 +273,22 @@ bool rtr_version_has(uint8_t version, uint8_t kind);
 uint32_t rtr_wire_version(void);
 
 /* Writes the written form of the unit to the front of the output, and its length to `written`: at
- * most 65535. Key info and providers are input[part_start .. part_start + part_length). An address
- * is written with the bits after the prefix length zero, a withdrawn ASPA without providers, and an
- * end of data of version 0 without timings. Ignored are `size`, `detail`, what the kind doesn't
- * have, and the input unless the kind has key info or providers.
+ * most 65535. Key info, providers, and the unit that a report is about are input[part_start ..
+ * part_start + part_length), and its text is input[text_start .. text_start + text_length). An
+ * address is written with the bits after the prefix length zero, a withdrawn ASPA without
+ * providers, and an end of data of version 0 without timings. Ignored are `size`, `wanted`,
+ * `detail`, what the kind doesn't have, and the input unless the kind has one of these parts.
+ *
+ * A report isn't cut: where it would be too long, pass a shorter part_length or text_length. Both
+ * together may have 65519 bytes.
  *
  * RTR_OK; or, with nothing written and `written` 0, in this order:
- *   RTR_UNIT_TYPE        `kind` is neither that of a payload unit nor RTR_END_OF_DATA
- *   RTR_NO_FORM          `action` is above 1, or above 0 for an end of data; `family` isn't that
- *                        of the kind; key info or providers lie outside of the input
+ *   RTR_UNIT_TYPE        `kind` is no rtr_kind
+ *   RTR_NO_FORM          `action` is above 1, or above 0 for what has no payload; `family` isn't
+ *                        that of the kind; a part or a text lies outside of the input
  *   RTR_PREFIX           the lengths of a prefix break their rule; which part isn't reported
- *   RTR_TOO_LONG         more than 65503 bytes of key info or, announced, 65520 of providers
+ *   RTR_TOO_LONG         more than 65503 bytes of key info, 65519 of unit and text of a report or,
+ *                        announced, 65520 of providers
  *   RTR_UNIT_LENGTH      announced providers that aren't 4 bytes each
  *   RTR_EMPTY_PROVIDERS  an ASPA is announced without providers
  *   RTR_UNIT_VERSION     an end of data of a version above 2

@@ -3,7 +3,7 @@
  * isn't instrumented. So each input and output lies between two inaccessible pages, once right
  * after the first and once right before the second.
  *
- * usage: tests CASES */
+ * usage: tests CASES SESSIONS   the second file is that of `bindings/sessions.py cases` */
 #define _DEFAULT_SOURCE /* MAP_ANONYMOUS */
 #include <pthread.h>
 #include <stdio.h>
@@ -337,8 +337,17 @@ static void check_refused(const struct place *place)
         uint8_t status, kind, version, action, family, length, max_length;
         size_t part_start, part_length;
     } rows[] = {
-        {RTR_UNIT_TYPE, 0, 1, 1, 4, 8, 8, 0, 0},
         {RTR_UNIT_TYPE, 5, 1, 1, 4, 8, 8, 0, 0},
+        {RTR_UNIT_TYPE, 12, 1, 0, 0, 0, 0, 0, 0},
+        {RTR_UNIT_TYPE, 255, 1, 0, 0, 0, 0, 0, 0},
+        {RTR_NO_FORM, RTR_SERIAL_NOTIFY, 1, 1, 0, 0, 0, 0, 0},
+        {RTR_NO_FORM, RTR_SERIAL_QUERY, 1, 1, 0, 0, 0, 0, 0},
+        {RTR_NO_FORM, RTR_RESET_QUERY, 1, 1, 0, 0, 0, 0, 0},
+        {RTR_NO_FORM, RTR_CACHE_RESPONSE, 1, 2, 0, 0, 0, 0, 0},
+        {RTR_NO_FORM, RTR_CACHE_RESET, 1, 255, 0, 0, 0, 0, 0},
+        {RTR_NO_FORM, RTR_ERROR_REPORT, 1, 1, 0, 0, 0, 0, 0},
+        {RTR_NO_FORM, RTR_ERROR_REPORT, 1, 0, 0, 0, 0, 1, 100000},
+        {RTR_TOO_LONG, RTR_ERROR_REPORT, 1, 0, 0, 0, 0, 0, 65520},
         {RTR_NO_FORM, RTR_IPV4_PREFIX, 1, 2, 4, 8, 8, 0, 0},
         {RTR_NO_FORM, RTR_IPV4_PREFIX, 1, 1, 6, 8, 8, 0, 0},
         {RTR_NO_FORM, RTR_IPV6_PREFIX, 1, 1, 4, 8, 8, 0, 0},
@@ -400,6 +409,106 @@ static void check_bounds(const struct place *place)
         CHECK(rtr_status_text((uint8_t)status)[0] != '\0');
 }
 
+/* The unit that an answer of a session says, with its status in *status. */
+static struct rtr_unit next_answer(const uint8_t **at, uint64_t *status)
+{
+    struct rtr_unit unit;
+    memset(&unit, 0, sizeof unit);
+    *status = number(at);
+    unit.size = number(at);
+    unit.wanted = number(at);
+    unit.part_start = number(at);
+    unit.part_length = number(at);
+    unit.text_start = number(at);
+    unit.text_length = number(at);
+    unit.asn = (uint32_t)number(at);
+    unit.customer = (uint32_t)number(at);
+    unit.serial = (uint32_t)number(at);
+    unit.refresh = (uint32_t)number(at);
+    unit.retry = (uint32_t)number(at);
+    unit.expire = (uint32_t)number(at);
+    unit.session = (uint16_t)number(at);
+    unit.code = (uint16_t)number(at);
+    unit.kind = (uint8_t)number(at);
+    unit.version = (uint8_t)number(at);
+    unit.action = (uint8_t)number(at);
+    unit.family = (uint8_t)number(at);
+    unit.prefix_length = (uint8_t)number(at);
+    unit.max_length = (uint8_t)number(at);
+    unit.detail = (uint8_t)number(at);
+    memcpy(unit.address, *at, sizeof unit.address);
+    memcpy(unit.key_identifier, *at + sizeof unit.address, sizeof unit.key_identifier);
+    *at += sizeof unit.address + sizeof unit.key_identifier;
+    return unit;
+}
+
+#define FIELDS (offsetof(struct rtr_unit, detail) + 1)
+
+/* The length by the header alone agrees with the answer for the whole unit. */
+static void check_size(const struct place *place, const uint8_t *input, size_t length,
+                       const struct rtr_unit *expected, uint64_t status)
+{
+    size_t *size = FILLED(place->told, size_t);
+    uint8_t detail = 0xa5;
+    const uint8_t *front = copied(place, place->other, input, length < 8 ? length : 8);
+    uint8_t said = rtr_unit_size(front, length < 8 ? length : 8, size, &detail);
+    if (length < 8)
+        CHECK(said == RTR_SHORT && *size == 8 && detail == 0);
+    else if (status == RTR_OK || status == RTR_SHORT || status == RTR_PREFIX)
+        CHECK(said == RTR_OK && *size == expected->size + expected->wanted && detail == 0);
+    else
+        CHECK(said == status && *size == 0 && detail == expected->detail);
+}
+
+/* A unit is shown as the answer says, and written as its form. What was written is shown with the
+ * same fields, but of an ASPA that is withdrawn without providers. */
+static void check_shown(const struct place *place, const uint8_t *input, size_t length,
+                        const struct rtr_unit *expected, uint64_t status, const uint8_t *form,
+                        size_t size)
+{
+    struct rtr_unit *unit = FILLED(place->unit, struct rtr_unit);
+    CHECK(rtr_next(input, length, unit) == status);
+    CHECK(memcmp(unit, expected, FIELDS) == 0);
+    if (status != RTR_OK)
+        return;
+    const uint8_t *bytes = copied(place, place->other, input, unit->size);
+    uint8_t *output = lie(place, place->output, size);
+    size_t *written = FILLED(place->told, size_t);
+    CHECK(rtr_write_unit(unit, bytes, unit->size, output, size, written) == RTR_OK);
+    CHECK(*written == size && memcmp(output, form, size) == 0);
+    uint8_t *shorter = lie(place, place->output, size - 1);
+    CHECK(rtr_write_unit(unit, bytes, unit->size, shorter, size - 1, written) == RTR_NO_ROOM);
+    const uint8_t *again = copied(place, place->other, form, size);
+    struct rtr_unit same = *expected;
+    same.size = size;
+    if (unit->kind == RTR_ASPA && !unit->action)
+        same.part_length = 0;
+    if (unit->kind == RTR_ERROR_REPORT && !unit->part_start) {
+        same.part_start = 12;
+        same.text_start = 16;
+    }
+    CHECK(rtr_next(again, size, unit) == RTR_OK && memcmp(unit, &same, FIELDS) == 0);
+}
+
+/* Sessions with units of all types: each call after the other, as its caller goes on. */
+static void check_sessions(const struct place *place, const uint8_t *at, const uint8_t *end)
+{
+    while (at < end) {
+        size_t length = number(&at), passed = 0;
+        uint64_t answers = number(&at), status;
+        const uint8_t *input = copied(place, place->input, at, length);
+        at += length;
+        for (; answers > 0; answers--) {
+            struct rtr_unit expected = next_answer(&at, &status);
+            size_t size = number(&at);
+            check_size(place, input + passed, length - passed, &expected, status);
+            check_shown(place, input + passed, length - passed, &expected, status, at, size);
+            at += size;
+            passed += expected.size;
+        }
+    }
+}
+
 /* A null pointer is a slice without bytes, for each call that takes slices. */
 static void check_null(const struct place *place)
 {
@@ -425,6 +534,41 @@ static void check_null(const struct place *place)
     CHECK(rtr_write_unit(unit, NULL, 0, NULL, 0, written) == RTR_NO_ROOM && *written == 0);
     uint8_t *output = lie(place, place->output, 12);
     CHECK(rtr_write_unit(unit, NULL, 0, output, 12, written) == RTR_OK && *written == 12);
+}
+
+/* Reports up to 65535 bytes are written, longer ones refused; unit and text lie anywhere in the
+ * input, and have to lie in it. */
+static void check_reports(const struct place *place)
+{
+    size_t length = 65600;
+    uint8_t *input = lie(place, place->input, length), *output = lie(place, place->output, 65535);
+    for (size_t i = 0; i < length; i++)
+        input[i] = (uint8_t)(i * 7);
+    struct rtr_unit *unit = FILLED(place->unit, struct rtr_unit);
+    size_t *written = FILLED(place->told, size_t);
+    memset(unit, 0, sizeof *unit);
+    unit->kind = RTR_ERROR_REPORT;
+    unit->version = 1;
+    unit->code = 0x0102;
+    unit->part_start = 40;
+    unit->part_length = 65500;
+    unit->text_start = 3;
+    unit->text_length = 19;
+    CHECK(rtr_write_unit(unit, input, length, output, 65535, written) == RTR_OK);
+    CHECK(*written == 65535 && memcmp(output, "\1\12\1\2\0\0\xff\xff\0\0\xff\xdc", 12) == 0);
+    CHECK(memcmp(output + 12, input + 40, 65500) == 0);
+    CHECK(memcmp(output + 65512, "\0\0\0\x13", 4) == 0);
+    CHECK(memcmp(output + 65516, input + 3, 19) == 0);
+    unit->text_length = 20;
+    CHECK(rtr_write_unit(unit, input, length, output, 65535, written) == RTR_TOO_LONG);
+    unit->text_start = length - 19;
+    CHECK(rtr_write_unit(unit, input, length, output, 65535, written) == RTR_NO_FORM);
+    unit->text_start = SIZE_MAX;
+    CHECK(rtr_write_unit(unit, input, length, output, 65535, written) == RTR_NO_FORM);
+    CHECK(*written == 0);
+    unit->text_start = unit->text_length = unit->part_start = unit->part_length = 0;
+    CHECK(rtr_write_unit(unit, NULL, 0, output, 16, written) == RTR_OK && *written == 16);
+    CHECK(memcmp(output, "\1\12\1\2\0\0\0\20\0\0\0\0\0\0\0\0", 16) == 0);
 }
 
 /* The order of serial numbers (RFC 1982 section 3.2): half the circle is 2^31. */
@@ -508,16 +652,23 @@ static void check_providers(const struct place *place)
     CHECK(!rtr_provider(unit, input, sizeof aspa, 0, provider) && *provider == 0);
 }
 
-int main(int count, char **words)
+/* All bytes of a file. */
+static struct cases read_file(const char *path)
 {
-    FILE *file = count == 2 ? fopen(words[1], "rb") : NULL;
+    FILE *file = fopen(path, "rb");
     CHECK(file != NULL && fseek(file, 0, SEEK_END) == 0);
     size_t length = (size_t)ftell(file);
     uint8_t *bytes = malloc(length);
     rewind(file);
     CHECK(bytes != NULL && fread(bytes, 1, length, file) == length);
     fclose(file);
+    return (struct cases){bytes, length};
+}
 
+int main(int count, char **words)
+{
+    CHECK(count == 3);
+    struct cases cases = read_file(words[1]), sessions = read_file(words[2]);
     struct place place = new_place();
     for (int side = 0; side < 2; side++) {
         place.at_end = side;
@@ -528,15 +679,17 @@ int main(int count, char **words)
         check_null(&place);
         check_codes(&place);
         check_providers(&place);
+        check_reports(&place);
+        check_sessions(&place, sessions.bytes, sessions.bytes + sessions.length);
     }
     check_serials();
     check_versions();
-    struct cases cases = {bytes, length};
     pthread_t threads[THREADS];
     for (int i = 0; i < THREADS; i++)
         CHECK(pthread_create(&threads[i], NULL, check_cases, &cases) == 0);
     for (int i = 0; i < THREADS; i++)
         CHECK(pthread_join(threads[i], NULL) == 0);
-    free(bytes);
+    free((void *)cases.bytes);
+    free((void *)sessions.bytes);
     return 0;
 }

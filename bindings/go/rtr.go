@@ -308,6 +308,9 @@ func (unit *Unit) MarshalBinary() ([]byte, error) {
 // key info or, announced, 65520 of providers; UnitLength for announced providers that aren't 4 bytes each;
 // EmptyProviders if there are none; UnitVersion for an end of data of a version above 2.
 func (unit *Unit) AppendBinary(b []byte) ([]byte, error) {
+	if isPlain(byte(unit.Kind)) {
+		return b, bareFault(C.RTR_UNIT_TYPE)
+	}
 	part := unit.part()
 	room := fixed + len(part)
 	if room > longest {

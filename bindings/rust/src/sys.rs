@@ -216,7 +216,7 @@ mod tests {
     fn no_form() {
         let rows = [
             // The kind, the action and the family.
-            ((0, 1, 4), Fault::UnitType(0)),
+            ((12, 1, 4), Fault::UnitType(12)),
             ((5, 1, 4), Fault::UnitType(5)),
             ((4, 2, 4), Fault::NoForm),
             ((4, 1, 6), Fault::NoForm),

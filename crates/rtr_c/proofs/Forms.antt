@@ -1,17 +1,20 @@
 -- Forms that are written in two pieces.
-use Rattle.std.proofs.Common.{◌≡◌, ◌≢◌, ℕ, ◌+◌, ◌*◌, ◌%◌, ◌≤◌, false, not, ltb, eqb, cond, List, []}
+use Rattle.std.proofs.Common.{◌≡◌, ◌≢◌, ℕ, ◌+◌, ◌-◌, ◌*◌, ◌%◌, ◌≤◌, false, not, ltb, eqb, cond, List, []}
 use Rattle.std.proofs.Common.{◌∷◌, ◌++◌, length, take, drop, Some, Ok}
 use Rattle.std.proofs.Common.{refl, sym, ap, ◌∙◌, append_assoc, arith}
 use Rattle.std.proofs.lemmas.Bool.Decides.{nat_tests}
 use Rattle.std.specs.Prelude.{replicate}
 use Rattle.std.proofs.Math.Seq.{take-append_seam, drop-append_seam}
+use Rattle.std.proofs.lemmas.List.{take_all}
 use borrow.Rule.Slice.PartMut.{put_mid}
 use Rattle.rtr_base.specs.Bytes.{be, IsBytes}
 use Rattle.rtr_payload.specs.Payloads.{key, aspa}
 use Rattle.rtr_payload.specs.Providers.{words_of}
 use Rattle.rtr_payload.specs.Units.{form}
 use Rattle.rtr_payload.proofs.ProviderBytes.{provider_bytes_of, provider_count}
-use Rattle.rtr_c.specs.Said.{part_said, key_said, aspa_said}
+use Rattle.rtr_units.specs.Report.{report}
+use Rattle.rtr_session.specs.Placed.{held_report}
+use Rattle.rtr_c.specs.Said.{part_said, text_said, key_said, aspa_said, report_said}
 use Rattle.rtr_c.specs.declared.unit.RtrUnit.{RtrUnit}
 
 -- the last of the steps
@@ -58,6 +61,29 @@ aspa_is u input ps front bytes is act some few fours more made =
     ap Ok whole
     ∙ sym (ap (aspa_said u) is
     ∙ aspa_steps u.action (length ps) _ _ _ _ _ _ act some few fours more)
+
+report_steps : {A : Type 0} (a n : ℕ) (p q x : A) → a ≤ 0 → n ≤ 65519 →
+    cond (ltb 0 a) p (cond (ltb 65519 n) q x) ≡ x
+report_steps a n p q x h k = grind (arith, nat_tests)
+
+-- nothing is cut of parts that fit
+held_whole : (v c : ℕ) (p t : List ℕ) → length p + length t ≤ 65519 →
+    held_report v c p t ≡ report v c p t
+held_whole v c p t few =
+    let part : take 65519 p ≡ p = take_all 65519 p (omega (arith, few)) in
+    let text : take (65519 - length (take 65519 p)) t ≡ t =
+    ap (λ l. take (65519 - length l) t) part
+    ∙ take_all (65519 - length p) t (omega (arith, few)) in
+    λ i. report v c (part i) (text i)
+
+pub report_is : (u : RtrUnit) (input p t : List ℕ) → part_said u input ≡ Some p →
+    text_said u input ≡ Some t → u.action ≤ 0 → length p + length t ≤ 65519 →
+    Ok (held_report u.version u.code p t) ≡
+    report_said u (part_said u input) (text_said u input)
+report_is u input p t part text act few =
+    ap Ok (held_whole u.version u.code p t few)
+    ∙ sym ((λ i. report_said u (part i) (text i))
+    ∙ report_steps u.action (length p + length t) _ _ _ act few)
 
 -- a list that is tested not to be empty has some item
 pub empty_not : (n : ℕ) → eqb n 0 ≡ false → n ≢ 0

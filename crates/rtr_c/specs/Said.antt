@@ -1,5 +1,5 @@
 -- What a unit in numbers says, and what is written for it (this library's own order of refusals;
--- the forms are those of RFC 8210 sections 5.6 to 5.8 and 5.10, of an ASPA as in the Rust crate).
+-- the forms are those of RFC 8210 sections 5.2 to 5.11, of an ASPA as in the Rust crate).
 use Rattle.std.specs.Prelude.{◌≡◌, ℕ, ◌+◌, ◌*◌, ◌/◌, ◌%◌, ◌||◌, not, List, [], length, take, drop}
 use Rattle.std.specs.Prelude.{Bool, true, false}
 use Rattle.std.specs.Prelude.{Option, Some, None, Result, Ok}
@@ -8,6 +8,8 @@ use Rattle.rtr_base.specs.Addresses.{Family, v4, v6, width, cleared, ip_version}
 use Rattle.rtr_base.specs.Bytes.{value}
 use Rattle.rtr_base.specs.declared.timing.Timing.{Timing}
 use Rattle.rtr_units.specs.End.{timed_list}
+use Rattle.rtr_units.specs.Queries.{bare_list, serial_list}
+use Rattle.rtr_units.specs.Report.{report}
 use Rattle.rtr_units.specs.PrefixUnits.{address_bytes}
 use Rattle.rtr_payload.specs.Payloads.{origin, key, aspa}
 use Rattle.rtr_payload.specs.Providers.{words_of}
@@ -20,12 +22,18 @@ use Rattle.rtr_c.specs.Answers.{rtr_unit_length, rtr_empty_providers, rtr_prefix
 use Rattle.rtr_c.specs.Answers.{rtr_no_form}
 use Rattle.rtr_c.specs.declared.unit.RtrUnit.{RtrUnit}
 
--- the key info or the providers that the unit says, where they lie in the input
+-- so many bytes of the input from this place on, where they lie in it
+abbrev pub piece_said : (start size : ℕ) → List ℕ → Option (List ℕ)
+piece_said start size input =
+    if nat_le (start + size) (length input) then Some (take size (drop start input)) else None
+
+-- the key info, the providers or the unit that a report is about
 abbrev pub part_said : RtrUnit → List ℕ → Option (List ℕ)
-part_said u input =
-    if nat_le (u.part_start + u.part_length) (length input)
-    then Some (take u.part_length (drop u.part_start input))
-    else None
+part_said u input = piece_said u.part_start u.part_length input
+
+-- the text of a report
+abbrev pub text_said : RtrUnit → List ℕ → Option (List ℕ)
+text_said u input = piece_said u.text_start u.text_length input
 
 -- the provider of this index, of four bytes each
 abbrev pub provider_in : Option (List ℕ) → ℕ → Option ℕ
@@ -98,6 +106,30 @@ end_said u =
     else if nat_lt 2 u.version then Err rtr_unit_version
     else Ok (timed_list u.version u.session u.serial (timing_said u))
 
+-- a unit that has no payload, with this form
+abbrev pub plain_said : RtrUnit → List ℕ → Result (List ℕ) ℕ
+plain_said u f = if nat_lt 0 u.action then Err rtr_no_form else Ok f
+
+-- an error report about this unit with this text, which aren't cut
+abbrev pub report_said : RtrUnit → Option (List ℕ) → Option (List ℕ) → Result (List ℕ) ℕ
+report_said u None text = Err rtr_no_form
+report_said u (Some p) None = Err rtr_no_form
+report_said u (Some p) (Some t) =
+    if nat_lt 0 u.action then Err rtr_no_form
+    else if nat_lt 65519 (length p + length t) then Err rtr_too_long
+    else Ok (report u.version u.code p t)
+
+-- the form of a unit that is no payload unit and no end of data, or the status that refuses it
+unfoldable pub session_said : RtrUnit → List ℕ → Result (List ℕ) ℕ
+session_said u input =
+    if u.kind == 0 then plain_said u (serial_list u.version 0 u.session u.serial)
+    else if u.kind == 1 then plain_said u (serial_list u.version 1 u.session u.serial)
+    else if u.kind == 2 then plain_said u (bare_list u.version 2 0)
+    else if u.kind == 3 then plain_said u (bare_list u.version 3 u.session)
+    else if u.kind == 8 then plain_said u (bare_list u.version 8 0)
+    else if u.kind == 10 then report_said u (part_said u input) (text_said u input)
+    else Err rtr_unit_type
+
 -- the form of the unit, or the status that refuses it
 abbrev pub said : RtrUnit → List ℕ → Result (List ℕ) ℕ
 said u input =
@@ -106,7 +138,7 @@ said u input =
     else if u.kind == 7 then end_said u
     else if u.kind == 9 then key_said u (part_said u input)
     else if u.kind == 11 then aspa_said u (part_said u input)
-    else Err rtr_unit_type
+    else session_said u input
 
 -- A form is written where there is room for it, and refused where there is none; what has no form
 -- is refused with its status.

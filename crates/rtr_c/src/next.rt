@@ -19,8 +19,8 @@ use rtr_units::fixed_unit::FixedUnit;
 use rtr_units::numbers::u32_at;
 use rtr_wire::payload::Action;
 use rtr_wire::pdu::{
-    Aspa, AspaView, EndOfData, Error, Ipv4Prefix, Ipv6Prefix, OriginView, RouterKey, RouterKeyView,
-    Unit, UnitView, ViewFault,
+    Aspa, AspaView, CacheResponse, EndOfData, Error, Ipv4Prefix, Ipv6Prefix, OriginView, RouterKey,
+    RouterKeyView, SerialNotify, SerialQuery, Unit, UnitView, ViewFault,
 };
 use std::net::IpAddr;
 
@@ -35,13 +35,38 @@ pub extern "C" fn rtr_next_nonnull(input: &[u8], unit: &mut RtrUnit) -> u8
     ensures { (r : Result (List ℕ × AnyFields) ViewFault) ×
         ShowsFirst r input.now unit.new result }
 {
-    *unit = RtrUnit::none();
+    let unit_type = if input.len() < 8 { 255 } else { input[1] };
+    match unit_type {
+        SerialNotify::PDU => show_first::<{ SerialNotify::PDU }>(input, unit),
+        SerialQuery::PDU => show_first::<{ SerialQuery::PDU }>(input, unit),
+        CacheResponse::PDU => show_first::<{ CacheResponse::PDU }>(input, unit),
+        Ipv4Prefix::PDU => show_first::<{ Ipv4Prefix::PDU }>(input, unit),
+        Ipv6Prefix::PDU => show_first::<{ Ipv6Prefix::PDU }>(input, unit),
+        EndOfData::PDU => show_first::<{ EndOfData::PDU }>(input, unit),
+        RouterKey::PDU => show_first::<{ RouterKey::PDU }>(input, unit),
+        Error::PDU => show_first::<{ Error::PDU }>(input, unit),
+        Aspa::PDU => show_first::<{ Aspa::PDU }>(input, unit),
+        _ => show_first::<255>(input, unit),
+    }
+}
+
+/// Shows the unit that the input begins with, of one type or of any other: the type is named so that
+/// each has code of its own, in which the compiler knows the kind of the view.
+#[inline(always)]
+fn show_first<const TYPE: u8>(input: &[u8], unit: &mut RtrUnit) -> u8
+    ensures { (r : Result (List ℕ × AnyFields) ViewFault) ×
+        ShowsFirst r input.now unit.new result }
+{
     match SessionView::first(input) {
         Ok((view, size)) => {
+            *unit = RtrUnit::none();
             show(&view, size, unit);
             ACCEPTED
         }
-        Err(refusal) => refuse(&refusal, input, unit),
+        Err(refusal) => {
+            *unit = RtrUnit::none();
+            refuse(&refusal, input, unit)
+        }
     }
 }
 

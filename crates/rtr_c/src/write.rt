@@ -6,34 +6,44 @@ ghost use Rattle.rtr_base.specs.Addresses.{ip_version};
 ghost use Rattle.rtr_base.specs.Bytes.{be, IsBytes};
 ghost use Rattle.rtr_c.specs.Said.{Writes, TellsWritten, said, part_said};
 ghost use Rattle.rtr_c.specs.Said.{prefix_said, key_said, aspa_said, end_said};
+ghost use Rattle.rtr_c.specs.Said.{plain_said, report_said, session_said, text_said, piece_said};
+ghost use Rattle.rtr_session.specs.Placed.{held_report};
 
 use crate::answer::{
     ACCEPTED, EMPTY_PROVIDERS, NO_FORM, NO_ROOM, PREFIX, TOO_LONG, UNIT_LENGTH, UNIT_TYPE,
     UNIT_VERSION,
 };
+use crate::next::REPORT_FIXED;
 use crate::unit::RtrUnit;
 use rtr_payload::pdu::PrefixUnit;
+use rtr_session::placing::place_report;
 use rtr_units::header::{LAST_VERSION, MAX_SIZE};
 use rtr_views::placing::{flagged_header, place};
 use rtr_wire::base::Asn;
 use rtr_wire::payload::{RouteOrigin, Timing};
-use rtr_wire::pdu::{Aspa, EndOfData, Ipv4Prefix, Ipv6Prefix, ProviderAsns, RouterKey, Unit};
+use rtr_wire::pdu::{
+    Aspa, CacheReset, CacheResponse, EndOfData, Error, ErrorCode, Ipv4Prefix, Ipv6Prefix,
+    ProviderAsns, ResetQuery, RouterKey, SerialNotify, SerialQuery, Unit,
+};
 use rtr_wire::state::{Serial, State};
 
 /// The most bytes of key info in a router key that is read.
 const MAX_KEY_INFO: usize = MAX_SIZE as usize - RouterKey::FIXED;
+/// The most bytes of an error report beside its fixed fields: those of its unit and its text.
+const MAX_REPORTED: usize = MAX_SIZE as usize - REPORT_FIXED;
 /// The most bytes of providers in an ASPA unit.
 const MAX_PROVIDERS: usize = 4 * ProviderAsns::MAX_COUNT;
 
-/// Writes the written form of the unit to the front of the output. Key info and providers are in
-/// the input, at the place that the unit says.
+/// Writes the written form of the unit to the front of the output. Key info, providers, and the unit
+/// and the text of an error report are in the input, at the places that the unit says.
 ///
 /// Statuses, in this order, with nothing written:
 /// - `UNIT_TYPE` for an unknown kind of unit;
-/// - `NO_FORM` for an action above 1, or above 0 for an end of data, a family that isn't that of
-///   the kind, or key info or providers outside the input;
+/// - `NO_FORM` for an action above 1, or above 0 for what has no payload, a family that isn't that of
+///   the kind, or key info, providers, or the unit or the text of a report outside the input;
 /// - `PREFIX`;
-/// - `TOO_LONG` for more than 65503 bytes of key info or, announced, 65520 of providers;
+/// - `TOO_LONG` for more than 65503 bytes of key info, 65519 of unit and text of a report or,
+///   announced, 65520 of providers;
 /// - `UNIT_LENGTH` for announced providers that aren't four bytes each;
 /// - `EMPTY_PROVIDERS` for an announcement without providers;
 /// - `UNIT_VERSION` for an end of data of a version above 2;
@@ -53,7 +63,7 @@ pub extern "C" fn rtr_write_unit_nonnull(
         EndOfData::PDU => write_end(unit, output),
         RouterKey::PDU => write_key(unit, input, output),
         Aspa::PDU => write_aspa(unit, input, output),
-        _ => Err(UNIT_TYPE),
+        _ => write_session(unit, input, output),
     };
     match end {
         Ok(size) => {
@@ -64,6 +74,71 @@ pub extern "C" fn rtr_write_unit_nonnull(
             *written = 0;
             status
         }
+    }
+}
+
+/// Writes the form of a unit that is no payload unit and no end of data, and answers its length.
+#[tactic(auto, unfolding(crate::specs::Said::session_said))]
+fn write_session(unit: &RtrUnit, input: &[u8], output: &mut [u8]) -> Result<usize, u8>
+    ensures { Writes (session_said unit.now input.now) result output.old output.new }
+{
+    let (version, state) = (unit.version, state_of(unit));
+    match unit.kind {
+        SerialNotify::PDU => write_plain(unit, &SerialNotify::new(version, state), output),
+        SerialQuery::PDU => write_plain(unit, &SerialQuery::new(version, state), output),
+        ResetQuery::PDU => write_plain(unit, &ResetQuery::new(version), output),
+        CacheResponse::PDU => write_plain(unit, &CacheResponse::new(version, state), output),
+        CacheReset::PDU => write_plain(unit, &CacheReset::new(version), output),
+        Error::PDU => write_report(unit, input, output),
+        _ => Err(UNIT_TYPE),
+    }
+}
+
+/// Writes the form of a unit that has no payload, and answers its length.
+fn write_plain<U: Unit>(unit: &RtrUnit, form: &U, output: &mut [u8]) -> Result<usize, u8>
+    ensures { Writes (plain_said unit.now (U.bytes form.now)) result output.old output.new }
+{
+    if unit.action > 0 {
+        return Err(NO_FORM);
+    }
+    placed(form.as_ref(), &[], output)
+}
+
+/// The session and the serial number.
+fn state_of(unit: &RtrUnit) -> State
+    ensures { result ≡ record { session = unit.now.session; serial = unit.now.serial } }
+{
+    State::from_parts(unit.session, Serial(unit.serial))
+}
+
+/// Writes an error report, and answers its length.
+fn write_report(unit: &RtrUnit, input: &[u8], output: &mut [u8]) -> Result<usize, u8>
+    ensures { Writes (report_said unit.now (part_said unit.now input.now)
+        (text_said unit.now input.now)) result output.old output.new }
+{
+    let Some(pdu) = part_of(unit, input) else {
+        return Err(NO_FORM);
+    };
+    let Some(text) = piece_of(unit.text_start, unit.text_length, input) else {
+        return Err(NO_FORM);
+    };
+    if unit.action > 0 {
+        return Err(NO_FORM);
+    }
+    if pdu.len() + text.len() > MAX_REPORTED {
+        return Err(TOO_LONG);
+    }
+    placed_report(unit, pdu, text, output)
+}
+
+/// Writes an error report with these parts, or nothing if there is no room for it.
+fn placed_report(unit: &RtrUnit, pdu: &[u8], text: &[u8], output: &mut [u8]) -> Result<usize, u8>
+    ensures { Writes (Ok (held_report unit.now.version unit.now.code pdu.now text.now)) result
+        output.old output.new }
+{
+    match place_report(unit.version, ErrorCode(unit.code), pdu, text, output) {
+        Some(size) => Ok(size),
+        None => Err(NO_ROOM),
     }
 }
 
@@ -93,13 +168,12 @@ fn write_end(unit: &RtrUnit, output: &mut [u8]) -> Result<usize, u8>
     if unit.version > LAST_VERSION {
         return Err(UNIT_VERSION);
     }
-    let state = State::from_parts(unit.session, Serial(unit.serial));
     let timing = Timing {
         refresh: unit.refresh,
         retry: unit.retry,
         expire: unit.expire,
     };
-    let end = EndOfData::new(unit.version, state, timing);
+    let end = EndOfData::new(unit.version, state_of(unit), timing);
     placed(end.as_ref(), &[], output)
 }
 
@@ -179,15 +253,25 @@ fn aspa_front(unit: &RtrUnit, size: u32) -> [u8; Aspa::FIXED]
     front
 }
 
-/// The key info or the providers, if they lie in the input.
+/// The key info, the providers or the unit that a report is about, if they lie in the input.
+#[inline(always)]
 pub(crate) fn part_of<'a>(unit: &RtrUnit, input: &'a [u8]) -> Option<&'a [u8]>
     ensures part { option_copied result ≡ part_said unit.now input.now }
     ensures bytes { IfSome result (λ part. IsBytes part.now) }
 {
-    if unit.part_start > input.len() || unit.part_length > input.len() - unit.part_start {
+    piece_of(unit.part_start, unit.part_length, input)
+}
+
+/// So many bytes of the input from this place on, if they lie in it.
+#[inline(always)]
+fn piece_of(start: usize, size: usize, input: &[u8]) -> Option<&[u8]>
+    ensures piece { option_copied result ≡ piece_said start size input.now }
+    ensures bytes { IfSome result (λ piece. IsBytes piece.now) }
+{
+    if start > input.len() || size > input.len() - start {
         return None;
     }
-    Some(&input[unit.part_start..unit.part_start + unit.part_length])
+    Some(&input[start..start + size])
 }
 
 /// Writes the two pieces, or nothing if there is no room for both.

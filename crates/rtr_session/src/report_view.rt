@@ -19,6 +19,7 @@ pub struct ReportView<'a> {
 
 impl<'a> ReportView<'a> {
     /// The version of the protocol.
+    #[inline(always)]
     pub fn version(&self) -> u8
         ensures { result ≡ version_field self.now.unit.now }
     {
@@ -26,6 +27,7 @@ impl<'a> ReportView<'a> {
     }
 
     /// Why the peer reports an error.
+    #[inline(always)]
     pub fn code(&self) -> ErrorCode
         ensures { result.0 ≡ session_field self.now.unit.now }
     {
@@ -36,6 +38,7 @@ impl<'a> ReportView<'a> {
     ///
     /// None if the two lengths inside the report don't fit: a length of four bytes, that unit, a
     /// length of four bytes and the text have to make up the report exactly.
+    #[inline(always)]
     pub fn pdu(&self) -> Option<&'a [u8]>
         ensures { MatchOption result ((p t : List ℕ) → HasParts self.now.unit.now p t → ⊥)
             (λ p. (t : List ℕ) × HasParts self.now.unit.now p.now t) }
@@ -62,6 +65,7 @@ impl<'a> ReportView<'a> {
     }
 
     /// The unit that the report is about and the text, if they make up the report.
+    #[inline(always)]
     fn parts(&self) -> Option<(&'a [u8], &'a [u8])>
         ensures { MatchOption result ((p t : List ℕ) → HasParts self.now.unit.now p t → ⊥)
             (λ r. HasParts self.now.unit.now r.0.now r.1.now) }
@@ -78,6 +82,7 @@ impl<'a> ReportView<'a> {
 }
 
 /// Splits off a length of four bytes and as many bytes as it says: these, and what follows them.
+#[inline(always)]
 fn counted(bytes: &[u8]) -> Option<(&[u8], &[u8])>
     ensures { MatchOption result (IsCutShort bytes.now)
         (λ r. IsCounted bytes.now r.0.now r.1.now) }

@@ -100,6 +100,7 @@ impl<'a> SessionView<'a> {
     }
 
     /// The view of a unit that is no payload unit and no end of data.
+    #[inline(always)]
     fn of(unit: &'a [u8]) -> SessionView<'a>
         requires whole { IsWhole session_unit unit.now }
         requires kind { IsPlainType (type_field unit.now) }
@@ -139,6 +140,7 @@ fn refused(fault: ViewFault, size: usize) -> SessionFault
 }
 
 /// The unit at the front of the input, by its header.
+#[inline(always)]
 fn whole(input: &[u8]) -> Result<&[u8], ViewFault>
     requires { 8 ≤ length input.now }
     ensures unit { IfOk result (λ u. u.now ≡ first_unit input.now) }
@@ -160,6 +162,7 @@ fn whole(input: &[u8]) -> Result<&[u8], ViewFault>
 }
 
 /// The unit of these bytes.
+#[inline(always)]
 fn unit_of<U: Unit>(bytes: &[u8]) -> U
     requires { length bytes.now ≡ U.LENGTH }
     ensures { U.bytes result ≡ bytes.now }

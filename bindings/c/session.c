@@ -1,0 +1,47 @@
+/* Prints each unit of the recorded session on standard input. */
+#include <inttypes.h>
+#include <stdio.h>
+#include "rtr.h"
+
+static const char *const names[] = {
+    "serial notify", "serial query", "reset query", "cache response", "IPv4 prefix", "",
+    "IPv6 prefix", "end of data", "cache reset", "router key", "error report", "ASPA"};
+
+static void print_unit(const struct rtr_unit *u, const uint8_t *at)
+{
+    uint32_t provider;
+    printf("%s, %zu bytes", names[u->kind], u->size);
+    if (u->kind <= RTR_SERIAL_QUERY || u->kind == RTR_END_OF_DATA)
+        printf(": session %u, serial %" PRIu32, u->session, u->serial);
+    else if (u->kind == RTR_CACHE_RESPONSE)
+        printf(": session %u", u->session);
+    else if (u->family)
+        printf(": %02x%02x%02x%02x../%u-%u AS%" PRIu32, u->address[0], u->address[1],
+               u->address[2], u->address[3], u->prefix_length, u->max_length, u->asn);
+    else if (u->kind == RTR_ROUTER_KEY)
+        printf(": AS%" PRIu32 ", %zu bytes of key info", u->asn, u->part_length);
+    else if (u->kind == RTR_ERROR_REPORT)
+        printf(": code %u, %zu bytes, '%.*s'", u->code, u->part_length, (int)u->text_length,
+               (const char *)at + u->text_start);
+    else if (u->kind == RTR_ASPA)
+        printf(": AS%" PRIu32 " by", u->customer);
+    for (size_t i = 0; rtr_provider(u, at, u->size, i, &provider); i++)
+        printf(" AS%" PRIu32, provider);
+    printf("\n");
+}
+
+int main(void)
+{
+    static uint8_t in[1 << 20];
+    size_t length = fread(in, 1, sizeof in, stdin), at = 0;
+    struct rtr_unit unit;
+    for (;; at += unit.size) {
+        uint8_t status = rtr_next(in + at, length - at, &unit);
+        if (status == RTR_OK)
+            print_unit(&unit, in + at);
+        else
+            printf("%s, %zu bytes\n", rtr_status_text(status), unit.size + unit.wanted);
+        if (unit.size == 0)
+            return status != RTR_SHORT;
+    }
+}
