@@ -1,0 +1,13 @@
+use Rattle.std.proofs.Common.{subst}
+use Rattle.rtr_views.specs.Placing.{Places}
+use Rattle.rtr_deltas.proofs.Sequences.{announced_form}
+use Rattle.rtr_deltas.proofs.placing.place_change.Goals as goal
+
+pub returns-in-Announce : goal.returns-in-Announce
+returns-in-Announce c =
+    rw c.in-Announce.is
+    (subst
+    (λ l. Places c.place_announcement.result l c.args.output.now
+    c.place_announcement.new.output)
+    (announced_form c.args.view.now c.requires.announces)
+    c.place_announcement.ensures)

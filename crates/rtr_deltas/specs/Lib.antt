@@ -1,0 +1,5 @@
+pub mod Canonical
+pub mod Delta
+pub mod Flaws
+pub mod Items
+pub mod PrivateOrder

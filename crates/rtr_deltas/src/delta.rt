@@ -1,0 +1,89 @@
+//! The delta between two slices of data.
+
+ghost use Rattle.std.specs.Prelude.{◌≡◌, ◌≤◌, IfSome, List, length};
+ghost use Rattle.rtr_payload.specs.Payloads.{Payload};
+ghost use Rattle.rtr_units.specs.AnyEnd.{end_bytes, end_meaning};
+ghost use Rattle.rtr_units.specs.End.{EndMeaning, end_list};
+ghost use Rattle.rtr_deltas.specs.Canonical.{HoldsData};
+ghost use Rattle.rtr_deltas.specs.Delta.{Deltas};
+ghost use Rattle.rtr_deltas.specs.PrivateOrder.{HasData, PlacesDelta, PlacesTail};
+
+use crate::check::check_data;
+use crate::fault::DeltaFault;
+use crate::missing::place_missing;
+use rtr_base::action::Action;
+use rtr_units::end::EndOfData;
+use rtr_views::placing::place;
+
+/// Writes the delta that leads a router from the old data to the new (RFC 8210 section 8.2): the
+/// units that announce what the old data lack, then those that withdraw what the new data lack,
+/// each in order, and the end of data of the new. It is what `Data::write_delta` writes of the same
+/// data, and answers its length in bytes. No memory is asked for.
+///
+/// Both slices begin with data in canonical form: units that announce payloads in their order, all
+/// of one version, and an end of data of that version. What follows it doesn't count.
+///
+/// Faults, in this order: `Old` or `New` for a slice that isn't such data, `UnitVersion` and
+/// `Session` for data of two versions or of two sessions, with nothing written; then `NoRoom`, with
+/// a front of the delta written.
+pub fn delta_into(old: &[u8], new: &[u8], output: &mut [u8]) -> Result<usize, DeltaFault>
+    ensures { Deltas result old.now new.now output.old output.new }
+{
+    let old_end = match check_data(old) {
+        Ok(end) => end,
+        Err(flaw) => return Err(DeltaFault::Old(flaw)),
+    };
+    let new_end = match check_data(new) {
+        Ok(end) => end,
+        Err(flaw) => return Err(DeltaFault::New(flaw)),
+    };
+    if old_end.version() != new_end.version() {
+        return Err(DeltaFault::UnitVersion(new_end.version()));
+    }
+    if old_end.session() != new_end.session() {
+        return Err(DeltaFault::Session(new_end.session()));
+    }
+    match place_delta(old, new, &new_end, output) {
+        Some(size) => Ok(size),
+        None => Err(DeltaFault::NoRoom),
+    }
+}
+
+/// Writes the units of the delta and the end of data.
+fn place_delta(old: &[u8], new: &[u8], end: &EndOfData, output: &mut [u8]) -> Option<usize>
+    requires old { HasData old.now }
+    requires new { (d : List Payload) × HoldsData new.now d (end_meaning end.now) }
+    requires version { (d : List Payload) (e : EndMeaning) → HoldsData old.now d e →
+        e.version ≡ (end_meaning end.now).version }
+    requires end { end_bytes end.now ≡ end_list (end_meaning end.now) }
+    ensures { PlacesDelta result old.now new.now (end_meaning end.now) output.old output.new }
+{
+    let announced = match place_missing(new, old, Action::Announce, output) {
+        Some(size) => size,
+        None => return None,
+    };
+    match place_tail(old, new, end, &mut output[announced..]) {
+        Some(size) => Some(announced + size),
+        None => None,
+    }
+}
+
+/// Writes the withdrawals of the delta and the end of data.
+fn place_tail(old: &[u8], new: &[u8], end: &EndOfData, output: &mut [u8]) -> Option<usize>
+    requires old { HasData old.now }
+    requires new { (d : List Payload) × HoldsData new.now d (end_meaning end.now) }
+    requires version { (d : List Payload) (e : EndMeaning) → HoldsData old.now d e →
+        e.version ≡ (end_meaning end.now).version }
+    requires end { end_bytes end.now ≡ end_list (end_meaning end.now) }
+    ensures bytes { PlacesTail result old.now new.now (end_meaning end.now) output.old output.new }
+    ensures within { IfSome result (λ n. n ≤ length output.old) }
+{
+    let withdrawn = match place_missing(old, new, Action::Withdraw, output) {
+        Some(size) => size,
+        None => return None,
+    };
+    match place(end.as_ref(), &[], &mut output[withdrawn..]) {
+        Some(size) => Some(withdrawn + size),
+        None => None,
+    }
+}
