@@ -101,37 +101,46 @@ whole_aspa u whole =
     let h = aspa_says u whole in
     aspa_has u h.are_bytes h.least h.most h.fours h.named h.kind h.field
 
--- the form of a key, by its header and what follows it
+-- the form of a key in version v, by its header and what follows it
+pub key_form_in : (u rest : List ℕ) (v : ℕ) (a : Action) → IsWholeKey u →
+    a ≡ act (get_or u 2 0) → rest ≡ drop 8 u →
+    (v ∷ 9 ∷ flags_of a ∷ 0 ∷ be (8 + length rest) 4) ++ rest ≡
+    form_of (record (meaning (key_unit (key_at u))) { version = v })
+key_form_in u rest v a h ea er =
+    let has = whole_key u h in
+    let h = key_says u h in
+    let front = λ (n : ℕ). v ∷ 9 ∷ flags_of (act (get_or u 2 0)) ∷ 0 ∷ be n 4 in
+    let size : 8 + length (drop 8 u) ≡ 32 + length (drop 32 u) =
+    omega (arith, length-drop 8 u, length-drop 32 u, h.least) in
+    (λ i. (v ∷ 9 ∷ flags_of (ea i) ∷ 0 ∷ be (8 + length (er i)) 4) ++ er i)
+    ∙ ap (λ (n : ℕ). front n ++ drop 8 u) size
+    ∙ ap (λ (l : List ℕ). front (32 + length (drop 32 u)) ++ l) (ap (drop 8) has.bytes)
+
+-- and in its own
 pub key_form : (u rest : List ℕ) (v : ℕ) (a : Action) → IsWholeKey u → v ≡ version_field u →
     a ≡ act (get_or u 2 0) → rest ≡ drop 8 u →
     (v ∷ 9 ∷ flags_of a ∷ 0 ∷ be (8 + length rest) 4) ++ rest ≡
     form_of (meaning (key_unit (key_at u)))
 key_form u rest v a h ev ea er =
-    let has = whole_key u h in
-    let h = key_says u h in
-    let front = λ (n : ℕ). version_field u ∷ 9 ∷ flags_of (act (get_or u 2 0)) ∷ 0 ∷ be n 4 in
-    let size : 8 + length (drop 8 u) ≡ 32 + length (drop 32 u) =
-    omega (arith, length-drop 8 u, length-drop 32 u, h.least) in
-    (λ i. (ev i ∷ 9 ∷ flags_of (ea i) ∷ 0 ∷ be (8 + length (er i)) 4) ++ er i)
-    ∙ ap (λ (n : ℕ). front n ++ drop 8 u) size
-    ∙ ap (λ (l : List ℕ). front (32 + length (drop 32 u)) ++ l) (ap (drop 8) has.bytes)
+    key_form_in u rest v a h ea er
+    ∙ ap (λ (n : ℕ). form_of (record (meaning (key_unit (key_at u))) { version = n })) ev
 
 -- ---- ASPA units
 
 -- the providers count by the action
-by_action : (u : List ℕ) (a : Action) → act (get_or u 2 0) ≡ a →
-    form_of (meaning (aspa_unit (aspa_at u))) ≡
+by_action : (u : List ℕ) (v : ℕ) (a : Action) → act (get_or u 2 0) ≡ a →
+    form_of (record (meaning (aspa_unit (aspa_at u))) { version = v }) ≡
     aspa_list (record {
-      version = version_field u;
+      version = v;
       flags = flags_of a;
       free = 0;
       aspa = meant_aspa a (aspa_at u).aspa;
     })
-by_action u a e =
+by_action u v a e =
     ap
     (λ b.
     let written : AspaFields = record {
-      version = version_field u;
+      version = v;
       flags = flags_of b;
       free = 0;
       aspa = meant_aspa b (aspa_at u).aspa;
@@ -139,49 +148,58 @@ by_action u a e =
     aspa_list written)
     e
 
-announced_form : (u : List ℕ) → IsWholeAspa u → act (get_or u 2 0) ≡ Announce →
-    (version_field u ∷ 11 ∷ 1 ∷ 0 ∷ be (8 + length (drop 8 u)) 4) ++ drop 8 u ≡
-    form_of (meaning (aspa_unit (aspa_at u)))
-announced_form u h e =
+announced_form : (u : List ℕ) (v : ℕ) → IsWholeAspa u → act (get_or u 2 0) ≡ Announce →
+    (v ∷ 11 ∷ 1 ∷ 0 ∷ be (8 + length (drop 8 u)) 4) ++ drop 8 u ≡
+    form_of (record (meaning (aspa_unit (aspa_at u))) { version = v })
+announced_form u v h e =
     let has = whole_aspa u h in
     let h = aspa_says u h in
     let ps = words_of (drop 12 u) in
-    let front = λ (n : ℕ). version_field u ∷ 11 ∷ 1 ∷ 0 ∷ be n 4 in
+    let front = λ (n : ℕ). v ∷ 11 ∷ 1 ∷ 0 ∷ be n 4 in
     let size : 8 + length (drop 8 u) ≡ 12 + 4 * length ps =
     omega (arith, length-drop 8 u, h.least, ap length has.bytes, length-words ps) in
     ap (λ (n : ℕ). front n ++ drop 8 u) size
     ∙ ap (λ (l : List ℕ). front (12 + 4 * length ps) ++ l) (ap (drop 8) has.bytes)
-    ∙ sym (by_action u Announce e)
+    ∙ sym (by_action u v Announce e)
 
-withdrawn_form : (u : List ℕ) → IsWholeAspa u → act (get_or u 2 0) ≡ Withdraw →
-    (version_field u ∷ 11 ∷ 0 ∷ 0 ∷ be (8 + length (take 4 (drop 8 u))) 4) ++ take 4 (drop 8 u) ≡
-    form_of (meaning (aspa_unit (aspa_at u)))
-withdrawn_form u h e =
+withdrawn_form : (u : List ℕ) (v : ℕ) → IsWholeAspa u → act (get_or u 2 0) ≡ Withdraw →
+    (v ∷ 11 ∷ 0 ∷ 0 ∷ be (8 + length (take 4 (drop 8 u))) 4) ++ take 4 (drop 8 u) ≡
+    form_of (record (meaning (aspa_unit (aspa_at u))) { version = v })
+withdrawn_form u v h e =
     let h = aspa_says u h in
     let whole : length (take 4 (drop 8 u)) ≡ 4 =
     length-take-le 4 (drop 8 u) (omega (arith, length-drop 8 u, h.least)) in
     let customer : be (value (take 4 (drop 8 u))) 4 ≡ take 4 (drop 8 u) =
     be-value (take 4 (drop 8 u)) 4
     (IsBytes-take 4 (drop 8 u) (IsBytes-drop 8 u h.are_bytes)) whole in
-    ap (λ (n : ℕ). (version_field u ∷ 11 ∷ 0 ∷ 0 ∷ be (8 + n) 4) ++ take 4 (drop 8 u)) whole
-    ∙ ap (λ (l : List ℕ). version_field u ∷ 11 ∷ 0 ∷ 0 ∷ 0 ∷ 0 ∷ 0 ∷ 12 ∷ l) (sym customer)
-    ∙ sym (by_action u Withdraw e
-    ∙ append-nil (version_field u ∷ 11 ∷ 0 ∷ 0 ∷ 0 ∷ 0 ∷ 0 ∷ 12 ∷ be (value (take 4 (drop 8 u))) 4))
+    ap (λ (n : ℕ). (v ∷ 11 ∷ 0 ∷ 0 ∷ be (8 + n) 4) ++ take 4 (drop 8 u)) whole
+    ∙ ap (λ (l : List ℕ). v ∷ 11 ∷ 0 ∷ 0 ∷ 0 ∷ 0 ∷ 0 ∷ 12 ∷ l) (sym customer)
+    ∙ sym (by_action u v Withdraw e
+    ∙ append-nil (v ∷ 11 ∷ 0 ∷ 0 ∷ 0 ∷ 0 ∷ 0 ∷ 12 ∷ be (value (take 4 (drop 8 u))) 4))
 
 -- what follows the header in the form of an ASPA unit
 abbrev pub kept_rest : Action → List ℕ → List ℕ
 kept_rest Announce u = drop 8 u
 kept_rest Withdraw u = take 4 (drop 8 u)
 
--- the form of an ASPA unit, by its header and what follows it
+-- the form of an ASPA unit in version v, by its header and what follows it
+pub aspa_form_in : (u rest : List ℕ) (v : ℕ) (a : Action) → IsWholeAspa u →
+    a ≡ act (get_or u 2 0) → rest ≡ kept_rest a u →
+    (v ∷ 11 ∷ flags_of a ∷ 0 ∷ be (8 + length rest) 4) ++ rest ≡
+    form_of (record (meaning (aspa_unit (aspa_at u))) { version = v })
+aspa_form_in u rest v Announce h ea er =
+    (λ i. (v ∷ 11 ∷ 1 ∷ 0 ∷ be (8 + length (er i)) 4) ++ er i) ∙ announced_form u v h (sym ea)
+aspa_form_in u rest v Withdraw h ea er =
+    (λ i. (v ∷ 11 ∷ 0 ∷ 0 ∷ be (8 + length (er i)) 4) ++ er i) ∙ withdrawn_form u v h (sym ea)
+
+-- and in its own
 pub aspa_form : (u rest : List ℕ) (v : ℕ) (a : Action) → IsWholeAspa u → v ≡ version_field u →
     a ≡ act (get_or u 2 0) → rest ≡ kept_rest a u →
     (v ∷ 11 ∷ flags_of a ∷ 0 ∷ be (8 + length rest) 4) ++ rest ≡
     form_of (meaning (aspa_unit (aspa_at u)))
-aspa_form u rest v Announce h ev ea er =
-    (λ i. (ev i ∷ 11 ∷ 1 ∷ 0 ∷ be (8 + length (er i)) 4) ++ er i) ∙ announced_form u h (sym ea)
-aspa_form u rest v Withdraw h ev ea er =
-    (λ i. (ev i ∷ 11 ∷ 0 ∷ 0 ∷ be (8 + length (er i)) 4) ++ er i) ∙ withdrawn_form u h (sym ea)
+aspa_form u rest v a h ev ea er =
+    aspa_form_in u rest v a h ea er
+    ∙ ap (λ (n : ℕ). form_of (record (meaning (aspa_unit (aspa_at u))) { version = n })) ev
 
 -- ---- origins
 

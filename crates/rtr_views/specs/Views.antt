@@ -43,3 +43,12 @@ view_form (views.Origin v) = form_of (origin_meaning v)
 view_form (views.RouterKey v) = form_of (meaning (key_unit (key_at v.unit.now)))
 view_form (views.Aspa v) = form_of (meaning (aspa_unit (aspa_at v.unit.now)))
 view_form (views.End e) = end_bytes e
+
+-- the form in this version; an end of data stays as it is
+abbrev pub view_form_in : ℕ → UnitView → List ℕ
+view_form_in version (views.Origin v) = form_of (record (origin_meaning v) { version = version })
+view_form_in version (views.RouterKey v) =
+    form_of (record (meaning (key_unit (key_at v.unit.now))) { version = version })
+view_form_in version (views.Aspa v) =
+    form_of (record (meaning (aspa_unit (aspa_at v.unit.now))) { version = version })
+view_form_in version (views.End e) = end_bytes e

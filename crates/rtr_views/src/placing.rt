@@ -10,7 +10,7 @@ ghost use Rattle.rtr_payload.specs.UnitFields.{key_unit, aspa_unit, meaning};
 ghost use Rattle.rtr_payload.specs.Units.{form_of};
 ghost use Rattle.rtr_views.specs.Origins.{origin_meaning};
 ghost use Rattle.rtr_views.specs.Placing.{Places};
-ghost use Rattle.rtr_views.specs.Views.{ViewMeans, version_shown, view_form};
+ghost use Rattle.rtr_views.specs.Views.{ViewMeans, version_shown, view_form, view_form_in};
 
 use crate::aspa::AspaView;
 use crate::origin::OriginView;
@@ -68,42 +68,45 @@ fn place_flagged(
 }
 
 impl OriginView {
-    /// Writes the form of what the unit means.
+    /// Writes the form in this version of what the unit means.
     #[inline(always)]
-    fn place_form(&self, output: &mut [u8]) -> Option<usize>
-        ensures { Places result (form_of (origin_meaning self.now)) output.old output.new }
+    fn place_form_in(&self, version: u8, output: &mut [u8]) -> Option<usize>
+        ensures { Places result (form_of (record (origin_meaning self.now) { version = version }))
+            output.old output.new }
     {
         let flags = Action::from_flags(self.flags()).into_flags();
         let origin = self.origin();
         let prefix = origin.prefix.prefix();
         if prefix.is_v4() {
-            let unit = Ipv4Prefix::from_origin(self.version(), flags, origin);
+            let unit = Ipv4Prefix::from_origin(version, flags, origin);
             place(unit.as_ref(), &[], output)
         } else {
-            let unit = Ipv6Prefix::from_origin(self.version(), flags, origin);
+            let unit = Ipv6Prefix::from_origin(version, flags, origin);
             place(unit.as_ref(), &[], output)
         }
     }
 }
 
 impl<'a> RouterKeyView<'a> {
-    /// Writes the form of what the unit means.
+    /// Writes the form in this version of what the unit means.
     #[inline(always)]
-    fn place_form(&self, output: &mut [u8]) -> Option<usize>
-        ensures { Places result (form_of (meaning (key_unit (key_at self.now.unit.now))))
+    fn place_form_in(&self, version: u8, output: &mut [u8]) -> Option<usize>
+        ensures { Places result
+            (form_of (record (meaning (key_unit (key_at self.now.unit.now))) { version = version }))
             output.old output.new }
     {
         let action = Action::from_flags(self.flags());
         let rest = &self.unit[8..];
-        place_flagged(self.version(), RouterKey::PDU, action, rest, output)
+        place_flagged(version, RouterKey::PDU, action, rest, output)
     }
 }
 
 impl<'a> AspaView<'a> {
-    /// Writes the form of what the unit means: a withdrawal without its providers.
+    /// Writes the form in this version of what the unit means: a withdrawal without its providers.
     #[inline(always)]
-    fn place_form(&self, output: &mut [u8]) -> Option<usize>
-        ensures { Places result (form_of (meaning (aspa_unit (aspa_at self.now.unit.now))))
+    fn place_form_in(&self, version: u8, output: &mut [u8]) -> Option<usize>
+        ensures { Places result (form_of
+            (record (meaning (aspa_unit (aspa_at self.now.unit.now))) { version = version }))
             output.old output.new }
     {
         let action = Action::from_flags(self.flags());
@@ -112,7 +115,7 @@ impl<'a> AspaView<'a> {
             Action::Withdraw => Aspa::FIXED,
         };
         let rest = &self.unit[8..kept];
-        place_flagged(self.version(), Aspa::PDU, action, rest, output)
+        place_flagged(version, Aspa::PDU, action, rest, output)
     }
 }
 
@@ -138,10 +141,21 @@ impl<'a> UnitView<'a> {
     pub fn place_form(&self, output: &mut [u8]) -> Option<usize>
         ensures { Places result (view_form self.now) output.old output.new }
     {
+        self.place_form_in(self.version(), output)
+    }
+
+    /// Writes the form in this version to the front of the output, as `place_form`. That of an end
+    /// of data stays as it is.
+    #[inline(always)]
+    pub fn place_form_in(&self, version: u8, output: &mut [u8]) -> Option<usize>
+        ensures form { Places result (view_form_in version self.now) output.old output.new }
+        ensures means { (m : Meaning) → ViewMeans self.now m →
+            Places result (form_of (record m { version = version })) output.old output.new }
+    {
         match self {
-            UnitView::Origin(view) => view.place_form(output),
-            UnitView::RouterKey(view) => view.place_form(output),
-            UnitView::Aspa(view) => view.place_form(output),
+            UnitView::Origin(view) => view.place_form_in(version, output),
+            UnitView::RouterKey(view) => view.place_form_in(version, output),
+            UnitView::Aspa(view) => view.place_form_in(version, output),
             UnitView::End(end) => place(end.as_ref(), &[], output),
         }
     }

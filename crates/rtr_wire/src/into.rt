@@ -5,7 +5,7 @@ ghost use Rattle.rtr_payload.specs.Payloads.{Meaning, smallest_version as smalle
 ghost use Rattle.rtr_views.specs.Placing.{Places};
 ghost use Rattle.rtr_views.specs.Views.{ViewMeans};
 ghost use Rattle.rtr_wire.specs.Into.{NormalisesInto, RefusesVersion};
-ghost use Rattle.rtr_wire.specs.PrivateSteps.{StepsInto, PlacesUnit};
+ghost use Rattle.rtr_wire.specs.PrivateSteps.{StepsInto};
 ghost use Rattle.rtr_wire.specs.Sequences.{everything, for_version};
 
 use crate::run::Passed;
@@ -202,7 +202,7 @@ fn view_step<const TYPE: u8, S: Writing>(
             }
             let came_in = view.version();
             let version = writing.version(came_in);
-            match place_unit(version, &view, output) {
+            match view.place_form_in(version, output) {
                 Some(written) => Ok(Step {
                     passed: Passed::Written,
                     taken,
@@ -212,19 +212,6 @@ fn view_step<const TYPE: u8, S: Writing>(
             }
         }
     }
-}
-
-/// Writes the form of the unit in this version.
-#[inline(always)]
-fn place_unit(version: u8, view: &UnitView<'_>, output: &mut [u8]) -> Option<usize>
-    ensures { (m : Meaning) → ViewMeans view.now m →
-        PlacesUnit version m result output.old output.new }
-{
-    let size = view.place_form(output)?;
-    if let Some(first) = output.first_mut() {
-        *first = version;
-    }
-    Some(size)
 }
 
 /// The version of the protocol that the payload of the unit came with.

@@ -33,8 +33,8 @@ returns-in-None g c =
     (append-nil _ ∙ c.as_ref.ensures.bytes ∙ c.end.ensures (rw (sym view.0) at view.1)) _
     c.in-None.ensures
 
-pub returns-in-Some-place_unit : goal.returns-in-Some-place_unit
-returns-in-Some-place_unit g c =
+pub returns-in-Some-place_form_in : goal.returns-in-Some-place_form_in
+returns-in-Some-place_form_in g c =
     let what = g.S.Writing.what c.args.writing in
     let k = c.in-Ok.first.1 in
     let v =
@@ -45,10 +45,10 @@ returns-in-Some-place_unit g c =
     ∙ c.if-not-writes.false)
     (λ n. c.version-version.ensures v.m n (sym (c.version-came_in.ensures.means v.m v.means))) in
     step_written what c.args.rest.now k c.in-Ok.ensures.within c.args.output.now v.m version _ _
-    v.unit some (c.in-Some-place_unit.ensures v.m v.means)
+    v.unit some (c.in-Some-place_form_in.ensures.means v.m v.means)
 
-pub returns-in-None-place_unit : goal.returns-in-None-place_unit
-returns-in-None-place_unit g c =
+pub returns-in-None-place_form_in : goal.returns-in-None-place_form_in
+returns-in-None-place_form_in g c =
     let what = g.S.Writing.what c.args.writing in
     let k = c.in-Ok.first.1 in
     let v =
@@ -59,4 +59,4 @@ returns-in-None-place_unit g c =
     ∙ c.if-not-writes.false)
     (λ n. c.version-version.ensures v.m n (sym (c.version-came_in.ensures.means v.m v.means))) in
     unit_lacks_room what c.args.rest.now k c.in-Ok.ensures.within c.args.output.now v.m version _
-    v.unit some (c.in-None-place_unit.ensures v.m v.means)
+    v.unit some (c.in-None-place_form_in.ensures.means v.m v.means)

@@ -2,9 +2,9 @@ use Rattle.std.proofs.Common.{◌≡◌, ℕ, ◌-◌, take, drop, sym, ap, subs
 use Rattle.std.proofs.lemmas.List.{take_rest}
 use Rattle.rtr_base.specs.Actions.{act}
 use Rattle.rtr_views.specs.Placing.{Places}
-use Rattle.rtr_views.proofs.Forms.{aspa_form, kept_rest}
-use Rattle.rtr_views.proofs.aspa.AspaView.place_form.Goals as goal
-use Rattle.rtr_views.proofs.aspa.AspaView.place_form.Goals.{in-Announce, in-Withdraw}
+use Rattle.rtr_views.proofs.Forms.{aspa_form_in, kept_rest}
+use Rattle.rtr_views.proofs.aspa.AspaView.place_form_in.Goals as goal
+use Rattle.rtr_views.proofs.aspa.AspaView.place_form_in.Goals.{in-Announce, in-Withdraw}
 
 pub returns : goal.returns
 returns c =
@@ -19,6 +19,6 @@ returns c =
           ∙ ap (λ a. kept_rest a u) (sym w.in-Withdraw.is)
     ] in
     subst (λ l. Places c.place_flagged.result l c.args.output.now c.place_flagged.new.output)
-    (aspa_form u _ _ c.from_flags-action.result c.args.self.now.whole c.version.ensures
+    (aspa_form_in u _ _ c.from_flags-action.result c.args.self.now.whole
     (c.from_flags-action.ensures ∙ ap act c.flags.ensures) rest)
     c.place_flagged.ensures.form
