@@ -1,3 +1,5 @@
 mod Forms
 mod Accepted
 mod Shown
+mod Joined
+mod Again

@@ -1,5 +1,5 @@
 -- What C gets of a call, in numbers (this library's own).
-use Rattle.std.specs.Prelude.{◌≡◌, ◌<◌, ◌≤◌, ◌⊎◌, ℕ, List, ◌++◌, length, drop}
+use Rattle.std.specs.Prelude.{◌≡◌, ◌<◌, ◌≤◌, ◌⊎◌, ℕ, ◌+◌, List, ◌++◌, length, drop}
 use Rattle.std.specs.Prelude.{Result, Ok, Err, nat_lt, if◌then◌else◌}
 use Rattle.rtr_units.specs.End.{EndMeaning}
 use Rattle.rtr_units.specs.Header.{length_field}
@@ -14,6 +14,7 @@ use Rattle.rtr_views.specs.declared.fault.ViewFault.TheVariants.{UnitLength, Too
 use Rattle.rtr_views.specs.declared.fault.ViewFault.TheVariants.{EmptyProviders, UnitVersion}
 use Rattle.rtr_views.specs.declared.fault.ViewFault.TheVariants.{Prefix}
 use Rattle.rtr_views.specs.declared.fault.ViewFault.TheVariants as faults
+use Rattle.rtr_wire.specs.Into.{NormalisesInto}
 use Rattle.rtr_wire.specs.Sequences.{Accepts, Output, sequence_form, written_units}
 use Rattle.rtr_wire.specs.declared.into.IntoFault.{IntoFault}
 use Rattle.rtr_wire.specs.declared.into.IntoFault.TheVariants.{NoRoom, TooMany, Refused}
@@ -126,6 +127,22 @@ pub record Tells (input : List ℕ) (p : Progress) (r : Result Unit IntoFault) (
   pub status : a.status ≡ run_status r
   pub detail : a.detail ≡ run_detail r
   pub answered : code ≡ run_status r
+
+-- what a call that normalises promises of its answer and its status
+abbrev pub Normalises : Output → (limit : ℕ) → (input before after : List ℕ) → RtrAnswer → ℕ →
+    Type 0
+Normalises what limit input before after a code =
+    (p : Progress) × (r : Result Unit IntoFault)
+    × NormalisesInto what limit r input before after p × Tells input p r a code
+
+-- the answers of two calls, the second of which goes on where the first stopped, as one
+abbrev pub joined : RtrAnswer → RtrAnswer → RtrAnswer
+joined a b = record b {
+  units = a.units + b.units;
+  forms = a.forms + b.forms;
+  taken = a.taken + b.taken;
+  written = a.written + b.written;
+}
 
 -- the sequence b was taken, and the form of what is written of it stands at the front of the output
 pub record TellsSequence (what : Output) (b : List ℕ) (ms : List Meaning) (e : EndMeaning)

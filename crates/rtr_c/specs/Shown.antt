@@ -161,6 +161,12 @@ abbrev pub InOrder : AnyFields → Type 0
 InOrder (payload f) = LengthsAgree f
 InOrder f = ⊤
 
+-- what is shown of these units says all of their form: of a report, where its inner lengths fit
+abbrev pub IsWrittenAgain : List ℕ → AnyFields → Type 0
+IsWrittenAgain b (payload f) = ⊥
+IsWrittenAgain b (error_report v c body) = (p t : List ℕ) × HasParts b p t
+IsWrittenAgain b f = ⊤
+
 -- ---- what is shown where there is none
 
 -- the size of a unit that is refused for its prefix lengths, how many bytes are wanted, and the

@@ -6,6 +6,7 @@
 
 mod answer;
 mod compare;
+mod laws;
 mod next;
 mod numbers;
 mod providers;
