@@ -20,7 +20,7 @@ use Rattle.rtr_views.specs.Views.{IsViewOf, ViewMeans}
 use Rattle.rtr_views.specs.declared.view.UnitView.{UnitView}
 use Rattle.rtr_views.specs.declared.view.UnitView.TheVariants as views
 use Rattle.rtr_views.proofs.Agreement.{view_means}
-use Rattle.rtr_wire.specs.PrivateSteps.{StepTells, Steps, StopsStepInto, PlacesUnit, Stepped}
+use Rattle.rtr_wire.specs.PrivateSteps.{StepTells, Steps, StopsStepInto, Stepped}
 use borrow.Rule.Slice.PartMut.{put_mid}
 use Rattle.rtr_wire.specs.Into.{StopsInto, NormalisesInto, into_answer}
 use Rattle.rtr_wire.specs.declared.into.IntoFault.{IntoFault}
@@ -73,7 +73,8 @@ module _ (what : Output) (rest : List ℕ) (k : ℕ) (le : k ≤ length rest) (b
   }
 
   pub step_written : (m : Meaning) (v n : ℕ) (after : List ℕ) → IsUnit (take k rest) m →
-      what.unit m ≡ Some (in_version v m) → PlacesUnit v m (Some n) before after →
+      what.unit m ≡ Some (in_version v m) →
+      Places (Some n) (form_of (in_version v m)) before after →
       Stepped what (record { passed = passes.Written; taken = k; written = n }) rest before after
   step_written m v n after unit some (is, fits, output) = record {
     took = take k rest;
@@ -87,7 +88,8 @@ module _ (what : Output) (rest : List ℕ) (k : ℕ) (le : k ≤ length rest) (b
   }
 
   pub unit_lacks_room : (m : Meaning) (v : ℕ) (after : List ℕ) → IsUnit (take k rest) m →
-      what.unit m ≡ Some (in_version v m) → PlacesUnit v m None before after →
+      what.unit m ≡ Some (in_version v m) →
+      Places None (form_of (in_version v m)) before after →
       (after ≡ before) × StopsStepInto what NoRoom rest (length before)
   unit_lacks_room m v after unit some (less, same) = (
     same,

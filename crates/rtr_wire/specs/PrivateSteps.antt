@@ -18,7 +18,6 @@ use Rattle.rtr_payload.specs.UnitFields.{LengthsAgree, meaning, key_unit, aspa_u
 use Rattle.rtr_views.specs.Origins.{origin_meaning}
 use Rattle.rtr_payload.specs.UnitBytes.{unit_fields, HasNoPayload}
 use Rattle.rtr_payload.specs.declared.pdu.payload.Payload.{Payload}
-use Rattle.rtr_views.specs.Placing.{Places}
 use Rattle.rtr_views.specs.declared.fault.ViewFault.{ViewFault}
 use Rattle.rtr_views.specs.declared.view.UnitView.{UnitView}
 use Rattle.rtr_views.specs.declared.view.UnitView.TheVariants as views
@@ -30,7 +29,7 @@ use Rattle.rtr_wire.specs.declared.run.Passed.TheVariants as passes
 use Rattle.rtr_wire.specs.Comparison.{Accepted}
 use Rattle.rtr_wire.specs.Into.{LacksRoom}
 use Rattle.rtr_wire.specs.Run.{IsProperPrefix, Ends}
-use Rattle.rtr_wire.specs.Sequences.{Output, Accepts, everything, in_version}
+use Rattle.rtr_wire.specs.Sequences.{Output, Accepts, everything}
 use Rattle.rtr_wire.specs.Sequences.{sequence_form}
 use Rattle.rtr_wire.specs.SliceRun.{view_cause}
 
@@ -107,10 +106,6 @@ StopsStep e rest held holds =
     × StepTells everything (Err (view_cause last e)) last w (Some left)
 
 -- ---- a step from a slice into another
-
--- the form of m in version v is written where there is room for it
-abbrev pub PlacesUnit : ℕ → Meaning → Option ℕ → List ℕ → List ℕ → Type 0
-PlacesUnit v m placed before after = Places placed (form_of (in_version v m)) before after
 
 -- one unit was taken, and what is to be written for it was written; or an end of data
 pub record Stepped (what : Output) (s : Step) (rest before after : List ℕ) : Type 0 where
