@@ -2,7 +2,9 @@
 
 use crate::answer::Answer;
 use crate::row::{Row, Way};
-use crate::{data, fixed, into, meanings, parts, payloads, sequences, session, variable, views};
+use crate::{
+    data, fixed, into, meanings, parts, payloads, placing, sequences, session, variable, views,
+};
 
 /// Makes the call of a row in one way, and answers its result, if there is such a call.
 pub fn call(row: &Row<'_>, way: Way) -> Option<Answer> {
@@ -14,6 +16,7 @@ pub fn call(row: &Row<'_>, way: Way) -> Option<Answer> {
         .or_else(|| data::answer(row, way))
         .or_else(|| variable::answer(row, way))
         .or_else(|| session::answer(row, way))
+        .or_else(|| placing::answer(row))
         .or_else(|| parts::answer(row, way))
         .or_else(|| fixed::answer(row, way))
 }

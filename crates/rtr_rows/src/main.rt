@@ -22,6 +22,7 @@ mod into;
 mod meanings;
 mod parts;
 mod payloads;
+mod placing;
 mod row;
 mod sequences;
 mod session;
