@@ -1,4 +1,4 @@
--- What is shown of units without a payload says all of their forms.
+-- What is shown of units says all of their forms.
 use Rattle.std.proofs.Common.{◌≡◌, ℕ, ◌+◌, ◌≤◌, cond, ltb, nat_le, List, [], ◌++◌, length, take, drop, Option}
 use Rattle.std.proofs.Common.{Some, None, Result, Ok, Err, refl, sym, ap, subst, ◌∙◌, append_assoc}
 use Rattle.std.proofs.Common.{arith, inl, inr, length-append}
@@ -14,6 +14,7 @@ use Rattle.rtr_session.specs.AnyFields.{reset_query, cache_response, payload, en
 use Rattle.rtr_session.specs.AnyFields.{cache_reset, error_report}
 use Rattle.rtr_session.specs.SessionForms.{session_form}
 use Rattle.rtr_session.specs.Reports.{HasParts}
+use Rattle.rtr_c.proofs.AgainPayload.{payload_again}
 use Rattle.rtr_c.specs.Said.{said, session_said, piece_said, part_said, text_said, report_said}
 use Rattle.rtr_c.specs.Shown.{Shows, ShowsReport, IsWrittenAgain, serial_shown, bare_shown, end_shown}
 use Rattle.rtr_c.specs.Shown.{with_parts, report_shown}
@@ -107,7 +108,8 @@ written_again input b rest (serial_query v s q) u at has again shown =
 written_again input b rest (reset_query v s) u at has again shown = ap (λ u. said u input) shown
 written_again input b rest (cache_response v s) u at has again shown =
     ap (λ u. said u input) shown
-written_again input b rest (payload f) u at has again shown = absurd again
+written_again input b rest (payload f) u at has again shown =
+    ap (λ u. said u input) shown ∙ payload_again input b rest f at has again
 written_again input b rest (end_of_data e) u at has again shown =
     ap (λ u. said u input) shown
     ∙ end_said_again (length b) e.version e.session e.serial e.timing input has.fits.timing

@@ -3,3 +3,4 @@ mod Accepted
 mod Shown
 mod Joined
 mod Again
+mod AgainPayload

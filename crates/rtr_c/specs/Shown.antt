@@ -161,9 +161,10 @@ abbrev pub InOrder : AnyFields → Type 0
 InOrder (payload f) = LengthsAgree f
 InOrder f = ⊤
 
--- what is shown of these units says all of their form: of a report, where its inner lengths fit
+-- What is shown of these units says all of their form: of a prefix, where its lengths are in order,
+-- and of a report, where its inner lengths fit.
 abbrev pub IsWrittenAgain : List ℕ → AnyFields → Type 0
-IsWrittenAgain b (payload f) = ⊥
+IsWrittenAgain b (payload f) = LengthsAgree f
 IsWrittenAgain b (error_report v c body) = (p t : List ℕ) × HasParts b p t
 IsWrittenAgain b f = ⊤
 

@@ -23,8 +23,9 @@ pub fn two_calls_are_one()
     rtr_wire::laws::resumed();
 }
 
-/// What is shown of a unit that is no payload unit is written as its form: with 0 where a reset query
-/// and a cache reset have no session, and else as its bytes. So is a report whose inner lengths fit.
+/// What is shown of a unit is written as its form: of a payload unit that of what it means, with 0
+/// where a reset query and a cache reset have no session, and else its bytes. So is a report whose
+/// inner lengths fit.
 pub fn shown_and_written()
     ensures { (input b rest : List ℕ) (f : AnyFields) (u : RtrUnit) →
         input ≡ b ++ rest → HasAnyFields b f → IsWrittenAgain b f → Shows b f u →
