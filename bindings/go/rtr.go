@@ -1,8 +1,41 @@
-// Package rtr reads and writes units and sequences of the RPKI to Router protocol (RFC 6810, RFC 8210)
-// in memory, over the proved library rtr_c. What the functions promise is proved; this package is not.
+// Package rtr reads and writes the units of the RPKI to Router protocol (RFC 6810, RFC 8210), of all eleven
+// types, over the proved library rtr_c. What the library's functions promise is proved; this package is tested.
 //
-// Slices may be nil or empty. What is written must not overlap what is read. Until a call returns, no other
-// goroutine may write to its arguments or read its output. Several goroutines may call at once.
+// # A connection
+//
+// NewReader reads units from an io.Reader, one at a time, and NewWriter writes them to an io.Writer:
+//
+//	reader := rtr.NewReader(bufio.NewReader(connection))
+//	for {
+//		unit, err := reader.Next()
+//		if err == io.EOF {
+//			break // the peer closed the connection after a whole unit
+//		}
+//		if err != nil {
+//			return err
+//		}
+//		fmt.Println(unit.Kind, unit.Serial)
+//	}
+//
+// Reader.Sequence loops over what a cache sends in answer to a query: payload units up to an end of data.
+//
+// # Bytes in memory
+//
+// Next shows the unit that bytes begin with, and Unit.AppendBinary appends one. Normalise, NormaliseFor and
+// SameMeaning take whole sequences.
+//
+// # Errors
+//
+// What is wrong with a unit is a *Fault, for errors.As, with the place and the bytes of the unit, and the error
+// report that is owed to the peer. Each Status is an error, for errors.Is. Errors of an io.Reader and an
+// io.Writer are returned as they are.
+//
+// # Goroutines and memory
+//
+// Several goroutines may call at once, but one at a time for each Reader, Sequence and Writer. Slices may be nil
+// or empty. What is written must not overlap what is read, and until a call returns no other goroutine may write
+// to its arguments or read its output. No unit allocates memory, when it is read or written, once the buffers
+// are as long as the longest unit; an error does.
 //
 // Copyright (c) 2026, the authors of Fishreef; copyright (c) 2018, NLnet Labs. BSD 3-Clause License: see the
 // file LICENSE at the top of the repository.
@@ -20,9 +53,15 @@ struct shown {
 	uint8_t status;
 };
 
-struct written {
+struct sized {
 	size_t size;
 	uint8_t status;
+	uint8_t detail;
+};
+
+struct owed {
+	bool owed;
+	uint16_t code;
 };
 
 static struct shown next(const uint8_t *input, size_t length)
@@ -32,244 +71,66 @@ static struct shown next(const uint8_t *input, size_t length)
 	return shown;
 }
 
-static struct written write_unit(struct rtr_unit unit, const uint8_t *part, size_t part_length,
-                                 uint8_t *output, size_t output_length)
+static struct sized unit_size(const uint8_t *input, size_t length)
 {
-	struct written written;
-	written.status = rtr_write_unit(&unit, part, part_length, output, output_length, &written.size);
-	return written;
+	struct sized sized;
+	sized.status = rtr_unit_size(input, length, &sized.size, &sized.detail);
+	return sized;
+}
+
+static struct sized write_unit(struct rtr_unit unit, const uint8_t *part, size_t part_length,
+                               uint8_t *output, size_t output_length)
+{
+	struct sized sized;
+	sized.status = rtr_write_unit(&unit, part, part_length, output, output_length, &sized.size);
+	sized.detail = 0;
+	return sized;
+}
+
+static struct owed error_code(uint8_t status, const uint8_t *input, size_t length)
+{
+	struct owed owed;
+	owed.owed = rtr_error_code(status, input, length, &owed.code);
+	return owed;
 }
 */
 import "C"
 
 import (
-	"encoding/binary"
-	"fmt"
 	"net/netip"
 	"unsafe"
 )
 
-// Status says how a call ended. Each but OK is an error, which calls return in a Fault. Those of a unit are
-// Short to PrefixRule, and are checked in the order of docs/PROTOCOL.md.
-type Status uint8
-
-// The numbers are those of rtr.h.
-const (
-	OK             Status = iota
-	Short                 // the input ends inside a unit, or before one
-	UnitType              // a unit of the type Detail is not allowed here
-	UnitVersion           // a unit of the version Detail is not allowed here
-	TooLong               // a router key or an ASPA has more than 65535 bytes
-	UnitLength            // a length doesn't suit the type
-	EmptyProviders        // an ASPA is announced without providers
-	PrefixRule            // a prefix breaks its rule: its length (1) or its max length (2) is above that of an address, or the max length below the length (3)
-	TooMany               // as many units as were allowed were taken
-	NoRoom                // the output is too short for what comes next
-	NoForm                // no unit has these fields
-)
-
-// Error is the text of the status.
-func (s Status) Error() string {
-	return C.GoString(C.rtr_status_text(C.uint8_t(s)))
-}
-
-// String is the same text.
-func (s Status) String() string {
-	return s.Error()
-}
-
-// Fault is an error with its detail: a type, a version or a rule on prefix lengths, else 0.
-type Fault struct {
-	Status Status
-	Detail uint8
-	bare   bool // the call reports no detail
-}
-
-func (f *Fault) Error() string {
-	text := f.Status.Error()
-	switch f.Status {
-	case UnitType, UnitVersion, PrefixRule:
-		if !f.bare {
-			return fmt.Sprintf("%s (%d)", text, f.Detail)
-		}
-	}
-	return text
-}
-
-// Unwrap gives the status, so that errors.Is(err, NoRoom) works.
-func (f *Fault) Unwrap() error {
-	return f.Status
-}
-
-func fault(status, detail C.uint8_t) error {
-	if status == 0 {
-		return nil
-	}
-	return &Fault{Status: Status(status), Detail: uint8(detail)}
-}
-
-// bareFault is the fault of a call that reports no detail.
-func bareFault(status C.uint8_t) error {
-	if status == 0 {
-		return nil
-	}
-	return &Fault{Status: Status(status), bare: true}
-}
-
-// Progress says how far a call that normalises got: whole units, and the end of data if it was accepted.
-type Progress struct {
-	Units   uint64 // payload units that were taken from the input
-	Forms   uint64 // how many of them were written
-	Taken   int    // bytes of the input that were taken
-	Written int    // bytes of the output that were written
-}
-
-// The address of a slice, which is nil where it has no bytes, and its length.
+// place is the address of a slice, or null, and its length.
 func place(b []byte) (*C.uint8_t, C.size_t) {
 	if len(b) == 0 {
 		return nil, 0
 	}
-	return (*C.uint8_t)(unsafe.Pointer(&b[0])), C.size_t(len(b))
+	return (*C.uint8_t)(&b[0]), C.size_t(len(b))
 }
 
-func progress(a *C.struct_rtr_answer) Progress {
-	return Progress{uint64(a.units), uint64(a.forms), int(a.taken), int(a.written)}
-}
-
-// Normalise normalises the sequence that input begins with: it reads payload units up to an end of data,
-// and writes the form of what each means, and the end of data, to the front of output. At most limit
-// units are taken, the end of data included.
-//
-// It succeeds exactly if input begins with fewer than limit acceptable payload units and an end of data,
-// and output is at least as long as their form. An output as long as the input always is. What follows in
-// the input isn't taken.
-//
-// Errors, in this order: TooMany; Short to PrefixRule; NoRoom. Then Progress says which whole units were
-// taken before the error; their form is written. A caller goes on after them with more room, more input or
-// another limit.
-func Normalise(input, output []byte, limit uint64) (Progress, error) {
-	var a C.struct_rtr_answer
+// unitSize is UnitSize in numbers.
+func unitSize(input []byte) (size int, status Status, detail uint8) {
 	in, n := place(input)
-	out, room := place(output)
-	status := C.rtr_normalise_slice(in, n, out, room, C.uint64_t(limit), &a)
-	return progress(&a), fault(status, a.detail)
+	sized := C.unit_size(in, n)
+	return int(sized.size), Status(sized.status), uint8(sized.detail)
 }
 
-// NormaliseFor is Normalise for clients of one protocol version. Units that the version doesn't have are
-// checked and counted in Units but not written. All others, and the end of data, are written in this
-// version. An output 12 bytes longer than the input always suffices, since an end of data has 12 bytes in
-// version 0 and 24 in versions 1 and 2.
-//
-// For a version above 2 the error is UnitVersion before any other, with nothing taken or written.
-func NormaliseFor(input, output []byte, limit uint64, version uint8) (Progress, error) {
-	var a C.struct_rtr_answer
-	in, n := place(input)
-	out, room := place(output)
-	status := C.rtr_normalise_for_slice(in, n, out, room, C.uint64_t(limit), C.uint8_t(version), &a)
-	return progress(&a), fault(status, a.detail)
-}
-
-// SameMeaning says whether both inputs begin with sequences that mean the same, of fewer than limit payload
-// units each. The error is one of Short to TooMany, whose Detail is 0: that of left, or if left is accepted,
-// that of right.
-func SameMeaning(left, right []byte, limit uint64) (bool, error) {
-	var same C.bool
-	l, n := place(left)
-	r, m := place(right)
-	status := C.rtr_same_meaning(l, n, r, m, C.uint64_t(limit), &same)
-	return bool(same), bareFault(status)
-}
-
-// Kind is the type of a unit.
-type Kind uint8
-
-// The kinds of units that Next shows and AppendBinary writes.
-const (
-	IPv4Prefix Kind = 4
-	IPv6Prefix Kind = 6
-	EndOfData  Kind = 7
-	RouterKey  Kind = 9
-	ASPA       Kind = 11
-)
-
-func (k Kind) String() string {
-	switch k {
-	case IPv4Prefix:
-		return "IPv4 prefix"
-	case IPv6Prefix:
-		return "IPv6 prefix"
-	case EndOfData:
-		return "end of data"
-	case RouterKey:
-		return "router key"
-	case ASPA:
-		return "ASPA"
-	}
-	return fmt.Sprintf("type %d", uint8(k))
-}
-
-// Providers are the providers of an ASPA, four bytes each in network order, as they stand in a unit.
-type Providers []byte
-
-// Len is how many there are.
-func (p Providers) Len() int {
-	return len(p) / 4
-}
-
-// At is the i-th provider, from 0 on.
-func (p Providers) At(i int) uint32 {
-	return binary.BigEndian.Uint32(p[4*i:])
-}
-
-// Unit is a payload unit or an end of data. Fields that its kind doesn't have are zero.
-type Unit struct {
-	Kind     Kind
-	Version  uint8 // of the protocol
-	Announce bool  // else the payload is withdrawn
-	// The prefix, the bits after its length zero, and the longest prefix length that is meant.
-	Prefix        netip.Prefix
-	MaxLength     uint8
-	ASN           uint32 // of a prefix or a router key
-	Customer      uint32 // of an ASPA
-	KeyIdentifier [20]byte
-	Session       uint16 // of an end of data, as what follows
-	Serial        uint32
-	// In seconds; 0 in version 0.
-	Refresh, Retry, Expire uint32
-	KeyInfo                []byte    // of a router key
-	Providers              Providers // of an ASPA, on a withdrawal too
-}
-
-// Clone is the unit with key info and providers of its own.
-func (unit *Unit) Clone() Unit {
-	copied := *unit
-	copied.KeyInfo = append([]byte(nil), unit.KeyInfo...)
-	copied.Providers = append(Providers(nil), unit.Providers...)
-	return copied
-}
-
-// Next gives the unit that input begins with, and what follows it. Key info and providers lie in input, and
-// appending to them leaves it as it is. Nothing is allocated, unless there is an error.
-//
-// Errors: Short to PrefixRule, with the whole input.
-func Next(input []byte) (Unit, []byte, error) {
-	if len(input) >= 8 && isPlain(input[1]) {
-		return Unit{}, input, &Fault{Status: UnitType, Detail: input[1]}
-	}
+// parse makes the unit the one that input begins with, and answers its size. If it is refused, the unit is as it
+// was; then the size is that of the unit if the status is PrefixRule, and else 0.
+func (unit *Unit) parse(input []byte) (size int, status Status, detail uint8) {
 	in, n := place(input)
 	shown := C.next(in, n)
-	if shown.status != 0 {
-		return Unit{}, input, fault(shown.status, shown.unit.detail)
-	}
 	u := &shown.unit
-	unit := Unit{
+	if shown.status != 0 {
+		return int(u.size), Status(shown.status), uint8(u.detail)
+	}
+	*unit = Unit{
 		Kind: Kind(u.kind), Version: uint8(u.version), Announce: u.action == 1,
 		MaxLength: uint8(u.max_length), ASN: uint32(u.asn), Customer: uint32(u.customer),
 		Session: uint16(u.session), Serial: uint32(u.serial), Refresh: uint32(u.refresh),
-		Retry: uint32(u.retry), Expire: uint32(u.expire),
+		Retry: uint32(u.retry), Expire: uint32(u.expire), Code: ErrorCode(u.code),
 	}
-	end := u.part_start + u.part_length
-	part := input[u.part_start:end:end]
 	switch unit.Kind {
 	case IPv4Prefix:
 		unit.Prefix = prefix(netip.AddrFrom4(*(*[4]byte)(unsafe.Pointer(&u.address))), u)
@@ -277,83 +138,45 @@ func Next(input []byte) (Unit, []byte, error) {
 		unit.Prefix = prefix(netip.AddrFrom16(*(*[16]byte)(unsafe.Pointer(&u.address))), u)
 	case RouterKey:
 		unit.KeyIdentifier = *(*[20]byte)(unsafe.Pointer(&u.key_identifier))
-		unit.KeyInfo = part
+		unit.KeyInfo = part(input, u.part_start, u.part_length)
 	case ASPA:
-		unit.Providers = Providers(part)
+		unit.Providers = part(input, u.part_start, u.part_length)
+	case ErrorReport:
+		// Of a report whose inner lengths don't fit, no part is shown.
+		if u.part_start > 0 {
+			unit.Enclosed = part(input, u.part_start, u.part_length)
+			unit.Text = part(input, u.text_start, u.text_length)
+		}
 	}
-	return unit, input[u.size:], nil
-}
-
-// Whether units of this type have no payload and are no ends of data: Next refuses them.
-func isPlain(unitType byte) bool {
-	return unitType <= C.RTR_CACHE_RESPONSE || unitType == C.RTR_CACHE_RESET || unitType == C.RTR_ERROR_REPORT
+	return int(u.size), OK, 0
 }
 
 func prefix(address netip.Addr, u *C.struct_rtr_unit) netip.Prefix {
 	return netip.PrefixFrom(address, int(u.prefix_length))
 }
 
-// MarshalBinary is the written form of the unit; the errors are those of AppendBinary.
-func (unit *Unit) MarshalBinary() ([]byte, error) {
-	return unit.AppendBinary(nil)
+// part is a part of the input to which nothing can be appended in place.
+func part(input []byte, start, length C.size_t) []byte {
+	return input[start : start+length : start+length]
 }
 
-// AppendBinary appends the written form of the unit to b, at most 65535 bytes. The bits of an address after
-// the prefix length are cleared, a withdrawn ASPA is written without providers, and an end of data of
-// version 0 without timings. Where b has room for 32 bytes and the key info or the providers, nothing is
-// allocated. If there is an error, nothing is appended and its Detail is 0.
-//
-// Errors, in this order: UnitType; NoForm for an end of data with Announce, and for a prefix that isn't
-// valid or isn't of the kind's family; PrefixRule for the max length; TooLong for more than 65503 bytes of
-// key info or, announced, 65520 of providers; UnitLength for announced providers that aren't 4 bytes each;
-// EmptyProviders if there are none; UnitVersion for an end of data of a version above 2.
-func (unit *Unit) AppendBinary(b []byte) ([]byte, error) {
-	if isPlain(byte(unit.Kind)) {
-		return b, bareFault(C.RTR_UNIT_TYPE)
-	}
-	part := unit.part()
-	room := fixed + len(part)
-	if room > longest {
-		room = longest
-	}
-	if cap(b)-len(b) < room {
-		b = append(b, make([]byte, room)...)[:len(b)]
-	}
+// write writes the unit with this part to the front of output, but a report without its text.
+func (unit *Unit) write(part, output []byte) (int, Status) {
 	in, n := place(part)
-	out, _ := place(b[len(b) : len(b)+room])
-	written := C.write_unit(unit.said(C.size_t(len(part))), in, n, out, C.size_t(room))
-	if written.status != 0 {
-		return b, bareFault(written.status)
-	}
-	return b[:len(b)+int(written.size)], nil
+	out, room := place(output)
+	written := C.write_unit(unit.inC(n), in, n, out, room)
+	return int(written.size), Status(written.status)
 }
 
-// Sizes in bytes: of the fixed fields of a unit at most, and of a unit that is read or written.
-const (
-	fixed   = 32
-	longest = 65535
-)
-
-// The key info of a router key, or the providers of an ASPA.
-func (unit *Unit) part() []byte {
-	switch unit.Kind {
-	case RouterKey:
-		return unit.KeyInfo
-	case ASPA:
-		return unit.Providers
-	}
-	return nil
-}
-
-// The unit for C. A prefix that isn't valid is of no family.
-func (unit *Unit) said(partLength C.size_t) C.struct_rtr_unit {
+// inC is the unit for C. A prefix that isn't valid is of no family.
+func (unit *Unit) inC(partLength C.size_t) C.struct_rtr_unit {
 	u := C.struct_rtr_unit{
 		part_length: partLength, asn: C.uint32_t(unit.ASN),
 		customer: C.uint32_t(unit.Customer), serial: C.uint32_t(unit.Serial),
 		refresh: C.uint32_t(unit.Refresh), retry: C.uint32_t(unit.Retry),
 		expire: C.uint32_t(unit.Expire), session: C.uint16_t(unit.Session),
-		kind: C.uint8_t(unit.Kind), version: C.uint8_t(unit.Version),
-		max_length: C.uint8_t(unit.MaxLength),
+		code: C.uint16_t(unit.Code), kind: C.uint8_t(unit.Kind),
+		version: C.uint8_t(unit.Version), max_length: C.uint8_t(unit.MaxLength),
 	}
 	if unit.Announce {
 		u.action = 1
@@ -370,4 +193,45 @@ func (unit *Unit) said(partLength C.size_t) C.struct_rtr_unit {
 	}
 	*(*[20]byte)(unsafe.Pointer(&u.key_identifier)) = unit.KeyIdentifier
 	return u
+}
+
+// errorCode is the error code that is owed to the peer for this status of the unit that input begins with, and
+// whether one is.
+func errorCode(status Status, input []byte) (ErrorCode, bool) {
+	in, n := place(input)
+	owed := C.error_code(C.uint8_t(status), in, n)
+	return ErrorCode(owed.code), bool(owed.owed)
+}
+
+// versionHas is Kind.In.
+func versionHas(version uint8, kind Kind) bool {
+	return bool(C.rtr_version_has(C.uint8_t(version), C.uint8_t(kind)))
+}
+
+// serialOrder is the order of serial numbers, an rtr_order of rtr.h.
+func serialOrder(left, right uint32) uint8 {
+	return uint8(C.rtr_serial_order(C.uint32_t(left), C.uint32_t(right)))
+}
+
+// normalise is Normalise, or NormaliseFor for a version that isn't negative, in numbers.
+func normalise(input, output []byte, limit uint64, version int) (Progress, Status, uint8) {
+	var a C.struct_rtr_answer
+	in, n := place(input)
+	out, room := place(output)
+	if version < 0 {
+		C.rtr_normalise_slice(in, n, out, room, C.uint64_t(limit), &a)
+	} else {
+		C.rtr_normalise_for_slice(in, n, out, room, C.uint64_t(limit), C.uint8_t(version), &a)
+	}
+	progress := Progress{uint64(a.units), uint64(a.forms), int(a.taken), int(a.written)}
+	return progress, Status(a.status), uint8(a.detail)
+}
+
+// sameMeaning is SameMeaning in numbers.
+func sameMeaning(left, right []byte, limit uint64) (bool, Status) {
+	var same C.bool
+	l, n := place(left)
+	r, m := place(right)
+	status := C.rtr_same_meaning(l, n, r, m, C.uint64_t(limit), &same)
+	return bool(same), Status(status)
 }

@@ -1,0 +1,402 @@
+package rtr
+
+import (
+	"bytes"
+	"encoding/binary"
+	"errors"
+	"fmt"
+	"io"
+	"os"
+	"os/exec"
+	"sync"
+	"testing"
+)
+
+// A case that bindings/cases.py wrote.
+type testCase struct {
+	version, status, detail uint8
+	numbers                 [5]uint64 // units, forms, taken, length of the input and of the form
+	input, form             []byte
+}
+
+var (
+	caseBytes  []byte
+	caseErr    error
+	readsCases sync.Once
+)
+
+// The cases of the file that RTR_CASES names, or else those that ../cases.py makes. Where there is no python3, the
+// tests that need cases are skipped.
+func cases(t *testing.T) []testCase {
+	readsCases.Do(func() {
+		if path := os.Getenv("RTR_CASES"); path != "" {
+			caseBytes, caseErr = os.ReadFile(path)
+		} else {
+			caseBytes, caseErr = exec.Command("python3", "../cases.py", "--inputs", "300").Output()
+		}
+	})
+	if errors.Is(caseErr, exec.ErrNotFound) {
+		t.Skip("there is no python3 to make cases, and RTR_CASES names no file of them")
+	}
+	if caseErr != nil {
+		t.Fatal(caseErr)
+	}
+	var all []testCase
+	for rest := caseBytes; len(rest) > 0; {
+		one := testCase{version: rest[0], status: rest[1], detail: rest[2]}
+		rest = rest[3:]
+		for i := range one.numbers {
+			one.numbers[i] = binary.LittleEndian.Uint64(rest)
+			rest = rest[8:]
+		}
+		one.input, rest = rest[:one.numbers[3]], rest[one.numbers[3]:]
+		one.form, rest = rest[:one.numbers[4]], rest[one.numbers[4]:]
+		all = append(all, one)
+	}
+	return all
+}
+
+// numbers are the status and the detail of an error, as rtr.h has them.
+func numbers(err error) (uint8, uint8) {
+	var fault *Fault
+	if !errors.As(err, &fault) {
+		return 0, 0
+	}
+	return uint8(fault.Status), fault.Detail
+}
+
+// normalised calls Normalise, or NormaliseFor if the case is for one version.
+func (one *testCase) normalised(input, output []byte, limit uint64) (Progress, error) {
+	if one.version == 255 {
+		return Normalise(input, output, limit)
+	}
+	return NormaliseFor(input, output, limit, one.version)
+}
+
+// room is how much room always suffices.
+func (one *testCase) room() int {
+	if one.version == 255 {
+		return len(one.input)
+	}
+	return len(one.input) + 12
+}
+
+// whole says what is wrong if the case is one call.
+func (one *testCase) whole() error {
+	output := make([]byte, one.room())
+	progress, err := one.normalised(one.input, output, 1<<32)
+	status, detail := numbers(err)
+	expected := Progress{one.numbers[0], one.numbers[1], int(one.numbers[2]), len(one.form)}
+	if status != one.status || detail != one.detail || progress != expected {
+		return fmt.Errorf("%x: %v %v", one.input, progress, err)
+	}
+	if !bytes.Equal(output[:progress.Written], one.form) {
+		return fmt.Errorf("%x: another form", one.input)
+	}
+	return nil
+}
+
+// read says what is wrong if the case is read as a sequence of a Reader, and written by a Writer.
+func (one *testCase) read() error {
+	if one.version != 255 {
+		return nil
+	}
+	var form bytes.Buffer
+	reader, writer := NewReader(bytes.NewReader(one.input)), NewWriter(&form)
+	sequence := reader.Sequence(1 << 32)
+	for sequence.Scan() {
+		if err := writer.Write(sequence.Unit()); err != nil {
+			return fmt.Errorf("%x: %v", one.input, err)
+		}
+	}
+	status, detail := numbers(sequence.Err())
+	taken := reader.Offset()
+	var fault *Fault
+	if errors.As(sequence.Err(), &fault) {
+		// A refused prefix is stepped over.
+		taken = fault.Offset
+	}
+	if status != one.status || detail != one.detail || taken != int64(one.numbers[2]) {
+		return fmt.Errorf("%x: %v after %d bytes", one.input, sequence.Err(), taken)
+	}
+	if !bytes.Equal(form.Bytes(), one.form) {
+		return fmt.Errorf("%x: another form", one.input)
+	}
+	return nil
+}
+
+func TestSequences(t *testing.T) {
+	for _, one := range cases(t) {
+		for _, err := range []error{one.whole(), one.read()} {
+			if err != nil {
+				t.Fatal(err)
+			}
+		}
+	}
+}
+
+// In eight goroutines at once.
+func TestGoroutines(t *testing.T) {
+	all := cases(t)
+	var running sync.WaitGroup
+	for i := 0; i < 8; i++ {
+		running.Add(1)
+		go func() {
+			defer running.Done()
+			for _, one := range all {
+				for _, err := range []error{one.whole(), one.read()} {
+					if err != nil {
+						t.Error(err)
+						return
+					}
+				}
+			}
+		}()
+	}
+	running.Wait()
+}
+
+// In steps, with little room and few units each time: the result is the same.
+func TestInTurns(t *testing.T) {
+	for _, one := range cases(t) {
+		if len(one.input) >= 1<<16 {
+			continue
+		}
+		var form []byte
+		var units uint64
+		var err error
+		rest, room := one.input, 16
+		for {
+			var progress Progress
+			output := make([]byte, room)
+			progress, err = one.normalised(rest, output, 3)
+			form = append(form, output[:progress.Written]...)
+			rest = rest[progress.Taken:]
+			units += progress.Units
+			if errors.Is(err, NoRoom) && progress.Taken == 0 {
+				room *= 2
+			} else if !errors.Is(err, NoRoom) && !errors.Is(err, TooMany) {
+				break
+			}
+		}
+		status, detail := numbers(err)
+		taken := len(one.input) - len(rest)
+		if status != one.status || detail != one.detail || taken != int(one.numbers[2]) {
+			t.Fatalf("%x: %v after %d bytes", one.input, err, taken)
+		}
+		if units != one.numbers[0] || !bytes.Equal(form, one.form) {
+			t.Fatalf("%x: another form", one.input)
+		}
+	}
+}
+
+// An output that is one byte too short, and a limit that is one too low.
+func TestNoRoomAndTooMany(t *testing.T) {
+	for _, one := range cases(t) {
+		if one.status != 0 {
+			continue
+		}
+		output := make([]byte, len(one.form))
+		progress, err := one.normalised(one.input, output[1:], one.numbers[0]+1)
+		if !errors.Is(err, NoRoom) || progress.Taken >= int(one.numbers[2]) {
+			t.Fatalf("%x: %v %v", one.input, progress, err)
+		}
+		if !bytes.Equal(output[1:1+progress.Written], one.form[:progress.Written]) {
+			t.Fatalf("%x: another form", one.input)
+		}
+		progress, err = one.normalised(one.input, output, one.numbers[0])
+		if !errors.Is(err, TooMany) || progress.Units != one.numbers[0] {
+			t.Fatalf("%x: %v %v", one.input, progress, err)
+		}
+		_, err = one.normalised(one.input, output, one.numbers[0]+1)
+		if err != nil {
+			t.Fatalf("%x: %v", one.input, err)
+		}
+	}
+}
+
+// The limit of a Sequence counts as that of Normalise. Where it ends one, another goes on.
+func TestSequenceLimit(t *testing.T) {
+	for _, one := range cases(t) {
+		if one.status != 0 || one.version != 255 || one.numbers[0] > 100 {
+			continue
+		}
+		reader := NewReader(bytes.NewReader(one.input))
+		for step := uint64(0); ; step++ {
+			sequence, count := reader.Sequence(step), uint64(0)
+			for sequence.Scan() {
+				count++
+			}
+			if sequence.Err() == nil {
+				break
+			}
+			var fault *Fault
+			if !errors.As(sequence.Err(), &fault) || fault.Status != TooMany || count != step ||
+				fault.Offset != reader.Offset() || sequence.Unit() != nil || sequence.Scan() {
+				t.Fatalf("%x: %d units, %v", one.input, count, sequence.Err())
+			}
+		}
+		sequence := NewReader(bytes.NewReader(one.input)).Sequence(one.numbers[0] + 1)
+		for sequence.Scan() {
+		}
+		if sequence.Err() != nil || sequence.Unit().Kind != EndOfData || sequence.Scan() {
+			t.Fatalf("%x: %v", one.input, sequence.Err())
+		}
+	}
+}
+
+func TestMeanings(t *testing.T) {
+	// An end of data of version 0 alone.
+	end := []byte{0, 7, 0, 1, 0, 0, 0, 12, 0, 0, 0, 2}
+	for _, one := range cases(t) {
+		if one.version != 255 {
+			continue
+		}
+		same, err := SameMeaning(one.input, one.form, 1<<32)
+		one.checkSame(t, same, one.status == 0, err)
+		same, err = SameMeaning(end, one.input, 1<<32)
+		one.checkSame(t, same, one.status == 0 && bytes.Equal(end, one.form), err)
+	}
+}
+
+// checkSame checks what SameMeaning answered of the case and a sequence that is accepted.
+func (one *testCase) checkSame(t *testing.T, same, expected bool, err error) {
+	status, detail := numbers(err)
+	if same != expected || status != one.status || detail != one.detail {
+		t.Fatalf("%x: %v %v", one.input, same, err)
+	}
+	var fault *Fault
+	if errors.As(err, &fault) && fault.Offset != int64(one.numbers[2]) {
+		t.Fatalf("%x: %v", one.input, err)
+	}
+	if errors.Is(err, io.ErrUnexpectedEOF) != (one.status == uint8(Short)) {
+		t.Fatalf("%x: %v", one.input, err)
+	}
+}
+
+// answer is what bindings/sessions.py computed of one unit: numbers in the order of its NUMBERS.
+type answer struct {
+	numbers             [22]uint64
+	address, identifier []byte
+	form                []byte
+}
+
+// sessions are those of the file that RTR_SESSIONS names, or else those that ../sessions.py makes, with the answer
+// for each of their units.
+func sessions(t *testing.T) (inputs [][]byte, answers [][]answer) {
+	var rest []byte
+	var err error
+	if path := os.Getenv("RTR_SESSIONS"); path != "" {
+		rest, err = os.ReadFile(path)
+	} else {
+		rest, err = exec.Command("python3", "../sessions.py", "cases").Output()
+	}
+	if errors.Is(err, exec.ErrNotFound) {
+		t.Skip("there is no python3 to make sessions, and RTR_SESSIONS names no file of them")
+	}
+	if err != nil {
+		t.Fatal(err)
+	}
+	take := func(n uint64) []byte {
+		taken := rest[:n]
+		rest = rest[n:]
+		return taken
+	}
+	number := func() uint64 { return binary.LittleEndian.Uint64(take(8)) }
+	for len(rest) > 0 {
+		length, count := number(), number()
+		inputs = append(inputs, take(length))
+		all := make([]answer, count)
+		for i := range all {
+			for j := range all[i].numbers {
+				all[i].numbers[j] = number()
+			}
+			all[i].address, all[i].identifier = take(16), take(20)
+			all[i].form = take(number())
+		}
+		answers = append(answers, all)
+	}
+	return inputs, answers
+}
+
+// shown is what a unit shows, in the numbers of an answer, without those of a fault.
+func shown(unit *Unit, size int) [22]uint64 {
+	numbers := [22]uint64{
+		1: uint64(size), 7: uint64(unit.ASN), 8: uint64(unit.Customer), 9: uint64(unit.Serial),
+		10: uint64(unit.Refresh), 11: uint64(unit.Retry), 12: uint64(unit.Expire), 13: uint64(unit.Session),
+		14: uint64(unit.Code), 15: uint64(unit.Kind), 16: uint64(unit.Version), 20: uint64(unit.MaxLength),
+	}
+	part := unit.part()
+	switch {
+	case unit.Kind == RouterKey:
+		numbers[3] = 32
+	case unit.Kind == ASPA || unit.Enclosed != nil:
+		numbers[3] = 12
+	}
+	if unit.Enclosed != nil {
+		numbers[5], numbers[6] = 16+uint64(len(part)), uint64(len(unit.Text))
+	}
+	numbers[4] = uint64(len(part))
+	if unit.Announce {
+		numbers[17] = 1
+	}
+	if unit.Prefix.IsValid() {
+		numbers[18], numbers[19] = 6, uint64(unit.Prefix.Bits())
+		if unit.Prefix.Addr().Is4() {
+			numbers[18] = 4
+		}
+	}
+	return numbers
+}
+
+// check says what is wrong with a unit that was read, or refused.
+func (one *answer) check(unit *Unit, read []byte, err error) error {
+	status, detail := numbers(err)
+	if uint64(status) != one.numbers[0] || uint64(detail) != one.numbers[21] {
+		return fmt.Errorf("%v, but expected is %v", err, one.numbers)
+	}
+	if err != nil {
+		return nil
+	}
+	if shown(unit, len(read)) != one.numbers || !bytes.Equal(unit.KeyIdentifier[:], one.identifier) {
+		return fmt.Errorf("%+v, but expected is %v", unit, one.numbers)
+	}
+	if unit.Prefix.IsValid() && !bytes.HasPrefix(one.address, unit.Prefix.Addr().AsSlice()) {
+		return fmt.Errorf("%v, but expected is %x", unit.Prefix, one.address)
+	}
+	if !bytes.Equal(unit.part(), read[one.numbers[3]:][:one.numbers[4]]) ||
+		!bytes.Equal(unit.Text, read[one.numbers[5]:][:one.numbers[6]]) {
+		return fmt.Errorf("%+v has other parts", unit)
+	}
+	form, err := unit.AppendBinary(nil)
+	if err != nil || !bytes.Equal(form, one.form) {
+		return fmt.Errorf("%+v is written as %x: %v", unit, form, err)
+	}
+	return nil
+}
+
+// Sessions with units of all kinds, whole, cut off, and hostile: read by a Reader, and in memory.
+func TestSessions(t *testing.T) {
+	inputs, answers := sessions(t)
+	for i, input := range inputs {
+		reader, rest := NewReader(bytes.NewReader(input)), input
+		for _, one := range answers[i] {
+			unit, err := reader.Next()
+			if err == io.EOF && len(rest) == 0 {
+				break
+			}
+			if wrong := one.check(unit, reader.Bytes(), err); wrong != nil {
+				t.Fatalf("%x: %v", input, wrong)
+			}
+			inMemory, after, err := Next(rest)
+			size := len(rest) - len(after)
+			if wrong := one.check(&inMemory, rest[:size], err); wrong != nil {
+				t.Fatalf("%x: %v", input, wrong)
+			}
+			if errors.Is(err, PrefixRule) {
+				size, _ = UnitSize(rest)
+			}
+			rest = rest[size:]
+		}
+	}
+}

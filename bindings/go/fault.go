@@ -1,0 +1,199 @@
+package rtr
+
+import (
+	"fmt"
+	"io"
+)
+
+// Status says how a call ended. Each but OK is an error, for errors.Is; calls return it in a Fault. Those of a
+// unit are Short to PrefixRule, and are checked in the order of docs/PROTOCOL.md.
+type Status uint8
+
+// The numbers are those of rtr.h.
+const (
+	OK             Status = iota
+	Short                 // the input ends inside a unit, or before one; it is io.ErrUnexpectedEOF too
+	UnitType              // a unit of the type Detail is not allowed here
+	UnitVersion           // a unit of the version Detail is not allowed here
+	TooLong               // a router key, an error report or an ASPA has more than 65535 bytes
+	UnitLength            // a length doesn't suit the type
+	EmptyProviders        // an ASPA is announced without providers
+	PrefixRule            // a prefix breaks its rule: its length (1) or its max length (2) is above that of an address, or the max length below the length (3)
+	TooMany               // as many units as were allowed were taken
+	NoRoom                // the output is too short for what comes next
+	NoForm                // no unit has these fields
+)
+
+var statusTexts = [...]string{
+	OK:             "accepted",
+	Short:          "unexpected end of input",
+	UnitType:       "unit type is not allowed here",
+	UnitVersion:    "version is not supported here",
+	TooLong:        "unit is longer than 65535 bytes",
+	UnitLength:     "invalid unit length",
+	EmptyProviders: "ASPA unit has no providers",
+	PrefixRule:     "prefix fields are not allowed",
+	TooMany:        "too many units",
+	NoRoom:         "no room in the output",
+	NoForm:         "no unit has these fields",
+}
+
+// String is the text of the status.
+func (s Status) String() string {
+	if int(s) < len(statusTexts) {
+		return statusTexts[s]
+	}
+	return fmt.Sprintf("unknown status %d", uint8(s))
+}
+
+// Error is the same text.
+func (s Status) Error() string {
+	return s.String()
+}
+
+// The texts of the rules on prefix lengths, by Detail.
+var ruleTexts = [...]string{
+	1: "prefix length too large",
+	2: "max-length too large",
+	3: "max-length smaller than prefix length",
+}
+
+// Fault is what is wrong with a unit, or with a call. errors.Is finds its Status in it, and io.ErrUnexpectedEOF
+// if that is Short.
+type Fault struct {
+	Status Status
+	Detail uint8 // a type, a version or a rule on prefix lengths, as the Status says, else 0
+	// Where the unit begins that is refused: in bytes from the first one that the Reader read, or from the
+	// front of the input. -1 where no unit was read.
+	Offset int64
+	// The bytes of that unit, as far as they are there and its header can be believed. They lie in the input of
+	// Next, UnitSize, Normalise, NormaliseFor and SameMeaning; those of a Reader are a copy.
+	Unit []byte
+}
+
+// Error is a text that names the detail and the offset.
+func (f *Fault) Error() string {
+	text := f.text()
+	if f.Offset < 0 {
+		return "rtr: " + text
+	}
+	return fmt.Sprintf("rtr: %s, at byte %d", text, f.Offset)
+}
+
+// text names the detail.
+func (f *Fault) text() string {
+	switch f.Status {
+	case UnitType:
+		return fmt.Sprintf("unit type %d is not allowed here", f.Detail)
+	case UnitVersion:
+		return fmt.Sprintf("version %d is not supported here", f.Detail)
+	case PrefixRule:
+		if 0 < f.Detail && int(f.Detail) < len(ruleTexts) {
+			return ruleTexts[f.Detail]
+		}
+	}
+	return f.Status.String()
+}
+
+// Unwrap gives the Status, so that errors.Is(err, rtr.NoRoom) works.
+func (f *Fault) Unwrap() error {
+	return f.Status
+}
+
+// Is says that a Fault whose Status is Short is an io.ErrUnexpectedEOF.
+func (f *Fault) Is(target error) bool {
+	return f.Status == Short && target == io.ErrUnexpectedEOF
+}
+
+// Code is the error code that the fault is reported with, and whether the peer is owed a report: not where no
+// unit was refused, and not about an error report (RFC 8210 section 5.11).
+func (f *Fault) Code() (code ErrorCode, owed bool) {
+	if f.Offset < 0 {
+		return 0, false
+	}
+	return errorCode(f.Status, f.Unit)
+}
+
+// Report is the error report that the fault owes to the peer (RFC 8210 section 5.11), and whether it owes one,
+// as Code says. It encloses Unit, has a text that says what is wrong, and the version of that unit: set another
+// Version where the session has another. Of a unit of more than 65519 bytes it encloses the first 65519, and of
+// the text as much as is then left.
+func (f *Fault) Report() (report *Unit, owed bool) {
+	code, owed := f.Code()
+	if !owed {
+		return nil, false
+	}
+	report = &Unit{Kind: ErrorReport, Code: code, Enclosed: f.Unit, Text: []byte(f.text())}
+	if len(f.Unit) > 0 {
+		report.Version = f.Unit[0]
+	}
+	if len(report.Enclosed) > mostInReport {
+		report.Enclosed = report.Enclosed[:mostInReport]
+	}
+	if left := mostInReport - len(report.Enclosed); len(report.Text) > left {
+		report.Text = report.Text[:left]
+	}
+	return report, true
+}
+
+// refusal is the fault of the unit that input begins with, at this offset.
+func refusal(status Status, detail uint8, input []byte, offset int64) *Fault {
+	size := len(input)
+	switch status {
+	case Short:
+	case PrefixRule:
+		size, _, _ = unitSize(input)
+	case TooMany, NoRoom:
+		size = 0
+	default:
+		// The length in the header is not to be believed.
+		size = header
+	}
+	if size > len(input) {
+		size = len(input)
+	}
+	return &Fault{Status: status, Detail: detail, Offset: offset, Unit: input[:size:size]}
+}
+
+// ErrorCode says in an error report what was wrong (RFC 8210 section 12). Those above 8 are as in the Rust crate
+// rpki.
+type ErrorCode uint16
+
+// The error codes.
+const (
+	CorruptData ErrorCode = iota
+	InternalError
+	NoDataAvailable
+	InvalidRequest
+	UnsupportedProtocolVersion
+	UnsupportedPDUType
+	WithdrawalOfUnknownRecord
+	DuplicateAnnouncementReceived
+	UnexpectedProtocolVersion
+	ASPAProviderListError
+	TransportError
+	OrderingError
+)
+
+var codeTexts = [...]string{
+	CorruptData:                   "Corrupt Data",
+	InternalError:                 "Internal Error",
+	NoDataAvailable:               "No Data Available",
+	InvalidRequest:                "Invalid Request",
+	UnsupportedProtocolVersion:    "Unsupported Protocol Version",
+	UnsupportedPDUType:            "Unsupported PDU Type",
+	WithdrawalOfUnknownRecord:     "Withdrawal of Unknown Record",
+	DuplicateAnnouncementReceived: "Duplicate Announcement Received",
+	UnexpectedProtocolVersion:     "Unexpected Protocol Version",
+	ASPAProviderListError:         "ASPA Provider List Error",
+	TransportError:                "Transport Error",
+	OrderingError:                 "Ordering Error",
+}
+
+// String is the name of the code.
+func (c ErrorCode) String() string {
+	if int(c) < len(codeTexts) {
+		return codeTexts[c]
+	}
+	return fmt.Sprintf("error code %d", uint16(c))
+}

@@ -1,0 +1,567 @@
+package rtr
+
+import (
+	"bytes"
+	"encoding/binary"
+	"errors"
+	"fmt"
+	"io"
+	"net/netip"
+	"reflect"
+	"strings"
+	"testing"
+)
+
+// Units of each kind by RFC 8210 sections 5.2 to 5.11, of an ASPA as docs/PROTOCOL.md has it, by hand.
+var (
+	serialNotify  = []byte{1, 0, 0x12, 0x34, 0, 0, 0, 12, 0xde, 0xad, 0xbe, 0xef}
+	serialQuery   = []byte{0, 1, 0x12, 0x34, 0, 0, 0, 12, 0xde, 0xad, 0xbe, 0xef}
+	resetQuery    = []byte{2, 2, 0, 0, 0, 0, 0, 8}
+	cacheResponse = []byte{1, 3, 0x12, 0x34, 0, 0, 0, 8}
+	ipv4          = []byte{1, 4, 0, 0, 0, 0, 0, 20, 1, 23, 26, 0, 192, 0, 2, 0, 0, 1, 0, 15}
+	ipv6          = []byte{
+		1, 6, 0, 0, 0, 0, 0, 32, 0, 32, 48, 0,
+		0x20, 1, 0x0d, 0xb8, 0, 0, 0, 0, 0, 0, 0, 0, 0, 0, 0, 0, 0, 1, 0, 15,
+	}
+	end = []byte{
+		1, 7, 0x12, 0x34, 0, 0, 0, 24, 0xde, 0xad, 0xbe, 0xef,
+		0, 0, 0x0e, 0x10, 0, 0, 0x02, 0x58, 0, 0, 0x1c, 0x20,
+	}
+	end0       = []byte{0, 7, 0x12, 0x34, 0, 0, 0, 12, 0xde, 0xad, 0xbe, 0xef}
+	cacheReset = []byte{1, 8, 0, 0, 0, 0, 0, 8}
+	key        = []byte{
+		1, 9, 1, 0, 0, 0, 0, 34, 1, 2, 3, 4, 5, 6, 7, 8, 9, 10,
+		11, 12, 13, 14, 15, 16, 17, 18, 19, 20, 0, 1, 0, 15, 0xca, 0xfe,
+	}
+	errorReport = []byte{
+		1, 10, 0, 2, 0, 0, 0, 26, 0, 0, 0, 8, 1, 2, 0, 0, 0, 0, 0, 8, 0, 0, 0, 2, 'n', 'o',
+	}
+	emptyReport = []byte{1, 10, 0, 1, 0, 0, 0, 16, 0, 0, 0, 0, 0, 0, 0, 0}
+	textReport  = []byte{1, 10, 0, 1, 0, 0, 0, 18, 0, 0, 0, 0, 0, 0, 0, 2, 'n', 'o'}
+	aspa        = []byte{2, 11, 1, 0, 0, 0, 0, 20, 0, 0, 0xfd, 0xe8, 0, 0, 0xfd, 0xe9, 0, 1, 0, 15}
+	withdrawn   = []byte{2, 11, 0, 0, 0, 0, 0, 12, 0, 0, 0xfd, 0xe8}
+)
+
+// What each of them shows.
+var shownUnits = []struct {
+	bytes []byte
+	unit  Unit
+}{
+	{serialNotify, Unit{Kind: SerialNotify, Version: 1, Session: 0x1234, Serial: 0xdeadbeef}},
+	{serialQuery, Unit{Kind: SerialQuery, Session: 0x1234, Serial: 0xdeadbeef}},
+	{resetQuery, Unit{Kind: ResetQuery, Version: 2}},
+	{cacheResponse, Unit{Kind: CacheResponse, Version: 1, Session: 0x1234}},
+	{ipv4, Unit{
+		Kind: IPv4Prefix, Version: 1, Announce: true, ASN: 65551,
+		Prefix: netip.MustParsePrefix("192.0.2.0/23"), MaxLength: 26,
+	}},
+	{ipv6, Unit{
+		Kind: IPv6Prefix, Version: 1, ASN: 65551,
+		Prefix: netip.MustParsePrefix("2001:db8::/32"), MaxLength: 48,
+	}},
+	{end, Unit{
+		Kind: EndOfData, Version: 1, Session: 0x1234, Serial: 0xdeadbeef,
+		Refresh: 3600, Retry: 600, Expire: 7200,
+	}},
+	{end0, Unit{Kind: EndOfData, Session: 0x1234, Serial: 0xdeadbeef}},
+	{cacheReset, Unit{Kind: CacheReset, Version: 1}},
+	{key, Unit{
+		Kind: RouterKey, Version: 1, Announce: true, ASN: 65551,
+		KeyIdentifier: [20]byte{1, 2, 3, 4, 5, 6, 7, 8, 9, 10, 11, 12, 13, 14, 15, 16, 17, 18, 19, 20},
+		KeyInfo:       []byte{0xca, 0xfe},
+	}},
+	{errorReport, Unit{
+		Kind: ErrorReport, Version: 1, Code: NoDataAvailable, Enclosed: []byte{1, 2, 0, 0, 0, 0, 0, 8},
+		Text: []byte("no"),
+	}},
+	{emptyReport, Unit{
+		Kind: ErrorReport, Version: 1, Code: InternalError, Enclosed: []byte{}, Text: []byte{},
+	}},
+	{textReport, Unit{
+		Kind: ErrorReport, Version: 1, Code: InternalError, Enclosed: []byte{}, Text: []byte("no"),
+	}},
+	{aspa, Unit{
+		Kind: ASPA, Version: 2, Announce: true, Customer: 65000, Providers: NewProviders(65001, 65551),
+	}},
+	{withdrawn, Unit{Kind: ASPA, Version: 2, Customer: 65000, Providers: Providers{}}},
+}
+
+// join is one slice after the other.
+func join(all ...[]byte) []byte {
+	return bytes.Join(all, nil)
+}
+
+// session is one unit after the other.
+func session() []byte {
+	var all []byte
+	for _, one := range shownUnits {
+		all = append(all, one.bytes...)
+	}
+	return all
+}
+
+// What Next shows, and that AppendBinary writes it back after what was there.
+func TestFields(t *testing.T) {
+	for _, one := range shownUnits {
+		unit, rest, err := Next(join(one.bytes, []byte{7}))
+		if err != nil || !reflect.DeepEqual(unit, one.unit) || !bytes.Equal(rest, []byte{7}) {
+			t.Fatalf("%x: %+v %x %v", one.bytes, unit, rest, err)
+		}
+		if size, err := UnitSize(one.bytes[:8]); size != len(one.bytes) || err != nil {
+			t.Fatalf("%x: %d %v", one.bytes, size, err)
+		}
+		if size, err := UnitSize(one.bytes[:7]); size != 8 || !errors.Is(err, Short) {
+			t.Fatalf("%x: %d %v", one.bytes, size, err)
+		}
+		form, err := unit.AppendBinary([]byte("front"))
+		if err != nil || !bytes.Equal(form, join([]byte("front"), one.bytes)) {
+			t.Fatalf("%x: %x %v", one.bytes, form, err)
+		}
+		if clone := unit.Clone(); !reflect.DeepEqual(*clone, unit) {
+			t.Fatalf("%x: %v", one.bytes, clone)
+		}
+	}
+	unit, _, err := Next(aspa)
+	if err != nil || unit.Providers.Len() != 2 || unit.Providers.At(0) != 65001 || unit.Providers.At(1) != 65551 {
+		t.Fatalf("%v %v", unit.Providers, err)
+	}
+}
+
+// What is free is written as zero: host bits, sessions that mean nothing, flags but the lowest, and the providers
+// of a withdrawal.
+func TestForms(t *testing.T) {
+	for _, one := range []struct{ bytes, form []byte }{
+		{[]byte{2, 2, 3, 4, 0, 0, 0, 8}, resetQuery},
+		{[]byte{1, 8, 3, 4, 0, 0, 0, 8}, cacheReset},
+		{[]byte{1, 4, 3, 4, 0, 0, 0, 20, 0xff, 23, 26, 7, 192, 0, 3, 0xff, 0, 1, 0, 15}, ipv4},
+		{join([]byte{2, 11, 0xfe, 7, 0, 0, 0, 20}, aspa[8:]), withdrawn},
+	} {
+		unit, _, err := Next(one.bytes)
+		if err != nil {
+			t.Fatal(err)
+		}
+		if form, err := unit.MarshalBinary(); err != nil || !bytes.Equal(form, one.form) {
+			t.Fatalf("%x: %x %v", one.bytes, form, err)
+		}
+	}
+	// The host bits of a unit that was made.
+	unit := Unit{
+		Kind: IPv4Prefix, Version: 1, Announce: true, ASN: 65551, MaxLength: 26,
+		Prefix: netip.MustParsePrefix("192.0.3.255/23"),
+	}
+	if form, err := unit.MarshalBinary(); err != nil || !bytes.Equal(form, ipv4) {
+		t.Fatalf("%x %v", form, err)
+	}
+}
+
+// A report whose inner lengths don't fit shows no parts.
+func TestReportsThatDontFit(t *testing.T) {
+	for _, lengths := range [][2]uint32{{9, 2}, {7, 2}, {8, 3}, {8, 1}, {0xffffffff, 2}, {8, 0xffffffff}, {11, 0}} {
+		report := append([]byte{}, errorReport...)
+		binary.BigEndian.PutUint32(report[8:], lengths[0])
+		binary.BigEndian.PutUint32(report[20:], lengths[1])
+		unit, rest, err := Next(report)
+		expected := Unit{Kind: ErrorReport, Version: 1, Code: NoDataAvailable}
+		if err != nil || len(rest) != 0 || !reflect.DeepEqual(unit, expected) {
+			t.Fatalf("%x: %+v %v", report, unit, err)
+		}
+	}
+}
+
+// No end of data is written or read in a version above 2, and no sequence.
+func TestVersions(t *testing.T) {
+	output := make([]byte, len(end)+12)
+	for version := 3; version < 256; version++ {
+		progress, err := NormaliseFor(end, output, 1, uint8(version))
+		status, detail := numbers(err)
+		if Status(status) != UnitVersion || int(detail) != version || progress != (Progress{}) {
+			t.Fatalf("%d: %v %v", version, progress, err)
+		}
+		unit := Unit{Kind: EndOfData, Version: uint8(version)}
+		form, err := unit.MarshalBinary()
+		if status, detail = numbers(err); len(form) != 0 || Status(status) != UnitVersion || int(detail) != version {
+			t.Fatalf("%d: %x %v", version, form, err)
+		}
+		read := join([]byte{uint8(version)}, end[1:])
+		_, err = NewReader(bytes.NewReader(read)).Next()
+		if status, detail = numbers(err); Status(status) != UnitVersion || int(detail) != version {
+			t.Fatalf("%d: %v", version, err)
+		}
+	}
+	if !bytes.Equal(output, make([]byte, len(output))) {
+		t.Fatalf("%x", output)
+	}
+	for kind := 0; kind < 256; kind++ {
+		for version := 0; version < 256; version++ {
+			has := version <= 2 && kind <= 11 && kind != 5
+			has = has && (kind != 9 || version >= 1) && (kind != 11 || version >= 2)
+			if Kind(kind).In(uint8(version)) != has {
+				t.Fatalf("%v in version %d", Kind(kind), version)
+			}
+		}
+	}
+}
+
+// Units that have no form.
+var formless = []struct {
+	unit   Unit
+	status Status
+	detail uint8
+}{
+	{Unit{Kind: 5}, UnitType, 5},
+	{Unit{Kind: 12, Announce: true}, UnitType, 12},
+	{Unit{Kind: 255}, UnitType, 255},
+	{Unit{Announce: true}, NoForm, 0},
+	{Unit{Kind: SerialQuery, Announce: true}, NoForm, 0},
+	{Unit{Kind: ResetQuery, Announce: true}, NoForm, 0},
+	{Unit{Kind: CacheResponse, Announce: true}, NoForm, 0},
+	{Unit{Kind: EndOfData, Version: 1, Announce: true}, NoForm, 0},
+	{Unit{Kind: CacheReset, Announce: true}, NoForm, 0},
+	{Unit{Kind: ErrorReport, Announce: true}, NoForm, 0},
+	{Unit{Kind: ErrorReport, Announce: true, Text: make([]byte, 65520)}, NoForm, 0},
+	{Unit{Kind: IPv4Prefix}, NoForm, 0},
+	{Unit{Kind: IPv6Prefix}, NoForm, 0},
+	{Unit{Kind: IPv4Prefix, Prefix: netip.MustParsePrefix("2001:db8::/32"), MaxLength: 32}, NoForm, 0},
+	{Unit{Kind: IPv4Prefix, Prefix: netip.MustParsePrefix("::ffff:192.0.2.0/120"), MaxLength: 120}, NoForm, 0},
+	{Unit{Kind: IPv6Prefix, Prefix: netip.MustParsePrefix("192.0.2.0/24"), MaxLength: 24}, NoForm, 0},
+	{Unit{Kind: IPv4Prefix, Prefix: netip.MustParsePrefix("192.0.2.0/24"), MaxLength: 33}, PrefixRule, 2},
+	{Unit{Kind: IPv6Prefix, Prefix: netip.MustParsePrefix("2001::/9"), MaxLength: 129}, PrefixRule, 2},
+	{Unit{Kind: IPv6Prefix, Prefix: netip.MustParsePrefix("2001::/9"), MaxLength: 8}, PrefixRule, 3},
+	{Unit{Kind: RouterKey, KeyInfo: make([]byte, 65504)}, TooLong, 0},
+	{Unit{Kind: RouterKey, KeyInfo: make([]byte, 1<<20)}, TooLong, 0},
+	{Unit{Kind: ErrorReport, Enclosed: make([]byte, 65520)}, TooLong, 0},
+	{Unit{Kind: ErrorReport, Text: make([]byte, 65520)}, TooLong, 0},
+	{Unit{Kind: ErrorReport, Enclosed: make([]byte, 65519), Text: []byte{0}}, TooLong, 0},
+	{Unit{Kind: ErrorReport, Enclosed: make([]byte, 1<<20), Text: make([]byte, 1<<20)}, TooLong, 0},
+	{Unit{Kind: ASPA, Announce: true, Providers: make([]byte, 65524)}, TooLong, 0},
+	{Unit{Kind: ASPA, Announce: true, Providers: make([]byte, 6)}, UnitLength, 0},
+	{Unit{Kind: ASPA, Announce: true}, EmptyProviders, 0},
+	{Unit{Kind: EndOfData, Version: 3}, UnitVersion, 3},
+}
+
+// What has no form is refused, nothing is appended or written, and no report is owed.
+func TestNoForm(t *testing.T) {
+	for _, one := range formless {
+		form, err := one.unit.AppendBinary([]byte("front"))
+		var fault *Fault
+		if string(form) != "front" || !errors.As(err, &fault) || !errors.Is(err, one.status) {
+			t.Fatalf("%v: %x %v", one.unit.Kind, form, err)
+		}
+		if fault.Detail != one.detail || fault.Offset != -1 {
+			t.Fatalf("%v: %+v", one.unit.Kind, fault)
+		}
+		if report, owed := fault.Report(); owed {
+			t.Fatalf("%v: %+v", one.unit.Kind, report)
+		}
+		form, err = one.unit.AppendBinary(make([]byte, 0, 1<<17))
+		if len(form) != 0 || !bytes.Equal(form[:cap(form)], make([]byte, 1<<17)) {
+			t.Fatalf("%v: something was written: %v", one.unit.Kind, err)
+		}
+		var written bytes.Buffer
+		writer := NewWriter(&written)
+		if err := writer.Write(&one.unit); !errors.Is(err, one.status) || written.Len() > 0 {
+			t.Fatalf("%v: %x %v", one.unit.Kind, written.Bytes(), err)
+		}
+	}
+}
+
+// The longest router key, reports and ASPA.
+func TestLongest(t *testing.T) {
+	for _, one := range []struct {
+		unit Unit
+		size int
+	}{
+		{Unit{Kind: RouterKey, Version: 1, Announce: true, KeyInfo: make([]byte, 65503)}, 65535},
+		{Unit{Kind: ErrorReport, Enclosed: make([]byte, 65519), Text: []byte{}}, 65535},
+		{Unit{Kind: ErrorReport, Enclosed: []byte{}, Text: make([]byte, 65519)}, 65535},
+		{Unit{Kind: ErrorReport, Enclosed: []byte{1, 2}, Text: make([]byte, 65517)}, 65535},
+		{Unit{Kind: ASPA, Version: 2, Announce: true, Providers: make([]byte, 65520)}, 65532},
+	} {
+		form, err := one.unit.MarshalBinary()
+		if err != nil || len(form) != one.size {
+			t.Fatalf("%v: %d bytes, %v", one.unit.Kind, len(form), err)
+		}
+		unit, rest, err := Next(form)
+		if err != nil || len(rest) != 0 || !reflect.DeepEqual(unit, one.unit) {
+			t.Fatalf("%v: %v", one.unit.Kind, err)
+		}
+		read, err := NewReader(bytes.NewReader(form)).Next()
+		if err != nil || !reflect.DeepEqual(*read, one.unit) {
+			t.Fatalf("%v: %v", one.unit.Kind, err)
+		}
+	}
+}
+
+// Appending to a part of a unit doesn't write into the input, and a clone doesn't change with it.
+func TestParts(t *testing.T) {
+	for _, one := range [][]byte{key, aspa, errorReport} {
+		input := join(one, []byte{7})
+		unit, _, err := Next(input)
+		if err != nil {
+			t.Fatal(err)
+		}
+		clone, again := unit.Clone(), unit.Clone()
+		for _, part := range [][]byte{unit.KeyInfo, unit.Providers, unit.Enclosed, unit.Text} {
+			_ = append(part, 8)
+		}
+		if !bytes.Equal(input, join(one, []byte{7})) {
+			t.Fatalf("%v: the input was changed", unit.Kind)
+		}
+		for i := range input {
+			input[i] ^= 0xff
+		}
+		if reflect.DeepEqual(&unit, clone) || !reflect.DeepEqual(clone, again) {
+			t.Fatalf("%v: the clone has the bytes of the input", unit.Kind)
+		}
+	}
+}
+
+// Nothing is allocated for a unit, in memory, by a Reader or by a Writer.
+func TestAllocations(t *testing.T) {
+	output := make([]byte, 0, 100)
+	for _, one := range shownUnits {
+		count := testing.AllocsPerRun(100, func() {
+			unit, _, err := Next(one.bytes)
+			if err != nil {
+				t.Fatal(err)
+			}
+			if output, err = unit.AppendBinary(output[:0]); err != nil {
+				t.Fatal(err)
+			}
+		})
+		if count != 0 {
+			t.Fatalf("%x: %v allocations", one.bytes, count)
+		}
+	}
+	input := bytes.NewReader(nil)
+	reader, writer := NewReader(input), NewWriter(io.Discard)
+	all := session()
+	count := testing.AllocsPerRun(100, func() {
+		input.Reset(all)
+		for range shownUnits {
+			unit, err := reader.Next()
+			if err != nil {
+				t.Fatal(err)
+			}
+			if err := writer.Write(unit); err != nil {
+				t.Fatal(err)
+			}
+		}
+	})
+	if count != 0 {
+		t.Fatalf("%v allocations", count)
+	}
+}
+
+func BenchmarkNext(b *testing.B) {
+	for _, one := range shownUnits {
+		b.Run(one.unit.Kind.String(), func(b *testing.B) {
+			b.ReportAllocs()
+			for i := 0; i < b.N; i++ {
+				if _, _, err := Next(one.bytes); err != nil {
+					b.Fatal(err)
+				}
+			}
+		})
+	}
+}
+
+func BenchmarkAppendBinary(b *testing.B) {
+	for _, one := range shownUnits {
+		b.Run(one.unit.Kind.String(), func(b *testing.B) {
+			b.ReportAllocs()
+			unit, output := one.unit, make([]byte, 0, 100)
+			var err error
+			for i := 0; i < b.N; i++ {
+				if output, err = unit.AppendBinary(output[:0]); err != nil {
+					b.Fatal(err)
+				}
+			}
+		})
+	}
+}
+
+// A unit that a Reader reads from memory, and one that a Writer writes.
+func BenchmarkReader(b *testing.B) {
+	b.ReportAllocs()
+	input := bytes.NewReader(nil)
+	reader := NewReader(input)
+	for i := 0; i < b.N; i++ {
+		input.Reset(ipv4)
+		if _, err := reader.Next(); err != nil {
+			b.Fatal(err)
+		}
+	}
+}
+
+func BenchmarkWriter(b *testing.B) {
+	b.ReportAllocs()
+	writer := NewWriter(io.Discard)
+	unit := shownUnits[4].unit
+	for i := 0; i < b.N; i++ {
+		if err := writer.Write(&unit); err != nil {
+			b.Fatal(err)
+		}
+	}
+}
+
+func TestKinds(t *testing.T) {
+	for kind, text := range []string{
+		"serial notify", "serial query", "reset query", "cache response", "IPv4 prefix", "type 5", "IPv6 prefix",
+		"end of data", "cache reset", "router key", "error report", "ASPA", "type 12",
+	} {
+		if Kind(kind).String() != text {
+			t.Fatalf("%d: %v", kind, Kind(kind))
+		}
+	}
+	// By RFC 8210 section 12, and those above 8 as in the Rust crate rpki.
+	for code, text := range []string{
+		"Corrupt Data", "Internal Error", "No Data Available", "Invalid Request", "Unsupported Protocol Version",
+		"Unsupported PDU Type", "Withdrawal of Unknown Record", "Duplicate Announcement Received",
+		"Unexpected Protocol Version", "ASPA Provider List Error", "Transport Error", "Ordering Error",
+		"error code 12",
+	} {
+		if ErrorCode(code).String() != text {
+			t.Fatalf("%d: %v", code, ErrorCode(code))
+		}
+	}
+}
+
+// Each status has the text of rtr.h, and is an error.
+func TestStatus(t *testing.T) {
+	for status, text := range []string{
+		"accepted",
+		"unexpected end of input",
+		"unit type is not allowed here",
+		"version is not supported here",
+		"unit is longer than 65535 bytes",
+		"invalid unit length",
+		"ASPA unit has no providers",
+		"prefix fields are not allowed",
+		"too many units",
+		"no room in the output",
+		"no unit has these fields",
+		"unknown status 11",
+	} {
+		var err error = Status(status)
+		if err.Error() != text || Status(status).String() != text {
+			t.Fatalf("%d: %v", status, err)
+		}
+		fault := fmt.Errorf("wrapped: %w", &Fault{Status: Status(status)})
+		for other := OK; other < 12; other++ {
+			if errors.Is(fault, other) != (other == Status(status)) {
+				t.Fatalf("%v: %v", fault, other)
+			}
+		}
+		if errors.Is(fault, io.ErrUnexpectedEOF) != (Status(status) == Short) || errors.Is(fault, io.EOF) {
+			t.Fatalf("%v", fault)
+		}
+	}
+}
+
+// A report of this version and code, about these bytes and with this text (RFC 8210 section 5.11).
+func reportBytes(version, code byte, about []byte, text string) []byte {
+	size := byte(16 + len(about) + len(text))
+	front := []byte{version, 10, 0, code, 0, 0, 0, size, 0, 0, 0, byte(len(about))}
+	return join(front, about, []byte{0, 0, 0, byte(len(text))}, []byte(text))
+}
+
+// The text of a fault, its error code by RFC 8210 section 12, and the report that it owes.
+func TestReports(t *testing.T) {
+	prefix := []byte{1, 4, 0, 0, 0, 0, 0, 20, 1, 24, 23, 0, 192, 0, 2, 0, 0, 1, 0, 15}
+	for _, one := range []struct {
+		input []byte
+		text  string
+		code  int // -1 where no report is owed
+		about int // so many bytes of the input
+	}{
+		{[]byte{1, 4}, "unexpected end of input", 0, 2},
+		{ipv4[:19], "unexpected end of input", 0, 19},
+		{[]byte{1, 5, 0, 0, 0, 0, 0, 12, 9, 9}, "unit type 5 is not allowed here", 5, 8},
+		{[]byte{3, 7, 0, 0, 0, 0, 0, 24, 9, 9}, "version 3 is not supported here", 4, 8},
+		{[]byte{2, 9, 1, 0, 0, 1, 0, 0, 9, 9}, "unit is longer than 65535 bytes", 0, 8},
+		{[]byte{2, 2, 0, 0, 0, 0, 0, 9, 9, 9}, "invalid unit length", 0, 8},
+		{[]byte{2, 11, 1, 0, 0, 0, 0, 12, 9, 9}, "ASPA unit has no providers", 9, 8},
+		{join(prefix, key), "max-length smaller than prefix length", 0, 20},
+		// None about a report.
+		{[]byte{1, 10, 0, 0, 0, 0, 0, 15, 9, 9}, "invalid unit length", -1, 0},
+		{[]byte{1, 10, 0, 0, 0, 1, 0, 0, 9, 9}, "unit is longer than 65535 bytes", -1, 0},
+		{[]byte{1, 10, 0, 0, 0, 0, 0, 16, 9, 9}, "unexpected end of input", -1, 0},
+	} {
+		_, _, inMemory := Next(one.input)
+		_, read := NewReader(bytes.NewReader(one.input)).Next()
+		for _, err := range []error{inMemory, read} {
+			var fault *Fault
+			if !errors.As(err, &fault) || err.Error() != "rtr: "+one.text+", at byte 0" {
+				t.Fatalf("%x: %v", one.input, err)
+			}
+			report, owed := fault.Report()
+			if owed != (one.code >= 0) {
+				t.Fatalf("%x: %+v", one.input, report)
+			}
+			if !owed {
+				continue
+			}
+			expected := reportBytes(one.input[0], byte(one.code), one.input[:one.about], one.text)
+			if form, err := report.MarshalBinary(); err != nil || !bytes.Equal(form, expected) {
+				t.Fatalf("%x: %x %v", one.input, form, err)
+			}
+		}
+	}
+}
+
+// What a report encloses, and then its text, is cut so that the report has 65535 bytes.
+func TestReportsCut(t *testing.T) {
+	for length, text := range map[int]string{
+		65534: "", 65519: "", 65518: "u", 65497: "unexpected end of inpu", 65496: "unexpected end of input",
+	} {
+		input := join([]byte{1, 9, 0, 0, 0, 0, 0xff, 0xff}, make([]byte, length-8))
+		var fault *Fault
+		if _, _, err := Next(input); !errors.As(err, &fault) || fault.Status != Short {
+			t.Fatal(err)
+		}
+		about := length
+		if about > 65519 {
+			about = 65519
+		}
+		report, owed := fault.Report()
+		if !owed || !bytes.Equal(report.Enclosed, input[:about]) || string(report.Text) != text {
+			t.Fatalf("%d: %d %q", length, len(report.Enclosed), report.Text)
+		}
+		if form, err := report.MarshalBinary(); err != nil || len(form) != 16+about+len(text) {
+			t.Fatalf("%d: %d bytes, %v", length, len(form), err)
+		}
+	}
+}
+
+// By RFC 1982 section 3.2.
+func TestSerials(t *testing.T) {
+	for _, one := range []struct {
+		left, right uint32
+		order       int
+		ok          bool
+	}{
+		{0, 0, 0, true}, {0xffffffff, 0xffffffff, 0, true},
+		{0, 1, -1, true}, {1, 0, 1, true},
+		{0xffffffff, 0, -1, true}, {0, 0xffffffff, 1, true},
+		{0, 0x7fffffff, -1, true}, {0, 0x80000001, 1, true},
+		{0, 0x80000000, 0, false}, {0x80000000, 0, 0, false}, {5, 0x80000005, 0, false},
+	} {
+		if order, ok := CompareSerials(one.left, one.right); order != one.order || ok != one.ok {
+			t.Fatalf("%d %d: %d %v", one.left, one.right, order, ok)
+		}
+	}
+}
+
+// The text of each fault is one line, with its place.
+func TestTexts(t *testing.T) {
+	for status := Status(0); status < 12; status++ {
+		for detail := 0; detail < 256; detail++ {
+			text := (&Fault{Status: status, Detail: uint8(detail), Offset: 7}).Error()
+			if !strings.HasPrefix(text, "rtr: ") || !strings.HasSuffix(text, ", at byte 7") ||
+				strings.ContainsAny(text, "\n%") {
+				t.Fatal(text)
+			}
+		}
+	}
+}
