@@ -6,7 +6,7 @@ use std::io::Read;
 fn main() -> Result<(), Box<dyn std::error::Error>> {
     let mut input = Vec::new();
     std::io::stdin().read_to_end(&mut input)?;
-    for unit in Units::new(&input) {
+    for unit in Units::sequence(&input, u64::MAX) {
         println!("{:?}", unit?);
     }
     let mut form = vec![0; input.len()];

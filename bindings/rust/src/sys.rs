@@ -1,6 +1,10 @@
 //! The functions of the archive, as `bindings/c/rtr.h` declares them, and safe calls of them.
 
-use crate::{Fault, Progress, Stopped};
+use crate::fault::{ErrorCode, Fault};
+use crate::kind::Kind;
+use crate::sequence::{Progress, Stopped};
+use crate::unit::{self, ErrorReport, Providers, ReportParts, Timing, UnitRef};
+use core::net::{Ipv4Addr, Ipv6Addr};
 
 /// The result of a call that normalises.
 #[repr(C)]
@@ -44,6 +48,7 @@ pub(crate) struct Unit {
     pub(crate) detail: u8,
 }
 
+// The functions whose names end in `_nonnull` take slices, whose pointers are never null here.
 extern "C" {
     fn rtr_normalise_slice_nonnull(
         input: *const u8,
@@ -63,6 +68,12 @@ extern "C" {
         answer: *mut Answer,
     ) -> u8;
     fn rtr_next_nonnull(input: *const u8, input_length: usize, unit: *mut Unit) -> u8;
+    fn rtr_unit_size_nonnull(
+        input: *const u8,
+        input_length: usize,
+        size: *mut usize,
+        detail: *mut u8,
+    ) -> u8;
     fn rtr_write_unit_nonnull(
         unit: *const Unit,
         input: *const u8,
@@ -79,10 +90,18 @@ extern "C" {
         limit: u64,
         same: *mut bool,
     ) -> u8;
+    fn rtr_error_code_nonnull(
+        status: u8,
+        input: *const u8,
+        input_length: usize,
+        code: *mut u16,
+    ) -> bool;
+    fn rtr_serial_order(left: u32, right: u32) -> u8;
+    fn rtr_version_has(version: u8, kind: u8) -> bool;
 }
 
 /// The answer as a result.
-fn told(answer: Answer) -> Result<Progress, Stopped> {
+fn result(answer: Answer) -> Result<Progress, Stopped> {
     let progress = Progress {
         units: answer.units,
         forms: answer.forms,
@@ -112,7 +131,7 @@ pub(crate) fn normalise(input: &[u8], output: &mut [u8], limit: u64) -> Result<P
             &mut answer,
         )
     };
-    told(answer)
+    result(answer)
 }
 
 pub(crate) fn normalise_for(
@@ -134,14 +153,10 @@ pub(crate) fn normalise_for(
             &mut answer,
         )
     };
-    told(answer)
+    result(answer)
 }
 
-/// Units without a payload, other than ends of data, are refused for their type.
 pub(crate) fn next(input: &[u8]) -> Result<Unit, Fault> {
-    if let [_, kind @ (0..=3 | 8 | 10), _, _, _, _, _, _, ..] = input {
-        return Err(Fault::UnitType(*kind));
-    }
     let mut unit = Unit::default();
     // SAFETY: the slice is live and of this length, and the unit overlaps nothing.
     match unsafe { rtr_next_nonnull(input.as_ptr(), input.len(), &mut unit) } {
@@ -150,15 +165,28 @@ pub(crate) fn next(input: &[u8]) -> Result<Unit, Fault> {
     }
 }
 
-/// `part` is the key info or the providers. The C call doesn't report which prefix rule is broken,
-/// so that is found here.
+pub(crate) fn unit_size(input: &[u8]) -> Result<usize, Fault> {
+    let (mut size, mut detail) = (0, 0);
+    // SAFETY: the slice is live and of this length, and the two numbers overlap nothing.
+    match unsafe { rtr_unit_size_nonnull(input.as_ptr(), input.len(), &mut size, &mut detail) } {
+        0 => Ok(size),
+        status => Err(Fault::of(status, detail)),
+    }
+}
+
+/// `part` is the key info, the providers, or the unit that a report is about. The fault comes
+/// without a version and without the broken rule.
 pub(crate) fn write(unit: &Unit, part: &[u8], output: &mut [u8]) -> Result<usize, Fault> {
+    let unit = Unit {
+        part_length: part.len(),
+        ..*unit
+    };
     let mut written = 0;
     // SAFETY: all slices are live and of these lengths, and the output and the count overlap
     // nothing.
     let status = unsafe {
         rtr_write_unit_nonnull(
-            unit,
+            &unit,
             part.as_ptr(),
             part.len(),
             output.as_mut_ptr(),
@@ -168,21 +196,7 @@ pub(crate) fn write(unit: &Unit, part: &[u8], output: &mut [u8]) -> Result<usize
     };
     match status {
         0 => Ok(written),
-        status => Err(Fault::of(status, refused(unit, status))),
-    }
-}
-
-/// The detail of a status of `rtr_write_unit`: the type, the version or the broken rule of the
-/// unit.
-fn refused(unit: &Unit, status: u8) -> u8 {
-    let width = if unit.family == 4 { 32 } else { 128 };
-    match status {
-        2 => unit.kind,
-        3 => unit.version,
-        7 if unit.prefix_length > width => 1,
-        7 if unit.max_length > width => 2,
-        7 => 3,
-        _ => 0,
+        status => Err(Fault::of(status, 0)),
     }
 }
 
@@ -206,18 +220,195 @@ pub(crate) fn same_meaning(left: &[u8], right: &[u8], limit: u64) -> Result<bool
     }
 }
 
+/// The code of the report that is owed for this status of the unit that the input begins with.
+pub(crate) fn error_code(status: u8, input: &[u8]) -> Option<u16> {
+    let mut code = 0;
+    // SAFETY: the slice is live and of this length, and the code overlaps nothing.
+    unsafe { rtr_error_code_nonnull(status, input.as_ptr(), input.len(), &mut code) }
+        .then_some(code)
+}
+
+pub(crate) fn serial_order(left: u32, right: u32) -> u8 {
+    // SAFETY: any numbers may be passed.
+    unsafe { rtr_serial_order(left, right) }
+}
+
+pub(crate) fn version_has(version: u8, kind: u8) -> bool {
+    // SAFETY: any numbers may be passed.
+    unsafe { rtr_version_has(version, kind) }
+}
+
+impl Unit {
+    /// The unit as it is typed, whose bytes these are.
+    pub(crate) fn typed<'a>(&self, bytes: &'a [u8]) -> UnitRef<'a> {
+        let (version, session, serial) = (self.version, self.session, self.serial);
+        let announce = self.action == 1;
+        let part = &bytes[self.part_start..][..self.part_length];
+        match self.kind {
+            0 => unit::Unit::SerialNotify(unit::SerialNotify {
+                version,
+                session,
+                serial,
+            }),
+            1 => unit::Unit::SerialQuery(unit::SerialQuery {
+                version,
+                session,
+                serial,
+            }),
+            2 => unit::Unit::ResetQuery(unit::ResetQuery { version }),
+            3 => unit::Unit::CacheResponse(unit::CacheResponse { version, session }),
+            4 => unit::Unit::Ipv4Prefix(unit::Ipv4Prefix {
+                version,
+                announce,
+                address: self.ipv4(),
+                length: self.prefix_length,
+                max_length: self.max_length,
+                asn: self.asn,
+            }),
+            6 => unit::Unit::Ipv6Prefix(unit::Ipv6Prefix {
+                version,
+                announce,
+                address: Ipv6Addr::from(self.address),
+                length: self.prefix_length,
+                max_length: self.max_length,
+                asn: self.asn,
+            }),
+            7 => unit::Unit::EndOfData(unit::EndOfData {
+                version,
+                session,
+                serial,
+                timing: self.timing(),
+            }),
+            8 => unit::Unit::CacheReset(unit::CacheReset { version }),
+            9 => unit::Unit::RouterKey(unit::RouterKey {
+                version,
+                announce,
+                identifier: self.key_identifier,
+                asn: self.asn,
+                key_info: part,
+            }),
+            11 => unit::Unit::Aspa(unit::Aspa {
+                version,
+                announce,
+                customer: self.customer,
+                providers: Providers(part),
+            }),
+            _ => unit::Unit::ErrorReport(unit::ErrorReport {
+                version,
+                code: ErrorCode(self.code),
+                // Of a report whose inner lengths don't fit, no part is shown.
+                parts: (self.part_start > 0).then(|| ReportParts {
+                    unit: part,
+                    text: &bytes[self.text_start..][..self.text_length],
+                }),
+            }),
+        }
+    }
+
+    fn ipv4(&self) -> Ipv4Addr {
+        let [a, b, c, d, ..] = self.address;
+        Ipv4Addr::new(a, b, c, d)
+    }
+
+    /// The timings of an end of data, which version 0 doesn't have.
+    fn timing(&self) -> Option<Timing> {
+        (self.version > 0).then_some(Timing {
+            refresh: self.refresh,
+            retry: self.retry,
+            expire: self.expire,
+        })
+    }
+
+    /// The unit in numbers, without the length of its part, and a report without its text.
+    pub(crate) fn of<B>(typed: &unit::Unit<B>) -> Self {
+        let unit = Unit {
+            kind: typed.kind().into(),
+            version: typed.version(),
+            ..Unit::default()
+        };
+        match typed {
+            unit::Unit::SerialNotify(notify) => unit.with_serial(notify.session, notify.serial),
+            unit::Unit::SerialQuery(query) => unit.with_serial(query.session, query.serial),
+            unit::Unit::CacheResponse(response) => unit.with_serial(response.session, 0),
+            unit::Unit::ResetQuery(_) | unit::Unit::CacheReset(_) => unit,
+            unit::Unit::Ipv4Prefix(prefix) => {
+                let mut address = [0; 16];
+                address[..4].copy_from_slice(&prefix.address.octets());
+                Unit {
+                    family: 4,
+                    address,
+                    action: prefix.announce.into(),
+                    prefix_length: prefix.length,
+                    max_length: prefix.max_length,
+                    asn: prefix.asn,
+                    ..unit
+                }
+            }
+            unit::Unit::Ipv6Prefix(prefix) => Unit {
+                family: 6,
+                address: prefix.address.octets(),
+                action: prefix.announce.into(),
+                prefix_length: prefix.length,
+                max_length: prefix.max_length,
+                asn: prefix.asn,
+                ..unit
+            },
+            unit::Unit::EndOfData(end) => {
+                let timing = end.timing.unwrap_or(Timing::RECOMMENDED);
+                Unit {
+                    refresh: timing.refresh,
+                    retry: timing.retry,
+                    expire: timing.expire,
+                    ..unit.with_serial(end.session, end.serial)
+                }
+            }
+            unit::Unit::RouterKey(key) => Unit {
+                action: key.announce.into(),
+                key_identifier: key.identifier,
+                asn: key.asn,
+                ..unit
+            },
+            unit::Unit::ErrorReport(report) => Unit::of_report(report),
+            unit::Unit::Aspa(aspa) => Unit {
+                action: aspa.announce.into(),
+                customer: aspa.customer,
+                ..unit
+            },
+        }
+    }
+
+    /// The report in numbers, without its parts.
+    pub(crate) fn of_report<B>(report: &ErrorReport<B>) -> Self {
+        Unit {
+            kind: Kind::ErrorReport.into(),
+            version: report.version,
+            code: report.code.0,
+            ..Unit::default()
+        }
+    }
+
+    fn with_serial(self, session: u16, serial: u32) -> Self {
+        Unit {
+            session,
+            serial,
+            ..self
+        }
+    }
+}
+
 #[cfg(test)]
 mod tests {
     use super::{write, Answer, Fault, Unit};
-    use std::mem::{offset_of, size_of};
+    use core::mem::{offset_of, size_of};
+    use std::string::ToString;
 
-    /// What no unit of the wrapper can say.
+    /// What no unit of the crate can say.
     #[test]
     fn no_form() {
         let rows = [
             // The kind, the action and the family.
-            ((12, 1, 4), Fault::UnitType(12)),
-            ((5, 1, 4), Fault::UnitType(5)),
+            ((5, 1, 4), Fault::UnitType(0)),
+            ((12, 1, 4), Fault::UnitType(0)),
             ((4, 2, 4), Fault::NoForm),
             ((4, 1, 6), Fault::NoForm),
             ((6, 1, 4), Fault::NoForm),
@@ -237,14 +428,6 @@ mod tests {
             assert_eq!(write(&unit, &[], &mut output), Err(fault));
             assert_eq!(output, [0xa5; 40]);
         }
-        // Key info or providers outside of the input.
-        let unit = Unit {
-            kind: 9,
-            version: 1,
-            part_length: 1,
-            ..Unit::default()
-        };
-        assert_eq!(write(&unit, &[], &mut [0; 40]), Err(Fault::NoForm));
     }
 
     /// A status that isn't known isn't said to be another.

@@ -1,0 +1,206 @@
+//! What may be wrong with a unit or a call.
+
+use crate::sys;
+use crate::unit::{ErrorReport, ReportParts, MOST_IN_REPORT};
+use core::fmt;
+
+/// Why a call failed, in the order in which the faults of a unit are checked.
+#[derive(Clone, Copy, Debug, PartialEq, Eq, Hash)]
+#[non_exhaustive]
+pub enum Fault {
+    /// The input ends inside a unit, or before one.
+    Short,
+    /// A unit of this type is not allowed here.
+    UnitType(u8),
+    /// A unit of this protocol version is not allowed here.
+    UnitVersion(u8),
+    /// A router key, an error report or an ASPA has more than 65535 bytes.
+    TooLong,
+    /// The unit's type doesn't allow this length.
+    UnitLength,
+    /// An ASPA is announced without providers.
+    EmptyProviders,
+    /// The lengths of a prefix break this part of their rule.
+    Prefix(PrefixRule),
+    /// As many units as were allowed were taken.
+    TooMany,
+    /// The output is too short for what comes next.
+    NoRoom,
+    /// No unit has these fields.
+    NoForm,
+    /// A status that this version of the crate doesn't know.
+    Unknown(u8),
+}
+
+/// The part of the rule on the lengths of a prefix that is broken.
+#[derive(Clone, Copy, Debug, PartialEq, Eq, Hash)]
+pub enum PrefixRule {
+    /// The prefix length is above that of an address.
+    LengthOver,
+    /// The max length is above that of an address.
+    MaxLengthOver,
+    /// The max length is below the prefix length.
+    MaxLengthUnder,
+}
+
+impl Fault {
+    /// The fault of a status other than 0, with its detail.
+    pub(crate) fn of(status: u8, detail: u8) -> Self {
+        match status {
+            1 => Fault::Short,
+            2 => Fault::UnitType(detail),
+            3 => Fault::UnitVersion(detail),
+            4 => Fault::TooLong,
+            5 => Fault::UnitLength,
+            6 => Fault::EmptyProviders,
+            7 => Fault::Prefix(match detail {
+                1 => PrefixRule::LengthOver,
+                2 => PrefixRule::MaxLengthOver,
+                _ => PrefixRule::MaxLengthUnder,
+            }),
+            8 => Fault::TooMany,
+            9 => Fault::NoRoom,
+            10 => Fault::NoForm,
+            status => Fault::Unknown(status),
+        }
+    }
+
+    /// The status, as `rtr.h` numbers it.
+    pub fn status(self) -> u8 {
+        match self {
+            Fault::Short => 1,
+            Fault::UnitType(_) => 2,
+            Fault::UnitVersion(_) => 3,
+            Fault::TooLong => 4,
+            Fault::UnitLength => 5,
+            Fault::EmptyProviders => 6,
+            Fault::Prefix(_) => 7,
+            Fault::TooMany => 8,
+            Fault::NoRoom => 9,
+            Fault::NoForm => 10,
+            Fault::Unknown(status) => status,
+        }
+    }
+
+    /// The error code that this fault is reported with, where it is that of the unit that these
+    /// bytes begin, or none: for what isn't the peer's fault, and about an error report (RFC 8210
+    /// sections 5.11 and 12).
+    pub fn code(self, unit: &[u8]) -> Option<ErrorCode> {
+        sys::error_code(self.status(), unit).map(ErrorCode)
+    }
+
+    /// The error report that this fault owes to the peer, where it is that of the unit that these
+    /// bytes begin, if it owes one (RFC 8210 section 5.11). It has the version of that unit: set
+    /// another one where the session has another.
+    ///
+    /// It encloses that unit, of one whose header is refused the header, and at most 65519 bytes;
+    /// of the text as much as is then left. More bytes after the unit don't matter.
+    pub fn report<'a>(self, unit: &'a [u8], text: &'a str) -> Option<ErrorReport<&'a [u8]>> {
+        let code = self.code(unit)?;
+        let unit = self.of_unit(unit);
+        let enclosed = &unit[..unit.len().min(MOST_IN_REPORT)];
+        let left = MOST_IN_REPORT - enclosed.len();
+        let text = &text.as_bytes()[..text.len().min(left)];
+        Some(ErrorReport {
+            version: unit.first().copied().unwrap_or(0),
+            code,
+            parts: Some(ReportParts {
+                unit: enclosed,
+                text,
+            }),
+        })
+    }
+
+    /// Of the bytes that a unit with this fault begins those that are its own: of one whose header
+    /// is refused, the header, since the length in it is not to be believed.
+    pub(crate) fn of_unit(self, bytes: &[u8]) -> &[u8] {
+        let size = match self {
+            Fault::Short => bytes.len(),
+            Fault::Prefix(_) => sys::unit_size(bytes).unwrap_or(8),
+            Fault::TooMany | Fault::NoRoom | Fault::NoForm => 0,
+            _ => 8,
+        };
+        &bytes[..size.min(bytes.len())]
+    }
+}
+
+impl fmt::Display for Fault {
+    fn fmt(&self, f: &mut fmt::Formatter<'_>) -> fmt::Result {
+        match self {
+            Fault::Short => f.write_str("unexpected end of input"),
+            Fault::UnitType(kind) => write!(f, "unit type {kind} is not allowed here"),
+            Fault::UnitVersion(version) => write!(f, "version {version} is not supported here"),
+            Fault::TooLong => f.write_str("unit is longer than 65535 bytes"),
+            Fault::UnitLength => f.write_str("invalid unit length"),
+            Fault::EmptyProviders => f.write_str("ASPA unit has no providers"),
+            Fault::Prefix(PrefixRule::LengthOver) => f.write_str("prefix length too large"),
+            Fault::Prefix(PrefixRule::MaxLengthOver) => f.write_str("max-length too large"),
+            Fault::Prefix(PrefixRule::MaxLengthUnder) => {
+                f.write_str("max-length smaller than prefix length")
+            }
+            Fault::TooMany => f.write_str("too many units"),
+            Fault::NoRoom => f.write_str("no room in the output"),
+            Fault::NoForm => f.write_str("no unit has these fields"),
+            Fault::Unknown(status) => write!(f, "unknown status {status}"),
+        }
+    }
+}
+
+impl core::error::Error for Fault {}
+
+/// What was wrong, in an error report (RFC 8210 section 12). Codes above 8 are as in the Rust crate
+/// `rpki`.
+#[derive(Clone, Copy, Debug, PartialEq, Eq, PartialOrd, Ord, Hash)]
+pub struct ErrorCode(pub u16);
+
+impl ErrorCode {
+    /// The data that came can't be read, or its fields contradict one another.
+    pub const CORRUPT_DATA: Self = ErrorCode(0);
+    /// The peer failed for a reason of its own.
+    pub const INTERNAL_ERROR: Self = ErrorCode(1);
+    /// The cache has no data yet.
+    pub const NO_DATA_AVAILABLE: Self = ErrorCode(2);
+    /// The request makes no sense to the cache.
+    pub const INVALID_REQUEST: Self = ErrorCode(3);
+    /// The peer doesn't speak this version of the protocol.
+    pub const UNSUPPORTED_PROTOCOL_VERSION: Self = ErrorCode(4);
+    /// The peer doesn't know units of this type.
+    pub const UNSUPPORTED_PDU_TYPE: Self = ErrorCode(5);
+    /// A record was withdrawn that the router doesn't have.
+    pub const WITHDRAWAL_OF_UNKNOWN_RECORD: Self = ErrorCode(6);
+    /// A record was announced that the router has already.
+    pub const DUPLICATE_ANNOUNCEMENT_RECEIVED: Self = ErrorCode(7);
+    /// A unit has another version than the one agreed on.
+    pub const UNEXPECTED_PROTOCOL_VERSION: Self = ErrorCode(8);
+    /// The providers of an ASPA unit are not allowed, as in the Rust crate `rpki`.
+    pub const ASPA_PROVIDER_LIST_ERROR: Self = ErrorCode(9);
+    /// The connection failed, as in the Rust crate `rpki`.
+    pub const TRANSPORT_ERROR: Self = ErrorCode(10);
+    /// Units came in the wrong order, as in the Rust crate `rpki`.
+    pub const ORDERING_ERROR: Self = ErrorCode(11);
+
+    /// The names of the codes, by their numbers.
+    const NAMES: [&'static str; 12] = [
+        "Corrupt Data",
+        "Internal Error",
+        "No Data Available",
+        "Invalid Request",
+        "Unsupported Protocol Version",
+        "Unsupported PDU Type",
+        "Withdrawal of Unknown Record",
+        "Duplicate Announcement Received",
+        "Unexpected Protocol Version",
+        "ASPA Provider List Error",
+        "Transport Error",
+        "Ordering Error",
+    ];
+}
+
+impl fmt::Display for ErrorCode {
+    fn fmt(&self, f: &mut fmt::Formatter<'_>) -> fmt::Result {
+        match Self::NAMES.get(usize::from(self.0)) {
+            Some(name) => f.pad(name),
+            None => write!(f, "error code {}", self.0),
+        }
+    }
+}

@@ -1,0 +1,106 @@
+//! The types of units.
+
+use crate::sys;
+use core::fmt;
+
+/// The type of a unit, with its number (RFC 8210 section 5; an ASPA as in the Rust crate `rpki`).
+#[derive(Clone, Copy, Debug, PartialEq, Eq, PartialOrd, Ord, Hash)]
+#[non_exhaustive]
+#[repr(u8)]
+pub enum Kind {
+    /// RFC 8210 section 5.2.
+    SerialNotify = 0,
+    /// RFC 8210 section 5.3.
+    SerialQuery = 1,
+    /// RFC 8210 section 5.4.
+    ResetQuery = 2,
+    /// RFC 8210 section 5.5.
+    CacheResponse = 3,
+    /// RFC 8210 section 5.6.
+    Ipv4Prefix = 4,
+    /// RFC 8210 section 5.7.
+    Ipv6Prefix = 6,
+    /// RFC 6810 and RFC 8210 section 5.8.
+    EndOfData = 7,
+    /// RFC 8210 section 5.9.
+    CacheReset = 8,
+    /// RFC 8210 section 5.10.
+    RouterKey = 9,
+    /// RFC 8210 section 5.11.
+    ErrorReport = 10,
+    /// As in the Rust crate `rpki`.
+    Aspa = 11,
+}
+
+/// A number that isn't the type of a unit.
+#[derive(Clone, Copy, Debug, PartialEq, Eq)]
+pub struct UnknownKind(pub u8);
+
+impl fmt::Display for UnknownKind {
+    fn fmt(&self, f: &mut fmt::Formatter<'_>) -> fmt::Result {
+        write!(f, "no unit has type {}", self.0)
+    }
+}
+
+impl core::error::Error for UnknownKind {}
+
+impl TryFrom<u8> for Kind {
+    type Error = UnknownKind;
+
+    fn try_from(number: u8) -> Result<Self, UnknownKind> {
+        Ok(match number {
+            0 => Kind::SerialNotify,
+            1 => Kind::SerialQuery,
+            2 => Kind::ResetQuery,
+            3 => Kind::CacheResponse,
+            4 => Kind::Ipv4Prefix,
+            6 => Kind::Ipv6Prefix,
+            7 => Kind::EndOfData,
+            8 => Kind::CacheReset,
+            9 => Kind::RouterKey,
+            10 => Kind::ErrorReport,
+            11 => Kind::Aspa,
+            other => return Err(UnknownKind(other)),
+        })
+    }
+}
+
+impl From<Kind> for u8 {
+    fn from(kind: Kind) -> u8 {
+        kind as u8
+    }
+}
+
+impl Kind {
+    /// Whether a version of the protocol has units of this type: version 0 doesn't have router
+    /// keys, version 1 doesn't have ASPAs, and there is no version above 2.
+    pub fn is_in(self, version: u8) -> bool {
+        sys::version_has(version, self.into())
+    }
+
+    /// Whether a sequence may have units of this type: payload units and the end of data.
+    pub fn is_in_sequences(self) -> bool {
+        matches!(
+            self,
+            Kind::Ipv4Prefix | Kind::Ipv6Prefix | Kind::EndOfData | Kind::RouterKey | Kind::Aspa
+        )
+    }
+}
+
+impl fmt::Display for Kind {
+    fn fmt(&self, f: &mut fmt::Formatter<'_>) -> fmt::Result {
+        f.pad(match self {
+            Kind::SerialNotify => "serial notify",
+            Kind::SerialQuery => "serial query",
+            Kind::ResetQuery => "reset query",
+            Kind::CacheResponse => "cache response",
+            Kind::Ipv4Prefix => "IPv4 prefix",
+            Kind::Ipv6Prefix => "IPv6 prefix",
+            Kind::EndOfData => "end of data",
+            Kind::CacheReset => "cache reset",
+            Kind::RouterKey => "router key",
+            Kind::ErrorReport => "error report",
+            Kind::Aspa => "ASPA",
+        })
+    }
+}

@@ -1,0 +1,375 @@
+//! Units from a reader.
+
+use crate::fault::Fault;
+use crate::kind::Kind;
+use crate::sys;
+use crate::unit::{ErrorReport, OwnedUnit, ReportParts, Unit, UnitRef, LONGEST};
+use crate::units::refuse_outside_of_sequences;
+use std::fmt;
+use std::io::{self, Read};
+use std::string::ToString;
+use std::vec::Vec;
+
+/// The bytes of a header.
+const HEADER: usize = 8;
+/// The buffer's first size: that of all units but some router keys, error reports and ASPAs.
+const FIRST_BUFFER: usize = 64;
+
+/// Why a unit wasn't read or written.
+#[derive(Debug)]
+#[non_exhaustive]
+pub enum Error {
+    /// The reader or the writer failed.
+    Io(io::Error),
+    /// A unit that was read is refused.
+    Refused(Refusal),
+    /// A unit that was to be written has no form.
+    NoForm(Fault),
+}
+
+/// A unit that a [`Reader`] refused.
+#[derive(Clone, Debug, PartialEq, Eq)]
+pub struct Refusal {
+    /// What is wrong.
+    pub fault: Fault,
+    /// Where the unit begins, in bytes from the first one that the reader gave.
+    pub offset: u64,
+    /// The bytes of the unit, as far as they were read: of one whose header is refused, the header.
+    pub unit: Vec<u8>,
+}
+
+impl Refusal {
+    /// The error report that the fault owes to the peer, if it owes one, as [`Fault::report`] says:
+    /// it encloses the unit, and its text says what is wrong.
+    pub fn report(&self) -> Option<ErrorReport<Vec<u8>>> {
+        let text = self.fault.to_string();
+        let report = self.fault.report(&self.unit, &text)?;
+        Some(ErrorReport {
+            version: report.version,
+            code: report.code,
+            parts: report.parts.map(|parts| ReportParts {
+                unit: parts.unit.to_vec(),
+                text: parts.text.to_vec(),
+            }),
+        })
+    }
+}
+
+impl fmt::Display for Refusal {
+    fn fmt(&self, f: &mut fmt::Formatter<'_>) -> fmt::Result {
+        write!(f, "{}, at byte {}", self.fault, self.offset)
+    }
+}
+
+impl std::error::Error for Refusal {}
+
+impl Error {
+    /// What is wrong with the unit, or none if the reader or the writer failed.
+    pub fn fault(&self) -> Option<Fault> {
+        match self {
+            Error::Io(_) => None,
+            Error::Refused(refusal) => Some(refusal.fault),
+            Error::NoForm(fault) => Some(*fault),
+        }
+    }
+}
+
+impl fmt::Display for Error {
+    fn fmt(&self, f: &mut fmt::Formatter<'_>) -> fmt::Result {
+        match self {
+            Error::Io(_) => f.write_str("input or output failed"),
+            Error::Refused(refusal) => refusal.fmt(f),
+            Error::NoForm(fault) => fault.fmt(f),
+        }
+    }
+}
+
+impl std::error::Error for Error {
+    fn source(&self) -> Option<&(dyn std::error::Error + 'static)> {
+        match self {
+            Error::Io(error) => Some(error),
+            Error::Refused(_) | Error::NoForm(_) => None,
+        }
+    }
+}
+
+impl From<io::Error> for Error {
+    fn from(error: io::Error) -> Self {
+        Error::Io(error)
+    }
+}
+
+impl From<Error> for io::Error {
+    /// An error of the reader or the writer as it is; else one of the kind `UnexpectedEof` for
+    /// `Short`, `InvalidData` for what was read, and `InvalidInput` for what was to be written.
+    fn from(error: Error) -> Self {
+        let kind = match &error {
+            Error::Io(_) => io::ErrorKind::Other,
+            Error::Refused(refusal) if refusal.fault == Fault::Short => {
+                io::ErrorKind::UnexpectedEof
+            }
+            Error::Refused(_) => io::ErrorKind::InvalidData,
+            Error::NoForm(_) => io::ErrorKind::InvalidInput,
+        };
+        match error {
+            Error::Io(error) => error,
+            error => io::Error::new(kind, error),
+        }
+    }
+}
+
+/// Reads units of all types from a reader, and keeps one at a time. It takes a unit's header, and
+/// then exactly the unit's bytes: it never reads ahead. So give it a [`std::io::BufReader`] where
+/// reads are dear, as on a socket or a file.
+///
+/// A length is checked before it is believed: the buffer never grows for a length that no unit has,
+/// and never above 65535 bytes.
+///
+/// As an iterator it gives units that own their bytes. It ends after a whole unit where the input
+/// ends, and after the first error.
+///
+/// ```
+/// use rtr_wire::{Reader, ResetQuery, Unit};
+///
+/// let input: &[u8] = &[1, 2, 0, 0, 0, 0, 0, 8];
+/// for unit in Reader::new(input) {
+///     assert_eq!(unit?, Unit::ResetQuery(ResetQuery { version: 1 }));
+/// }
+/// # Ok::<(), rtr_wire::Error>(())
+/// ```
+#[derive(Debug)]
+pub struct Reader<R> {
+    inner: R,
+    buffer: Vec<u8>,
+    /// Bytes in the buffer: of the last unit, or of one that isn't whole yet.
+    filled: usize,
+    /// Bytes of the last unit, which the next call drops; 0 after an error.
+    size: usize,
+    /// Where the first byte in the buffer stood.
+    offset: u64,
+    /// Whether the iterator has ended.
+    ended: bool,
+}
+
+impl<R> Reader<R> {
+    /// Reads units from this reader.
+    pub fn new(inner: R) -> Self {
+        Reader {
+            inner,
+            buffer: std::vec![0; FIRST_BUFFER],
+            filled: 0,
+            size: 0,
+            offset: 0,
+            ended: false,
+        }
+    }
+
+    /// How many bytes the units had that were taken: where the next one begins.
+    pub fn offset(&self) -> u64 {
+        self.offset + self.size as u64
+    }
+
+    /// The bytes of the last unit, as they were read, or of a prefix that was refused; none after
+    /// another error.
+    pub fn bytes(&self) -> &[u8] {
+        &self.buffer[..self.size]
+    }
+
+    /// The reader inside.
+    pub fn get_ref(&self) -> &R {
+        &self.inner
+    }
+
+    /// The reader inside. What is read from it is missing here.
+    pub fn get_mut(&mut self) -> &mut R {
+        &mut self.inner
+    }
+
+    /// The reader inside. What was read of a unit that isn't whole yet is lost.
+    pub fn into_inner(self) -> R {
+        self.inner
+    }
+
+    /// A fault of the unit in the buffer.
+    fn refusal(&self, fault: Fault) -> Error {
+        Error::Refused(Refusal {
+            fault,
+            offset: self.offset,
+            unit: fault.of_unit(&self.buffer[..self.filled]).to_vec(),
+        })
+    }
+}
+
+impl<R: Read> Reader<R> {
+    /// Reads a unit, and lends it until the next call; [`Unit::into_owned`] keeps it. It is none
+    /// where the input ends after a whole unit. Each unit is parsed once, and nothing is allocated,
+    /// unless the buffer has to grow or there is an error.
+    ///
+    /// # Errors
+    ///
+    /// - `Refused` with `Short` if the input ends inside a unit;
+    /// - `Refused` with `UnitType` to `EmptyProviders` if a header is refused. What follows it isn't
+    ///   read, and each call answers the same;
+    /// - `Refused` with `Prefix` if the lengths of a prefix break their rule. The next call goes on
+    ///   after that unit;
+    /// - `Io` if the reader fails, but not for `Interrupted`. What was read is kept, so that the
+    ///   next call goes on where this one stopped, after a timeout for instance.
+    pub fn next_unit(&mut self) -> Result<Option<UnitRef<'_>>, Error> {
+        if self.read_unit(false)? {
+            return self.parse().map(Some);
+        }
+        Ok(None)
+    }
+
+    /// The sequence that begins where the reader stands: payload units up to an end of data, which
+    /// is given too. At most `limit` units are taken, the end of data included.
+    pub fn sequence(&mut self, limit: u64) -> Sequence<'_, R> {
+        Sequence {
+            reader: self,
+            limit,
+            ended: false,
+        }
+    }
+
+    /// Reads the bytes of a unit, and answers whether there is one. If the units of a sequence are
+    /// wanted, the types that none has are refused.
+    fn read_unit(&mut self, in_sequence: bool) -> Result<bool, Error> {
+        if self.size > 0 {
+            self.offset += self.size as u64;
+            (self.filled, self.size) = (0, 0);
+        }
+        if !self.fill(HEADER)? {
+            return match self.filled {
+                0 => Ok(false),
+                _ => Err(self.refusal(Fault::Short)),
+            };
+        }
+        let header = &self.buffer[..HEADER];
+        if in_sequence {
+            refuse_outside_of_sequences(header).map_err(|fault| self.refusal(fault))?;
+        }
+        let size = sys::unit_size(header).map_err(|fault| self.refusal(fault))?;
+        if !self.fill(size)? {
+            return Err(self.refusal(Fault::Short));
+        }
+        self.size = size;
+        Ok(true)
+    }
+
+    /// The unit in the buffer.
+    fn parse(&self) -> Result<UnitRef<'_>, Error> {
+        match Unit::first(&self.buffer[..self.size]) {
+            Ok((unit, _)) => Ok(unit),
+            Err(fault) => Err(self.refusal(fault)),
+        }
+    }
+
+    /// Reads until there are so many bytes of the unit, and answers whether there are.
+    fn fill(&mut self, size: usize) -> Result<bool, Error> {
+        if size > self.buffer.len() {
+            // Twice as long as it was, where the unit isn't longer.
+            let grown = size.max(2 * self.buffer.len()).min(LONGEST);
+            self.buffer.resize(grown, 0);
+        }
+        while self.filled < size {
+            match self.inner.read(&mut self.buffer[self.filled..size]) {
+                Ok(0) => return Ok(false),
+                Ok(count) if count <= size - self.filled => self.filled += count,
+                Ok(_) => return Err(io::Error::other("impossible count of bytes read").into()),
+                Err(error) if error.kind() == io::ErrorKind::Interrupted => {}
+                Err(error) => return Err(error.into()),
+            }
+        }
+        Ok(true)
+    }
+}
+
+impl<R: Read> Iterator for Reader<R> {
+    type Item = Result<OwnedUnit, Error>;
+
+    fn next(&mut self) -> Option<Self::Item> {
+        if self.ended {
+            return None;
+        }
+        let unit = self.next_unit().map(|unit| unit.map(Unit::into_owned));
+        self.ended = !matches!(unit, Ok(Some(_)));
+        unit.transpose()
+    }
+}
+
+impl<R: Read> std::iter::FusedIterator for Reader<R> {}
+
+/// A sequence that a [`Reader`] reads: payload units up to an end of data, as a cache sends them
+/// after its cache response. It is an iterator over units that own their bytes;
+/// [`Sequence::next_unit`] lends them.
+///
+/// ```
+/// use rtr_wire::{Reader, Unit};
+///
+/// // An end of data of version 0 (RFC 6810 section 5.8).
+/// let input: &[u8] = &[0, 7, 0, 1, 0, 0, 0, 12, 0, 0, 0, 2];
+/// let mut reader = Reader::new(input);
+/// let mut sequence = reader.sequence(1 << 24);
+/// while let Some(unit) = sequence.next_unit()? {
+///     if let Unit::EndOfData(end) = unit {
+///         assert_eq!(end.serial, 2);
+///     }
+/// }
+/// # Ok::<(), rtr_wire::Error>(())
+/// ```
+#[derive(Debug)]
+pub struct Sequence<'r, R> {
+    reader: &'r mut Reader<R>,
+    limit: u64,
+    ended: bool,
+}
+
+impl<R: Read> Sequence<'_, R> {
+    /// Reads a unit, and lends it until the next call. It is none after the end of data, and after
+    /// an error that isn't `Io`.
+    ///
+    /// # Errors
+    ///
+    /// `Refused` with `TooMany`, before a unit is read; those of [`Reader::next_unit`], but
+    /// `UnitType` before any other fault for a header of a type that no sequence has, and `Short`
+    /// where the input ends before an end of data.
+    pub fn next_unit(&mut self) -> Result<Option<UnitRef<'_>>, Error> {
+        if self.ended {
+            return Ok(None);
+        }
+        self.read_unit().inspect_err(|error| {
+            self.ended = error.fault().is_some();
+        })?;
+        let unit = self.reader.parse();
+        self.ended = !matches!(&unit, Ok(unit) if unit.kind() != Kind::EndOfData);
+        unit.map(Some)
+    }
+
+    /// Reads the bytes of a unit, which there has to be.
+    fn read_unit(&mut self) -> Result<(), Error> {
+        if self.limit == 0 {
+            return Err(Error::Refused(Refusal {
+                fault: Fault::TooMany,
+                offset: self.reader.offset(),
+                unit: Vec::new(),
+            }));
+        }
+        if !self.reader.read_unit(true)? {
+            return Err(self.reader.refusal(Fault::Short));
+        }
+        self.limit -= 1;
+        Ok(())
+    }
+}
+
+impl<R: Read> Iterator for Sequence<'_, R> {
+    type Item = Result<OwnedUnit, Error>;
+
+    fn next(&mut self) -> Option<Self::Item> {
+        let unit = self.next_unit().map(|unit| unit.map(Unit::into_owned));
+        self.ended |= unit.is_err();
+        unit.transpose()
+    }
+}
+
+impl<R: Read> std::iter::FusedIterator for Sequence<'_, R> {}

@@ -1,0 +1,487 @@
+//! Units, typed.
+
+use crate::fault::{ErrorCode, Fault, PrefixRule};
+use crate::kind::Kind;
+use crate::sys;
+use core::cmp::Ordering;
+use core::net::{Ipv4Addr, Ipv6Addr};
+#[cfg(feature = "std")]
+use std::vec::Vec;
+
+/// The bytes of a unit that is read or written, at most.
+pub(crate) const LONGEST: usize = 65535;
+/// The bytes of an error report beside its parts: a header and two lengths.
+const REPORT_FIXED: usize = 16;
+/// The bytes of the parts of an error report, at most.
+pub(crate) const MOST_IN_REPORT: usize = LONGEST - REPORT_FIXED;
+
+/// A serial notify: the cache has new data (RFC 8210 section 5.2).
+#[derive(Clone, Copy, Debug, PartialEq, Eq, Hash)]
+pub struct SerialNotify {
+    /// The version of the protocol.
+    pub version: u8,
+    /// The session of the cache.
+    pub session: u16,
+    /// The serial number of the data that it has now.
+    pub serial: u32,
+}
+
+/// A serial query: a router asks for what is new since a state (RFC 8210 section 5.3).
+#[derive(Clone, Copy, Debug, PartialEq, Eq, Hash)]
+pub struct SerialQuery {
+    /// The version of the protocol.
+    pub version: u8,
+    /// The session that the router's data is from.
+    pub session: u16,
+    /// The serial number of the router's data.
+    pub serial: u32,
+}
+
+/// A reset query: a router asks for all data (RFC 8210 section 5.4).
+#[derive(Clone, Copy, Debug, PartialEq, Eq, Hash)]
+pub struct ResetQuery {
+    /// The version of the protocol.
+    pub version: u8,
+}
+
+/// A cache response: data follows, up to an end of data (RFC 8210 section 5.5).
+#[derive(Clone, Copy, Debug, PartialEq, Eq, Hash)]
+pub struct CacheResponse {
+    /// The version of the protocol.
+    pub version: u8,
+    /// The session of the cache.
+    pub session: u16,
+}
+
+/// An IPv4 prefix (RFC 8210 section 5.6).
+#[derive(Clone, Copy, Debug, PartialEq, Eq, Hash)]
+pub struct Ipv4Prefix {
+    /// The version of the protocol.
+    pub version: u8,
+    /// Whether it is announced; else it is withdrawn.
+    pub announce: bool,
+    /// The address, as it is read with the bits after the prefix length zero.
+    pub address: Ipv4Addr,
+    /// The length of the prefix.
+    pub length: u8,
+    /// The longest prefix length that is meant.
+    pub max_length: u8,
+    /// The autonomous system that may announce the prefix.
+    pub asn: u32,
+}
+
+/// An IPv6 prefix (RFC 8210 section 5.7).
+#[derive(Clone, Copy, Debug, PartialEq, Eq, Hash)]
+pub struct Ipv6Prefix {
+    /// The version of the protocol.
+    pub version: u8,
+    /// Whether it is announced; else it is withdrawn.
+    pub announce: bool,
+    /// The address, as it is read with the bits after the prefix length zero.
+    pub address: Ipv6Addr,
+    /// The length of the prefix.
+    pub length: u8,
+    /// The longest prefix length that is meant.
+    pub max_length: u8,
+    /// The autonomous system that may announce the prefix.
+    pub asn: u32,
+}
+
+/// An end of data (RFC 6810 and RFC 8210 section 5.8).
+#[derive(Clone, Copy, Debug, PartialEq, Eq, Hash)]
+pub struct EndOfData {
+    /// The version of the protocol.
+    pub version: u8,
+    /// The session of the cache.
+    pub session: u16,
+    /// The serial number of the data.
+    pub serial: u32,
+    /// The intervals, which version 0 doesn't have.
+    pub timing: Option<Timing>,
+}
+
+/// The refresh, retry and expire intervals of an end of data, in seconds.
+#[derive(Clone, Copy, Debug, PartialEq, Eq, Hash)]
+pub struct Timing {
+    /// How long a router waits before it asks again.
+    pub refresh: u32,
+    /// How long it waits after a query that failed.
+    pub retry: u32,
+    /// How long it keeps data that it can't refresh.
+    pub expire: u32,
+}
+
+impl Timing {
+    /// The intervals that RFC 8210 section 6 recommends.
+    pub const RECOMMENDED: Timing = Timing {
+        refresh: 3600,
+        retry: 600,
+        expire: 7200,
+    };
+}
+
+/// A cache reset: the cache has nothing for the router's state (RFC 8210 section 5.9).
+#[derive(Clone, Copy, Debug, PartialEq, Eq, Hash)]
+pub struct CacheReset {
+    /// The version of the protocol.
+    pub version: u8,
+}
+
+/// A router key (RFC 8210 section 5.10).
+#[derive(Clone, Copy, Debug, PartialEq, Eq, Hash)]
+pub struct RouterKey<B> {
+    /// The version of the protocol.
+    pub version: u8,
+    /// Whether it is announced; else it is withdrawn.
+    pub announce: bool,
+    /// The subject key identifier.
+    pub identifier: [u8; 20],
+    /// The autonomous system that the key belongs to.
+    pub asn: u32,
+    /// The subject public key info, at most 65503 bytes.
+    pub key_info: B,
+}
+
+/// An error report (RFC 8210 section 5.11).
+#[derive(Clone, Copy, Debug, PartialEq, Eq, Hash)]
+pub struct ErrorReport<B> {
+    /// The version of the protocol.
+    pub version: u8,
+    /// What was wrong.
+    pub code: ErrorCode,
+    /// The unit that it is about and its text; none if the lengths inside of the report don't fit.
+    pub parts: Option<ReportParts<B>>,
+}
+
+/// The parts of an error report, at most 65519 bytes together.
+#[derive(Clone, Copy, Debug, PartialEq, Eq, Hash)]
+pub struct ReportParts<B> {
+    /// The unit that the report is about, or its front, or nothing.
+    pub unit: B,
+    /// The text, which should be in UTF-8.
+    pub text: B,
+}
+
+/// An ASPA (as in the Rust crate `rpki`).
+#[derive(Clone, Copy, Debug, PartialEq, Eq, Hash)]
+pub struct Aspa<B> {
+    /// The version of the protocol.
+    pub version: u8,
+    /// Whether it is announced; else it is withdrawn.
+    pub announce: bool,
+    /// The autonomous system whose providers these are.
+    pub customer: u32,
+    /// The providers, on a withdrawal too where it has some.
+    pub providers: Providers<B>,
+}
+
+/// The providers of an ASPA, as they stand in a unit: four bytes each, in network order.
+///
+/// ```
+/// use rtr_wire::Providers;
+///
+/// let providers = Providers([0, 0, 0xfd, 0xe9, 0, 1, 0, 15]);
+/// assert!(providers.iter().eq([65001, 65551]));
+/// ```
+#[derive(Clone, Copy, Debug, PartialEq, Eq, Hash)]
+pub struct Providers<B>(pub B);
+
+impl<B: AsRef<[u8]>> Providers<B> {
+    /// The providers as numbers, in their order.
+    pub fn iter(&self) -> impl ExactSizeIterator<Item = u32> + DoubleEndedIterator + '_ {
+        self.0
+            .as_ref()
+            .chunks_exact(4)
+            .map(|bytes| u32::from_be_bytes([bytes[0], bytes[1], bytes[2], bytes[3]]))
+    }
+}
+
+#[cfg(feature = "std")]
+impl FromIterator<u32> for Providers<Vec<u8>> {
+    fn from_iter<I: IntoIterator<Item = u32>>(asns: I) -> Self {
+        Providers(asns.into_iter().flat_map(u32::to_be_bytes).collect())
+    }
+}
+
+/// A unit of any type. `B` are bytes: `&[u8]` in a unit that is lent, as [`UnitRef`], and `Vec<u8>`
+/// in one that owns them, as `OwnedUnit`.
+#[derive(Clone, Copy, Debug, PartialEq, Eq, Hash)]
+#[non_exhaustive]
+pub enum Unit<B> {
+    /// A serial notify.
+    SerialNotify(SerialNotify),
+    /// A serial query.
+    SerialQuery(SerialQuery),
+    /// A reset query.
+    ResetQuery(ResetQuery),
+    /// A cache response.
+    CacheResponse(CacheResponse),
+    /// An IPv4 prefix.
+    Ipv4Prefix(Ipv4Prefix),
+    /// An IPv6 prefix.
+    Ipv6Prefix(Ipv6Prefix),
+    /// An end of data.
+    EndOfData(EndOfData),
+    /// A cache reset.
+    CacheReset(CacheReset),
+    /// A router key.
+    RouterKey(RouterKey<B>),
+    /// An error report.
+    ErrorReport(ErrorReport<B>),
+    /// An ASPA.
+    Aspa(Aspa<B>),
+}
+
+/// A unit whose key info, providers or parts are borrowed.
+pub type UnitRef<'a> = Unit<&'a [u8]>;
+
+/// A unit that owns its key info, providers or parts.
+#[cfg(feature = "std")]
+pub type OwnedUnit = Unit<Vec<u8>>;
+
+/// How many bytes the unit has that the input begins with, by its header alone: at most 65535. It is
+/// none if fewer than the eight bytes of a header are there. What follows the header isn't read, and
+/// may be missing.
+///
+/// # Errors
+///
+/// `UnitType` to `EmptyProviders`, as [`Unit::first`] has them.
+pub fn unit_size(input: &[u8]) -> Result<Option<usize>, Fault> {
+    match sys::unit_size(input) {
+        Ok(size) => Ok(Some(size)),
+        Err(Fault::Short) => Ok(None),
+        Err(fault) => Err(fault),
+    }
+}
+
+impl<'a> UnitRef<'a> {
+    /// The unit that the input begins with, and what follows it. Only fixed fields are copied, and
+    /// nothing is allocated.
+    ///
+    /// # Errors
+    ///
+    /// `Short` to `Prefix`. [`unit_size`] says then how many bytes are wanted (`Short`), or by how
+    /// many to go on (`Prefix`).
+    pub fn first(input: &'a [u8]) -> Result<(Self, &'a [u8]), Fault> {
+        let unit = sys::next(input)?;
+        let (bytes, rest) = input.split_at(unit.size);
+        Ok((unit.typed(bytes), rest))
+    }
+
+    /// The unit with a copy of its bytes.
+    #[cfg(feature = "std")]
+    pub fn into_owned(self) -> OwnedUnit {
+        self.map(<[u8]>::to_vec)
+    }
+}
+
+impl<B> Unit<B> {
+    /// The type of the unit.
+    pub fn kind(&self) -> Kind {
+        match self {
+            Unit::SerialNotify(_) => Kind::SerialNotify,
+            Unit::SerialQuery(_) => Kind::SerialQuery,
+            Unit::ResetQuery(_) => Kind::ResetQuery,
+            Unit::CacheResponse(_) => Kind::CacheResponse,
+            Unit::Ipv4Prefix(_) => Kind::Ipv4Prefix,
+            Unit::Ipv6Prefix(_) => Kind::Ipv6Prefix,
+            Unit::EndOfData(_) => Kind::EndOfData,
+            Unit::CacheReset(_) => Kind::CacheReset,
+            Unit::RouterKey(_) => Kind::RouterKey,
+            Unit::ErrorReport(_) => Kind::ErrorReport,
+            Unit::Aspa(_) => Kind::Aspa,
+        }
+    }
+
+    /// The version of the protocol.
+    pub fn version(&self) -> u8 {
+        match self {
+            Unit::SerialNotify(unit) => unit.version,
+            Unit::SerialQuery(unit) => unit.version,
+            Unit::ResetQuery(unit) => unit.version,
+            Unit::CacheResponse(unit) => unit.version,
+            Unit::Ipv4Prefix(unit) => unit.version,
+            Unit::Ipv6Prefix(unit) => unit.version,
+            Unit::EndOfData(unit) => unit.version,
+            Unit::CacheReset(unit) => unit.version,
+            Unit::RouterKey(unit) => unit.version,
+            Unit::ErrorReport(unit) => unit.version,
+            Unit::Aspa(unit) => unit.version,
+        }
+    }
+
+    /// The unit with other bytes, made from those that it has.
+    pub fn map<C>(self, mut bytes: impl FnMut(B) -> C) -> Unit<C> {
+        match self {
+            Unit::SerialNotify(unit) => Unit::SerialNotify(unit),
+            Unit::SerialQuery(unit) => Unit::SerialQuery(unit),
+            Unit::ResetQuery(unit) => Unit::ResetQuery(unit),
+            Unit::CacheResponse(unit) => Unit::CacheResponse(unit),
+            Unit::Ipv4Prefix(unit) => Unit::Ipv4Prefix(unit),
+            Unit::Ipv6Prefix(unit) => Unit::Ipv6Prefix(unit),
+            Unit::EndOfData(unit) => Unit::EndOfData(unit),
+            Unit::CacheReset(unit) => Unit::CacheReset(unit),
+            Unit::RouterKey(key) => Unit::RouterKey(RouterKey {
+                version: key.version,
+                announce: key.announce,
+                identifier: key.identifier,
+                asn: key.asn,
+                key_info: bytes(key.key_info),
+            }),
+            Unit::ErrorReport(report) => Unit::ErrorReport(ErrorReport {
+                version: report.version,
+                code: report.code,
+                parts: report.parts.map(|parts| ReportParts {
+                    unit: bytes(parts.unit),
+                    text: bytes(parts.text),
+                }),
+            }),
+            Unit::Aspa(aspa) => Unit::Aspa(Aspa {
+                version: aspa.version,
+                announce: aspa.announce,
+                customer: aspa.customer,
+                providers: Providers(bytes(aspa.providers.0)),
+            }),
+        }
+    }
+}
+
+impl<B: AsRef<[u8]>> Unit<B> {
+    /// How many bytes the written form has, if the unit has one.
+    pub fn size(&self) -> usize {
+        match self {
+            Unit::ResetQuery(_) | Unit::CacheResponse(_) | Unit::CacheReset(_) => 8,
+            Unit::SerialNotify(_) | Unit::SerialQuery(_) => 12,
+            Unit::Ipv4Prefix(_) => 20,
+            Unit::Ipv6Prefix(_) => 32,
+            Unit::EndOfData(end) if end.version == 0 => 12,
+            Unit::EndOfData(_) => 24,
+            Unit::RouterKey(key) => 32 + key.key_info.as_ref().len(),
+            Unit::ErrorReport(report) => {
+                let (unit, text) = report.parts();
+                REPORT_FIXED + unit.len() + text.len()
+            }
+            Unit::Aspa(aspa) if aspa.announce => 12 + aspa.providers.0.as_ref().len(),
+            Unit::Aspa(_) => 12,
+        }
+    }
+
+    /// Writes the written form to the front of the output, and answers its length in bytes, at most
+    /// 65535. Host bits of an address are cleared, a withdrawn ASPA is written without providers,
+    /// and an end of data of version 0 without timings. One of a later version that has no timings
+    /// gets those that RFC 8210 section 6 recommends. A report whose lengths don't fit is written
+    /// without parts. It allocates nothing.
+    ///
+    /// ```
+    /// use rtr_wire::{ResetQuery, Unit};
+    ///
+    /// let query: Unit<&[u8]> = Unit::ResetQuery(ResetQuery { version: 1 });
+    /// let mut output = [0; 8];
+    /// assert_eq!(query.write(&mut output)?, 8);
+    /// assert_eq!(output, [1, 2, 0, 0, 0, 0, 0, 8]);
+    /// # Ok::<(), rtr_wire::Fault>(())
+    /// ```
+    ///
+    /// # Errors
+    ///
+    /// In this order: `Prefix`, `TooLong`, `UnitLength`, `EmptyProviders`, `UnitVersion` for an end
+    /// of data, `NoRoom`. Then nothing is written.
+    pub fn write(&self, output: &mut [u8]) -> Result<usize, Fault> {
+        let part: &[u8] = match self {
+            Unit::RouterKey(key) => key.key_info.as_ref(),
+            Unit::ErrorReport(report) => return report.write(output),
+            Unit::Aspa(aspa) => aspa.providers.0.as_ref(),
+            _ => &[],
+        };
+        let unit = sys::Unit::of(self);
+        sys::write(&unit, part, output).map_err(|fault| self.detailed(fault))
+    }
+
+    /// The fault of a unit that has no form, with the detail that the call of the archive doesn't
+    /// report.
+    fn detailed(&self, fault: Fault) -> Fault {
+        match (fault, self) {
+            (Fault::UnitVersion(_), _) => Fault::UnitVersion(self.version()),
+            (Fault::Prefix(_), Unit::Ipv4Prefix(prefix)) => {
+                Fault::Prefix(broken(32, prefix.length, prefix.max_length))
+            }
+            (Fault::Prefix(_), Unit::Ipv6Prefix(prefix)) => {
+                Fault::Prefix(broken(128, prefix.length, prefix.max_length))
+            }
+            (fault, _) => fault,
+        }
+    }
+
+    /// Appends the written form, and answers its length in bytes. Where the vector has room for
+    /// [`size`](Unit::size) bytes, nothing is allocated.
+    ///
+    /// # Errors
+    ///
+    /// Those of [`write`](Unit::write) but `NoRoom`. Then nothing is appended.
+    #[cfg(feature = "std")]
+    pub fn append(&self, to: &mut Vec<u8>) -> Result<usize, Fault> {
+        let start = to.len();
+        to.resize(start + self.size().min(LONGEST), 0);
+        let written = self.write(&mut to[start..]);
+        to.truncate(start + written.unwrap_or(0));
+        written
+    }
+}
+
+/// The first part of the rule that the lengths of a prefix break.
+fn broken(width: u8, length: u8, max_length: u8) -> PrefixRule {
+    if length > width {
+        PrefixRule::LengthOver
+    } else if max_length > width {
+        PrefixRule::MaxLengthOver
+    } else {
+        PrefixRule::MaxLengthUnder
+    }
+}
+
+impl<B: AsRef<[u8]>> ErrorReport<B> {
+    /// The unit that the report is about, and its text.
+    fn parts(&self) -> (&[u8], &[u8]) {
+        match &self.parts {
+            Some(parts) => (parts.unit.as_ref(), parts.text.as_ref()),
+            None => (&[], &[]),
+        }
+    }
+
+    /// Writes the report. The archive's call takes a text only where it lies beside the unit, so
+    /// the text is put after a report that has none.
+    fn write(&self, output: &mut [u8]) -> Result<usize, Fault> {
+        let (unit, text) = self.parts();
+        if unit.len() > MOST_IN_REPORT || text.len() > MOST_IN_REPORT - unit.len() {
+            return Err(Fault::TooLong);
+        }
+        let size = REPORT_FIXED + unit.len() + text.len();
+        if output.len() < size {
+            return Err(Fault::NoRoom);
+        }
+        let start = sys::write(&sys::Unit::of_report(self), unit, output)?;
+        output[4..8].copy_from_slice(&(size as u32).to_be_bytes());
+        output[start - 4..start].copy_from_slice(&(text.len() as u32).to_be_bytes());
+        output[start..size].copy_from_slice(text);
+        Ok(size)
+    }
+}
+
+/// The order of two serial numbers (RFC 1982), or none if they lie half the circle of 2^32 numbers
+/// apart. This order isn't transitive.
+///
+/// ```
+/// use rtr_wire::compare_serials;
+/// use std::cmp::Ordering;
+///
+/// assert_eq!(compare_serials(u32::MAX, 0), Some(Ordering::Less));
+/// assert_eq!(compare_serials(0, 1 << 31), None);
+/// ```
+pub fn compare_serials(left: u32, right: u32) -> Option<Ordering> {
+    match sys::serial_order(left, right) {
+        0 => Some(Ordering::Equal),
+        1 => Some(Ordering::Less),
+        2 => Some(Ordering::Greater),
+        _ => None,
+    }
+}

@@ -1,0 +1,102 @@
+//! The units of a slice.
+
+use crate::fault::Fault;
+use crate::kind::Kind;
+use crate::unit::{Unit, UnitRef};
+
+/// The units of a slice, one after the other, up to its end or the first fault. Each is parsed once,
+/// and nothing is allocated.
+///
+/// ```
+/// use rtr_wire::{Kind, Units};
+///
+/// // A reset query and a cache reset (RFC 8210 sections 5.4 and 5.9).
+/// let session = [1, 2, 0, 0, 0, 0, 0, 8, 1, 8, 0, 0, 0, 0, 0, 8];
+/// let kinds: Vec<Kind> = Units::new(&session).map(|unit| Ok(unit?.kind())).collect::<Result<_, _>>()?;
+/// assert_eq!(kinds, [Kind::ResetQuery, Kind::CacheReset]);
+/// # Ok::<(), rtr_wire::Fault>(())
+/// ```
+#[derive(Clone, Debug)]
+pub struct Units<'a> {
+    input: &'a [u8],
+    offset: usize,
+    /// How many units a sequence may still have; none where all units of the input are wanted.
+    limit: Option<u64>,
+    ended: bool,
+}
+
+impl<'a> Units<'a> {
+    /// All units of the input, of any type.
+    pub fn new(input: &'a [u8]) -> Self {
+        Units {
+            input,
+            offset: 0,
+            limit: None,
+            ended: false,
+        }
+    }
+
+    /// The units of the sequence that the input begins with: payload units up to an end of data,
+    /// which is given too. At most `limit` units are taken, the end of data included.
+    ///
+    /// Faults: `TooMany`, before a unit is parsed; those of [`Unit::first`], but `UnitType` for
+    /// every type that no sequence has, and `Short` where the input ends before an end of data.
+    pub fn sequence(input: &'a [u8], limit: u64) -> Self {
+        Units {
+            limit: Some(limit),
+            ..Units::new(input)
+        }
+    }
+
+    /// How many bytes the units have that were given. After a fault, where the unit begins that is
+    /// refused.
+    pub fn offset(&self) -> usize {
+        self.offset
+    }
+
+    /// What follows the units that were given.
+    pub fn rest(&self) -> &'a [u8] {
+        &self.input[self.offset..]
+    }
+
+    /// The next unit, which there is.
+    fn parse(&mut self) -> Result<UnitRef<'a>, Fault> {
+        let input = self.rest();
+        if let Some(left) = self.limit {
+            self.limit = Some(left.checked_sub(1).ok_or(Fault::TooMany)?);
+            refuse_outside_of_sequences(input)?;
+        }
+        let (unit, rest) = Unit::first(input)?;
+        self.offset = self.input.len() - rest.len();
+        Ok(unit)
+    }
+}
+
+/// A header at the front of the bytes has to be of a type that sequences have.
+pub(crate) fn refuse_outside_of_sequences(bytes: &[u8]) -> Result<(), Fault> {
+    match *bytes {
+        [_, number, _, _, _, _, _, _, ..] => match Kind::try_from(number) {
+            Ok(kind) if kind.is_in_sequences() => Ok(()),
+            _ => Err(Fault::UnitType(number)),
+        },
+        _ => Ok(()),
+    }
+}
+
+impl<'a> Iterator for Units<'a> {
+    type Item = Result<UnitRef<'a>, Fault>;
+
+    fn next(&mut self) -> Option<Self::Item> {
+        if self.ended || (self.limit.is_none() && self.rest().is_empty()) {
+            return None;
+        }
+        let unit = self.parse();
+        self.ended = match &unit {
+            Ok(unit) => self.limit.is_some() && unit.kind() == Kind::EndOfData,
+            Err(_) => true,
+        };
+        Some(unit)
+    }
+}
+
+impl core::iter::FusedIterator for Units<'_> {}

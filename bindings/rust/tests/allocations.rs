@@ -1,0 +1,51 @@
+//! No unit allocates memory. This is the only test of its program, so that no other allocates.
+#![cfg(feature = "std")]
+
+mod common;
+
+use rtr_wire::{Reader, Units, Writer};
+use std::alloc::{GlobalAlloc, Layout, System};
+use std::sync::atomic::{AtomicUsize, Ordering};
+
+/// The system's allocator, whose calls are counted.
+struct Counted;
+
+static COUNT: AtomicUsize = AtomicUsize::new(0);
+
+// SAFETY: all is done by the system's allocator.
+unsafe impl GlobalAlloc for Counted {
+    unsafe fn alloc(&self, layout: Layout) -> *mut u8 {
+        COUNT.fetch_add(1, Ordering::Relaxed);
+        // SAFETY: as the caller promises.
+        unsafe { System.alloc(layout) }
+    }
+
+    unsafe fn dealloc(&self, pointer: *mut u8, layout: Layout) {
+        // SAFETY: as the caller promises.
+        unsafe { System.dealloc(pointer, layout) }
+    }
+}
+
+#[global_allocator]
+static ALLOCATOR: Counted = Counted;
+
+#[test]
+fn allocations() {
+    let session = common::session().repeat(100);
+    let mut output = [0; 64];
+    let mut reader = Reader::new(&session[..]);
+    let mut writer = Writer::new(std::io::sink());
+    for (_, unit) in common::rows() {
+        writer.write(&unit).expect("it has a form");
+    }
+    let before = COUNT.load(Ordering::Relaxed);
+    while let Some(unit) = reader.next_unit().expect("it is read") {
+        writer.write(&unit).expect("it has a form");
+    }
+    for unit in Units::new(&session) {
+        let written = unit.expect("it is accepted").write(&mut output);
+        written.expect("it fits");
+    }
+    assert_eq!(COUNT.load(Ordering::Relaxed) - before, 0);
+    assert_eq!(reader.offset(), session.len() as u64);
+}
