@@ -234,7 +234,7 @@ module _ (v : ℕ) (byte : v < 256) where
 
 -- ---- what is read back
 
-again : (v : ℕ) (cs : List Change) → map change_of (map (unit_of v) cs) ≡ cs
+pub again : (v : ℕ) (cs : List Change) → map change_of (map (unit_of v) cs) ≡ cs
 again v [] = refl
 again v (c ∷ cs) = ap (λ l. c ∷ l) (again v cs)
 

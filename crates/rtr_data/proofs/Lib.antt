@@ -15,3 +15,5 @@ pub mod Written
 pub mod Versions
 pub mod Accepted
 pub mod Applied
+pub mod Outcomes
+pub mod Sendable

@@ -11,6 +11,10 @@ HasBytes (origin o) = ⊤
 HasBytes (key k) = IsBytes k.identifier × IsBytes k.info
 HasBytes (aspa a) = ⊤
 
+-- its parts are in their ranges, and its bytes are bytes
+abbrev pub IsInRange : Payload → Type 0
+IsInRange p = IsPayload p × HasBytes p
+
 -- a payload that a unit announces: as the types keep it, and as data keeps it
 pub record IsSendable (p : Payload) : Type 0 where
   pub range : IsPayload p

@@ -13,6 +13,7 @@ ghost use Rattle.rtr_data.specs.Deltas.{all_for, change_forms, changes_for, data
 
 mod applying;
 mod copying;
+mod ranges;
 
 use crate::change_error::ChangeError;
 use crate::writing::{

@@ -1,11 +1,14 @@
 //! Laws of changes.
 
 ghost use Rattle.std.specs.Prelude.{◌≡◌, ◌≤◌, ◌<◌, ◌++◌, [], ℕ, List, Ok, false, length, map};
-ghost use Rattle.std.specs.Prelude.{true};
+ghost use Rattle.std.specs.Prelude.{true, Result, Some};
 ghost use Rattle.std.specs.Prelude.{if◌then◌else◌};
 ghost use Rattle.std.specs.BTreeMap.{is_at};
 ghost use Rattle.std.specs.List.{AllByRecursion};
+ghost use Rattle.rtr_units.specs.AnyEnd.{end_meaning};
 ghost use Rattle.rtr_units.specs.End.{EndMeaning, IsEndMeaning, end_list};
+ghost use Rattle.rtr_units.specs.StopCauses.{ReaderState};
+ghost use Rattle.rtr_units.specs.declared.end.EndOfData.{EndOfData};
 ghost use Rattle.rtr_payload.specs.Orders.{payload_cmp};
 ghost use Rattle.rtr_payload.specs.Payloads.{Meaning, Payload};
 ghost use Rattle.rtr_wire.specs.Sequences.{Accepts, IsSequence};
@@ -13,7 +16,9 @@ ghost use Rattle.rtr_data.specs.Data.{Change, IsData, after, announcement, has, 
 ghost use Rattle.rtr_data.specs.Data.{withdrawal};
 ghost use Rattle.rtr_data.specs.Changes.{AreApart, after_all, changes, touches};
 ghost use Rattle.rtr_data.specs.Deltas.{all_for, change_forms, changes_for, data_for, unit_of};
+ghost use Rattle.rtr_data.specs.Applying.{Applies, BlamesNone, IsApplicable, Leads};
 ghost use Rattle.rtr_data.specs.Sequences.{IsSendable, change_of};
+ghost use Rattle.rtr_data.specs.declared.apply_error.ApplyError.{ApplyError};
 
 use crate::data::Data;
 
@@ -91,3 +96,47 @@ pub fn deltas_read_back()
         Accepts ((change_forms v (all_for v new) ++ end_list e) ++ rest) b ms d →
         (after_all (map change_of ms) (Ok []) ≡ Ok (data_for v new)) × (d ≡ e) }
 {}
+
+/// What follows from the contract of `Data::apply` where the input is known, however it is cut: it
+/// succeeds exactly where a front of the input is fewer than `limit` units and an end of data and
+/// all changes are allowed, unless the reader or memory is to blame. Then the data is what the
+/// changes lead to, and just that front is taken.
+pub fn sequences_are_applied()
+    ensures leads { (limit : ℕ) (input b : List ℕ) (e : EndMeaning)
+        (result : Result EndOfData ApplyError) (old new : ReaderState)
+        (before after this : List Payload) → Applies limit result old new before after →
+        old.left ≡ Some input → IsApplicable limit input b e before this → BlamesNone result →
+        Leads result input b e new.left after this }
+    ensures only { (limit : ℕ) (input : List ℕ) (d : EndOfData) (old new : ReaderState)
+        (before after : List Payload) → (p : Applies limit (Ok d) old new before after) →
+        old.left ≡ Some input →
+        IsApplicable limit input (p.units ++ p.last) (end_meaning d) before after }
+{}
+
+/// Where a reader gives what a delta from old data to new writes for a version, and then an end of
+/// data, `Data::apply` makes of what the version has of old data what it has of new, and answers
+/// that end, unless the reader or memory is to blame; of what announces all of the data it makes
+/// that from nothing. Nothing that follows is taken, and it doesn't matter how the input is cut.
+pub fn deltas_are_applied(old: &Data, new: &Data)
+    ensures delta { (v limit : ℕ) (e : EndMeaning) (rest : List ℕ)
+        (result : Result EndOfData ApplyError) (r s : ReaderState) (after : List Payload) →
+        v < 256 → IsEndMeaning e → length (changes_for v old.now new.now) < limit →
+        r.left ≡ Some ((change_forms v (changes_for v old.now new.now) ++ end_list e) ++ rest) →
+        Applies limit result r s (data_for v old.now) after → BlamesNone result →
+        Leads result ((change_forms v (changes_for v old.now new.now) ++ end_list e) ++ rest)
+        (change_forms v (changes_for v old.now new.now) ++ end_list e) e s.left after
+        (data_for v new.now) }
+    ensures all { (v limit : ℕ) (e : EndMeaning) (rest : List ℕ)
+        (result : Result EndOfData ApplyError) (r s : ReaderState) (after : List Payload) →
+        v < 256 → IsEndMeaning e → length (all_for v new.now) < limit →
+        r.left ≡ Some ((change_forms v (all_for v new.now) ++ end_list e) ++ rest) →
+        Applies limit result r s [] after → BlamesNone result →
+        Leads result ((change_forms v (all_for v new.now) ++ end_list e) ++ rest)
+        (change_forms v (all_for v new.now) ++ end_list e) e s.left after
+        (data_for v new.now) }
+{
+    let _old = old.parts();
+    let _new = new.parts();
+    old.members_are_sendable();
+    new.members_are_sendable();
+}
