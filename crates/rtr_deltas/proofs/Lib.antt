@@ -6,3 +6,4 @@ pub mod Checking
 pub mod Merging
 pub mod OneData
 pub mod Deltas
+pub mod Answered

@@ -6,6 +6,7 @@ mod check;
 mod delta;
 mod fault;
 mod item;
+pub mod laws;
 mod missing;
 mod placing;
 
