@@ -1,5 +1,6 @@
 pub mod ControlEscapes
 pub mod FindingTexts
+pub mod PayloadLines
 pub mod PrivateFollowing
 pub mod JsonLines
 pub mod Lines

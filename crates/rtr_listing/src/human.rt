@@ -127,7 +127,7 @@ fn action_said(action: Action) -> &'static str
     }
 }
 
-fn describe_parts(alloc: Global, line: &mut Line, unit: &Payload) -> Result<(), AllocError>
+pub(crate) fn describe_parts(alloc: Global, line: &mut Line, unit: &Payload) -> Result<(), AllocError>
     ensures { OnOk result (line.new ≡ line.old ++ parts_words (unit_fields unit.now)) }
 {
     match unit {
@@ -138,7 +138,7 @@ fn describe_parts(alloc: Global, line: &mut Line, unit: &Payload) -> Result<(), 
     }
 }
 
-fn kind(unit: &Payload) -> &'static str
+pub(crate) fn kind(unit: &Payload) -> &'static str
     ensures { result.now ≡ kind_words (unit_fields unit.now) }
 {
     match unit {

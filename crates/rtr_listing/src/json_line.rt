@@ -16,7 +16,8 @@ ghost use Rattle.rtr_session.specs.declared.any_unit.AnyUnit.TheVariants.{Error}
 ghost use Rattle.rtr_listing.specs.JsonLines.{aspa_tokens, common_tokens, key_tokens, kind_name};
 ghost use Rattle.rtr_listing.specs.JsonLines.{null_field, number_field, numbers_field};
 ghost use Rattle.rtr_listing.specs.JsonLines.{origin_tokens, own_tokens, parts_tokens};
-ghost use Rattle.rtr_listing.specs.JsonLines.{payload_tokens, payload_zeros, report_tokens};
+ghost use Rattle.rtr_listing.specs.JsonLines.{payload_kind, payload_tokens, payload_zeros};
+ghost use Rattle.rtr_listing.specs.JsonLines.{report_tokens};
 ghost use Rattle.rtr_listing.specs.JsonLines.{session_tokens, text_field, text_token};
 ghost use Rattle.rtr_listing.specs.JsonLines.{timing_tokens, tokens_of, unit_json};
 ghost use Rattle.rtr_listing.specs.PrivateJson.{Adds};
@@ -102,13 +103,22 @@ fn kind(unit: &AnyUnit) -> &'static str
         AnyUnit::SerialQuery(_) => "serial_query",
         AnyUnit::ResetQuery(_) => "reset_query",
         AnyUnit::CacheResponse(_) => "cache_response",
-        AnyUnit::Payload(Payload::V4(_)) => "ipv4_prefix",
-        AnyUnit::Payload(Payload::V6(_)) => "ipv6_prefix",
-        AnyUnit::Payload(Payload::RouterKey(_)) => "router_key",
-        AnyUnit::Payload(Payload::Aspa(_)) => "aspa",
+        AnyUnit::Payload(unit) => kind_of_payload(unit),
         AnyUnit::EndOfData(_) => "end_of_data",
         AnyUnit::CacheReset(_) => "cache_reset",
         AnyUnit::Error(_) => "error_report",
+    }
+}
+
+/// The name of a payload unit's type.
+pub(crate) fn kind_of_payload(unit: &Payload) -> &'static str
+    ensures { result.now ≡ payload_kind (unit_fields unit.now) }
+{
+    match unit {
+        Payload::V4(_) => "ipv4_prefix",
+        Payload::V6(_) => "ipv6_prefix",
+        Payload::RouterKey(_) => "router_key",
+        Payload::Aspa(_) => "aspa",
     }
 }
 
@@ -174,7 +184,7 @@ fn zeros(out: &mut Writer, fields: &[u16]) -> Result<(), AllocError>
 }
 
 /// The parts of what the unit announces or withdraws.
-fn parts_fields(
+pub(crate) fn parts_fields(
     alloc: Global,
     out: &mut Writer,
     scratch: &mut String,
@@ -348,7 +358,7 @@ fn number(out: &mut Writer, key: &str, value: u64) -> Result<(), AllocError>
     out.u64(value)
 }
 
-fn text(out: &mut Writer, key: &str, value: &str) -> Result<(), AllocError>
+pub(crate) fn text(out: &mut Writer, key: &str, value: &str) -> Result<(), AllocError>
     ensures { Adds result out.old out.new (text_field key.now value.now) }
 {
     out.key(key)?;
@@ -362,7 +372,7 @@ fn null(out: &mut Writer, key: &str) -> Result<(), AllocError>
     out.null()
 }
 
-fn action_name(action: Action) -> &'static str
+pub(crate) fn action_name(action: Action) -> &'static str
     ensures { result.now ≡ action_text action }
 {
     match action {

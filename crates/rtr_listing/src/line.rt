@@ -58,6 +58,13 @@ impl Line {
         self.bytes
     }
 
+    /// The bytes of the line, which are lent.
+    pub fn as_bytes(&self) -> &[u8]
+        ensures { result.now ≡ self.now }
+    {
+        self.bytes.as_slice()
+    }
+
     /// Takes all pieces away.
     pub fn clear(&mut self)
         ensures { self.new ≡ [] }

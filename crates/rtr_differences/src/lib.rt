@@ -1,0 +1,13 @@
+//! The program `rtr_diff` over any readers and writers: it prints the changes from the data of one
+//! sequence to that of another.
+#![tactic(auto)]
+
+mod differences;
+mod file;
+mod printer;
+mod program;
+mod words;
+
+pub use file::{Contents, Reason, Stop, read_contents};
+pub use program::{compare, print_differences, run, usage};
+pub use words::{Form, Request, asked};
