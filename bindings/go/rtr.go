@@ -64,6 +64,11 @@ struct owed {
 	uint16_t code;
 };
 
+struct same {
+	bool same;
+	uint8_t status;
+};
+
 static struct shown next(const uint8_t *input, size_t length)
 {
 	struct shown shown;
@@ -92,6 +97,30 @@ static struct owed error_code(uint8_t status, const uint8_t *input, size_t lengt
 	struct owed owed;
 	owed.owed = rtr_error_code(status, input, length, &owed.code);
 	return owed;
+}
+static struct rtr_answer normalise(const uint8_t *input, size_t length,
+                                   uint8_t *output, size_t output_length, uint64_t limit)
+{
+	struct rtr_answer answer;
+	rtr_normalise_slice(input, length, output, output_length, limit, &answer);
+	return answer;
+}
+
+static struct rtr_answer normalise_for(const uint8_t *input, size_t length,
+                                       uint8_t *output, size_t output_length, uint64_t limit,
+                                       uint8_t version)
+{
+	struct rtr_answer answer;
+	rtr_normalise_for_slice(input, length, output, output_length, limit, version, &answer);
+	return answer;
+}
+
+static struct same same_meaning(const uint8_t *left, size_t left_length,
+                                const uint8_t *right, size_t right_length, uint64_t limit)
+{
+	struct same same = {false, 0};
+	same.status = rtr_same_meaning(left, left_length, right, right_length, limit, &same.same);
+	return same;
 }
 */
 import "C"
@@ -213,25 +242,30 @@ func serialOrder(left, right uint32) uint8 {
 	return uint8(C.rtr_serial_order(C.uint32_t(left), C.uint32_t(right)))
 }
 
-// normalise is Normalise, or NormaliseFor for a version that isn't negative, in numbers.
-func normalise(input, output []byte, limit uint64, version int) (Progress, Status, uint8) {
-	var a C.struct_rtr_answer
+// normalise is Normalise in numbers.
+func normalise(input, output []byte, limit uint64) (Progress, Status, uint8) {
 	in, n := place(input)
 	out, room := place(output)
-	if version < 0 {
-		C.rtr_normalise_slice(in, n, out, room, C.uint64_t(limit), &a)
-	} else {
-		C.rtr_normalise_for_slice(in, n, out, room, C.uint64_t(limit), C.uint8_t(version), &a)
-	}
+	return ended(C.normalise(in, n, out, room, C.uint64_t(limit)))
+}
+
+// normaliseFor is NormaliseFor in numbers.
+func normaliseFor(input, output []byte, limit uint64, version uint8) (Progress, Status, uint8) {
+	in, n := place(input)
+	out, room := place(output)
+	return ended(C.normalise_for(in, n, out, room, C.uint64_t(limit), C.uint8_t(version)))
+}
+
+// ended is how a call ended that normalises.
+func ended(a C.struct_rtr_answer) (Progress, Status, uint8) {
 	progress := Progress{uint64(a.units), uint64(a.forms), int(a.taken), int(a.written)}
 	return progress, Status(a.status), uint8(a.detail)
 }
 
 // sameMeaning is SameMeaning in numbers.
 func sameMeaning(left, right []byte, limit uint64) (bool, Status) {
-	var same C.bool
 	l, n := place(left)
 	r, m := place(right)
-	status := C.rtr_same_meaning(l, n, r, m, C.uint64_t(limit), &same)
-	return bool(same), Status(status)
+	same := C.same_meaning(l, n, r, m, C.uint64_t(limit))
+	return bool(same.same), Status(same.status)
 }

@@ -20,7 +20,7 @@ type Progress struct {
 // were taken before the error; their form is written. A caller goes on after them with more room, more input or
 // another limit.
 func Normalise(input, output []byte, limit uint64) (Progress, error) {
-	progress, status, detail := normalise(input, output, limit, -1)
+	progress, status, detail := normalise(input, output, limit)
 	return progress, stopped(input, progress, status, detail)
 }
 
@@ -30,7 +30,7 @@ func Normalise(input, output []byte, limit uint64) (Progress, error) {
 //
 // For a version above 2 the error is UnitVersion before any other, with nothing taken or written.
 func NormaliseFor(input, output []byte, limit uint64, version uint8) (Progress, error) {
-	progress, status, detail := normalise(input, output, limit, int(version))
+	progress, status, detail := normaliseFor(input, output, limit, version)
 	if status == UnitVersion && version > 2 {
 		// It is no unit that is refused.
 		return progress, &Fault{Status: status, Detail: detail, Offset: -1}

@@ -333,10 +333,24 @@ func TestAllocations(t *testing.T) {
 			t.Fatalf("%x: %v allocations", one.bytes, count)
 		}
 	}
+	count := testing.AllocsPerRun(100, func() {
+		if _, err := Normalise(end, output[:len(end)], 1); err != nil {
+			t.Fatal(err)
+		}
+		if _, err := NormaliseFor(end, output[:len(end)], 1, 2); err != nil {
+			t.Fatal(err)
+		}
+		if same, err := SameMeaning(end, end, 1); !same || err != nil {
+			t.Fatal(err)
+		}
+	})
+	if count != 0 {
+		t.Fatalf("%v allocations", count)
+	}
 	input := bytes.NewReader(nil)
 	reader, writer := NewReader(input), NewWriter(io.Discard)
 	all := session()
-	count := testing.AllocsPerRun(100, func() {
+	count = testing.AllocsPerRun(100, func() {
 		input.Reset(all)
 		for range shownUnits {
 			unit, err := reader.Next()
