@@ -218,22 +218,21 @@ func TestNoRoomAndTooMany(t *testing.T) {
 // The limit of a Sequence counts as that of Normalise. Where it ends one, another goes on.
 func TestSequenceLimit(t *testing.T) {
 	for _, one := range cases(t) {
-		if one.status != 0 || one.version != 255 || one.numbers[0] > 100 {
+		if one.status != 0 || one.version != 255 || one.numbers[0] > 20 {
 			continue
 		}
-		reader := NewReader(bytes.NewReader(one.input))
-		for step := uint64(0); ; step++ {
-			sequence, count := reader.Sequence(step), uint64(0)
-			for sequence.Scan() {
-				count++
-			}
-			if sequence.Err() == nil {
-				break
-			}
-			var fault *Fault
-			if !errors.As(sequence.Err(), &fault) || fault.Status != TooMany || count != step ||
-				fault.Offset != reader.Offset() || sequence.Unit() != nil || sequence.Scan() {
-				t.Fatalf("%x: %d units, %v", one.input, count, sequence.Err())
+		for limit := uint64(0); limit <= one.numbers[0]; limit++ {
+			reader := NewReader(bytes.NewReader(one.input))
+			for _, left := range []uint64{limit / 2, limit - limit/2} {
+				sequence, count := reader.Sequence(left), uint64(0)
+				for sequence.Scan() {
+					count++
+				}
+				var fault *Fault
+				if !errors.As(sequence.Err(), &fault) || fault.Status != TooMany || count != left ||
+					fault.Offset != reader.Offset() || sequence.Unit() != nil || sequence.Scan() {
+					t.Fatalf("%x: %d units, %v", one.input, count, sequence.Err())
+				}
 			}
 		}
 		sequence := NewReader(bytes.NewReader(one.input)).Sequence(one.numbers[0] + 1)
@@ -256,6 +255,28 @@ func TestMeanings(t *testing.T) {
 		one.checkSame(t, same, one.status == 0, err)
 		same, err = SameMeaning(end, one.input, 1<<32)
 		one.checkSame(t, same, one.status == 0 && bytes.Equal(end, one.form), err)
+	}
+}
+
+// The limit of SameMeaning is that of both sequences, and its fault has the place where it ended them.
+func TestSameMeaningLimit(t *testing.T) {
+	short, long := join(ipv4, end), join(ipv4, ipv4, end)
+	for limit := uint64(0); limit < 4; limit++ {
+		for _, pair := range [][2][]byte{{short, long}, {long, short}, {long, long}} {
+			same, err := SameMeaning(pair[0], pair[1], limit)
+			units := uint64(2)
+			if limit >= 2 {
+				units = 3
+			}
+			var fault *Fault
+			refused := errors.As(err, &fault)
+			if same != (limit == 3 && bytes.Equal(pair[0], pair[1])) || refused != (limit < units) {
+				t.Fatalf("%d: %v %v", limit, same, err)
+			}
+			if refused && (fault.Status != TooMany || fault.Offset != int64(limit)*int64(len(ipv4))) {
+				t.Fatalf("%d: %v", limit, err)
+			}
+		}
 	}
 }
 

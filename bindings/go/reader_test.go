@@ -279,17 +279,44 @@ func TestHostileLengths(t *testing.T) {
 
 // No byte after the unit is read, and the buffer is never longer than 65535 bytes.
 func TestNothingReadAhead(t *testing.T) {
-	for _, size := range []int{32, 33, 64, 65, 127, 128, 129, 1000, 40000, 65535} {
+	input := bytes.NewReader(nil)
+	reader := NewReader(input)
+	for _, size := range []int{32, 33, 64, 65, 127, 128, 129, 1000, 40000, 40001, 65535} {
 		unit := Unit{Kind: RouterKey, Version: 1, KeyInfo: make([]byte, size-32)}
 		form, err := unit.MarshalBinary()
 		if err != nil {
 			t.Fatal(err)
 		}
-		rest := bytes.NewReader(append(form, 7))
-		reader := NewReader(rest)
-		if _, err := reader.Next(); err != nil || rest.Len() != 1 || len(reader.buffer) > 65535 {
-			t.Fatalf("%d: %d bytes left, %v", size, rest.Len(), err)
+		for _, reader := range []*Reader{reader, NewReader(input)} {
+			input.Reset(append(form, 7))
+			if _, err := reader.Next(); err != nil || input.Len() != 1 || len(reader.buffer) > 65535 {
+				t.Fatalf("%d: %d bytes left, %v", size, input.Len(), err)
+			}
 		}
+	}
+}
+
+// A Sequence ends where its io.Reader fails, and another goes on.
+func TestSequenceFails(t *testing.T) {
+	reader := NewReader(&failing{rest: join(ipv4, end)})
+	var kinds []Kind
+	for failures := 0; ; failures++ {
+		sequence := reader.Sequence(2)
+		for sequence.Scan() {
+			kinds = append(kinds, sequence.Unit().Kind)
+		}
+		if sequence.Scan() {
+			t.Fatal("it goes on")
+		}
+		if sequence.Err() == nil {
+			break
+		}
+		if sequence.Err() != errFailed || failures > len(ipv4)+len(end) {
+			t.Fatal(sequence.Err())
+		}
+	}
+	if !reflect.DeepEqual(kinds, []Kind{IPv4Prefix, EndOfData}) {
+		t.Fatal(kinds)
 	}
 }
 

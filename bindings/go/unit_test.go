@@ -300,7 +300,7 @@ func TestParts(t *testing.T) {
 		if err != nil {
 			t.Fatal(err)
 		}
-		clone, again := unit.Clone(), unit.Clone()
+		clone := unit.Clone()
 		for _, part := range [][]byte{unit.KeyInfo, unit.Providers, unit.Enclosed, unit.Text} {
 			_ = append(part, 8)
 		}
@@ -310,7 +310,8 @@ func TestParts(t *testing.T) {
 		for i := range input {
 			input[i] ^= 0xff
 		}
-		if reflect.DeepEqual(&unit, clone) || !reflect.DeepEqual(clone, again) {
+		expected, _, err := Next(one)
+		if err != nil || !reflect.DeepEqual(*clone, expected) || reflect.DeepEqual(unit, expected) {
 			t.Fatalf("%v: the clone has the bytes of the input", unit.Kind)
 		}
 	}
@@ -349,10 +350,14 @@ func TestAllocations(t *testing.T) {
 	}
 	input := bytes.NewReader(nil)
 	reader, writer := NewReader(input), NewWriter(io.Discard)
-	all := session()
+	long, err := (&Unit{Kind: RouterKey, KeyInfo: make([]byte, 1000)}).MarshalBinary()
+	if err != nil {
+		t.Fatal(err)
+	}
+	all := join(session(), long)
 	count = testing.AllocsPerRun(100, func() {
 		input.Reset(all)
-		for range shownUnits {
+		for i := 0; i <= len(shownUnits); i++ {
 			unit, err := reader.Next()
 			if err != nil {
 				t.Fatal(err)
@@ -508,6 +513,9 @@ func TestReports(t *testing.T) {
 			var fault *Fault
 			if !errors.As(err, &fault) || err.Error() != "rtr: "+one.text+", at byte 0" {
 				t.Fatalf("%x: %v", one.input, err)
+			}
+			if err == inMemory && cap(fault.Unit) != len(fault.Unit) {
+				t.Fatalf("%x: what is appended to %x would change the input", one.input, fault.Unit)
 			}
 			report, owed := fault.Report()
 			if owed != (one.code >= 0) {

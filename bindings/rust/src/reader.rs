@@ -373,3 +373,27 @@ impl<R: Read> Iterator for Sequence<'_, R> {
 }
 
 impl<R: Read> std::iter::FusedIterator for Sequence<'_, R> {}
+
+#[cfg(test)]
+mod tests {
+    use super::{Reader, LONGEST};
+    use std::vec::Vec;
+
+    /// The buffer never has more bytes than the longest unit.
+    #[test]
+    fn buffer() {
+        let sizes = [40_000_u32, 40_001, 65_535];
+        let mut bytes = Vec::new();
+        for size in sizes {
+            let end = bytes.len() + size as usize;
+            bytes.extend([1, 9, 1, 0]);
+            bytes.extend(size.to_be_bytes());
+            bytes.resize(end, 0);
+        }
+        let mut reader = Reader::new(&bytes[..]);
+        while reader.next_unit().expect("it is read").is_some() {
+            assert!(reader.buffer.len() <= LONGEST);
+        }
+        assert_eq!(reader.offset(), 145_536);
+    }
+}

@@ -202,15 +202,33 @@ fn hostile() {
 #[test]
 fn nothing_read_ahead() {
     for size in [32, 33, 64, 65, 127, 128, 129, 1000, 40000, 65535] {
-        let mut bytes = KEY.to_vec();
-        bytes.resize(size, 0);
-        bytes[4..8].copy_from_slice(&u32::to_be_bytes(size as u32));
-        bytes.push(7);
+        let bytes = [&long_key(size)[..], &[7]].concat();
         let mut reader = Reader::new(&bytes[..]);
         let unit = reader.next_unit().expect("it is read");
         assert_eq!(unit.map(|unit| unit.size()), Some(size));
         assert_eq!(reader.into_inner(), [7]);
     }
+}
+
+/// A router key of this size.
+fn long_key(size: usize) -> Vec<u8> {
+    let mut bytes = KEY.to_vec();
+    bytes.resize(size, 0);
+    bytes[4..8].copy_from_slice(&u32::to_be_bytes(size as u32));
+    bytes
+}
+
+/// The buffer grows with the units, and stays as long as the longest may be.
+#[test]
+fn buffer_grows() {
+    let sizes = [40, 100, 1000, 40000, 40001, 65535, 33];
+    let bytes: Vec<u8> = sizes.into_iter().flat_map(long_key).collect();
+    let mut reader = Reader::new(&bytes[..]);
+    for size in sizes {
+        let unit = reader.next_unit().expect("it is read");
+        assert_eq!(unit.map(|unit| unit.size()), Some(size));
+    }
+    assert!(matches!(reader.next_unit(), Ok(None)));
 }
 
 /// A prefix that breaks its rule is refused with its bytes and its report, and the next call goes on
@@ -334,6 +352,15 @@ fn sequence_goes_on() {
         }
     }
     assert_eq!(kinds, [Kind::Ipv4Prefix, Kind::EndOfData]);
+}
+
+/// As an iterator a sequence ends where its reader fails.
+#[test]
+fn sequence_fails() {
+    let mut reader = Reader::new(Slow::new(IPV4, 20, Some(io::ErrorKind::TimedOut)));
+    let mut sequence = reader.sequence(2);
+    assert!(matches!(sequence.next(), Some(Err(Error::Io(_)))));
+    assert!(sequence.next().is_none());
 }
 
 /// A writer that fails, and a unit that has no form.

@@ -71,6 +71,7 @@ fn forms() {
         let mut output = [0; 32];
         assert_eq!(unit.write(&mut output), Ok(form.len()));
         assert_eq!(output[..form.len()], *form);
+        assert_eq!(unit.size(), form.len());
     }
 }
 
@@ -136,6 +137,7 @@ fn prefix_rules() {
         (ipv6(129, 129), PrefixRule::LengthOver),
         (ipv6(9, 129), PrefixRule::MaxLengthOver),
         (ipv6(9, 8), PrefixRule::MaxLengthUnder),
+        (ipv6(64, 63), PrefixRule::MaxLengthUnder),
     ];
     let mut output = [0; 32];
     for (unit, rule) in rows {
