@@ -17,8 +17,8 @@ use rtr_views::placing::place;
 
 /// Writes the delta that leads a router from the old data to the new (RFC 8210 section 8.2): the
 /// units that announce what the old data lack, then those that withdraw what the new data lack,
-/// each in order, and the end of data of the new. It is what `Data::write_delta` writes of the same
-/// data, and answers its length in bytes. No memory is asked for.
+/// each in order, and the end of data of the new. It answers their length in bytes. Units count
+/// whether or not their version has such payloads. No memory is asked for.
 ///
 /// Both slices begin with data in canonical form: units that announce payloads in their order, all
 /// of one version, and an end of data of that version. What follows it doesn't count.
