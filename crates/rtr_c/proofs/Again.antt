@@ -16,7 +16,8 @@ use Rattle.rtr_session.specs.SessionForms.{session_form}
 use Rattle.rtr_session.specs.Reports.{HasParts}
 use Rattle.rtr_c.proofs.AgainPayload.{payload_again}
 use Rattle.rtr_c.specs.Said.{said, session_said, piece_said, part_said, text_said, report_said}
-use Rattle.rtr_c.specs.Shown.{Shows, ShowsReport, IsWrittenAgain, serial_shown, bare_shown, end_shown}
+use Rattle.rtr_c.specs.Shown.{CallShows, ShowsReport, IsWrittenAgain}
+use Rattle.rtr_c.specs.Shown.{serial_shown, bare_shown, end_shown}
 use Rattle.rtr_c.specs.Shown.{with_parts, report_shown}
 use Rattle.rtr_c.specs.declared.unit.RtrUnit.{RtrUnit}
 
@@ -99,7 +100,7 @@ report_again input b rest v c body p t u at has parts is =
 -- ---- each
 
 pub written_again : (input b rest : List ℕ) (f : AnyFields) (u : RtrUnit) → input ≡ b ++ rest →
-    HasAnyFields b f → IsWrittenAgain b f → Shows b f u → said u input ≡ Ok (session_form f)
+    HasAnyFields b f → IsWrittenAgain b f → CallShows b f u → said u input ≡ Ok (session_form f)
 unfolding session_said
 written_again input b rest (serial_notify v s q) u at has again shown =
     ap (λ u. said u input) shown

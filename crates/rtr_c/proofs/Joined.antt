@@ -6,7 +6,7 @@ use Rattle.rtr_wire.specs.Into.{NormalisesInto}
 use Rattle.rtr_wire.specs.Sequences.{Output}
 use Rattle.rtr_wire.specs.declared.into.IntoFault.{IntoFault}
 use Rattle.rtr_wire.specs.declared.into.Progress.{Progress}
-use Rattle.rtr_c.specs.Answers.{Tells, Normalises, joined, run_wanted}
+use Rattle.rtr_c.specs.Answers.{Tells, CallNormalises, joined_answer, run_wanted}
 use Rattle.rtr_c.specs.declared.answer.RtrAnswer.{RtrAnswer}
 
 abbrev both : Progress → Progress → Progress
@@ -19,7 +19,7 @@ both p q = record {
 
 tells_both : (input : List ℕ) (p q : Progress) (x : IntoFault) (r : Result Unit IntoFault)
     (a b : RtrAnswer) (code other : ℕ) → Tells input p (Err x) a code →
-    Tells (drop p.taken input) q r b other → Tells input (both p q) r (joined a b) other
+    Tells (drop p.taken input) q r b other → Tells input (both p q) r (joined_answer a b) other
 tells_both input p q x r a b code other t u = record {
   units = λ i. t.units i + u.units i;
   forms = λ i. t.forms i + u.forms i;
@@ -41,16 +41,18 @@ Resumed = (what : Output) (first limit : ℕ) (fault : IntoFault) (r : Result Un
 
 pub one_of_two : Resumed → (what : Output) (first limit : ℕ) (input before mid after : List ℕ)
     (a b : RtrAnswer) (code other : ℕ) →
-    Normalises what first input before mid a code → code ≢ 0 →
-    Normalises what limit (drop a.taken input) (drop a.written mid) after b other →
-    Normalises what (a.units + limit) input before (take a.written mid ++ after) (joined a b) other
+    CallNormalises what first input before mid a code → code ≢ 0 →
+    CallNormalises what limit (drop a.taken input) (drop a.written mid) after b other →
+    CallNormalises what (a.units + limit) input before (take a.written mid ++ after)
+    (joined_answer a b) other
 one_of_two resumed what first limit input before mid after a b code other (p, Ok done, f, t) some
     second =
     absurd (some t.answered)
 one_of_two resumed what first limit input before mid after a b code other (p, Err x, f, t) some
     second =
     let (q, r, g, u) = subst
-    (λ n. Normalises what limit (drop n input) (drop a.written mid) after b other) t.taken second
+    (λ n. CallNormalises what limit (drop n input) (drop a.written mid) after b other)
+    t.taken second
     in
     let g : NormalisesInto what limit r (drop p.taken input) (drop p.written mid) after q =
     subst

@@ -21,13 +21,13 @@ use Rattle.rtr_session.specs.SessionViews.{ShowsUnit, IsSessionFault}
 use Rattle.rtr_session.specs.declared.session_view.SessionView.{SessionView}
 use Rattle.rtr_session.specs.declared.session_view.SessionView.TheVariants as session
 use Rattle.rtr_session.proofs.Units.{payload_has, end_has, report_has}
-use Rattle.rtr_c.specs.PrivateShown.{ShowsView, IsOfSize, serial_at, Refuses}
+use Rattle.rtr_c.specs.PrivateShown.{ShowsView, IsOfSize, serial_at, CallRefuses}
 use Rattle.rtr_c.specs.Shown.{none, bare_shown, address_shown, key_shown, aspa_shown, InOrder}
-use Rattle.rtr_c.specs.Shown.{Shows, ShowsReport, ShowsFirst}
+use Rattle.rtr_c.specs.Shown.{CallShows, ShowsReport, ShowsFirst}
 use Rattle.rtr_c.specs.declared.unit.RtrUnit.{RtrUnit}
 
 abbrev ShowsFields : List ℕ → RtrUnit → Type 0
-ShowsFields b u = (f : AnyFields) × HasAnyFields b f × InOrder f × Shows b f u
+ShowsFields b u = (f : AnyFields) × HasAnyFields b f × InOrder f × CallShows b f u
 
 pub shows_fields : (v : SessionView) (b : List ℕ) (u : RtrUnit) → ShowsUnit v b →
     ShowsView v (length b) u → ShowsFields b u
@@ -117,6 +117,6 @@ first_shown v n input u within is shown =
     (Ok (b, f), (drop n input, sym (take-append-drop n input), has, order, shows, refl))
 
 pub first_refused : (e : ViewFault) (size : Option ℕ) (input : List ℕ) (u : RtrUnit) (code : ℕ) →
-    IsSessionFault input e size → Refuses e input u code →
+    IsSessionFault input e size → CallRefuses e input u code →
     (r : Result (List ℕ × AnyFields) ViewFault) × ShowsFirst r input u code
 first_refused e size input u code is (shown, said) = (Err e, (size, is, shown, said))

@@ -129,15 +129,15 @@ pub record Tells (input : List ℕ) (p : Progress) (r : Result Unit IntoFault) (
   pub answered : code ≡ run_status r
 
 -- what a call that normalises promises of its answer and its status
-abbrev pub Normalises : Output → (limit : ℕ) → (input before after : List ℕ) → RtrAnswer → ℕ →
+abbrev pub CallNormalises : Output → (limit : ℕ) → (input before after : List ℕ) → RtrAnswer → ℕ →
     Type 0
-Normalises what limit input before after a code =
+CallNormalises what limit input before after a code =
     (p : Progress) × (r : Result Unit IntoFault)
     × NormalisesInto what limit r input before after p × Tells input p r a code
 
 -- the answers of two calls, the second of which goes on where the first stopped, as one
-abbrev pub joined : RtrAnswer → RtrAnswer → RtrAnswer
-joined a b = record b {
+abbrev pub joined_answer : RtrAnswer → RtrAnswer → RtrAnswer
+joined_answer a b = record b {
   units = a.units + b.units;
   forms = a.forms + b.forms;
   taken = a.taken + b.taken;

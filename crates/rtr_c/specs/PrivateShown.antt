@@ -58,5 +58,5 @@ IsOfSize (session.Error v) n = length v.unit.now ≡ n
 IsOfSize v n = ⊤
 
 -- a refused unit is shown, with its status
-abbrev pub Refuses : ViewFault → List ℕ → RtrUnit → ℕ → Type 0
-Refuses e b u code = (u ≡ refused_shown e b) × (code ≡ fault_status e)
+abbrev pub CallRefuses : ViewFault → List ℕ → RtrUnit → ℕ → Type 0
+CallRefuses e b u code = (u ≡ refused_shown e b) × (code ≡ fault_status e)

@@ -146,15 +146,15 @@ ShowsReport b u =
     × (u ≡ report_shown (length b) (version_field b) (session_field b)))
 
 -- the unit b with these fields is shown
-abbrev pub Shows : List ℕ → AnyFields → RtrUnit → Type 0
-Shows b (serial_notify v s q) u = u ≡ serial_shown 0 (length b) v s q
-Shows b (serial_query v s q) u = u ≡ serial_shown 1 (length b) v s q
-Shows b (reset_query v s) u = u ≡ bare_shown 2 (length b) v 0
-Shows b (cache_response v s) u = u ≡ bare_shown 3 (length b) v s
-Shows b (payload f) u = u ≡ payload_shown (length b) f
-Shows b (end_of_data e) u = u ≡ end_shown (length b) e
-Shows b (cache_reset v s) u = u ≡ bare_shown 8 (length b) v 0
-Shows b (error_report v c body) u = ShowsReport b u
+abbrev pub CallShows : List ℕ → AnyFields → RtrUnit → Type 0
+CallShows b (serial_notify v s q) u = u ≡ serial_shown 0 (length b) v s q
+CallShows b (serial_query v s q) u = u ≡ serial_shown 1 (length b) v s q
+CallShows b (reset_query v s) u = u ≡ bare_shown 2 (length b) v 0
+CallShows b (cache_response v s) u = u ≡ bare_shown 3 (length b) v s
+CallShows b (payload f) u = u ≡ payload_shown (length b) f
+CallShows b (end_of_data e) u = u ≡ end_shown (length b) e
+CallShows b (cache_reset v s) u = u ≡ bare_shown 8 (length b) v 0
+CallShows b (error_report v c body) u = ShowsReport b u
 
 -- the lengths of a prefix are in order
 abbrev pub InOrder : AnyFields → Type 0
@@ -184,6 +184,6 @@ refused_shown e b = record none { detail = fault_detail e }
 -- first fault.
 abbrev pub ShowsFirst : Result (List ℕ × AnyFields) ViewFault → List ℕ → RtrUnit → ℕ → Type 0
 ShowsFirst (Ok (b, f)) input u code = (rest : List ℕ) × (input ≡ b ++ rest) × HasAnyFields b f
-    × InOrder f × Shows b f u × (code ≡ rtr_ok)
+    × InOrder f × CallShows b f u × (code ≡ rtr_ok)
 ShowsFirst (Err e) input u code = (size : Option ℕ) × IsSessionFault input e size
     × (u ≡ refused_shown e input) × (code ≡ fault_status e)

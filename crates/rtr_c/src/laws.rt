@@ -4,9 +4,9 @@ ghost use Rattle.std.specs.Prelude.{◌≡◌, ◌≢◌, ◌+◌, ◌++◌, ℕ
 ghost use Rattle.rtr_session.specs.AnyFields.{AnyFields, HasAnyFields};
 ghost use Rattle.rtr_session.specs.SessionForms.{session_form};
 ghost use Rattle.rtr_wire.specs.Sequences.{Output};
-ghost use Rattle.rtr_c.specs.Answers.{Normalises, joined};
+ghost use Rattle.rtr_c.specs.Answers.{CallNormalises, joined_answer};
 ghost use Rattle.rtr_c.specs.Said.{said};
-ghost use Rattle.rtr_c.specs.Shown.{Shows, IsWrittenAgain};
+ghost use Rattle.rtr_c.specs.Shown.{CallShows, IsWrittenAgain};
 ghost use Rattle.rtr_c.specs.declared.answer.RtrAnswer.{RtrAnswer};
 ghost use Rattle.rtr_c.specs.declared.unit.RtrUnit.{RtrUnit};
 
@@ -15,10 +15,10 @@ ghost use Rattle.rtr_c.specs.declared.unit.RtrUnit.{RtrUnit};
 pub fn two_calls_are_one()
     ensures { (what : Output) (first limit : ℕ) (input before mid after : List ℕ)
         (a b : RtrAnswer) (code other : ℕ) →
-        Normalises what first input before mid a code → code ≢ 0 →
-        Normalises what limit (drop a.taken input) (drop a.written mid) after b other →
-        Normalises what (a.units + limit) input before (take a.written mid ++ after) (joined a b)
-        other }
+        CallNormalises what first input before mid a code → code ≢ 0 →
+        CallNormalises what limit (drop a.taken input) (drop a.written mid) after b other →
+        CallNormalises what (a.units + limit) input before (take a.written mid ++ after)
+        (joined_answer a b) other }
 {
     rtr_wire::laws::resumed();
 }
@@ -28,6 +28,6 @@ pub fn two_calls_are_one()
 /// inner lengths fit.
 pub fn shown_and_written()
     ensures { (input b rest : List ℕ) (f : AnyFields) (u : RtrUnit) →
-        input ≡ b ++ rest → HasAnyFields b f → IsWrittenAgain b f → Shows b f u →
+        input ≡ b ++ rest → HasAnyFields b f → IsWrittenAgain b f → CallShows b f u →
         said u input ≡ Ok (session_form f) }
 {}

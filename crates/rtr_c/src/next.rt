@@ -9,7 +9,7 @@ ghost use Rattle.rtr_views.specs.declared.view.UnitView.TheVariants as views;
 ghost use Rattle.rtr_session.specs.AnyFields.{AnyFields};
 ghost use Rattle.rtr_session.specs.SessionViews.{IsSessionFault};
 ghost use Rattle.rtr_c.specs.Answers.{wanted};
-ghost use Rattle.rtr_c.specs.PrivateShown.{ShowsView, IsOfSize, shown, serial_at, Refuses};
+ghost use Rattle.rtr_c.specs.PrivateShown.{ShowsView, IsOfSize, shown, serial_at, CallRefuses};
 ghost use Rattle.rtr_c.specs.Shown.{ShowsFirst, ShowsReport, none, bare_shown, end_shown};
 
 use crate::answer::{ACCEPTED, fault_detail, fault_status};
@@ -74,7 +74,7 @@ fn show_first<const TYPE: u8>(input: &[u8], unit: &mut RtrUnit) -> u8
 #[inline(always)]
 fn refuse(refusal: &SessionFault, input: &[u8], unit: &mut RtrUnit) -> u8
     requires { IsSessionFault input.now refusal.now.fault refusal.now.size }
-    ensures { unit.old ≡ none → Refuses refusal.now.fault input.now unit.new result }
+    ensures { unit.old ≡ none → CallRefuses refusal.now.fault input.now unit.new result }
 {
     unit.detail = fault_detail(&refusal.fault);
     unit.size = refusal.size.unwrap_or(0);

@@ -7,7 +7,7 @@ use Rattle.rtr_payload.specs.Payloads.{Payload}
 use Rattle.rtr_data.specs.Changes.{after_all, changes}
 use Rattle.rtr_data.proofs.Delta.{leads_to_new}
 use Rattle.rtr_deltas.specs.Canonical.{HoldsData, PlacesFront}
-use Rattle.rtr_deltas.specs.Delta.{Deltas, IsWritten, WritesDelta, delta_form}
+use Rattle.rtr_deltas.specs.Delta.{Deltas, IsPlaced, WritesDelta, delta_form}
 use Rattle.rtr_deltas.specs.declared.fault.DeltaFault.{DeltaFault}
 use Rattle.rtr_deltas.specs.declared.fault.DeltaFault.TheVariants.{Old, New, UnitVersion, Session}
 use Rattle.rtr_deltas.specs.declared.fault.DeltaFault.TheVariants.{NoRoom}
@@ -28,7 +28,7 @@ module _ (old new before after : List ℕ) (d d' : List Payload) (e e' : EndMean
       (λ i. delta_form (s.0 i) (t.0 i) (t.1 i)) placed
 
   pub written : (r : Result ℕ DeltaFault) → e.version ≡ e'.version → e.session ≡ e'.session →
-      Deltas r old new before after → IsWritten r (delta_form d d' e') before after
+      Deltas r old new before after → IsPlaced r (delta_form d d' e') before after
   written (Ok n) v s w = same_delta (Some n) w
   written (Err NoRoom) v s w = same_delta None w
   written (Err (Old f)) v s (flaw, kept) = absurd (flaw.no_data d e h)
@@ -45,7 +45,7 @@ module _ (old new before after : List ℕ) (d d' : List Payload) (e e' : EndMean
       ∙ sym (ap (λ (m : EndMeaning). m.session) q.1)))
 
 pub room : (r : Result ℕ DeltaFault) (form before after : List ℕ) →
-    IsWritten r form before after → length form ≤ length before → IsOk r
+    IsPlaced r form before after → length form ≤ length before → IsOk r
 room (Ok n) form before after w enough = refl
 room (Err NoRoom) form before after w enough = absurd (omega (arith, w.0, enough))
 room (Err (Old f)) form before after w enough = absurd w

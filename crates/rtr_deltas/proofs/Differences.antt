@@ -14,10 +14,10 @@ use Rattle.rtr_data.proofs.Names.{name_total, above, below, below_all, as_first,
 use Rattle.rtr_data.proofs.Names.{absent_very}
 use Rattle.rtr_data.proofs.Names.{not_very}
 use Rattle.rtr_deltas.specs.Canonical.{holds, missing}
-use Rattle.rtr_deltas.specs.PrivateOrder.{is_same}
+use Rattle.rtr_deltas.specs.PrivateOrder.{is_same_for}
 
 one_more : (a : Action) (p q : Payload) (qs : List Payload) →
-    holds a (q ∷ qs) p ≡ (is_same a p q || holds a qs p)
+    holds a (q ∷ qs) p ≡ (is_same_for a p q || holds a qs p)
 one_more Announce p q qs = refl
 one_more Withdraw p q qs = refl
 
@@ -27,7 +27,7 @@ lacking : (a : Action) (p : Payload) (qs : List Payload) →
 lacking Announce p qs h = absent_very p qs h
 lacking Withdraw p qs h = absent p qs h
 
-other_name : (a : Action) (p q : Payload) → is_eq (name_cmp p q) ≡ false → is_same a p q ≡ false
+other_name : (a : Action) (p q : Payload) → is_eq (name_cmp p q) ≡ false → is_same_for a p q ≡ false
 other_name Announce p q h = not_very p q h
 other_name Withdraw p q h = h
 
@@ -53,13 +53,13 @@ at_less a p ps qs h =
 
 pub at_equal : (a : Action) (p q : Payload) (ps qs : List Payload) → IsData (p ∷ ps) →
     IsData (q ∷ qs) → name_cmp p q ≡ Equal → missing a (p ∷ ps) (q ∷ qs) ≡
-    cond (not (is_same a p q)) (p ∷ missing a ps qs) (missing a ps qs)
+    cond (not (is_same_for a p q)) (p ∷ missing a ps qs) (missing a ps qs)
 unfolding IsStrictlySortedBy
 at_equal a p q ps qs (h, s) (j, t) e =
     ap (λ b. cond (not b) (p ∷ missing a ps (q ∷ qs)) (missing a ps (q ∷ qs)))
-    (one_more a p q qs ∙ ap (λ b. is_same a p q || b) (lacking a p qs (as_first p q e qs j))
-    ∙ or_false (is_same a p q))
-    ∙ ap (λ l. cond (not (is_same a p q)) (p ∷ l) l)
+    (one_more a p q qs ∙ ap (λ b. is_same_for a p q || b) (lacking a p qs (as_first p q e qs j))
+    ∙ or_false (is_same_for a p q))
+    ∙ ap (λ l. cond (not (is_same_for a p q)) (p ∷ l) l)
     (passed a q qs ps (as_first q p (tied_back name_total p q e) ps h))
   where
     or_false : (b : Bool) → (b || false) ≡ b

@@ -22,7 +22,7 @@ use Rattle.rtr_data.specs.Deltas.{change_forms, unit_of}
 use Rattle.rtr_data.proofs.Names.{below_all}
 use Rattle.rtr_deltas.specs.Canonical.{HoldsData, PlacesFront, change, data_units, missing}
 use Rattle.rtr_deltas.specs.Items.{IsItem, meant}
-use Rattle.rtr_deltas.specs.PrivateOrder.{HasData, IsDataItem, PlacesMissing, is_same}
+use Rattle.rtr_deltas.specs.PrivateOrder.{HasData, IsDataItem, PlacesMissing, is_same_for}
 use Rattle.rtr_deltas.specs.PrivateOrder.{is_same_item, item_order, lacking_form, lacks}
 use Rattle.rtr_deltas.specs.declared.item.Item.{Item}
 use Rattle.rtr_deltas.specs.declared.item.Item.TheVariants as items
@@ -286,7 +286,7 @@ module _ (a : Action) (these those these_rest those_rest before now : List ℕ) 
               these_left = f.held;
               those_left = g.held;
               forms =
-                  step_forms (not (is_same a p (meant w).payload)) (missing a m.xs m.ys)
+                  step_forms (not (is_same_for a p (meant w).payload)) (missing a m.xs m.ys)
                   (missing a f.others g.others)
                   ((λ i. missing a (f.first i) (g.first i))
                   ∙ at_equal a p (meant w).payload f.others g.others data_first

@@ -47,7 +47,7 @@ Deltas (Err NoRoom) old new before after = WritesDelta None old new before after
 Deltas (Err f) old new before after = RefusesDelta f old new × (after ≡ before)
 
 -- this was written, or a front of it where there is no room for all of it
-abbrev pub IsWritten : Result ℕ DeltaFault → (form before after : List ℕ) → Type 0
-IsWritten (Ok n) form before after = PlacesFront (Some n) form before after
-IsWritten (Err NoRoom) form before after = PlacesFront None form before after
-IsWritten (Err f) form before after = ⊥
+abbrev pub IsPlaced : Result ℕ DeltaFault → (form before after : List ℕ) → Type 0
+IsPlaced (Ok n) form before after = PlacesFront (Some n) form before after
+IsPlaced (Err NoRoom) form before after = PlacesFront None form before after
+IsPlaced (Err f) form before after = ⊥

@@ -22,10 +22,10 @@ meant (views.RouterKey v) = meaning (key_unit (key_at v.unit.now))
 meant (views.Aspa v) = meaning (aspa_unit (aspa_at v.unit.now))
 
 -- a view of an ASPA unit shows its fields at their places
-abbrev pub IsWhole : PayloadView → Type 0
-IsWhole (views.Origin v) = ⊤
-IsWhole (views.RouterKey v) = ⊤
-IsWhole (views.Aspa v) = HasFields v.unit.now (aspa_unit (aspa_at v.unit.now))
+abbrev pub IsComplete : PayloadView → Type 0
+IsComplete (views.Origin v) = ⊤
+IsComplete (views.RouterKey v) = ⊤
+IsComplete (views.Aspa v) = HasFields v.unit.now (aspa_unit (aspa_at v.unit.now))
 
 -- a view of a router key's unit has at most 65535 bytes
 abbrev pub IsShort : PayloadView → Type 0
@@ -35,7 +35,7 @@ IsShort (views.Aspa v) = ⊤
 
 -- these bytes are the payload unit or the end of data
 abbrev pub IsItem : Item → List ℕ → Type 0
-IsItem (items.Unit v) b = IsUnit b (meant v) × IsWhole v × IsShort v
+IsItem (items.Unit v) b = IsUnit b (meant v) × IsComplete v × IsShort v
 IsItem (items.End e) b = (end_bytes e ≡ b) × IsEnd b (end_meaning e)
 
 -- the view, as an item

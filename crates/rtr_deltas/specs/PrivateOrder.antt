@@ -14,7 +14,7 @@ use Rattle.rtr_data.specs.Data.{name_cmp}
 use Rattle.rtr_data.specs.Deltas.{change_forms, unit_of}
 use Rattle.rtr_deltas.specs.Canonical.{HoldsData, PlacesFront, change, missing}
 use Rattle.rtr_deltas.specs.Delta.{delta_form}
-use Rattle.rtr_deltas.specs.Items.{IsShort, IsWhole, meant}
+use Rattle.rtr_deltas.specs.Items.{IsShort, IsComplete, meant}
 use Rattle.rtr_deltas.specs.declared.item.Item.{Item}
 use Rattle.rtr_deltas.specs.declared.item.Item.TheVariants as items
 use Rattle.rtr_deltas.specs.declared.item.PayloadView.{PayloadView}
@@ -34,9 +34,9 @@ EndsAfter (Some last) e = (meant last).version ≡ e.version
 -- ---- two sequences, gone over at once
 
 -- whether q is what a change of p would make
-abbrev pub is_same : Action → Payload → Payload → Bool
-is_same Announce p q = is_eq (payload_cmp p q)
-is_same Withdraw p q = is_eq (name_cmp p q)
+abbrev pub is_same_for : Action → Payload → Payload → Bool
+is_same_for Announce p q = is_eq (payload_cmp p q)
+is_same_for Withdraw p q = is_eq (name_cmp p q)
 
 -- the order of a unit and an item of another sequence, whose end comes after all
 abbrev pub item_order : PayloadView → Item → Ordering
@@ -44,7 +44,7 @@ item_order v (items.Unit w) = name_cmp (meant v).payload (meant w).payload
 item_order v (items.End e) = Less
 
 abbrev pub is_same_item : Action → PayloadView → Item → Bool
-is_same_item action v (items.Unit w) = is_same action (meant v).payload (meant w).payload
+is_same_item action v (items.Unit w) = is_same_for action (meant v).payload (meant w).payload
 is_same_item action v (items.End e) = false
 
 -- whether the other sequence lacks the unit, where its next item is in this order
@@ -61,7 +61,7 @@ lacking_form action v false = []
 
 -- how an item of data is
 abbrev pub IsDataItem : Item → Type 0
-IsDataItem (items.Unit v) = ((meant v).action ≡ Announce) × IsWhole v × IsShort v
+IsDataItem (items.Unit v) = ((meant v).action ≡ Announce) × IsComplete v × IsShort v
 IsDataItem (items.End e) = ⊤
 
 -- the input begins with some data

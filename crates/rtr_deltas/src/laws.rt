@@ -5,7 +5,7 @@ ghost use Rattle.rtr_payload.specs.Payloads.{Payload};
 ghost use Rattle.rtr_units.specs.End.{EndMeaning};
 ghost use Rattle.rtr_data.specs.Changes.{after_all, changes};
 ghost use Rattle.rtr_deltas.specs.Canonical.{HoldsData};
-ghost use Rattle.rtr_deltas.specs.Delta.{Deltas, IsWritten, delta_form};
+ghost use Rattle.rtr_deltas.specs.Delta.{Deltas, IsPlaced, delta_form};
 ghost use Rattle.rtr_deltas.specs.declared.fault.DeltaFault.{DeltaFault};
 
 /// A slice holds one data at most, and the changes of which `delta_into` writes the units make new
@@ -25,7 +25,7 @@ pub fn deltas_of_data()
         (d d' : List Payload) (end end' : EndMeaning) →
         HoldsData old d end → HoldsData new d' end' →
         end.version ≡ end'.version → end.session ≡ end'.session →
-        Deltas r old new before after → IsWritten r (delta_form d d' end') before after }
+        Deltas r old new before after → IsPlaced r (delta_form d d' end') before after }
     ensures room { (r : Result ℕ DeltaFault) (form before after : List ℕ) →
-        IsWritten r form before after → length form ≤ length before → IsOk r }
+        IsPlaced r form before after → length form ≤ length before → IsOk r }
 {}

@@ -8,9 +8,10 @@ ghost use Rattle.rtr_payload.specs.FirstFault.{first_fault};
 ghost use Rattle.rtr_data.specs.Data.{name_cmp};
 ghost use Rattle.rtr_payload.specs.UnitFields.{HasFields, aspa_unit};
 ghost use Rattle.rtr_views.specs.Placing.{Places};
-ghost use Rattle.rtr_deltas.specs.Items.{IsItem, IsShort, IsWhole, meant};
+ghost use Rattle.rtr_deltas.specs.Items.{IsItem, IsShort, IsComplete, meant};
 ghost use Rattle.rtr_deltas.specs.PrivateOrder.{HasData, IsDataItem, PlacesMissing};
-ghost use Rattle.rtr_deltas.specs.PrivateOrder.{is_same, is_same_item, item_order, lacking_form};
+ghost use Rattle.rtr_deltas.specs.PrivateOrder.{is_same_for, is_same_item, item_order};
+ghost use Rattle.rtr_deltas.specs.PrivateOrder.{lacking_form};
 ghost use Rattle.rtr_deltas.specs.PrivateOrder.{lacks as is_lacking};
 
 use crate::item::{Item, PayloadView, next};
@@ -89,7 +90,8 @@ fn place_lacking(
     action: Action,
     output: &mut [u8],
 ) -> Option<usize>
-    requires first { ((meant first.now).action ≡ Announce) × IsWhole first.now × IsShort first.now }
+    requires first { ((meant first.now).action ≡ Announce) × IsComplete first.now ×
+        IsShort first.now }
     requires second { IsDataItem second.now }
     requires order { order ≡ item_order first.now second.now }
     ensures { Places result (lacking_form action first.now
@@ -109,7 +111,8 @@ fn place_lacking(
 /// Whether an item of the same name is the payload, or for a withdrawal at least of its name.
 #[inline(always)]
 fn is_same_as(first: &PayloadView<'_>, second: &Item<'_>, action: Action) -> bool
-    requires first { ((meant first.now).action ≡ Announce) × IsWhole first.now × IsShort first.now }
+    requires first { ((meant first.now).action ≡ Announce) × IsComplete first.now ×
+        IsShort first.now }
     requires second { IsDataItem second.now }
     requires order { Ordering.Equal ≡ item_order first.now second.now }
     ensures { result ≡ is_same_item action first.now second.now }
@@ -126,12 +129,13 @@ fn is_same_as(first: &PayloadView<'_>, second: &Item<'_>, action: Action) -> boo
 /// Whether two payloads of one name are the same: of ASPAs the providers decide.
 #[inline(always)]
 fn is_same_payload(first: &PayloadView<'_>, second: &PayloadView<'_>) -> bool
-    requires first { ((meant first.now).action ≡ Announce) × IsWhole first.now × IsShort first.now }
-    requires second { ((meant second.now).action ≡ Announce) × IsWhole second.now ×
+    requires first { ((meant first.now).action ≡ Announce) × IsComplete first.now ×
+        IsShort first.now }
+    requires second { ((meant second.now).action ≡ Announce) × IsComplete second.now ×
         IsShort second.now }
     requires order { Ordering.Equal ≡
         name_cmp (meant first.now).payload (meant second.now).payload }
-    ensures { result ≡ is_same Announce (meant first.now).payload (meant second.now).payload }
+    ensures { result ≡ is_same_for Announce (meant first.now).payload (meant second.now).payload }
 {
     match first {
         PayloadView::Origin(_) => true,

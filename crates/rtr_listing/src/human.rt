@@ -127,7 +127,11 @@ fn action_said(action: Action) -> &'static str
     }
 }
 
-pub(crate) fn describe_parts(alloc: Global, line: &mut Line, unit: &Payload) -> Result<(), AllocError>
+pub(crate) fn describe_parts(
+    alloc: Global,
+    line: &mut Line,
+    unit: &Payload,
+) -> Result<(), AllocError>
     ensures { OnOk result (line.new ≡ line.old ++ parts_words (unit_fields unit.now)) }
 {
     match unit {

@@ -5,9 +5,8 @@ ghost use Rattle.rtr_payload.specs.UnitBytes.{unit_fields};
 ghost use Rattle.rtr_listing.specs.PayloadLines.{payload_json, payload_object, payload_said};
 ghost use Rattle.rtr_listing.specs.PrivateJson.{Adds};
 
-use crate::human;
-use crate::json_line;
 use crate::line::Line;
+use crate::{human, json_line};
 use json::Writer;
 use rtr_payload::pdu::Payload;
 use std::alloc::{AllocError, Global};

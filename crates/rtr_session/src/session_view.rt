@@ -82,9 +82,8 @@ impl<'a> SessionView<'a> {
     }
 
     /// The view of the unit that the input begins with, if it is no payload unit and no end of
-    /// data, as `first`. It is out of line, so that the way of those units stays short: there are
-    /// many of them in a session, and few others.
-    #[inline(never)]
+    /// data, as `first`. It is inlined, since out of line its answer would go through memory.
+    #[inline(always)]
     fn first_plain(input: &'a [u8]) -> Result<(SessionView<'a>, usize), SessionFault>
         requires header { 8 ≤ length input.now }
         requires kind { is_payload_or_end (type_field input.now) ≡ false }
