@@ -1,7 +1,8 @@
 //! Uses of `rtr_wire` as a caller would write them, with no proofs, and with no other library than
-//! std, but for `rtr_session` where a fault is answered.
+//! std, but for `rtr_data` where data is kept, and `rtr_session` where a fault is answered.
 //! `docs/CALLING.md` shows them. The program needs none of them: they are built for their tests.
 
+use rtr_data::Data;
 use rtr_session::answering::{Reply, reply_to_fault};
 use rtr_wire::base::{Asn, MaxLenPrefix, ParseMaxLenPrefixError};
 use rtr_wire::payload::{Action, Aspa, Payload, RouteOrigin, Timing};
@@ -12,7 +13,6 @@ use rtr_wire::pdu::{
 use rtr_wire::state::State;
 use rtr_wire::{normalise, pdu, same_meaning};
 use std::alloc::{AllocError, Global};
-use std::collections::{BTreeMap, BTreeSet};
 use std::env;
 use std::fs::File;
 use std::io::{self, BufReader, BufWriter};
@@ -73,65 +73,22 @@ pub fn compare(alloc: Global, left: &[u8], right: &[u8]) -> Result<bool, Fault> 
     same_meaning(alloc, left, right, MOST_UNITS)
 }
 
-/// What a client knows of its cache: origins and router keys as members of a set, and the ASPA of
-/// each customer.
-#[derive(Drop)]
-pub struct Data {
-    pub payloads: BTreeSet<Payload>,
-    pub aspas: BTreeMap<Asn, Aspa>,
-}
-
-impl Data {
-    /// No data.
-    pub fn new(alloc: Global) -> Self {
-        Data {
-            payloads: BTreeSet::new(alloc),
-            aspas: BTreeMap::new(alloc),
-        }
-    }
-
-    /// Applies the next sequence to the data, up to its end of data. After a fault the units before
-    /// it have been applied.
-    pub fn apply<R: Source>(&mut self, alloc: Global, reader: &mut R) -> Result<EndOfData, Fault> {
-        for _ in 0..MOST_UNITS {
-            match pdu::Payload::read(alloc, reader)? {
-                Ok(Some(unit)) => {
-                    let (action, payload) = unit.into_payload(alloc)?;
-                    self.change(action, payload).map_err(|_| Fault::Memory)?;
-                }
-                Ok(None) => {}
-                Err(end) => return Ok(end),
-            }
-        }
-        Err(Fault::TooMany)
-    }
-
-    /// Announces or withdraws a payload. An ASPA replaces the one that its customer had, and its
-    /// withdrawal names the customer alone.
-    fn change(&mut self, action: Action, payload: Payload) -> Result<(), AllocError> {
-        match (action, payload) {
-            (Action::Announce, Payload::Aspa(aspa)) => {
-                self.aspas.insert(aspa.customer, aspa)?;
-            }
-            (Action::Withdraw, Payload::Aspa(aspa)) => {
-                self.aspas.remove(&aspa.customer);
-            }
-            (Action::Announce, payload) => {
-                self.payloads.insert(payload)?;
-            }
-            (Action::Withdraw, payload) => {
-                self.payloads.remove(&payload);
-            }
-        }
-        Ok(())
-    }
+/// Makes all changes of the next sequence to what a client has of its cache, or none. Answers the
+/// end of data, or the error code that is owed to the cache, if one is.
+pub fn update<R: Source>(
+    alloc: Global,
+    data: &mut Data,
+    reader: &mut R,
+) -> Result<EndOfData, Option<ErrorCode>> {
+    data.apply(alloc, reader, MOST_UNITS)
+        .map_err(|error| error.cause.code())
 }
 
 /// Reads a reset query and announces all payloads that its version has.
 pub fn answer_reset<R: Source, W: Sink>(
     reader: &mut R,
     writer: &mut W,
-    payloads: &[Payload],
+    data: &Data,
     state: State,
 ) -> Result<(), Fault> {
     let version = ResetQuery::read(reader)?.version();
@@ -139,14 +96,7 @@ pub fn answer_reset<R: Source, W: Sink>(
         return Err(Fault::UnitVersion(version));
     }
     CacheResponse::new(version, state).write(writer)?;
-    for payload in payloads {
-        let flags = Action::Announce.into_flags();
-        match pdu::Payload::new_if_supported(version, flags, &payload.as_ref()) {
-            Ok(Some(unit)) => unit.write(writer)?,
-            Ok(None) => {}
-            Err(_) => return Err(Fault::Memory),
-        }
-    }
+    data.write_all(version, writer)?;
     EndOfData::new(version, state, Timing::default()).write(writer)?;
     writer.flush().map_err(Fault::Writer)
 }

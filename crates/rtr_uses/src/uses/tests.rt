@@ -1,12 +1,14 @@
 //! The uses, over units written out by hand.
 
 use super::{
-    Data, Unlisted, answer_reset, compare, list, normalise_file, origin, report_on,
-    response_or_code, take_response, withdrawal, words,
+    Unlisted, answer_reset, compare, list, normalise_file, origin, report_on, response_or_code,
+    take_response, update, withdrawal, words,
 };
+use rtr_data::Data;
 use rtr_session::answering::Reply;
 use rtr_wire::base::Asn;
 use rtr_wire::payload::{Action, Payload};
+use rtr_wire::pdu;
 use rtr_wire::pdu::{Counted, ErrorCode, Fault, Header, Unit, ViewFault};
 use rtr_wire::state::{Serial, State};
 use std::test::Fail;
@@ -131,29 +133,39 @@ fn data_follow_their_cache(rt: HostRuntime) -> Result<(), Fail> {
     let alloc = rt.alloc();
     let mut data = Data::new(alloc);
     let first = joined(&rt, &[ORIGIN, ASPA, END])?;
-    let end = data.apply(alloc, &mut Counted::new(first.as_slice()))?;
-    assert_eq!(rt; end.serial(), Serial(5));
+    let end = update(alloc, &mut data, &mut Counted::new(first.as_slice()));
+    assert!(rt; end.map(|end| end.serial()) == Ok(Serial(5)));
     let known = Payload::from(origin("192.0.2.0/23-26", 65551)?);
-    assert!(rt; data.payloads.len() == 1 && data.payloads.contains(&known));
-    assert_eq!(rt; providers(&data), Some(1));
+    assert!(rt; data.len() == 2 && data.contains(&known.as_ref()));
 
     let second = joined(&rt, &[WITHDRAWN, OTHER_ASPA, END])?;
-    let _ = data.apply(alloc, &mut Counted::new(second.as_slice()))?;
-    assert!(rt; data.payloads.is_empty());
-    assert_eq!(rt; providers(&data), Some(2));
-
-    let third = joined(&rt, &[ASPA_WITHDRAWN, ORIGIN, &[0; 8]])?;
-    let refused = data.apply(alloc, &mut Counted::new(third.as_slice()));
-    assert!(rt; matches!(&refused, Err(Fault::UnitType(0))));
-    assert_eq!(rt; data.payloads.len(), 1);
-    assert_eq!(rt; providers(&data), None);
+    assert!(rt; update(alloc, &mut data, &mut Counted::new(second.as_slice())).is_ok());
+    assert!(rt; data.len() == 1 && !data.contains(&known.as_ref()));
     Ok(())
 }
 
-/// How many providers AS64496 is known to have.
-fn providers(data: &Data) -> Option<u16> {
-    let aspa = data.aspas.get(&Asn::from_u32(64496))?;
-    Some(aspa.providers.asn_count())
+/// What is owed for a sequence that isn't allowed after ORIGIN and ASPA, with the data as it was.
+#[test]
+fn data_stay_as_they_were(rt: HostRuntime) -> Result<(), Fail> {
+    let alloc = rt.alloc();
+    let mut data = Data::new(alloc);
+    let first = joined(&rt, &[ORIGIN, ASPA, END])?;
+    assert!(rt; update(alloc, &mut data, &mut Counted::new(first.as_slice())).is_ok());
+    let duplicate = joined(&rt, &[ASPA_WITHDRAWN, ORIGIN, END])?;
+    let unknown = joined(&rt, &[WITHDRAWN, WITHDRAWN, END])?;
+    let wrong = joined(&rt, &[WITHDRAWN, &[2, 0, 0, 0, 0, 0, 0, 8]])?;
+    let cut = joined(&rt, &[WITHDRAWN, ASPA_WITHDRAWN])?;
+    for (input, code) in [
+        (&duplicate, ErrorCode::DUPLICATE_ANNOUNCEMENT_RECEIVED),
+        (&unknown, ErrorCode::WITHDRAWAL_OF_UNKNOWN_RECORD),
+        (&wrong, ErrorCode::UNSUPPORTED_PDU_TYPE),
+        (&cut, ErrorCode::CORRUPT_DATA),
+    ] {
+        let refused = update(alloc, &mut data, &mut Counted::new(input.as_slice()));
+        assert!(rt; refused.err() == Some(Some(code)), "code {code}");
+        assert_eq!(rt; data.len(), 2, "after code {code}");
+    }
+    Ok(())
 }
 
 #[test]
@@ -161,12 +173,7 @@ fn reset_queries_are_answered(rt: HostRuntime) -> Result<(), Fail> {
     let alloc = rt.alloc();
     let mut data = Data::new(alloc);
     let input = joined(&rt, &[ORIGIN, ASPA, END])?;
-    let _ = data.apply(alloc, &mut Counted::new(input.as_slice()))?;
-    let mut payloads = Vec::new(alloc);
-    payloads.push(Payload::from(origin("192.0.2.0/23-26", 65551)?))?;
-    if let Some(aspa) = data.aspas.remove(&Asn::from_u32(64496)) {
-        payloads.push(Payload::from(aspa))?;
-    }
+    assert!(rt; update(alloc, &mut data, &mut Counted::new(input.as_slice())).is_ok());
     #[rattlefmt::skip]
     let answers: [(u8, usize); 3] = [(0, 8 + 20 + 12), (1, 8 + 20 + 24), (2, 8 + 20 + 16 + 24)];
     for (version, size) in answers {
@@ -176,7 +183,7 @@ fn reset_queries_are_answered(rt: HostRuntime) -> Result<(), Fail> {
         answer_reset(
             &mut Counted::new(query.as_slice()),
             &mut writer,
-            payloads.as_slice(),
+            &data,
             state,
         )?;
         let answer = writer.into_inner();
@@ -195,7 +202,13 @@ fn queries_of_other_versions(rt: HostRuntime) -> Result<(), Fail> {
     let query = [3, 2, 0, 0, 0, 0, 0, 8];
     let mut writer = Counted::new(Vec::new(rt.alloc()));
     let state = State::from_parts(0x1234, Serial(5));
-    let refused = answer_reset(&mut Counted::new(query.as_slice()), &mut writer, &[], state);
+    let data = Data::new(rt.alloc());
+    let refused = answer_reset(
+        &mut Counted::new(query.as_slice()),
+        &mut writer,
+        &data,
+        state,
+    );
     assert!(rt; matches!(&refused, Err(Fault::UnitVersion(3))));
     assert!(rt; writer.into_inner().is_empty());
     Ok(())
@@ -204,13 +217,13 @@ fn queries_of_other_versions(rt: HostRuntime) -> Result<(), Fail> {
 #[test]
 fn an_aspa_is_withdrawn(rt: HostRuntime) -> Result<(), Fail> {
     let alloc = rt.alloc();
-    let mut data = Data::new(alloc);
-    let input = joined(&rt, &[ASPA, END])?;
-    let _ = data.apply(alloc, &mut Counted::new(input.as_slice()))?;
-    let Some(aspa) = data.aspas.get(&Asn::from_u32(64496)) else {
+    let Ok(Some(unit)) = pdu::Payload::read(alloc, &mut Counted::new(ASPA))? else {
         return Err(Fail::new("no ASPA"));
     };
-    let unit = withdrawal(alloc, aspa)?;
+    let (_, Payload::Aspa(aspa)) = unit.into_payload(alloc)? else {
+        return Err(Fail::new("no ASPA"));
+    };
+    let unit = withdrawal(alloc, &aspa)?;
     assert!(rt; unit.action() == Action::Withdraw);
     let mut writer = Counted::new(Vec::new(alloc));
     unit.write(&mut writer)?;
