@@ -1,12 +1,11 @@
 -- Changes that are printed one after the other.
-use Rattle.std.proofs.Common.{◌≡◌, ℕ, Bool, true, false, ◌||◌, cond, List, [], ◌∷◌, ◌++◌, map, Option}
+use Rattle.std.proofs.Common.{◌≡◌, ℕ, Bool, true, false, ◌||◌, cond, List, [], ◌∷◌, ◌++◌, map}
 use Rattle.std.proofs.Common.{Result, Ok, Err, refl, sym, ap, ◌∙◌, subst}
 use Rattle.std.proofs.KnownBytes.{Appends-nil, Appends-trans}
 use Rattle.std.proofs.lemmas.List.{append_assoc, append-nil, map-append, length-append}
 use Rattle.std.proofs.lemmas.List.Elements.{filter-append}
 use Rattle.std.specs.Io.KnownBytes.{Appends}
 use Rattle.std.specs.List.{filter}
-use Rattle.std.specs.Prelude.{◌<◌, length}
 use Rattle.std.proofs.Common.{arith}
 use Rattle.rtr_base.specs.declared.action.Action.{Action}
 use Rattle.rtr_units.specs.StopCauses.{WriterState, writer_count, by_cause}
@@ -17,7 +16,7 @@ use Rattle.rtr_data.specs.Data.{Change}
 use Rattle.rtr_data.proofs.Fronts.{Wrote}
 use Rattle.rtr_differences.specs.Differences.{change_piece, change_pieces, has_some}
 use Rattle.rtr_differences.specs.PrivateChanges.{change_by, changes_by, is_changed}
-use Rattle.rtr_differences.specs.Printing.{Puts, PutsText, PrintsFront, StopsPrinting}
+use Rattle.rtr_differences.specs.Printing.{Puts, StopsPrinting}
 use Rattle.rtr_differences.specs.declared.words.Form.{Form}
 
 -- ---- a text in two parts

@@ -1,10 +1,9 @@
 -- What was written is a piece of what is printed.
-use Rattle.std.proofs.Common.{◌≡◌, ℕ, ◌<◌, ◌≤◌, Bool, true, false, cond, List, [], ◌++◌, length}
-use Rattle.std.proofs.Common.{Option, Some, None, Result, Ok, Err, refl, sym, ap, ◌∙◌, subst, codes}
+use Rattle.std.proofs.Common.{◌≡◌, ℕ, ◌<◌, ◌≤◌, Bool, cond, List, [], ◌++◌, length}
+use Rattle.std.proofs.Common.{Option, Result, Ok, Err, refl, sym, ap, ◌∙◌, subst, codes}
 use Rattle.std.proofs.Common.{arith}
 use Rattle.std.proofs.KnownBytes.{Appends-nil}
 use Rattle.std.proofs.lemmas.Bool.{lt-leb, le-leb}
-use Rattle.std.specs.Prelude.{nat_le, ◌↔◌, IsSome}
 use Rattle.std.specs.Io.KnownBytes.{Appends}
 use Rattle.rtr_base.specs.Actions.{flags_of}
 use Rattle.rtr_base.specs.declared.action.Action.{Action}
@@ -21,9 +20,8 @@ use Rattle.rtr_payload.specs.declared.pdu.payload.Payload.{Payload as PayloadUni
 use Rattle.rtr_payload.specs.declared.payload.PayloadRef.{PayloadRef}
 use Rattle.rtr_payload.specs.declared.payload.PayloadRef.TheVariants as lent
 use Rattle.rtr_listing.specs.PayloadLines.{payload_said, payload_json}
-use Rattle.rtr_data.specs.Data.{Change}
 use Rattle.rtr_differences.specs.Differences.{change_piece, sign_of}
-use Rattle.rtr_differences.specs.Printing.{Puts, PutsText, StopsPrinting}
+use Rattle.rtr_differences.specs.Printing.{Puts, StopsPrinting}
 use Rattle.rtr_differences.specs.declared.words.Form.TheVariants.{Text, Json, Units}
 
 stops : (e : Fault) (missing : List ℕ) → 0 < length missing → StopsWriting e →

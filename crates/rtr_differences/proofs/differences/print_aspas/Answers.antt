@@ -1,8 +1,7 @@
-use Rattle.std.proofs.Common.{rules, Err, ap, sym, ◌∙◌, refl, true, false, ◌≡◌, ℕ, List, Bor, map}
+use Rattle.std.proofs.Common.{rules, Err, ap, sym, ◌∙◌, true, false, ◌≡◌, ℕ, List, Bor, map}
 use Rattle.std.proofs.lemmas.Result.{err_from_is_err_and}
 use Rattle.std.specs.List.{filter}
 use Rattle.std.specs.Map.Iter.{deref_pair}
-use Rattle.rtr_payload.specs.Meanings.{aspa_of}
 use Rattle.rtr_data.specs.Contents.{entry_of}
 use Rattle.rtr_data.proofs.Fronts.{turn, turned_all, picked_one, picked_none, picked_cut, picked_far}
 use Rattle.rtr_differences.specs.PrivateChanges.{change_by, is_changed}

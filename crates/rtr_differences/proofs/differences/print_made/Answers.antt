@@ -1,4 +1,4 @@
-use Rattle.std.proofs.Common.{sym, ap, ◌∙◌, refl, Ok, Err, map, ◌++◌}
+use Rattle.std.proofs.Common.{◌∙◌, refl, Ok, Err, map, ◌++◌}
 use Rattle.std.proofs.lemmas.Result.{err_from_is_err_and}
 use Rattle.rtr_payload.specs.Meanings.{origin_of, key_of}
 use Rattle.rtr_data.specs.Contents.{entry_of}

@@ -1,4 +1,4 @@
-use Rattle.std.proofs.Common.{rules, Err, ap, sym, ◌∙◌, refl, true, false, ◌≡◌, ℕ, List, Bor, map}
+use Rattle.std.proofs.Common.{rules, Err, ap, sym, ◌∙◌, true, false, ◌≡◌, map}
 use Rattle.std.proofs.lemmas.Result.{err_from_is_err_and}
 use Rattle.std.specs.List.{filter}
 use Rattle.std.specs.Map.Iter.{deref}
