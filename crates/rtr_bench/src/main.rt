@@ -1,8 +1,8 @@
 //! Times `normalise` and `normalise_slice` over memory. It reads a sequence from standard input and
 //! normalises it 21 times in each way, or only in the one whose name is its argument. On standard
-//! error it prints the best time of each, in nanoseconds a unit and megabytes a second, or the fault
-//! if there is one. It ends with status 0; 1 if the input is refused; 3 if reading, printing, the
-//! clock or memory failed.
+//! error it prints the best time of each, in nanoseconds a unit and megabytes a second, or the
+//! fault if there is one. It ends with status 0; 1 if the input is refused; 3 if reading, printing,
+//! the clock or memory failed.
 #![tactic(auto)]
 
 use rtr_wire::pdu::{Counted, Fault, SliceSource, ViewFault};

@@ -50,8 +50,8 @@ pub extern "C" fn rtr_next_nonnull(input: &[u8], unit: &mut RtrUnit) -> u8
     }
 }
 
-/// Shows the unit that the input begins with, of one type or of any other: the type is named so that
-/// each has code of its own, in which the compiler knows the kind of the view.
+/// Shows the unit that the input begins with, of one type or of any other: the type is named so
+/// that each has code of its own, in which the compiler knows the kind of the view.
 #[inline(always)]
 fn show_first<const TYPE: u8>(input: &[u8], unit: &mut RtrUnit) -> u8
     ensures { (r : Result (List ℕ × AnyFields) ViewFault) ×

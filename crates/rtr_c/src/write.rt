@@ -34,13 +34,13 @@ const MAX_REPORTED: usize = MAX_SIZE as usize - REPORT_FIXED;
 /// The most bytes of providers in an ASPA unit.
 const MAX_PROVIDERS: usize = 4 * ProviderAsns::MAX_COUNT;
 
-/// Writes the written form of the unit to the front of the output. Key info, providers, and the unit
-/// and the text of an error report are in the input, at the places that the unit says.
+/// Writes the written form of the unit to the front of the output. Key info, providers, and the
+/// unit and the text of an error report are in the input, at the places that the unit says.
 ///
 /// Statuses, in this order, with nothing written:
 /// - `UNIT_TYPE` for an unknown kind of unit;
-/// - `NO_FORM` for an action above 1, or above 0 for what has no payload, a family that isn't that of
-///   the kind, or key info, providers, or the unit or the text of a report outside the input;
+/// - `NO_FORM` for an action above 1, or above 0 for what has no payload, a family that isn't that
+///   of the kind, or key info, providers, or the unit or the text of a report outside the input;
 /// - `PREFIX`;
 /// - `TOO_LONG` for more than 65503 bytes of key info, 65519 of unit and text of a report or,
 ///   announced, 65520 of providers;

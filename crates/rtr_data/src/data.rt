@@ -221,11 +221,12 @@ impl Data {
         write_all_aspas(version, &self.aspas, writer)
     }
 
-    /// Writes what answers a serial query (RFC 8210 section 8.2), between the cache response and the
-    /// end of data, which are the caller's to write: the units that lead a router of this version
-    /// from this data, the old, to new data, of what the version has as in `write_all`. First come
-    /// all announcements and then the withdrawals, each in the order of payloads. An ASPA that
-    /// takes the place of another is announced, and a withdrawn one is written without providers.
+    /// Writes what answers a serial query (RFC 8210 section 8.2), between the cache response and
+    /// the end of data, which are the caller's to write: the units that lead a router of this
+    /// version from this data, the old, to new data, of what the version has as in `write_all`.
+    /// First come all announcements and then the withdrawals, each in the order of payloads. An
+    /// ASPA that takes the place of another is announced, and a withdrawn one is written without
+    /// providers.
     ///
     /// `Writer` is the only fault: no memory is asked for.
     pub fn write_delta<W: Sink>(&self, new: &Data, version: u8, writer: &mut W) -> Result<(), Fault>

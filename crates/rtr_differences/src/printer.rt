@@ -53,8 +53,8 @@ impl Printer {
         }
     }
 
-    /// Prints the change that announces or withdraws the payload, of an ASPA its customer alone. Its
-    /// faults are `Memory` and `Writer`.
+    /// Prints the change that announces or withdraws the payload, of an ASPA its customer alone.
+    /// Its faults are `Memory` and `Writer`.
     pub fn print<W: Sink>(
         &mut self,
         action: Action,

@@ -1,4 +1,5 @@
-//! What a payload unit announces or withdraws, as a line of its own in the words of the unit's line.
+//! What a payload unit announces or withdraws, as a line of its own in the words of the unit's
+//! line.
 
 ghost use Rattle.std.specs.Prelude.{◌≡◌, ◌++◌, IfOk, OnOk};
 ghost use Rattle.rtr_payload.specs.UnitBytes.{unit_fields};

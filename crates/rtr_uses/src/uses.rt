@@ -107,9 +107,9 @@ pub fn withdrawal(alloc: Global, aspa: &Aspa) -> Result<pdu::Payload, AllocError
     Ok(pdu::Payload::from_payload(LAST_VERSION, Action::Withdraw.into_flags(), withdrawn))
 }
 
-/// Writes the report to the peer on a fault in the unit with this header to the front of the output,
-/// in the version of the session. Nothing is owed if the fault isn't the peer's, or the unit is a
-/// report itself.
+/// Writes the report to the peer on a fault in the unit with this header to the front of the
+/// output, in the version of the session. Nothing is owed if the fault isn't the peer's, or the
+/// unit is a report itself.
 pub fn report_on(version: u8, header: Header, fault: &Fault, output: &mut [u8]) -> Reply {
     let text = b"the unit was refused";
     reply_to_fault(version, header.as_ref(), fault, text, output)
