@@ -33,7 +33,7 @@ impl Read for Input {
     }
 }
 
-/// The input, unbuffered if there is no memory for a buffer.
+/// The input, read through a buffer. Fails where there is no memory for one.
 fn buffered(rt: &HostRuntime, input: Input) -> io::Result<BufReader<Input>> {
     BufReader::with_capacity(rt.alloc(), BUFFER_SIZE, input)
 }

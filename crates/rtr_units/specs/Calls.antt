@@ -12,7 +12,7 @@ use Rattle.rtr_units.specs.declared.source.Sink as sinks
 use Rattle.rtr_units.specs.declared.source.Source as sources
 
 -- A call that reads from a reader of type R, which is `old` before it and `new` after it: `Leaves`
--- says what this leaves of the reader, by the answer, of which `bytes` gives the bytes read.
+-- says what this leaves of the reader, by the answer, of which `bytes_of` gives the bytes read.
 pub record ReadsFrom {R : Type 0} (source : sources.Ghosts R) {T : Type 0} (bytes_of : T → List ℕ)
     (result : Result T Fault) (old new : R)
     (Leaves : Result (List ℕ) Cause → ReaderState → ReaderState → Type 0) : Type 0 where
