@@ -38,6 +38,13 @@ AT(rtr_unit, max_length, 81);
 AT(rtr_unit, address, 82);
 AT(rtr_unit, key_identifier, 98);
 AT(rtr_unit, detail, 118);
+
+_Static_assert(sizeof(struct rtr_data_answer) == 24, "rtr_data_answer");
+AT(rtr_data_answer, written, 0);
+AT(rtr_data_answer, offset, 8);
+AT(rtr_data_answer, status, 16);
+AT(rtr_data_answer, side, 17);
+AT(rtr_data_answer, detail, 18);
 #endif
 
 _Static_assert(sizeof(bool) == 1, "bool");

@@ -57,8 +57,16 @@ enum rtr_status {
     RTR_PREFIX = 7,          /* `detail`, an rtr_prefix_rule, is broken by a prefix */
     RTR_TOO_MANY = 8,        /* `limit` units were taken, and no end of data was among them */
     RTR_NO_ROOM = 9,         /* the output is too short for what comes next */
-    RTR_NO_FORM = 10         /* rtr_write_unit: no such action, family or part */
+    RTR_NO_FORM = 10,        /* rtr_write_unit: no such action, family or part */
                              /* 11 was "out of memory", which no call answers any more */
+    RTR_NOT_CANONICAL = 12,  /* a unit or an end of data that may not stand there in data or changes
+                                in canonical form */
+    RTR_OTHER_SESSION = 13,  /* the second input is of another session than the first */
+    RTR_DUPLICATE = 14,      /* a payload is announced that is there already */
+    RTR_UNKNOWN = 15,        /* a payload is withdrawn that isn't there */
+    RTR_UNDECIDED = 16,      /* rtr_order: an ASPA is announced and then withdrawn, so that what the
+                                changes come to depends on the data */
+    RTR_NO_INDEX = 17        /* rtr_order: the index has fewer places than there are units */
 };
 
 enum rtr_prefix_rule {
@@ -102,6 +110,17 @@ struct rtr_answer {
     uint8_t status; /* an rtr_status, as the call returns it */
     uint8_t detail; /* as enum rtr_status says of RTR_UNIT_TYPE, RTR_UNIT_VERSION and RTR_PREFIX;
                        else 0 */
+};
+
+/* The result of a call on data and changes. */
+struct rtr_data_answer {
+    size_t written; /* after RTR_OK the bytes of the output that were written, from its front; else
+                       0. After RTR_NO_ROOM the output's bytes are open, after any other status they
+                       are as they were */
+    size_t offset;  /* where the unit at fault begins in its input; 0 where no unit is at fault */
+    uint8_t status; /* an rtr_status, as the call returns it */
+    uint8_t side;   /* 1 or 2 where the first or the second input is at fault, else 0 */
+    uint8_t detail; /* as in an rtr_answer */
 };
 
 /* A unit of any kind. Fields that its kind doesn't have are 0. */
@@ -158,6 +177,10 @@ uint8_t rtr_write_unit_nonnull(const struct rtr_unit *unit,
 uint8_t rtr_same_meaning_nonnull(const uint8_t *left, size_t left_length,
                                  const uint8_t *right, size_t right_length,
                                  uint64_t limit, bool *same);
+
+uint8_t rtr_delta_nonnull(const uint8_t *old_data, size_t old_length,
+                          const uint8_t *new_data, size_t new_length,
+                          uint8_t *output, size_t output_length, struct rtr_data_answer *answer);
 
 /* The pointer of a slice to be read; in place of a null pointer, whose length is 0, another. */
 static inline const uint8_t *rtr_readable(const uint8_t *bytes)
@@ -253,8 +276,9 @@ static inline bool rtr_provider(const struct rtr_unit *unit, const uint8_t *inpu
 
 /* Whether a report is owed to the peer for this status of rtr_next or rtr_unit_size, or for that of
  * a sequence, where the input begins with the unit that it is about. The error code of the report
- * (RFC 8210 section 12) is then in `code`, and else 0. None is owed for RTR_OK, for RTR_TOO_MANY
- * and what follows it, nor for any unit that is itself a report (RFC 8210 section 5.11). */
+ * (RFC 8210 section 12) is then in `code`, and else 0. One is owed for RTR_SHORT to RTR_PREFIX, for
+ * RTR_DUPLICATE and for RTR_UNKNOWN, and for no other status, nor for any unit that is itself a
+ * report (RFC 8210 section 5.11). */
 static inline bool rtr_error_code(uint8_t status, const uint8_t *input, size_t input_length,
                                   uint16_t *code)
 {
@@ -315,6 +339,40 @@ static inline uint8_t rtr_same_meaning(const uint8_t *left, size_t left_length,
                                     right_length, limit, same);
 }
 
+/* Data and changes in canonical form.
+ *
+ * Changes are a sequence: payload units, and an end of data. They are in canonical form if all of
+ * it is of one version, the units that announce come first and then those that withdraw, each in
+ * the order of payloads, and no two units name the same payload (of an ASPA, the same customer).
+ * The order of payloads is: origins, then router keys, then ASPAs; of origins IPv4 before IPv6,
+ * then by address, prefix length, max length and ASN; of router keys by key identifier, ASN and key
+ * info; of ASPAs by customer.
+ *
+ * Data, what a cache has or a router has of it, are changes in canonical form that withdraw
+ * nothing. An end of data alone is data without payloads: rtr_write_unit writes one.
+ *
+ * What follows the end of data in an input doesn't count. */
+
+/* Writes the delta that leads a router from the old data to the new (RFC 8210 section 8.2): changes
+ * in canonical form, with the end of data of the new data. An output of old_length + new_length
+ * bytes always suffices.
+ *
+ * RTR_OK; or, in this order,
+ *   RTR_SHORT to RTR_PREFIX, RTR_NOT_CANONICAL   the first fault of the old data (side 1), or else
+ *                                                of the new (side 2)
+ *   RTR_UNIT_VERSION                             the new data are of another version than the old:
+ *                                                of the one in `detail`
+ *   RTR_OTHER_SESSION                            the new data are of another session than the old
+ *   RTR_NO_ROOM                                  the output is shorter than the delta */
+static inline uint8_t rtr_delta(const uint8_t *old_data, size_t old_length,
+                                const uint8_t *new_data, size_t new_length,
+                                uint8_t *output, size_t output_length,
+                                struct rtr_data_answer *answer)
+{
+    return rtr_delta_nonnull(rtr_readable(old_data), old_length, rtr_readable(new_data), new_length,
+                             rtr_writable(output), output_length, answer);
+}
+
 /* A text for a status, never null; any number may be passed. */
 static inline const char *rtr_status_text(uint8_t status)
 {
@@ -330,8 +388,16 @@ static inline const char *rtr_status_text(uint8_t status)
         "too many units",
         "no room in the output",
         "no unit has these fields",
+        0,
+        "not in canonical form",
+        "of another session",
+        "duplicate announcement",
+        "withdrawal of an unknown record",
+        "an ASPA is announced and then withdrawn",
+        "no room in the index",
     };
-    return status < sizeof texts / sizeof texts[0] ? texts[status] : "unknown status";
+    return status < sizeof texts / sizeof texts[0] && texts[status] ? texts[status]
+                                                                    : "unknown status";
 }
 
 #ifdef __cplusplus

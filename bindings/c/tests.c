@@ -1,29 +1,11 @@
 /* Calls each function over the cases of a file that `bindings/cases.py` wrote, in eight threads at
- * once, and over a few units by hand. No sanitizer sees what the archive reads and writes, since it
- * isn't instrumented. So each input and output lies between two inaccessible pages, once right
- * after the first and once right before the second.
+ * once, and over a few units by hand, between inaccessible pages (testing.h).
  *
  * usage: tests CASES SESSIONS   the second file is that of `bindings/sessions.py cases` */
-#define _DEFAULT_SOURCE /* MAP_ANONYMOUS */
+#include "testing.h"
 #include <pthread.h>
-#include <stdio.h>
-#include <stdlib.h>
-#include <string.h>
-#include <sys/mman.h>
-#include <unistd.h>
-#include "rtr.h"
 
 #define THREADS 8
-
-#define CHECK(what) check(what, #what, __LINE__)
-
-static void check(int holds, const char *what, int line)
-{
-    if (!holds) {
-        fprintf(stderr, "tests.c:%d: %s\n", line, what);
-        exit(1);
-    }
-}
 
 /* One case: a version or 255, and what is expected of a call. The numbers are little-endian. */
 struct test_case {
@@ -39,15 +21,6 @@ static size_t wanted(const uint8_t *bytes, size_t length)
     if (length < 8)
         return 8;
     return (size_t)bytes[4] << 24 | (size_t)bytes[5] << 16 | (size_t)bytes[6] << 8 | bytes[7];
-}
-
-static uint64_t number(const uint8_t **at)
-{
-    uint64_t value = 0;
-    for (int i = 7; i >= 0; i--)
-        value = value << 8 | (*at)[i];
-    *at += 8;
-    return value;
 }
 
 static struct test_case next_case(const uint8_t **at)
@@ -66,52 +39,6 @@ static struct test_case next_case(const uint8_t **at)
         one.wanted = wanted(one.input + one.taken, one.input_length - one.taken);
     return one;
 }
-
-/* The most bytes of an input or an output. */
-#define MOST ((size_t)1 << 19)
-
-/* Whole pages between two inaccessible ones. */
-struct fenced {
-    uint8_t *front, *end;
-};
-
-static struct fenced fence(size_t most)
-{
-    size_t page = (size_t)sysconf(_SC_PAGESIZE), size = (most + page - 1) / page * page;
-    uint8_t *all = mmap(NULL, size + 2 * page, PROT_NONE, MAP_PRIVATE | MAP_ANONYMOUS, -1, 0);
-    CHECK(all != MAP_FAILED);
-    CHECK(mprotect(all + page, size, PROT_READ | PROT_WRITE) == 0);
-    return (struct fenced){all + page, all + page + size};
-}
-
-/* Where the inputs and outputs of a thread lie: all at the front of their pages, or at the end. */
-struct place {
-    bool at_end;
-    struct fenced input, other, output, told, unit;
-};
-
-static struct place new_place(void)
-{
-    return (struct place){false, fence(MOST), fence(MOST), fence(MOST), fence(1), fence(1)};
-}
-
-/* So many bytes, right after the first inaccessible page or right before the second. */
-static void *lie(const struct place *place, struct fenced fenced, size_t length)
-{
-    CHECK(length <= (size_t)(fenced.end - fenced.front));
-    return place->at_end ? fenced.end - length : fenced.front;
-}
-
-static uint8_t *copied(const struct place *place, struct fenced fenced, const uint8_t *bytes,
-                       size_t length)
-{
-    uint8_t *copy = lie(place, fenced, length);
-    memcpy(copy, bytes, length);
-    return copy;
-}
-
-/* What the last pointer points at, filled with bytes that no call answers. */
-#define FILLED(fenced, type) ((type *)memset(lie(place, fenced, sizeof(type)), 0xa5, sizeof(type)))
 
 static uint8_t normalised(const struct test_case *one, const uint8_t *input, uint8_t *output,
                           size_t room, uint64_t limit, struct rtr_answer *answer)
@@ -268,11 +195,6 @@ static void check_case(const struct place *place, const struct test_case *one)
     }
     CHECK(memcmp(input, one->input, one->input_length) == 0);
 }
-
-struct cases {
-    const uint8_t *bytes;
-    size_t length;
-};
 
 static void *check_cases(void *all)
 {
@@ -616,7 +538,7 @@ static void check_versions(void)
 /* The error codes of RFC 8210 section 12, and that none is owed for a report (section 5.11). */
 static void check_codes(const struct place *place)
 {
-    static const int codes[] = {-1, 0, 5, 4, 0, 0, 9, 0};
+    static const int codes[] = {-1, 0, 5, 4, 0, 0, 9, 0, -1, -1, -1, -1, -1, -1, 7, 6};
     uint8_t bytes[] = {1, RTR_IPV4_PREFIX, 0, 0, 0, 0, 0, 20};
     for (int status = 0; status < 256; status++)
         for (size_t length = 0; length <= sizeof bytes; length++)
@@ -624,7 +546,7 @@ static void check_codes(const struct place *place)
                 bytes[1] = report ? RTR_ERROR_REPORT : RTR_IPV4_PREFIX;
                 const uint8_t *input = copied(place, place->input, bytes, length);
                 uint16_t *code = FILLED(place->told, uint16_t);
-                int owed = status < 8 && !(report && length >= 2) ? codes[status] : -1;
+                int owed = status < 16 && !(report && length >= 2) ? codes[status] : -1;
                 CHECK(rtr_error_code((uint8_t)status, input, length, code) == (owed >= 0));
                 CHECK(*code == (owed >= 0 ? owed : 0));
             }
@@ -650,19 +572,6 @@ static void check_providers(const struct place *place)
     CHECK(!rtr_provider(unit, input, sizeof aspa, 1, provider) && *provider == 0);
     unit->kind = RTR_ROUTER_KEY;
     CHECK(!rtr_provider(unit, input, sizeof aspa, 0, provider) && *provider == 0);
-}
-
-/* All bytes of a file. */
-static struct cases read_file(const char *path)
-{
-    FILE *file = fopen(path, "rb");
-    CHECK(file != NULL && fseek(file, 0, SEEK_END) == 0);
-    size_t length = (size_t)ftell(file);
-    uint8_t *bytes = malloc(length);
-    rewind(file);
-    CHECK(bytes != NULL && fread(bytes, 1, length, file) == length);
-    fclose(file);
-    return (struct cases){bytes, length};
 }
 
 int main(int count, char **words)

@@ -4,3 +4,4 @@ mod Shown
 mod Joined
 mod Again
 mod AgainPayload
+mod DeltaRoom

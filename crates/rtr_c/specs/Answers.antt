@@ -56,6 +56,18 @@ rtr_no_room = 9
 abbrev pub rtr_no_form : ℕ
 rtr_no_form = 10
 
+abbrev pub rtr_not_canonical : ℕ
+rtr_not_canonical = 12
+
+abbrev pub rtr_other_session : ℕ
+rtr_other_session = 13
+
+abbrev pub rtr_duplicate : ℕ
+rtr_duplicate = 14
+
+abbrev pub rtr_unknown : ℕ
+rtr_unknown = 15
+
 -- a reader or a writer failed, as none does here
 abbrev pub rtr_failed : ℕ
 rtr_failed = 255

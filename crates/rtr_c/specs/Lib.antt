@@ -5,3 +5,4 @@ pub mod Said
 pub mod Compared
 pub mod Sizes
 pub mod Numbers
+pub mod DataAnswers

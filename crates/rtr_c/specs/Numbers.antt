@@ -31,14 +31,17 @@ abbrev pub has_kind : (version kind : ℕ) → Bool
 has_kind v k = is_since (first_version k) v
 
 -- The error code of a status (RFC 8210 section 12): corrupt data for a unit that is cut short or
--- contradicts itself, an unsupported type or version, and a wrong list of providers (as in the Rust
--- crate). The others are no fault of the peer's.
+-- contradicts itself, an unsupported type or version, a wrong list of providers (as in the Rust
+-- crate), a payload announced twice, and one withdrawn that isn't there. The others are no fault of
+-- the peer's.
 abbrev pub status_code : ℕ → Option ℕ
 status_code s =
     if (s == 1) || (s == 4) || (s == 5) || (s == 7) then Some 0
     else if s == 2 then Some 5
     else if s == 3 then Some 4
     else if s == 6 then Some 9
+    else if s == 14 then Some 7
+    else if s == 15 then Some 6
     else None
 
 -- none is owed for an error report, which has its type in byte 1 (RFC 8210 section 5.11)

@@ -29,6 +29,14 @@ pub(crate) const TOO_MANY: u8 = 8;
 pub(crate) const NO_ROOM: u8 = 9;
 /// No unit has these fields.
 pub(crate) const NO_FORM: u8 = 10;
+/// A unit or an end of data may not stand where it does in data or changes in canonical form.
+pub(crate) const NOT_CANONICAL: u8 = 12;
+/// The second input is of another session than the first.
+pub(crate) const OTHER_SESSION: u8 = 13;
+/// A payload is announced that is there already.
+pub(crate) const DUPLICATE: u8 = 14;
+/// A payload is withdrawn that isn't there.
+pub(crate) const UNKNOWN: u8 = 15;
 /// A reader or a writer failed; none here does.
 pub(crate) const WRITER: u8 = 255;
 

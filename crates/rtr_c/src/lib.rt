@@ -6,6 +6,8 @@
 
 mod answer;
 mod compare;
+mod data_answer;
+mod delta;
 mod laws;
 mod next;
 mod numbers;

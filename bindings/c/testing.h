@@ -1,0 +1,99 @@
+/* What the tests of C share. No sanitizer sees what the archive reads and writes, since it isn't
+ * instrumented. So each input and output lies between two inaccessible pages, once right after the
+ * first and once right before the second. */
+#ifndef TESTING_H
+#define TESTING_H
+
+#define _DEFAULT_SOURCE /* MAP_ANONYMOUS */
+#include <stdio.h>
+#include <stdlib.h>
+#include <string.h>
+#include <sys/mman.h>
+#include <unistd.h>
+#include "rtr.h"
+
+#define CHECK(what) check(what, #what, __FILE__, __LINE__)
+
+static inline void check(int holds, const char *what, const char *file, int line)
+{
+    if (!holds) {
+        fprintf(stderr, "%s:%d: %s\n", file, line, what);
+        exit(1);
+    }
+}
+
+/* The next number, of eight bytes, the lowest first. */
+static inline uint64_t number(const uint8_t **at)
+{
+    uint64_t value = 0;
+    for (int i = 7; i >= 0; i--)
+        value = value << 8 | (*at)[i];
+    *at += 8;
+    return value;
+}
+
+/* The most bytes of an input or an output. */
+#define MOST ((size_t)1 << 19)
+
+/* Whole pages between two inaccessible ones. */
+struct fenced {
+    uint8_t *front, *end;
+};
+
+static inline struct fenced fence(size_t most)
+{
+    size_t page = (size_t)sysconf(_SC_PAGESIZE), size = (most + page - 1) / page * page;
+    uint8_t *all = mmap(NULL, size + 2 * page, PROT_NONE, MAP_PRIVATE | MAP_ANONYMOUS, -1, 0);
+    CHECK(all != MAP_FAILED);
+    CHECK(mprotect(all + page, size, PROT_READ | PROT_WRITE) == 0);
+    return (struct fenced){all + page, all + page + size};
+}
+
+/* Where the inputs and outputs of a thread lie: all at the front of their pages, or at the end. */
+struct place {
+    bool at_end;
+    struct fenced input, other, output, told, unit;
+};
+
+static inline struct place new_place(void)
+{
+    return (struct place){false, fence(MOST), fence(MOST), fence(MOST), fence(1), fence(1)};
+}
+
+/* So many bytes, right after the first inaccessible page or right before the second. */
+static inline void *lie(const struct place *place, struct fenced fenced, size_t length)
+{
+    CHECK(length <= (size_t)(fenced.end - fenced.front));
+    return place->at_end ? fenced.end - length : fenced.front;
+}
+
+static inline uint8_t *copied(const struct place *place, struct fenced fenced,
+                              const uint8_t *bytes, size_t length)
+{
+    uint8_t *copy = lie(place, fenced, length);
+    memcpy(copy, bytes, length);
+    return copy;
+}
+
+/* What the last pointer points at, filled with bytes that no call answers. */
+#define FILLED(fenced, type) ((type *)memset(lie(place, fenced, sizeof(type)), 0xa5, sizeof(type)))
+
+/* The bytes of a file. */
+struct cases {
+    const uint8_t *bytes;
+    size_t length;
+};
+
+static inline struct cases read_file(const char *path)
+{
+    FILE *file = fopen(path, "rb");
+    CHECK(file != NULL && fseek(file, 0, SEEK_END) == 0);
+    size_t length = (size_t)ftell(file);
+    uint8_t *bytes = malloc(length);
+    rewind(file);
+    CHECK(bytes != NULL && fread(bytes, 1, length, file) == length);
+    fclose(file);
+    return (struct cases){bytes, length};
+}
+
+#endif
