@@ -182,7 +182,7 @@ starts a before = record {
   allowed = refl;
 }
 
-pub goes_on : (count : ℕ) (a b c : Option (List ℕ)) (before made more : List Payload)
+unfoldable pub goes_on : (count : ℕ) (a b c : Option (List ℕ)) (before made more : List Payload)
     (action : Action) (p : Value) → SoFar count a b before made →
     ReadsChange (Ok (Ok (action, p))) b c → changed action (payload_of p) made ≡ Ok more →
     SoFar (count + 1) a c before more
@@ -199,7 +199,7 @@ goes_on count a b c before made more action p s (t, m, took, unit, is) so = reco
       ∙ ap (λ x. after x made) is ∙ so;
 }
 
-pub finishes : (limit count : ℕ) (d : EndOfData) (old mid new : ReaderState)
+unfoldable pub finishes : (limit count : ℕ) (d : EndOfData) (old mid new : ReaderState)
     (before made : List Payload) → count < limit → SoFar count old.left mid.left before made →
     mid.failed ≡ old.failed → ReadsChange (Ok (Err d)) mid.left new.left →
     new.failed ≡ mid.failed → Applies limit (Ok d) old new before made
@@ -220,7 +220,7 @@ module _ (limit count : ℕ) (cause : ApplyCause) (old mid new : ReaderState)
     (before made left_as : List Payload) (same : left_as ≡ before)
     (s : SoFar count old.left mid.left before made)
     (kept : mid.failed ≡ old.failed) (t : List ℕ) (took : Consumes mid.left new.left t) where
-  stopped : CountsUnits cause limit s.ms → StopsApplying cause t new.left made →
+  unfoldable pub stopped : CountsUnits cause limit s.ms → StopsApplying cause t new.left made →
       new.failed ≡ cause_count cause mid.failed →
       Applies limit (Err (record { units = count; cause = cause })) old new before left_as
   stopped counts stops well = record {
@@ -235,7 +235,7 @@ module _ (limit count : ℕ) (cause : ApplyCause) (old mid new : ReaderState)
     reader_failures = well ∙ ap (cause_count cause) kept;
   }
 
-told_ends : (c : Cause) (t : List ℕ) (left : Option (List ℕ)) →
+pub told_ends : (c : Cause) (t : List ℕ) (left : Option (List ℕ)) →
     StepTells everything (Err c) t [] left → IfSome left (λ rest. Ends everything (Err c) t rest [])
 told_ends by_reader t left told = told
 told_ends by_writer t left told = told
@@ -243,7 +243,7 @@ told_ends too_many t left told = absurd told
 told_ends no_memory t left told = told
 told_ends (wrong f) t left told = told
 
-few : (c : Cause) (limit : ℕ) (ms : List Meaning) (t : List ℕ) (left : Option (List ℕ)) →
+pub few : (c : Cause) (limit : ℕ) (ms : List Meaning) (t : List ℕ) (left : Option (List ℕ)) →
     StepTells everything (Err c) t [] left → length ms < limit →
     Counts everything limit (Err c) ms
 few by_reader limit ms t left told lt = lt
@@ -252,11 +252,11 @@ few too_many limit ms t left told lt = absurd told
 few no_memory limit ms t left told lt = lt
 few (wrong f) limit ms t left told lt = lt
 
-always : {P : List ℕ → Type 0} (o : Option (List ℕ)) → ((x : List ℕ) → P x) → IfSome o P
+pub always : {P : List ℕ → Type 0} (o : Option (List ℕ)) → ((x : List ℕ) → P x) → IfSome o P
 always None h = tt
 always (Some x) h = h x
 
-pub breaks : (limit count : ℕ) (f : Fault) (old mid new : ReaderState)
+unfoldable pub breaks : (limit count : ℕ) (f : Fault) (old mid new : ReaderState)
     (before made left_as : List Payload) → left_as ≡ before → count < limit →
     SoFar count old.left mid.left before made →
     mid.failed ≡ old.failed → ReadsChange (Err f) mid.left new.left →
@@ -268,7 +268,7 @@ breaks limit count f old mid new before made left_as same lt s kept (t, took, no
     (no_writer, told_ends (cause_of f) t new.left told) well
 
 -- where a change was not made
-stops_change : (e : ChangeError) (action : Action) (p : Value) (a b : Option (List ℕ))
+pub stops_change : (e : ChangeError) (action : Action) (p : Value) (a b : Option (List ℕ))
     (made x : List Payload) (r : ReadsChange (Ok (Ok (action, p))) a b) →
     Leaves {T = Unit {0}} (Err e) (changed action (payload_of p) made) made x → StopsChange e r.0 made
 stops_change Memory action p a b made x (t, m, took, unit, is) h =
@@ -282,7 +282,7 @@ stops_change KeyTooLong action p a b made x (t, m, took, unit, is) h =
 stops_change NoProviders action p a b made x (t, m, took, unit, is) h =
     (m, unit, ap (λ c. after c made) is ∙ h.0)
 
-counts_change : (e : ChangeError) (limit : ℕ) (ms : List Meaning) → length ms < limit →
+pub counts_change : (e : ChangeError) (limit : ℕ) (ms : List Meaning) → length ms < limit →
     CountsUnits (Change e) limit ms
 counts_change Memory limit ms lt = omega (arith, lt)
 counts_change Duplicate limit ms lt = lt
@@ -290,7 +290,7 @@ counts_change Unknown limit ms lt = lt
 counts_change KeyTooLong limit ms lt = lt
 counts_change NoProviders limit ms lt = lt
 
-pub refuses : (limit count : ℕ) (e : ChangeError) (old mid new : ReaderState)
+unfoldable pub refuses : (limit count : ℕ) (e : ChangeError) (old mid new : ReaderState)
     (before made left_as x : List Payload) (action : Action) (p : Value) → left_as ≡ before →
     count < limit → SoFar count old.left mid.left before made → mid.failed ≡ old.failed →
     ReadsChange (Ok (Ok (action, p))) mid.left new.left → new.failed ≡ mid.failed →
@@ -301,7 +301,7 @@ refuses limit count e old mid new before made left_as x action p same lt s kept 
     (counts_change e limit s.ms (omega (arith, s.counted, lt)))
     (stops_change e action p mid.left new.left made x r h) well
 
-pub reaches_limit : (limit count : ℕ) (old new : ReaderState)
+unfoldable pub reaches_limit : (limit count : ℕ) (old new : ReaderState)
     (before made left_as : List Payload) → left_as ≡ before → count ≡ limit → SoFar count old.left new.left before made → new.failed ≡ old.failed →
     Applies limit (Err (record { units = limit; cause = Read TooMany })) old new before left_as
 reaches_limit limit count old new before made left_as same full s kept = record {

@@ -1,8 +1,8 @@
 //! A set of payloads.
 
-ghost use Rattle.std.specs.Prelude.{◌≡◌, [], Bool, IfErr, false, length, min, nat_eq};
+ghost use Rattle.std.specs.Prelude.{◌≡◌, ◌<◌, ◌≤◌, [], Bool, Err, IfErr, false, length, min, nat_eq};
 ghost use Rattle.rtr_base.specs.declared.action.Action.TheVariants.{Announce, Withdraw};
-ghost use Rattle.rtr_units.specs.StopCauses.{HoldsWriteError};
+ghost use Rattle.rtr_units.specs.StopCauses.{HoldsWriteError, by_cause, unit_version, wrong};
 ghost use Rattle.rtr_units.specs.Stream.{PutsForm};
 ghost use Rattle.rtr_payload.specs.Meanings.{payload_of, payload_of_ref};
 ghost use Rattle.rtr_data.specs.Data.{IsData, changed, has, has_name};
@@ -25,6 +25,7 @@ use rtr_base::asn::Asn;
 use rtr_payload::payload::{Aspa, Payload, PayloadRef, RouteOrigin, RouterKey};
 use rtr_payload::pdu::ProviderAsns;
 use rtr_units::fault::Fault;
+use rtr_units::header::LAST_VERSION;
 use rtr_units::source::Sink;
 use std::alloc::Global;
 use std::collections::{BTreeMap, BTreeSet, btree_map, btree_set};
@@ -207,15 +208,21 @@ impl Data {
     /// Writes what answers a reset query (RFC 8210 section 8.1), between the cache response and the
     /// end of data, which are the caller's to write: the units of this version that announce the
     /// payloads that it has, in their order. Version 0 has origins alone, version 1 router keys
-    /// too, and any other ASPAs too.
+    /// too, and version 2 ASPAs too.
     ///
     /// A unit has 20 or 32 bytes for an origin, 32 and its key info for a router key, 12 and four
-    /// for each provider for an ASPA. `Writer` is the only fault: no memory is asked for.
+    /// for each provider for an ASPA. `UnitVersion` comes first for a version above 2, with nothing
+    /// written; else `Writer` is the only fault: no memory is asked for.
     pub fn write_all<W: Sink>(&self, version: u8, writer: &mut W) -> Result<(), Fault>
-        ensures bytes { PutsForm result (W.state writer.old) (W.state writer.new)
+        ensures known { version ≤ 2 → PutsForm result (W.state writer.old) (W.state writer.new)
             (change_forms version (all_for version self.now)) }
+        ensures unknown { 2 < version → (by_cause result ≡ Err (wrong (unit_version version))) ×
+            (writer.new ≡ writer.old) }
         ensures error { IfErr result (HoldsWriteError (W.fails writer.new) (W.stalls writer.new)) }
     {
+        if version > LAST_VERSION {
+            return Err(Fault::UnitVersion(version));
+        }
         write_all_origins(version, &self.origins, writer)?;
         write_all_keys(version, &self.router_keys, writer)?;
         write_all_aspas(version, &self.aspas, writer)
@@ -228,12 +235,18 @@ impl Data {
     /// ASPA that takes the place of another is announced, and a withdrawn one is written without
     /// providers.
     ///
-    /// `Writer` is the only fault: no memory is asked for.
+    /// `UnitVersion` comes first for a version above 2, with nothing written; else `Writer` is the
+    /// only fault: no memory is asked for.
     pub fn write_delta<W: Sink>(&self, new: &Data, version: u8, writer: &mut W) -> Result<(), Fault>
-        ensures bytes { PutsForm result (W.state writer.old) (W.state writer.new)
+        ensures known { version ≤ 2 → PutsForm result (W.state writer.old) (W.state writer.new)
             (change_forms version (changes_for version self.now new.now)) }
+        ensures unknown { 2 < version → (by_cause result ≡ Err (wrong (unit_version version))) ×
+            (writer.new ≡ writer.old) }
         ensures error { IfErr result (HoldsWriteError (W.fails writer.new) (W.stalls writer.new)) }
     {
+        if version > LAST_VERSION {
+            return Err(Fault::UnitVersion(version));
+        }
         self.write_announcements(new, version, writer)?;
         self.write_withdrawals(new, version, writer)
     }

@@ -3,32 +3,32 @@ use Rattle.rtr_data.proofs.Fronts.{first_stops, second_stops, three_pieces}
 use Rattle.rtr_data.proofs.Written.{all_parts}
 use Rattle.rtr_data.proofs.data.Data.write_all.Goals as goal
 
-pub returns-in_err-write_all_origins-clause-bytes :
-    goal.returns-in_err-write_all_origins-clause-bytes
-returns-in_err-write_all_origins-clause-bytes g c =
+pub returns-in_err-write_all_origins-clause-known :
+    goal.returns-in_err-write_all_origins-clause-known
+returns-in_err-write_all_origins-clause-known g c =
     let i = c.self.inside in
     let p = err_from_is_err_and c.from_residual.result c.from_residual.ensures.1 in
-    rw (p.1, p.2)
+    λ _. rw (p.1, p.2)
     (first_stops _ _ _ _ _ _
     (all_parts c.args.version i.origins.keys i.router_keys.keys i.aspas.entries c.args.self.now
     c.self.view_is)
     c.in_err-write_all_origins.ensures.bytes)
 
-pub returns-in_err-write_all_keys-clause-bytes : goal.returns-in_err-write_all_keys-clause-bytes
-returns-in_err-write_all_keys-clause-bytes g c =
+pub returns-in_err-write_all_keys-clause-known : goal.returns-in_err-write_all_keys-clause-known
+returns-in_err-write_all_keys-clause-known g c =
     let i = c.self.inside in
     let p = err_from_is_err_and c.from_residual-in_err-write_all_keys.result
     c.from_residual-in_err-write_all_keys.ensures.1 in
-    rw (p.1, p.2)
+    λ _. rw (p.1, p.2)
     (second_stops _ _ _ _ _ _ _ _
     (all_parts c.args.version i.origins.keys i.router_keys.keys i.aspas.entries c.args.self.now
     c.self.view_is)
     c.in_ok-write_all_origins.ensures.bytes c.in_err-write_all_keys.ensures.bytes)
 
-pub returns-clause-bytes : goal.returns-clause-bytes
-returns-clause-bytes g c =
+pub returns-clause-known : goal.returns-clause-known
+returns-clause-known g c =
     let i = c.self.inside in
-    three_pieces _ _ _ _ _ _ _ _ c.write_all_aspas.result
+    λ _. three_pieces _ _ _ _ _ _ _ _ c.write_all_aspas.result
     (all_parts c.args.version i.origins.keys i.router_keys.keys i.aspas.entries c.args.self.now
     c.self.view_is)
     c.in_ok-write_all_origins.ensures.bytes c.in_ok-write_all_keys.ensures.bytes
