@@ -1,0 +1,169 @@
+"""Caches: how each is started on the loopback interface, and how its list is changed."""
+import os
+import shutil
+import signal
+import subprocess
+import threading
+
+import payloads
+import trust_anchor
+from processes import Missing, Server, free_port, package_version, program
+
+FOLDER = os.path.dirname(os.path.abspath(__file__))
+
+
+class Cache:
+    """A cache that serves a list. Its files lie in a folder of its own."""
+
+    name = package = ""
+    # The versions that it speaks, each a run of its own unless one run has all of them.
+    versions = (0, 1)
+    # Whether its ASPAs have another layout than ours.
+    other_aspas = False
+    # How long it may take until it tells its clients of a change.
+    change_seconds = 15
+
+    def __init__(self, folder, version):
+        self.folder = folder
+        self.version = version
+        self.port = free_port()
+        self.server = None
+        os.makedirs(folder, exist_ok=True)
+
+    @property
+    def highest(self):
+        """The highest version that it speaks."""
+        return self.version
+
+    def __enter__(self):
+        return self
+
+    def __exit__(self, *_):
+        self.server.end()
+
+    @classmethod
+    def release(cls):
+        """The version of its package."""
+        return package_version(cls.package)
+
+    def keep(self, name, text):
+        """Replaces one of its files at once."""
+        path = os.path.join(self.folder, name)
+        mode = "wb" if isinstance(text, bytes) else "w"
+        with open(path + ".new", mode) as file:
+            file.write(text)
+        os.replace(path + ".new", path)
+        return path
+
+    def start(self, words):
+        """Starts its program, and waits until it listens."""
+        self.server = Server(words, os.path.join(self.folder, "log"))
+        try:
+            self.server.listens(self.port)
+        except BaseException:
+            self.server.end()
+            raise
+        return self
+
+    def serves(self, listed):
+        """What of the list it serves in its version."""
+        return payloads.in_version(listed, self.version)
+
+
+class StayRTR(Cache):
+    """stayrtr, over the JSON that rpki-client writes."""
+
+    name, package = "stayrtr", "stayrtr"
+    versions = (0, 1, 2)
+
+    @property
+    def other_aspas(self):
+        """Those of version 2 have the layout of draft 10 (`docs/INTEROP.md`)."""
+        return self.version == 2
+
+    def serve(self, listed):
+        """Starts it with this list."""
+        path = self.keep("list.json", payloads.stayrtr_json(listed))
+        words = [program("stayrtr"), "-bind", f"127.0.0.1:{self.port}", "-cache", path]
+        words += ["-checktime=false", "-refresh", "3600", "-protocol", str(self.version)]
+        return self.start(words + ["-metrics.addr", f"127.0.0.1:{free_port()}"])
+
+    def change(self, listed):
+        """Has it serve another list."""
+        self.keep("list.json", payloads.stayrtr_json(listed))
+        self.server.send(signal.SIGHUP)
+
+    def serves(self, listed):
+        """Its ASPAs have another layout: they are compared by themselves."""
+        return payloads.in_version(listed, min(self.version, 1))
+
+
+class GoRTR(Cache):
+    """The library gortr, in a small program of ours."""
+
+    name, package = "gortr library", "golang-github-cloudflare-gortr-dev"
+    sources = "/usr/share/gocode"
+    lock = threading.Lock()
+
+    @classmethod
+    def built(cls, folder):
+        """Builds the program from the sources that Debian's package has, without the network."""
+        path = os.path.join(folder, "gortr_cache")
+        if not os.path.isdir(os.path.join(cls.sources, "src/github.com/cloudflare/gortr")):
+            raise Missing("the sources of gortr aren't installed")
+        setting = dict(os.environ, GO111MODULE="off", GOPATH=cls.sources, GOFLAGS="",
+                       GOPROXY="off", GOCACHE=os.path.join(folder, "go"))
+        words = [program("go"), "build", "-o", path, os.path.join(FOLDER, "gortr/main.go")]
+        with cls.lock:
+            if not os.path.exists(path):
+                subprocess.run(words, env=setting, check=True, capture_output=True, timeout=240)
+        return path
+
+    def serve(self, listed):
+        """Starts it with the origins of this list."""
+        path = self.keep("list", payloads.plain_lines(listed))
+        words = [self.built(os.path.dirname(self.folder)), "-file", path]
+        words += ["-listen", f"127.0.0.1:{self.port}", "-version", str(self.version)]
+        return self.start(words)
+
+    def change(self, listed):
+        """Has it serve another list."""
+        self.keep("list", payloads.plain_lines(listed))
+        self.server.send(signal.SIGHUP)
+
+    def serves(self, listed):
+        """It has origins alone."""
+        return payloads.in_version(listed, 0)
+
+
+class Fort(Cache):
+    """fort, over a trust anchor that certifies nothing, and local assertions (RFC 8416)."""
+
+    name, package = "fort-validator", "fort-validator"
+    # It looks for changes once a minute at most.
+    change_seconds = 90
+    highest = 1
+
+    def serve(self, listed):
+        """Starts it with the origins and router keys of this list."""
+        path = self.keep("list.slurm", payloads.slurm(listed))
+        fort = program("fort")
+        if shutil.which("openssl") is None:
+            raise Missing("openssl isn't installed, which makes the trust anchor")
+        locators, repository = trust_anchor.make(os.path.join(self.folder, "anchor"))
+        words = [fort, f"--tal={locators}", f"--local-repository={repository}", f"--slurm={path}"]
+        words += ["--mode=server", "--work-offline=true", "--server.interval.validation=60"]
+        words += ["--log.output=console", "--validation-log.enabled=true"]
+        words += ["--validation-log.output=console"]
+        return self.start(words + ["--server.address=127.0.0.1", f"--server.port={self.port}"])
+
+    def change(self, listed):
+        """Has it serve another list, once it looks again."""
+        self.keep("list.slurm", payloads.slurm(listed))
+
+    def serves(self, listed):
+        """It has no ASPAs."""
+        return payloads.in_version(listed, min(self.version, 1))
+
+
+CACHES = (StayRTR, GoRTR, Fort)

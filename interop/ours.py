@@ -1,0 +1,104 @@
+"""Our clients and caches: the examples in C, Go and Rust, where they are."""
+import json
+import os
+import shutil
+import subprocess
+import threading
+
+import payloads
+import programs
+from processes import Missing
+from results import Pair
+
+TOP = os.path.join(os.path.dirname(os.path.abspath(__file__)), "..")
+SECONDS = 60
+
+# What the examples need to be built, their sources, and how: {out} is the program. The settings
+# CGO_LDFLAGS and RTR_LIB_DIR pick other archives than the prebuilt ones, and RTR_ARCHIVE that for C.
+ARCHIVE = os.environ.get("RTR_ARCHIVE", "prebuilt/x86_64/librtr_wire.a")
+BUILDS = {
+    "C": ("cc", "bindings/c/examples/{name}.c", "bindings/c",
+          ["cc", "-O2", "-I.", "-o", "{out}", "examples/{name}.c", os.path.join("{top}", ARCHIVE)]),
+    "Go": ("go", "bindings/go/examples/{name}/main.go", "bindings/go",
+           ["go", "build", "-o", "{out}", "./examples/{name}"]),
+    "Rust": ("cargo", "bindings/rust/examples/{name}.rs", "bindings/rust",
+             ["cargo", "build", "--offline", "--quiet", "--release", "--example", "{name}"]),
+}
+
+
+class Example:
+    """An example of ours in one language."""
+
+    lock = threading.Lock()
+
+    def __init__(self, language, name, folder):
+        self.name = language
+        self.example = name
+        self.folder = folder
+
+    def lacks(self):
+        """Why it can't be built here, or None."""
+        tool, source, _, _ = BUILDS[self.name]
+        path = source.format(name=self.example)
+        if not os.path.exists(os.path.join(TOP, path)):
+            return f"{path} isn't here"
+        if shutil.which(tool) is None:
+            return f"{tool} isn't installed"
+        return None
+
+    def built(self):
+        """The path of its program, which is built where it isn't yet."""
+        if self.lacks():
+            raise Missing(self.lacks())
+        _, _, where, words = BUILDS[self.name]
+        out = os.path.join(self.folder, f"{self.example}_{self.name.lower()}")
+        names = {"name": self.example, "out": out, "top": os.path.abspath(TOP)}
+        with Example.lock:
+            if not os.path.exists(out):
+                self.build([word.format(**names) for word in words], os.path.join(TOP, where), out)
+        return out
+
+    def build(self, words, where, out):
+        """Builds it."""
+        target = os.path.join(self.folder, "cargo")
+        setting = dict(os.environ, CARGO_TARGET_DIR=target)
+        done = subprocess.run(words, cwd=where, env=setting, capture_output=True, text=True,
+                              timeout=240, check=False)
+        if done.returncode:
+            raise OSError(f"{' '.join(words)}: {done.stderr[-500:]}")
+        if self.name == "Rust":
+            shutil.copy(os.path.join(target, "release/examples", self.example), out)
+
+    def fetch(self, port, version):
+        """What this client holds after one answer of a cache, as lines of `rtr_diff --json`."""
+        words = [self.built(), f"127.0.0.1:{port}", "--once", "--json", "--version", str(version)]
+        done = subprocess.run(words, capture_output=True, text=True, timeout=SECONDS, check=False)
+        if done.returncode:
+            raise OSError(f"client in {self.name} ends with {done.returncode}: {done.stderr[-300:]}")
+        return {payloads.as_line(json.loads(line)) for line in done.stdout.splitlines()}
+
+
+def clients(folder):
+    """Our clients that can be built here."""
+    examples = [Example(language, "client", folder) for language in BUILDS]
+    return [example for example in examples if not example.lacks()]
+
+
+def caches(folder):
+    """Our caches that can be built here."""
+    examples = [Example(language, "cache", folder) for language in ("Go", "Rust")]
+    return [example for example in examples if not example.lacks()]
+
+
+def say_absent(results, folder):
+    """Names what of ours isn't here."""
+    with Pair(results, "our side", "our", "examples") as pair:
+        for language, name in [(language, "client") for language in BUILDS] + [("Go", "cache"),
+                                                                               ("Rust", "cache")]:
+            lacks = Example(language, name, folder).lacks()
+            if lacks:
+                pair.skip(f"{name} in {language}", lacks)
+    with Pair(results, "our side", "our", "programs") as pair:
+        for name in programs.NAMES:
+            if not programs.there(name):
+                pair.skip(name, f"it isn't in {programs.SHOWN}")

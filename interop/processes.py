@@ -1,0 +1,124 @@
+"""Servers of a run: each in a process group of its own, ended by its id whatever happens."""
+import contextlib
+import os
+import shutil
+import signal
+import socket
+import subprocess
+import threading
+import time
+
+# How long a server has to come up, and to end after it was asked to.
+READY_SECONDS = 20
+END_SECONDS = 5
+
+
+class Missing(Exception):
+    """Something isn't on this machine: what needs it is skipped."""
+
+
+def program(*names):
+    """The path of the first of these programs that is here."""
+    for name in names:
+        for path in (shutil.which(name), f"/usr/sbin/{name}", f"/usr/bin/{name}"):
+            if path and os.access(path, os.X_OK):
+                return path
+    raise Missing(f"{names[0]} isn't installed")
+
+
+def package_version(package):
+    """The version of a package as Debian has it, or a word that it is unknown."""
+    try:
+        words = ["dpkg-query", "-W", "-f", "${Version}", package]
+        found = subprocess.run(words, capture_output=True, text=True, timeout=20, check=False)
+        return found.stdout.strip() or "of no package"
+    except FileNotFoundError:
+        return "of no package"
+
+
+def free_port():
+    """A port of the loopback interface that nothing listens on now."""
+    with socket.socket() as probe:
+        probe.bind(("127.0.0.1", 0))
+        return probe.getsockname()[1]
+
+
+def until(condition, seconds, what):
+    """Waits until the condition holds, and answers what it gave; at most so many seconds."""
+    end = time.monotonic() + seconds
+    while time.monotonic() < end:
+        found = condition()
+        if found:
+            return found
+        time.sleep(0.1)
+    raise TimeoutError(f"{what}: not within {seconds} s")
+
+
+class Server:
+    """A program that runs until it is ended. Its output goes to a file."""
+
+    running = []
+    lock = threading.Lock()
+
+    def __init__(self, words, log, **options):
+        self.words = words
+        self.log = log
+        with open(log, "ab") as file:
+            self.process = subprocess.Popen(words, stdin=subprocess.DEVNULL, stdout=file,
+                                            stderr=file, start_new_session=True, **options)
+        with Server.lock:
+            Server.running.append(self)
+
+    def __enter__(self):
+        return self
+
+    def __exit__(self, *_):
+        self.end()
+
+    def send(self, number):
+        """Sends a signal to the program alone."""
+        self.process.send_signal(number)
+
+    def end(self):
+        """Ends its process group, whose id is that of the program."""
+        for number in (signal.SIGTERM, signal.SIGKILL):
+            with contextlib.suppress(ProcessLookupError):
+                os.killpg(self.process.pid, number)
+            with contextlib.suppress(subprocess.TimeoutExpired):
+                self.process.wait(END_SECONDS)
+        with Server.lock:
+            if self in Server.running:
+                Server.running.remove(self)
+
+    def said(self):
+        """What it has printed so far."""
+        with open(self.log, encoding="utf-8", errors="replace") as file:
+            return file.read()
+
+    def listens(self, port, seconds=READY_SECONDS):
+        """Waits until it takes connections on this port."""
+        def connects():
+            if self.process.poll() is not None:
+                raise OSError(f"{self.words[0]} ended: {self.said()[-300:]}")
+            with contextlib.suppress(OSError), socket.create_connection(("127.0.0.1", port), 1):
+                return True
+            return False
+        until(connects, seconds, f"{self.words[0]} listens")
+
+
+def end_all():
+    """Ends each server that still runs."""
+    for server in list(Server.running):
+        server.end()
+
+
+def stop(number, _frame):
+    """A handler of signals: the servers are ended, and then the run."""
+    end_all()
+    os._exit(128 + number)
+
+
+def end_on_signals():
+    """Has the servers ended when the run is interrupted."""
+    for number in (signal.SIGINT, signal.SIGTERM, signal.SIGHUP, signal.SIGALRM):
+        signal.signal(number, stop)

@@ -1,0 +1,80 @@
+"""The programs of this repository, run over recordings."""
+import json
+import os
+import subprocess
+
+from processes import Missing
+
+TOP = os.path.join(os.path.dirname(os.path.abspath(__file__)), "..")
+FOLDER = os.environ.get("RTR_PROGRAMS", os.path.join(TOP, "prebuilt", "x86_64"))
+SHOWN = os.path.relpath(FOLDER, TOP)
+NAMES = ("rtr_list", "rtr_normalise", "rtr_diff", "rtr_clean")
+SECONDS = 60
+
+
+def path(name):
+    """The path of one of our programs."""
+    found = os.path.join(FOLDER, name)
+    if not os.access(found, os.X_OK):
+        raise Missing(f"{name} isn't in {SHOWN}")
+    return found
+
+
+def there(name):
+    """Whether one of our programs is here."""
+    return os.access(os.path.join(FOLDER, name), os.X_OK)
+
+
+def run(words, content=b""):
+    """Runs one of our programs: its status, what it wrote, and what it said."""
+    done = subprocess.run([path(words[0]), *words[1:]], input=content, capture_output=True,
+                          timeout=SECONDS, check=False)
+    return done.returncode, done.stdout, done.stderr.decode().strip()
+
+
+def listed(content):
+    """The units of a recording, as `rtr_list --json` prints them. A fault is an error."""
+    status, lines, said = run(["rtr_list", "--json"], content)
+    if status:
+        raise ValueError(f"rtr_list ends with {status}: {said}")
+    return [json.loads(line) for line in lines.splitlines()]
+
+
+def found(content):
+    """What `rtr_list --check` finds, a line each."""
+    status, lines, said = run(["rtr_list", "--check"], content)
+    if status not in (0, 1) or said:
+        raise ValueError(f"rtr_list --check ends with {status}: {said}")
+    return lines.decode().splitlines()
+
+
+def differing(old, new):
+    """What `rtr_diff --json` prints of two files: a set of lines, their fields in order."""
+    status, lines, said = run(["rtr_diff", "--json", old, new])
+    if status not in (0, 1):
+        raise ValueError(f"rtr_diff ends with {status}: {said}")
+    return {json.dumps(json.loads(line), sort_keys=True) for line in lines.splitlines()}
+
+
+def units_of_change(old, new):
+    """What `rtr_diff --units` writes of two files."""
+    status, units, said = run(["rtr_diff", "--units", old, new])
+    if status not in (0, 1):
+        raise ValueError(f"rtr_diff ends with {status}: {said}")
+    return units
+
+
+def normalised(content):
+    """What `rtr_normalise` writes of a sequence."""
+    status, form, said = run(["rtr_normalise"], content)
+    if status:
+        raise ValueError(f"rtr_normalise ends with {status}: {said}")
+    return form
+
+
+def cleaned(content):
+    """What `rtr_clean` writes of a session."""
+    status, clean, said = run(["rtr_clean"], content)
+    if status:
+        raise ValueError(f"rtr_clean ends with {status}: {said}")
+    return clean

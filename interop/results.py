@@ -1,0 +1,129 @@
+"""What a run compared: a row for each comparison, lines on the screen, tables of the pages."""
+import os
+import re
+import threading
+import traceback
+from typing import NamedTuple
+
+from processes import Missing
+
+README = os.path.join(os.path.dirname(os.path.abspath(__file__)), "README.md")
+PASSED, FAILED, SKIPPED = "passed", "failed", "skipped"
+OUTCOMES = (PASSED, FAILED, SKIPPED)
+
+# How many differences of a comparison are printed.
+SHOWN = 4
+
+
+class Row(NamedTuple):
+    """A comparison: with whom, of what, of how many units, and how it ended."""
+    part: str
+    peer: str
+    version: str
+    what: str
+    outcome: str
+    units: int | None
+    said: str
+
+    def line(self):
+        """It as a line of the screen."""
+        units = "" if self.units is None else f", {self.units} units"
+        said = f": {self.said}" if self.said else ""
+        return f"{self.outcome}  {self.peer} {self.version}, {self.what}{units}{said}"
+
+
+class Results:
+    """All rows of a run, and what was seen beside them."""
+
+    def __init__(self):
+        self.rows = []
+        self.seen = []
+        self.lock = threading.Lock()
+
+    def add(self, row):
+        """Keeps a row, and prints it."""
+        with self.lock:
+            self.rows.append(row)
+            print(row.line(), flush=True)
+
+    def count(self, outcome):
+        """How many rows ended so."""
+        return sum(row.outcome == outcome for row in self.rows)
+
+
+class Pair:
+    """What is compared with one peer in one version."""
+
+    def __init__(self, results, part, peer, version):
+        self.results = results
+        self.names = (part, peer, version)
+
+    def __enter__(self):
+        return self
+
+    def __exit__(self, kind, error, _trace):
+        if kind is None:
+            return False
+        if issubclass(kind, Missing):
+            self.skip("all", str(error))
+            return True
+        if issubclass(kind, Exception):
+            where = traceback.extract_tb(error.__traceback__)[-1]
+            place = f"{os.path.basename(where.filename)}:{where.lineno}"
+            self.add("all", FAILED, None, f"{kind.__name__}: {error} ({place})")
+            return True
+        return False
+
+    def add(self, what, outcome, units, said):
+        """Adds a row."""
+        self.results.add(Row(*self.names, what, outcome, units, said))
+
+    def skip(self, what, reason):
+        """Says what isn't compared, and why."""
+        self.add(what, SKIPPED, None, reason)
+
+    def holds(self, what, holds, said="", units=None):
+        """Passes if this holds."""
+        self.add(what, PASSED if holds else FAILED, units, "" if holds else said)
+
+    def equal(self, what, got, wanted, units=None):
+        """Passes if both are equal; else shows where they differ."""
+        said = ""
+        if got != wanted:
+            said = difference(got, wanted)
+        counts = units if units is not None else len(wanted)
+        self.add(what, FAILED if said else PASSED, counts, said)
+
+    def sees(self, what, seen):
+        """Keeps something that is seen, for the table of the page."""
+        with self.results.lock:
+            self.results.seen.append((*self.names, what, seen))
+
+
+def difference(got, wanted):
+    """Where two sets, lists or values differ, in short."""
+    if isinstance(got, list) and isinstance(wanted, set):
+        return f"{len(got)} lines, of which {len(set(got))} differ"
+    if isinstance(got, (set, frozenset)) and isinstance(wanted, (set, frozenset)):
+        more, less = sorted(map(str, got - wanted)), sorted(map(str, wanted - got))
+        return f"{len(more)} more {more[:SHOWN]}, {len(less)} missing {less[:SHOWN]}"
+    if isinstance(got, (list, tuple, bytes)) and isinstance(wanted, (list, tuple, bytes)):
+        pairs = zip(got, wanted)
+        place = next((i for i, (g, w) in enumerate(pairs) if g != w), min(len(got), len(wanted)))
+        at = slice(place, place + 1)
+        return f"{len(got)} in place of {len(wanted)}, from {place}: {got[at]}, not {wanted[at]}"
+    return f"{got!r}, not {wanted!r}"
+
+
+# A row of the table of known findings in README.md.
+KNOWN = re.compile(r"^\| ([^|]+) \| ([0-9, ]+) \| `([^`]+)` \|", re.MULTILINE)
+
+
+def known():
+    """The findings that README.md lists: peer, version and text."""
+    with open(README, encoding="utf-8") as file:
+        text = file.read()
+    return {
+        (peer, int(version), found)
+        for peer, versions, found in KNOWN.findall(text) for version in versions.split(",")
+    }

@@ -1,0 +1,177 @@
+"""Their caches, our side: what each cache sends is recorded and goes through our programs."""
+import os
+import re
+import struct
+
+import ours
+import payloads
+import programs
+import recorder
+from payloads import ASPA, Change
+from results import Pair
+
+PART = "their caches"
+
+# The fields of a line of `rtr_list --json` that `rtr_diff --json` doesn't print.
+OF_UNITS = ("offset", "length", "version", "flags", "zero")
+
+# What a cache may answer to what it doesn't know (RFC 8210 sections 5.1, 5.9 and 7). One that
+# closes at once may lose its report; what else is answered is a finding.
+ANSWERS = {
+    "serial query of an unknown session": r"error report v\d code 0|cache reset v\d|closed",
+    "serial query with an unknown serial": r"cache reset v\d",
+    "reset query of a version too high": r"error report v\d code 4"
+                                         r"|cache response v(\d), end of data v\1|closed",
+}
+
+
+def line_of(unit):
+    """A payload's line of `rtr_list --json` as `rtr_diff --json` prints it."""
+    return payloads.as_line({name: unit[name] for name in unit if name not in OF_UNITS})
+
+
+def payload_lines(content):
+    """What `rtr_list --json` prints of the payloads among these units, in their order."""
+    return [line_of(unit) for unit in programs.listed(content) if "action" in unit]
+
+
+class Recorded:
+    """The sessions with one cache: the answers, and where they are kept."""
+
+    def __init__(self, cache, old, new):
+        self.cache, self.old, self.new = cache, old, new
+        version, folder = cache.version, cache.folder
+        with recorder.Session(cache.port, folder, "first") as session:
+            self.first = session.ask(recorder.reset_query(version))
+            end = self.first.end()
+            cache.change(new)
+            self.notify = session.notified(cache.change_seconds)
+            self.delta = session.ask(recorder.serial_query(version, end.session, end.serial))
+            end = self.delta.end()
+            query = recorder.serial_query(version, end.session, end.serial)
+            self.nothing = session.ask(query)
+        self.second = self.once("second", recorder.reset_query(version))
+        queries = [
+            recorder.serial_query(version, end.session ^ 1, end.serial),
+            recorder.serial_query(version, end.session, (end.serial + 1000) % 2**32),
+            recorder.reset_query(cache.highest + 1),
+        ]
+        self.refused = {
+            what: self.once(f"refused{place}", query)
+            for place, (what, query) in enumerate(zip(ANSWERS, queries))
+        }
+
+    def once(self, name, query):
+        """Asks once on a connection of its own."""
+        with recorder.Session(self.cache.port, self.cache.folder, name) as session:
+            return session.ask(query)
+
+    def files(self):
+        """The files of all answers."""
+        folder = self.cache.folder
+        names = sorted(name for name in os.listdir(folder) if name.endswith(".answers"))
+        for name in names:
+            with open(os.path.join(folder, name), "rb") as file:
+                yield name, file.read()
+
+
+def own(answer, cache):
+    """The sequence of an answer without the units whose layout isn't ours."""
+    units = recorder.units(answer.sequence())
+    return b"".join(unit for unit in units if not (cache.other_aspas and unit[1] == ASPA))
+
+
+def announced(listed):
+    """The lines that announce this list."""
+    return {Change(True, payload).line() for payload in listed}
+
+
+def compare_lists(pair, recorded):
+    """What each answer says, against the list that was served."""
+    cache = recorded.cache
+    old, new = cache.serves(recorded.old), cache.serves(recorded.new)
+    changed = {change.line() for change in payloads.changes(old, new)}
+    for what, answer, wanted in [
+        ("reset query", recorded.first, announced(old)),
+        ("serial query after the change", recorded.delta, changed),
+        ("serial query with nothing new", recorded.nothing, set()),
+        ("reset query after the change", recorded.second, announced(new)),
+    ]:
+        lines = payload_lines(own(answer, cache))
+        each_once = len(set(lines)) == len(lines)
+        pair.equal(f"rtr_list of a {what}", set(lines) if each_once else lines, wanted)
+    pair.holds("serial notify after the change", recorded.notify.last == payloads.NOTIFY,
+               "none came")
+    first = os.path.join(cache.folder, "first.sequence")
+    second = os.path.join(cache.folder, "second.sequence")
+    for path, answer in ((first, recorded.first), (second, recorded.second)):
+        with open(path, "wb") as file:
+            file.write(own(answer, cache))
+    pair.equal("rtr_diff of both reset queries", programs.differing(first, second), changed)
+    units = set(payload_lines(programs.units_of_change(first, second)))
+    pair.equal("rtr_diff --units of both", units, changed)
+
+
+def compare_forms(pair, recorded):
+    """Our forms of what was recorded: a cache that sets no free bit sends them already."""
+    for what, answer in (("reset query", recorded.first), ("serial query", recorded.delta)):
+        content = own(answer, recorded.cache)
+        units = len(recorder.units(content))
+        pair.equal(f"rtr_normalise of a {what}", programs.normalised(content), content, units)
+    if not programs.there("rtr_clean") or recorded.cache.other_aspas:
+        return
+    for name, content in recorded.files():
+        units = len(recorder.units(content))
+        pair.equal(f"rtr_clean of {name}", programs.cleaned(content), content, units)
+
+
+def findings(pair, recorded, known):
+    """What breaks the rules, against what README.md lists for this cache and version."""
+    found, units = set(), 0
+    for _, content in recorded.files():
+        units += len(programs.listed(content))
+        found |= {re.sub(r"^offset \d+: ", "", line) for line in programs.found(content)}
+    for what, answer in recorded.refused.items():
+        pair.sees(what, answer.kinds())
+        if not re.fullmatch(ANSWERS[what], answer.kinds()):
+            found.add(f"{what}: {answer.kinds()}")
+    cache = recorded.cache
+    listed = {text for name, version, text in known if (name, version) == (cache.name, cache.version)}
+    pair.equal("rtr_list --check finds what README.md lists", found, listed, units)
+
+
+def older_aspas(pair, recorded):
+    """ASPAs in the layout of draft-ietf-sidrops-8210bis-10: flags, a family and a count in bytes 8
+    to 11, the customer, and the providers."""
+    got = set()
+    for unit in recorder.units(recorded.first.sequence()):
+        if unit[1] == ASPA:
+            flags, family, count, customer = struct.unpack_from(">BBHI", unit, 8)
+            providers = struct.unpack_from(f">{count}I", unit, 16)
+            got.add((flags, family, customer, providers))
+    aspas = [p for p in recorded.old if isinstance(p, payloads.Authorization)]
+    wanted = {(1, family, a.customer, a.providers) for a in aspas for family in (0, 1)}
+    pair.equal("ASPAs, read as draft 10 has them", got, wanted)
+
+
+def clients_hold(pair, cache, listed, clients):
+    """Each of our clients holds exactly what is served."""
+    for client in clients:
+        lines = client.fetch(cache.port, cache.version)
+        pair.equal(f"client in {client.name} holds the list", lines, announced(listed))
+
+
+def compare(results, maker, version, folder, known):
+    """Records one cache in one version, and compares all of it."""
+    old, new = payloads.made_up()
+    with Pair(results, PART, maker.name, f"v{version}") as pair:
+        cache = maker(os.path.join(folder, f"{maker.__name__.lower()}{version}"), version)
+        with cache.serve(old):
+            recorded = Recorded(cache, old, new)
+            if not cache.other_aspas:
+                clients_hold(pair, cache, cache.serves(new), ours.clients(folder))
+        compare_lists(pair, recorded)
+        compare_forms(pair, recorded)
+        findings(pair, recorded, known)
+        if cache.other_aspas:
+            older_aspas(pair, recorded)

@@ -1,0 +1,121 @@
+"""Makes a trust anchor of the RPKI that certifies nothing: what fort needs before it takes a list.
+
+It has a certificate, a list of revocations and a manifest (RFC 6487, RFC 9286), and a locator
+(RFC 8630); `openssl` signs them. All of it is made up, and lies in a folder of the caller.
+"""
+import base64
+import hashlib
+import os
+import subprocess
+import time
+
+BASE = "rsync://rpki.example/ta"
+MANIFEST_TYPE = "1.2.840.113549.1.9.16.1.26"
+SHA256 = bytes.fromhex("0609608648016503040201")
+
+CONFIG = """
+[ca]
+default_ca = anchor
+[anchor]
+database = index
+crlnumber = number
+default_md = sha256
+default_crl_days = 2
+certificate = anchor.pem
+private_key = anchor.key
+crl_extensions = revocations
+[revocations]
+authorityKeyIdentifier = keyid
+[req]
+distinguished_name = name
+prompt = no
+[name]
+CN = anchor
+[anchor_certificate]
+basicConstraints = critical, CA:true
+subjectKeyIdentifier = hash
+keyUsage = critical, keyCertSign, cRLSign
+certificatePolicies = critical, 1.3.6.1.5.5.7.14.2
+subjectInfoAccess = caRepository;URI:BASE/, 1.3.6.1.5.5.7.48.10;URI:BASE/anchor.mft
+sbgp-ipAddrBlock = critical, IPv4:0.0.0.0/0, IPv6:0::/0
+sbgp-autonomousSysNum = critical, AS:0-4294967295
+[manifest_certificate]
+subjectKeyIdentifier = hash
+authorityKeyIdentifier = keyid
+keyUsage = critical, digitalSignature
+certificatePolicies = critical, 1.3.6.1.5.5.7.14.2
+crlDistributionPoints = URI:BASE/anchor.crl
+authorityInfoAccess = caIssuers;URI:BASE/anchor.cer
+subjectInfoAccess = 1.3.6.1.5.5.7.48.11;URI:BASE/anchor.mft
+sbgp-ipAddrBlock = critical, IPv4:inherit, IPv6:inherit
+sbgp-autonomousSysNum = critical, AS:inherit
+""".replace("BASE", BASE)
+
+
+def der(tag, *contents):
+    """An element of DER with this tag."""
+    content = b"".join(contents)
+    length = len(content)
+    if length < 128:
+        return bytes([tag, length]) + content
+    octets = length.to_bytes((length.bit_length() + 7) // 8, "big")
+    return bytes([tag, 128 | len(octets)]) + octets + content
+
+
+def moment(seconds):
+    """A time as DER has it, so many seconds from now."""
+    return der(0x18, time.strftime("%Y%m%d%H%M%SZ", time.gmtime(time.time() + seconds)).encode())
+
+
+def manifest(listed):
+    """The content of a manifest (RFC 9286 section 4.2) that lists these files."""
+    files = [
+        der(0x30, der(0x16, name.encode()), der(0x03, b"\0", hashlib.sha256(content).digest()))
+        for name, content in listed
+    ]
+    return der(0x30, der(0x02, b"\1"), moment(-3600), moment(86400), SHA256, der(0x30, *files))
+
+
+def make(folder):
+    """Makes the anchor in this new folder; answers the folders of locators and of the repository."""
+    work, locators = os.path.join(folder, "made"), os.path.join(folder, "locators")
+    repository = os.path.join(folder, "repository")
+    shown = os.path.join(repository, BASE.replace("rsync://", ""))
+    for path in (work, locators, shown):
+        os.makedirs(path)
+
+    def openssl(*words):
+        subprocess.run(["openssl", *words], cwd=work, check=True, capture_output=True, timeout=60)
+
+    def keep(name, content):
+        with open(os.path.join(work, name), "wb") as file:
+            file.write(content)
+
+    def kept(name):
+        with open(os.path.join(work, name), "rb") as file:
+            return file.read()
+
+    keep("config", CONFIG.encode())
+    keep("index", b"")
+    keep("number", b"01\n")
+    request = ("req", "-config", "config", "-newkey", "rsa:2048", "-nodes", "-sha256")
+    openssl(*request, "-x509", "-days", "2", "-keyout", "anchor.key", "-out", "anchor.pem",
+            "-extensions", "anchor_certificate", "-set_serial", "1")
+    openssl("x509", "-in", "anchor.pem", "-outform", "DER", "-out", "anchor.cer")
+    openssl("ca", "-config", "config", "-gencrl", "-out", "crl.pem")
+    openssl("crl", "-in", "crl.pem", "-outform", "DER", "-out", "anchor.crl")
+    openssl(*request, "-subj", "/CN=manifest", "-keyout", "manifest.key", "-out", "request.pem")
+    openssl("x509", "-req", "-in", "request.pem", "-CA", "anchor.pem", "-CAkey", "anchor.key",
+            "-set_serial", "2", "-days", "2", "-sha256", "-extfile", "config",
+            "-extensions", "manifest_certificate", "-out", "manifest.pem")
+    keep("content", manifest([("anchor.crl", kept("anchor.crl"))]))
+    openssl("cms", "-sign", "-binary", "-nodetach", "-keyid", "-md", "sha256", "-nosmimecap",
+            "-econtent_type", MANIFEST_TYPE, "-in", "content", "-signer", "manifest.pem",
+            "-inkey", "manifest.key", "-outform", "DER", "-out", "anchor.mft")
+    for name in ("anchor.cer", "anchor.crl", "anchor.mft"):
+        with open(os.path.join(shown, name), "wb") as file:
+            file.write(kept(name))
+    openssl("rsa", "-in", "anchor.key", "-pubout", "-outform", "DER", "-out", "public")
+    with open(os.path.join(locators, "anchor.tal"), "w", encoding="ascii") as file:
+        file.write(f"{BASE}/anchor.cer\n\n{base64.b64encode(kept('public')).decode()}\n")
+    return locators, repository
