@@ -5,6 +5,7 @@ import signal
 import subprocess
 import threading
 
+import ours as examples
 import payloads
 import trust_anchor
 from processes import Missing, Server, free_port, package_version, program
@@ -20,6 +21,8 @@ class Cache:
     versions = (0, 1)
     # Whether its ASPAs have another layout than ours.
     other_aspas = False
+    # After how many seconds a router that lost it asks again, where that can be set.
+    retry = 600
     # How long it may take until it tells its clients of a change.
     change_seconds = 15
 
@@ -65,6 +68,11 @@ class Cache:
             raise
         return self
 
+    def restart(self, listed):
+        """Ends it, and starts it on the same port with another list and another session."""
+        self.server.end()
+        self.serve(listed)
+
     def serves(self, listed):
         """What of the list it serves in its version."""
         return payloads.in_version(listed, self.version)
@@ -86,6 +94,7 @@ class StayRTR(Cache):
         path = self.keep("list.json", payloads.stayrtr_json(listed))
         words = [program("stayrtr"), "-bind", f"127.0.0.1:{self.port}", "-cache", path]
         words += ["-checktime=false", "-refresh", "3600", "-protocol", str(self.version)]
+        words += ["-rtr.retry", str(self.retry)]
         return self.start(words + ["-metrics.addr", f"127.0.0.1:{free_port()}"])
 
     def change(self, listed):
@@ -164,6 +173,45 @@ class Fort(Cache):
     def serves(self, listed):
         """It has no ASPAs."""
         return payloads.in_version(listed, min(self.version, 1))
+
+
+class Ours(Cache):
+    """A cache of ours, over a sequence in a file."""
+
+    # The first query fixes the version; it tells a client of a change once a minute at most.
+    versions = (0, 1, 2)
+    change_seconds = 75
+    highest = 2
+    example = None
+    session, serial = 4660, 0
+
+    def write(self, listed):
+        """Writes the file that it serves."""
+        timings = (3600, self.retry, 7200)
+        content = payloads.sequence(listed, 2, self.session, self.serial, timings)
+        return self.keep("list.sequence", content)
+
+    def serve(self, listed):
+        """Starts it with this list."""
+        path = self.write(listed)
+        return self.start([self.example.built(), path, "--listen", f"127.0.0.1:{self.port}"])
+
+    def change(self, listed):
+        """Has it serve another list."""
+        self.serial += 1
+        self.write(listed)
+
+    def restart(self, listed):
+        """Ends it, and starts it with another list and another session."""
+        self.session, self.serial = self.session + 1, 7
+        super().restart(listed)
+
+
+def ours(folder):
+    """A maker of each of our caches that is here."""
+    for example in examples.caches(folder):
+        name = f"our cache in {example.name}"
+        yield type(f"Our{example.name}", (Ours,), {"name": name, "example": example})
 
 
 CACHES = (StayRTR, GoRTR, Fort)

@@ -6,8 +6,9 @@ import xml.etree.ElementTree as tree
 
 import payloads
 import programs
+import recorder
 from payloads import ASPA, END, IPV4, IPV6, REPORT, RESET, RESET_QUERY, ROUTER_KEY
-from processes import package_version, program
+from processes import program
 from results import Pair
 
 PART = "dissector"
@@ -20,12 +21,13 @@ PIECE = 1201
 NUMBERS = {
     "version": "version", "length": "length", "session_id": "session_id",
     "serial_number": "serial_number", "prefix_length": "prefix_length",
-    "max_length": "max_length", "asn": "as_number", "error_code": "error_code",
+    "max_length": "max_length", "flags": "flags", "asn": "as_number", "error_code": "error_code",
     "refresh_interval": "refresh_interval", "retry_interval": "retry_interval",
     "expire_interval": "expire_interval",
 }
 BYTES = {"subject_key_identifier": "subject_key_identifier", "erroneous_pdu": "error_pdu",
          "error_text_bytes": "error_text"}
+NAMES = {"key": "x509af.subjectPublicKey", "info_length": "subject_public_key_info"}
 KINDS = {
     "serial_notify": 0, "serial_query": 1, "reset_query": RESET_QUERY, "cache_response": 3,
     "ipv4_prefix": IPV4, "ipv6_prefix": IPV6, "end_of_data": END, "cache_reset": RESET,
@@ -33,22 +35,24 @@ KINDS = {
 }
 
 
-def packet(content, place):
-    """A packet of IPv4 and TCP from the port of caches that carries these bytes."""
-    segment = struct.pack(">HHIIBBHHH", PORT, 40000, place + 1, 1, 0x50, 0x18, 65535, 0, 0)
-    length = 40 + len(content)
+def packet(content, stream, place):
+    """A packet of IPv4 and TCP from the port of caches that carries these bytes of a stream."""
+    port = 40000 + stream
+    segment = struct.pack(">HHIIBBHHH", PORT, port, place + 1, 1, 0x50, 0x18, 65535, 0, 0)
     home = bytes([127, 0, 0, 1])
+    length = 40 + len(content)
     head = struct.pack(">BBHHHBBH4s4s", 0x45, 0, length, 0, 0, 64, 6, 0, home, home)
     return head + segment + content
 
 
-def capture(content, path):
-    """Writes these bytes as a capture of one connection."""
+def capture(streams, path):
+    """Writes these streams, one after the other, as a capture of connections."""
     with open(path, "wb") as file:
         file.write(struct.pack("<IHHiIII", 0xA1B2C3D4, 2, 4, 0, 0, 1 << 18, 101))
-        for place in range(0, len(content), PIECE):
-            sent = packet(content[place:place + PIECE], place)
-            file.write(struct.pack("<IIII", 0, place, len(sent), len(sent)) + sent)
+        for stream, content in enumerate(streams):
+            for place in range(0, len(content), PIECE):
+                sent = packet(content[place:place + PIECE], stream, place)
+                file.write(struct.pack("<IIII", stream, place, len(sent), len(sent)) + sent)
 
 
 def dissected(path):
@@ -64,26 +68,30 @@ def dissected(path):
             yield fields
 
 
+def key_info(unit, content):
+    """What is shown of a router key's info: its length, and the key in it where it is one."""
+    info = content[unit["offset"] + 32:unit["offset"] + unit["length"]]
+    assert payloads.unpadded(info) == unit["subject_public_key_info"]
+    shown = {"info_length": len(info), "reserved": f"{unit['zero'][0]:02x}"}
+    if info.startswith(payloads.KEY_HEAD):
+        shown["key"] = info.removeprefix(payloads.KEY_HEAD).hex()
+    return shown
+
+
 def as_shown(unit, content):
     """The values that tshark should show of a unit of `rtr_list --json`; `content` has its bytes."""
     wanted = {"pdu_type": KINDS[unit["kind"]]}
-    if unit["kind"] == "aspa":
-        return {"version": unit["version"], **wanted}
     wanted |= {shown: unit[name] for name, shown in NUMBERS.items() if name in unit}
+    wanted |= {shown: unit[name] for name, shown in BYTES.items() if unit.get(name)}
     if "prefix" in unit:
         wanted[f"ipv{4 if unit['kind'] == 'ipv4_prefix' else 6}_prefix"] = unit["prefix"]
-    if "flags" in unit:
-        wanted["flags"] = unit["flags"]
-    for name, shown in BYTES.items():
-        if unit.get(name):
-            wanted[shown] = unit[name]
+    if "zero" in unit:
+        wanted["reserved"] = "".join(f"{n:0{w}x}" for n, w in zip(unit["zero"], (4, 2)))
+    if unit["kind"] == "router_key":
+        wanted |= key_info(unit, content)
     if unit["kind"] == "error_report":
         wanted["length_pdu"] = len(unit["erroneous_pdu"]) // 2
         wanted["length_text"] = len(unit["error_text_bytes"]) // 2
-    if unit["kind"] == "router_key":
-        info = content[unit["offset"] + 32:unit["offset"] + unit["length"]]
-        assert payloads.unpadded(info) == unit["subject_public_key_info"]
-        wanted["key"] = info[-65:].hex()
     return wanted
 
 
@@ -91,44 +99,58 @@ def shown_of(fields, wanted):
     """What tshark shows of the fields that are wanted, in the same form."""
     shown = {}
     for name, value in wanted.items():
-        field = fields.get("subjectPublicKey" if name == "key" else name, [None])[0]
-        if field is None:
+        found = fields.get(NAMES.get(name, name))
+        if found is None:
             continue
-        if name == "key":
-            shown[name] = field.get("value").removeprefix("00")
+        if name == "info_length":
+            shown[name] = int(found[0].get("size"))
+        elif name == "reserved":
+            # Of a router key tshark shows bytes 3 and 4, of which the second is of the length.
+            shown[name] = "".join(field.get("value") for field in found)[:len(value)]
         elif isinstance(value, int):
-            shown[name] = int(field.get("show"), 0)
-        elif name.endswith("prefix"):
-            shown[name] = field.get("show")
+            shown[name] = int(found[0].get("show"), 0)
         else:
-            shown[name] = field.get("value")
+            shown[name] = found[0].get("show" if name.endswith("prefix") else "value")
     return shown
 
 
-def compare_one(pair, what, content, folder):
-    """Compares what both list of these bytes."""
-    path = os.path.join(folder, what.replace("/", ".") + ".pcap")
-    capture(content, path)
-    wanted = [as_shown(unit, content) for unit in programs.listed(content)]
+def compare_streams(pair, what, streams, path):
+    """Compares what both list of these streams."""
+    known = [
+        b"".join(unit for unit in recorder.units(content) if unit[1] != ASPA) for content in streams
+    ]
+    capture(known, path)
+    wanted = [
+        as_shown(unit, content) for content in known for unit in programs.listed(content)
+    ]
     fields = list(dissected(path))
     got = [shown_of(each, unit) for each, unit in zip(fields, wanted)]
     got += [{}] * (len(fields) - len(got))
-    pair.equal(f"tshark and rtr_list of {what}", got, wanted)
+    pair.equal(f"lists {what} as rtr_list does", got, wanted)
+
+
+def read(path):
+    """The bytes of a file."""
+    with open(path, "rb") as file:
+        return file.read()
 
 
 def compare(results, folder):
     """Compares both over the sample of all types, and each recording that the run left."""
     captures = os.path.join(folder, "captures")
     os.makedirs(captures, exist_ok=True)
-    with Pair(results, PART, "tshark", package_version("tshark")) as pair:
+    with Pair(results, PART, "tshark", "") as pair:
         program("tshark")
-        with open(os.path.join(programs.TOP, "crates/rtr_list/stdin"), "rb") as file:
-            compare_one(pair, "the sample of all types", file.read(), captures)
+        sample = read(os.path.join(programs.TOP, "crates/rtr_list/stdin"))
+        compare_streams(pair, "the sample of types 0 to 10", [sample],
+                        os.path.join(captures, "sample.pcap"))
         for place, _, files in sorted(os.walk(folder)):
-            for name in sorted(files):
-                if name.endswith((".answers", ".queries", ".sequence")):
-                    with open(os.path.join(place, name), "rb") as file:
-                        content = file.read()
-                    if name.endswith(".sequence"):
-                        content = programs.normalised(content)
-                    compare_one(pair, f"{os.path.basename(place)}/{name}", content, captures)
+            whole = [read(os.path.join(place, name)) for name in sorted(files)
+                     if name.endswith((".answers", ".queries"))]
+            forms = [programs.normalised(read(os.path.join(place, name)))
+                     for name in sorted(files) if name.endswith(".sequence")]
+            name = os.path.basename(place)
+            for what, streams in (("the sessions", whole), ("the forms", forms)):
+                if streams:
+                    path = os.path.join(captures, f"{name}.{what.split()[-1]}.pcap")
+                    compare_streams(pair, f"{what} of {name}", streams, path)

@@ -13,8 +13,9 @@ from results import Pair
 TOP = os.path.join(os.path.dirname(os.path.abspath(__file__)), "..")
 SECONDS = 60
 
-# What the examples need to be built, their sources, and how: {out} is the program. The settings
-# CGO_LDFLAGS and RTR_LIB_DIR pick other archives than the prebuilt ones, and RTR_ARCHIVE that for C.
+# What the examples need to be built, their sources, and how: {out} is the program. CGO_LDFLAGS and
+# RTR_LIB_DIR pick other archives than the prebuilt ones, and RTR_ARCHIVE that for C; RTR_CACHE_GO
+# and the like name programs that are built already.
 ARCHIVE = os.environ.get("RTR_ARCHIVE", "prebuilt/x86_64/librtr_wire.a")
 BUILDS = {
     "C": ("cc", "bindings/c/examples/{name}.c", "bindings/c",
@@ -36,8 +37,14 @@ class Example:
         self.example = name
         self.folder = folder
 
+    def named(self):
+        """The program that a setting such as RTR_CACHE_GO names."""
+        return os.environ.get(f"RTR_{self.example}_{self.name}".upper())
+
     def lacks(self):
         """Why it can't be built here, or None."""
+        if self.named():
+            return None
         tool, source, _, _ = BUILDS[self.name]
         path = source.format(name=self.example)
         if not os.path.exists(os.path.join(TOP, path)):
@@ -48,6 +55,8 @@ class Example:
 
     def built(self):
         """The path of its program, which is built where it isn't yet."""
+        if self.named():
+            return self.named()
         if self.lacks():
             raise Missing(self.lacks())
         _, _, where, words = BUILDS[self.name]

@@ -60,12 +60,13 @@ class Server:
     running = []
     lock = threading.Lock()
 
-    def __init__(self, words, log, **options):
+    def __init__(self, words, log, split=None):
+        """Starts it. What it prints on standard output goes to the file `split`, if there is one."""
         self.words = words
         self.log = log
         with open(log, "ab") as file:
-            self.process = subprocess.Popen(words, stdin=subprocess.DEVNULL, stdout=file,
-                                            stderr=file, start_new_session=True, **options)
+            self.process = subprocess.Popen(words, stdin=subprocess.DEVNULL, stdout=split or file,
+                                            stderr=file, start_new_session=True)
         with Server.lock:
             Server.running.append(self)
 

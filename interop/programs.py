@@ -3,6 +3,7 @@ import json
 import os
 import subprocess
 
+import payloads
 from processes import Missing
 
 TOP = os.path.join(os.path.dirname(os.path.abspath(__file__)), "..")
@@ -10,6 +11,9 @@ FOLDER = os.environ.get("RTR_PROGRAMS", os.path.join(TOP, "prebuilt", "x86_64"))
 SHOWN = os.path.relpath(FOLDER, TOP)
 NAMES = ("rtr_list", "rtr_normalise", "rtr_diff", "rtr_clean")
 SECONDS = 60
+
+# The fields of a line of `rtr_list --json` that `rtr_diff --json` doesn't print.
+OF_UNITS = ("offset", "length", "version", "flags", "zero")
 
 
 def path(name):
@@ -38,6 +42,11 @@ def listed(content):
     if status:
         raise ValueError(f"rtr_list ends with {status}: {said}")
     return [json.loads(line) for line in lines.splitlines()]
+
+
+def line_of(unit):
+    """A payload's line of `rtr_list --json` as `rtr_diff --json` prints it."""
+    return payloads.as_line({name: unit[name] for name in unit if name not in OF_UNITS})
 
 
 def found(content):

@@ -8,12 +8,9 @@ import payloads
 import programs
 import recorder
 from payloads import ASPA, Change
-from results import Pair
+from results import Pair, known
 
 PART = "their caches"
-
-# The fields of a line of `rtr_list --json` that `rtr_diff --json` doesn't print.
-OF_UNITS = ("offset", "length", "version", "flags", "zero")
 
 # What a cache may answer to what it doesn't know (RFC 8210 sections 5.1, 5.9 and 7). One that
 # closes at once may lose its report; what else is answered is a finding.
@@ -25,14 +22,9 @@ ANSWERS = {
 }
 
 
-def line_of(unit):
-    """A payload's line of `rtr_list --json` as `rtr_diff --json` prints it."""
-    return payloads.as_line({name: unit[name] for name in unit if name not in OF_UNITS})
-
-
 def payload_lines(content):
     """What `rtr_list --json` prints of the payloads among these units, in their order."""
-    return [line_of(unit) for unit in programs.listed(content) if "action" in unit]
+    return [programs.line_of(unit) for unit in programs.listed(content) if "action" in unit]
 
 
 class Recorded:
@@ -125,7 +117,7 @@ def compare_forms(pair, recorded):
         pair.equal(f"rtr_clean of {name}", programs.cleaned(content), content, units)
 
 
-def findings(pair, recorded, known):
+def findings(pair, recorded):
     """What breaks the rules, against what README.md lists for this cache and version."""
     found, units = set(), 0
     for _, content in recorded.files():
@@ -136,7 +128,8 @@ def findings(pair, recorded, known):
         if not re.fullmatch(ANSWERS[what], answer.kinds()):
             found.add(f"{what}: {answer.kinds()}")
     cache = recorded.cache
-    listed = {text for name, version, text in known if (name, version) == (cache.name, cache.version)}
+    names = (cache.name, f"v{cache.version}")
+    listed = {text for name, version, text in known() if (name, version) == names}
     pair.equal("rtr_list --check finds what README.md lists", found, listed, units)
 
 
@@ -161,7 +154,7 @@ def clients_hold(pair, cache, listed, clients):
         pair.equal(f"client in {client.name} holds the list", lines, announced(listed))
 
 
-def compare(results, maker, version, folder, known):
+def compare(results, maker, version, folder):
     """Records one cache in one version, and compares all of it."""
     old, new = payloads.made_up()
     with Pair(results, PART, maker.name, f"v{version}") as pair:
@@ -172,6 +165,6 @@ def compare(results, maker, version, folder, known):
                 clients_hold(pair, cache, cache.serves(new), ours.clients(folder))
         compare_lists(pair, recorded)
         compare_forms(pair, recorded)
-        findings(pair, recorded, known)
+        findings(pair, recorded)
         if cache.other_aspas:
             older_aspas(pair, recorded)

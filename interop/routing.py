@@ -1,0 +1,127 @@
+"""Our cache, their routers: what the tables of routers hold, beside a hostile client, after a
+change that comes by notify and delta, and after a restart of the cache with another session."""
+import contextlib
+import os
+import socket
+import time
+
+import payloads
+import programs
+import recorder
+import routers
+from payloads import END, NOTIFY, SERIAL_QUERY
+from processes import until
+from results import Pair
+from tap import Tap
+
+PART = "their routers"
+
+# How long a table may take to hold a list.
+FIRST_SECONDS = 20
+RESTART_SECONDS = 45
+
+# What a hostile client sends: a length of four gigabytes, a type that there isn't, a unit of a
+# cache, a length that no query has, a unit that never ends, and a length of zero.
+HOSTILE = [
+    bytes.fromhex("01020000ffffffff") + bytes(65536),
+    bytes.fromhex("01ad000000000008"),
+    bytes.fromhex("010400000000001401171a00c00002000001000f"),
+    bytes.fromhex("0101000000000008"),
+    bytes.fromhex("01010000"),
+    bytes.fromhex("0102000000000000"),
+]
+
+
+def refused(port, content):
+    """Whether a cache answers a hostile client by a report or the end of the connection alone."""
+    with socket.create_connection(("127.0.0.1", port), 5) as client:
+        with contextlib.suppress(ConnectionError):
+            client.sendall(content)
+            client.shutdown(socket.SHUT_WR)
+        client.settimeout(5)
+        answer = b""
+        with contextlib.suppress(ConnectionError, TimeoutError):
+            while piece := client.recv(1 << 16):
+                answer += piece
+    kinds = {unit[1] for unit in recorder.units(answer)}
+    return kinds <= {payloads.REPORT}
+
+
+class Beside:
+    """A router beside a cache, with a tap between them."""
+
+    def __init__(self, results, cache, maker, stack):
+        self.pair = Pair(results, PART, f"{maker.name} at {cache.name}", f"v{cache.version}")
+        self.live = False
+        with self.pair:
+            folder = os.path.join(cache.folder, maker.__name__.lower())
+            os.makedirs(folder, exist_ok=True)
+            self.tap = stack.enter_context(Tap(cache.port, folder, "session"))
+            self.router = stack.enter_context(maker(folder, self.tap.port))
+            self.live = True
+
+    def holds(self, what, listed, end):
+        """Passes once the table holds exactly what the router shows of the list, before a time."""
+        wanted = self.router.shows(listed)
+        with self.pair:
+            with contextlib.suppress(TimeoutError):
+                seconds = max(1, end - time.monotonic())
+                until(lambda: self.router.table() == wanted, seconds, "table")
+            self.pair.equal(what, self.router.table(), wanted)
+
+    def came_by_delta(self, changed):
+        """Passes if the last answer before the restart was a delta of these changes, to a serial
+        query that came after a serial notify."""
+        with self.pair:
+            *_, (queries, answers) = self.tap.recorded()
+            asked, sent = recorder.units(queries), recorder.units(answers)
+            notified = any(unit[1] == NOTIFY for unit in sent)
+            self.pair.holds("notified, and asked by a serial query",
+                            notified and asked[-1][1] == SERIAL_QUERY, f"asked {asked[-1].hex()}")
+            ends = [place for place, unit in enumerate(sent) if unit[1] == END]
+            delta = b"".join(sent[ends[-2] + 1:])
+            lines = {programs.line_of(unit) for unit in programs.listed(delta) if "action" in unit}
+            wanted = {change.line() for change in changed}
+            self.pair.equal("the change came as a delta", lines, wanted)
+
+    def listed(self):
+        """Passes if our programs read all that the router asked, and find nothing."""
+        with self.pair:
+            queries = [queries for queries, _ in self.tap.recorded()]
+            units = sum(len(programs.listed(each)) for each in queries)
+            found = [line for each in queries for line in programs.found(each)]
+            self.pair.equal("rtr_list --check of its queries", found, [], units)
+            versions = {unit[0] for each in queries for unit in recorder.units(each)}
+            self.pair.sees("versions asked", ", ".join(f"v{v}" for v in sorted(versions)))
+
+
+def all_hold(beside, what, listed, seconds):
+    """Each of the routers holds the list within so many seconds from now."""
+    end = time.monotonic() + seconds
+    for each in beside:
+        each.holds(what, listed, end)
+
+
+def compare(results, maker, folder):
+    """Runs all routers beside one cache."""
+    old, new = payloads.made_up()
+    other = payloads.varied(old, 1)
+    with Pair(results, PART, maker.name, "v1") as pair, contextlib.ExitStack() as stack:
+        cache = maker(os.path.join(folder, f"routers.{maker.name.lower()}"), 1)
+        cache.retry = 2
+        stack.enter_context(cache.serve(old))
+        beside = [Beside(results, cache, router, stack) for router in routers.ROUTERS]
+        beside = [each for each in beside if each.live]
+        old, new, other = cache.serves(old), cache.serves(new), cache.serves(other)
+        all_hold(beside, "holds the list", old, FIRST_SECONDS)
+        hostile = [content for content in HOSTILE if not refused(cache.port, content)]
+        pair.equal("refuses hostile clients", hostile, [], len(HOSTILE))
+        all_hold(beside, "holds it beside hostile clients", old, FIRST_SECONDS)
+        cache.change(new)
+        all_hold(beside, "holds the changed list", new, cache.change_seconds)
+        for each in beside:
+            each.came_by_delta(payloads.changes(old, new))
+        cache.restart(other)
+        all_hold(beside, "holds the list of another session", other, RESTART_SECONDS)
+        for each in beside:
+            each.listed()

@@ -1,0 +1,79 @@
+"""A tap between a router and a cache: it passes all bytes on, and keeps them, each way in a file."""
+import contextlib
+import os
+import socket
+import threading
+
+PIECE = 1 << 16
+
+
+class Tap:
+    """Listens for one router and connects it to a cache, again and again. The files are
+    NAME.N.queries and NAME.N.answers, N the number of the connection."""
+
+    def __init__(self, port, folder, name):
+        self.cache = port
+        self.path = os.path.join(folder, name)
+        self.count = 0
+        self.open = []
+        self.threads = []
+        self.listener = socket.create_server(("127.0.0.1", 0))
+        self.port = self.listener.getsockname()[1]
+        self.start(self.accept)
+
+    def __enter__(self):
+        return self
+
+    def __exit__(self, *_):
+        for each in [self.listener, *self.open]:
+            with contextlib.suppress(OSError):
+                each.shutdown(socket.SHUT_RDWR)
+            each.close()
+        for thread in self.threads:
+            thread.join(5)
+
+    def start(self, work, *words):
+        """Starts a thread of this tap."""
+        thread = threading.Thread(target=work, args=words, daemon=True)
+        self.threads.append(thread)
+        thread.start()
+
+    def accept(self):
+        """Takes connections until the tap is closed."""
+        with contextlib.suppress(OSError):
+            while True:
+                router, _ = self.listener.accept()
+                self.connect(router)
+
+    def connect(self, router):
+        """Connects a router to the cache; closes it where the cache isn't there."""
+        try:
+            cache = socket.create_connection(("127.0.0.1", self.cache), 5)
+        except OSError:
+            router.close()
+            return
+        cache.settimeout(None)
+        self.open += [router, cache]
+        for one, other, way in ((router, cache, "queries"), (cache, router, "answers")):
+            self.start(self.pass_on, one, other, f"{self.path}.{self.count}.{way}")
+        self.count += 1
+
+    def pass_on(self, one, other, path):
+        """Passes on what comes from one to the other, until it ends; then both are closed."""
+        with open(path, "wb") as file, contextlib.suppress(OSError):
+            while content := one.recv(PIECE):
+                file.write(content)
+                file.flush()
+                other.sendall(content)
+        for each in (one, other):
+            with contextlib.suppress(OSError):
+                each.shutdown(socket.SHUT_RDWR)
+
+    def recorded(self):
+        """The connections so far: what was asked, and what was answered."""
+        for number in range(self.count):
+            found = []
+            for way in ("queries", "answers"):
+                with open(f"{self.path}.{number}.{way}", "rb") as file:
+                    found.append(file.read())
+            yield found
