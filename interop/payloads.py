@@ -127,6 +127,19 @@ def as_line(fields):
     return json.dumps(fields, sort_keys=True)
 
 
+def payload_of(fields):
+    """The payload that these fields of a line of `rtr_diff --json` name."""
+    if fields["kind"] == "router_key":
+        info = fields["subject_public_key_info"]
+        info = base64.urlsafe_b64decode(info + "=" * (-len(info) % 4))
+        identifier = bytes.fromhex(fields["subject_key_identifier"])
+        return RouterKey(identifier, fields["asn"], info)
+    if fields["kind"] == "aspa":
+        return Authorization(fields["customer_asn"], tuple(fields["provider_asns"]))
+    network = ipaddress.ip_network((fields["prefix"], fields["prefix_length"]))
+    return Origin(str(network), fields["max_length"], fields["asn"])
+
+
 def unpadded(content):
     """Base64 as in RFC 4648 section 5, without padding."""
     return base64.urlsafe_b64encode(content).decode().rstrip("=")

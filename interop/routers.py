@@ -7,6 +7,7 @@ import re
 import struct
 import subprocess
 
+import ours as examples
 import payloads
 import speaker
 from payloads import Origin, RouterKey
@@ -241,6 +242,45 @@ class OpenBGPD(Router):
         longer = sum(":" in prefix for prefix in prefixes)
         counts = {("IPv4", len(prefixes) - longer), ("IPv6", longer)}
         return counts | speaker.states(self.routes, origins)
+
+
+class OurClient(Router):
+    """A client of ours, which prints each change as it comes."""
+
+    example = None
+
+    @classmethod
+    def release(cls):
+        """It is of this tree."""
+        return "this tree"
+
+    def start(self):
+        """Starts it."""
+        words = [self.example.built(), f"127.0.0.1:{self.cache}", "--json", "--version", "1"]
+        with open(self.path("changes"), "ab") as file:
+            self.run(words, split=file)
+
+    def table(self):
+        """What it holds: what was announced, without what was withdrawn."""
+        with open(self.path("changes"), encoding="utf-8") as file:
+            lines = file.read().split("\n")[:-1]
+        held = set()
+        for line in lines:
+            fields = json.loads(line)
+            change = held.add if fields["action"] == "announce" else held.discard
+            change(payloads.payload_of(fields))
+        return held
+
+    def shows(self, listed):
+        """Origins and router keys."""
+        return {payload for payload in listed if payload.smallest_version <= 1}
+
+
+def ours(folder):
+    """A maker of each of our clients that is here."""
+    for example in examples.clients(folder):
+        name = f"our client in {example.name}"
+        yield type(f"Our{example.name}", (OurClient,), {"name": name, "example": example})
 
 
 ROUTERS = (RtrClient, Bird, FRR, OpenBGPD)

@@ -50,8 +50,8 @@ def refused(port, content):
 class Beside:
     """A router beside a cache, with a tap between them."""
 
-    def __init__(self, results, cache, maker, stack):
-        self.pair = Pair(results, PART, f"{maker.name} at {cache.name}", f"v{cache.version}")
+    def __init__(self, results, cache, maker, stack, part=PART):
+        self.pair = Pair(results, part, f"{maker.name} at {cache.name}", f"v{cache.version}")
         self.live = False
         with self.pair:
             folder = os.path.join(cache.folder, maker.__name__.lower())
@@ -110,7 +110,8 @@ def compare(results, maker, folder):
         cache = maker(os.path.join(folder, f"routers.{maker.name.lower()}"), 1)
         cache.retry = 2
         stack.enter_context(cache.serve(old))
-        beside = [Beside(results, cache, router, stack) for router in routers.ROUTERS]
+        makers = (*routers.ROUTERS, *routers.ours(folder))
+        beside = [Beside(results, cache, router, stack) for router in makers]
         beside = [each for each in beside if each.live]
         old, new, other = cache.serves(old), cache.serves(new), cache.serves(other)
         all_hold(beside, "holds the list", old, FIRST_SECONDS)
