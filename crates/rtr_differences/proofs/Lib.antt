@@ -1,2 +1,6 @@
 mod Putting
 mod Going
+mod UnitTaken
+mod FileSoFar
+mod UnitPieces
+mod Statuses

@@ -1,6 +1,11 @@
 -- How the program ends: this program's own.
-use Rattle.std.specs.Prelude.{◌≡◌, ℕ, Bool, true, false, Result, Ok, Err}
+use Rattle.std.specs.Prelude.{◌≡◌, ◌≢◌, ℕ, Bool, true, false, [], Result, Ok, Err}
+use Rattle.rtr_units.specs.Stream.{Flushes}
+use Rattle.rtr_units.specs.StopCauses.{ReaderState, WriterState}
+use Rattle.rtr_data.specs.Changes.{changes}
+use Rattle.rtr_differences.specs.FilesCompared.{BothRead, ComparesFiles}
 use Rattle.rtr_differences.specs.declared.program.Trouble.{Trouble}
+use Rattle.rtr_differences.specs.declared.words.Form.{Form}
 
 -- the status, by the answer and by whether the flush after it succeeded: 0 where nothing differs, 1
 -- where something does, 2 otherwise
@@ -10,7 +15,28 @@ diff_status (Ok true) true = 1
 diff_status (Ok any) false = 2
 diff_status (Err trouble) flushed = 2
 
--- it is the status of some answer
-abbrev pub EndsWith : ℕ → Type 0
-EndsWith status = (answer : Result Bool Trouble) × (flushed : Bool)
+-- two files were compared, then the output was flushed once, and both decide the status
+abbrev pub RunsDiff : Form → ℕ → (old old_left new new_left : ReaderState) →
+    (before after : WriterState) → Type 0
+RunsDiff form status old old_left new new_left before after =
+    (answer : Result Bool Trouble) × (flushed : Bool) × (mid : WriterState)
+    × ComparesFiles form answer old old_left new new_left before mid × Flushes flushed mid after
     × (status ≡ diff_status answer flushed)
+
+-- ---- what follows from the status
+
+-- both files hold data, which is the same, and all was printed
+abbrev pub HoldSame : Form → (old old_left new new_left : ReaderState) →
+    (before after : WriterState) → Type 0
+HoldSame form old old_left new new_left before after =
+    (mid : WriterState) × Flushes true mid after
+    × ((both : BothRead form (Ok false) old old_left new new_left before mid)
+    × (changes both.first.payloads both.second.payloads ≡ []))
+
+-- both files hold data, which isn't the same, and all was printed
+abbrev pub HoldDifferent : Form → (old old_left new new_left : ReaderState) →
+    (before after : WriterState) → Type 0
+HoldDifferent form old old_left new new_left before after =
+    (mid : WriterState) × Flushes true mid after
+    × ((both : BothRead form (Ok true) old old_left new new_left before mid)
+    × (changes both.first.payloads both.second.payloads ≢ []))

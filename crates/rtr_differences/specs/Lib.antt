@@ -1,5 +1,8 @@
 pub mod DiffWords
 pub mod Differences
 pub mod Printing
+pub mod FilesRead
+pub mod FilesCompared
 pub mod DiffStatus
 pub mod PrivateChanges
+pub mod PrivateReading

@@ -4,10 +4,11 @@
 
 mod differences;
 mod file;
+pub mod laws;
 mod printer;
 mod program;
 mod words;
 
-pub use file::{Contents, Reason, Stop, read_contents};
+pub use file::{Contents, Stop, read_contents};
 pub use program::{compare, print_differences, run, usage};
 pub use words::{Form, Request, asked};

@@ -1,10 +1,11 @@
 //! One run of the program, over any readers and writers.
 
-ghost use Rattle.std.specs.Prelude.{◌≡◌, ◌<◌, IfOk};
+ghost use Rattle.std.specs.Prelude.{◌≡◌, ◌<◌, IfErr, IfOk};
 ghost use Rattle.std.specs.Process.{exit_status};
 ghost use Rattle.rtr_units.specs.AnyEnd.{end_bytes, end_meaning};
 ghost use Rattle.rtr_data.specs.Changes.{changes};
-ghost use Rattle.rtr_differences.specs.DiffStatus.{EndsWith, diff_status};
+ghost use Rattle.rtr_differences.specs.DiffStatus.{RunsDiff, diff_status};
+ghost use Rattle.rtr_differences.specs.FilesCompared.{ComparesFiles, HoldsTroubleError};
 ghost use Rattle.rtr_differences.specs.Differences.{differences, has_some, last_piece};
 ghost use Rattle.rtr_listing.specs.PrivateWords.{asks_help};
 ghost use Rattle.rtr_differences.specs.Printing.{Puts};
@@ -48,7 +49,11 @@ pub fn compare<O: Source, N: Source, W: Sink>(
     old: &mut O,
     new: &mut N,
     output: &mut W,
-) -> Result<bool, Trouble> {
+) -> Result<bool, Trouble>
+    ensures compares { ComparesFiles form result (O.state old.old) (O.state old.new)
+        (N.state new.old) (N.state new.new) (W.state output.old) (W.state output.new) }
+    ensures error { IfErr result (HoldsTroubleError (O.fails old.new) (N.fails new.new)) }
+{
     let before = match read_contents(alloc, old) {
         Ok(contents) => contents,
         Err(stop) => return Err(Trouble::Old(stop)),
@@ -108,17 +113,19 @@ pub fn run<O: Source, N: Source, W: Sink, F: Write>(
     output: &mut W,
     faults: &mut F,
 ) -> ExitCode
-    ensures status { EndsWith (exit_status result) }
+    ensures runs { RunsDiff asked.entry.form (exit_status result)
+        (O.state old.old) (O.state old.new) (N.state new.old) (N.state new.new)
+        (W.state output.old) (W.state output.new) }
     // Unless it ends with status 2, no line is printed on `faults`.
     ensures quiet { exit_status result < 2 → faults.new ≡ faults.old }
 {
     let answer = compare(alloc, asked.form, old, new, output);
     let flushed = output.flush().is_ok();
-    ExitCode::from(tell(asked, answer, flushed, faults))
+    ExitCode::from(report(asked, answer, flushed, faults))
 }
 
-/// Prints what stopped the run, if something did, and answers the status to end with.
-fn tell<F: Write>(
+/// Reports what stopped the run, if something did, and answers the status to end with.
+fn report<F: Write>(
     asked: Request<'_>,
     answer: Result<bool, Trouble>,
     flushed: bool,
@@ -134,27 +141,28 @@ fn tell<F: Write>(
             TROUBLE
         }
         Err(trouble) => {
-            tell_trouble(asked, &trouble, faults);
+            report_trouble(asked, &trouble, faults);
             TROUBLE
         }
     }
 }
 
-/// Prints what stopped the run: in a file with its name and the offset of the unit.
-fn tell_trouble<F: Write>(asked: Request<'_>, trouble: &Trouble, faults: &mut F) {
+/// Reports what stopped the run: in a file with its name and the offset of the unit.
+fn report_trouble<F: Write>(asked: Request<'_>, trouble: &Trouble, faults: &mut F) {
     match trouble {
-        Trouble::Old(stop) => tell_stop(asked.old, stop, faults),
-        Trouble::New(stop) => tell_stop(asked.new, stop, faults),
+        Trouble::Old(stop) => report_stop(asked.old, stop, faults),
+        Trouble::New(stop) => report_stop(asked.new, stop, faults),
         Trouble::Output(fault) => {
             let _ = writeln!(faults, "{fault}");
         }
     }
 }
 
-fn tell_stop<F: Write>(name: &str, stop: &Stop, faults: &mut F) {
+/// Reports where a file stopped, and why.
+fn report_stop<F: Write>(name: &str, stop: &Stop, faults: &mut F) {
     let offset = stop.offset;
-    let reason = &stop.reason;
-    let _ = writeln!(faults, "{name}: offset {offset}: {reason}");
+    let cause = &stop.cause;
+    let _ = writeln!(faults, "{name}: offset {offset}: {cause}");
 }
 
 /// Prints how the program is called, before that for help what it does, as its man page begins, and

@@ -1,0 +1,53 @@
+-- What comparing two files leaves (this program's own).
+use Rattle.std.specs.Prelude.{◌≡◌, Bool, Result, Ok, Err, IfOk, ⊤}
+use Rattle.std.specs.declared.io.Error.{Error}
+use Rattle.rtr_units.specs.AnyEnd.{end_bytes, end_meaning}
+use Rattle.rtr_units.specs.StopCauses.{ReaderState, WriterState}
+use Rattle.rtr_units.specs.declared.fault.Fault.{Fault}
+use Rattle.rtr_data.specs.Changes.{changes}
+use Rattle.rtr_differences.specs.Differences.{differences, has_some}
+use Rattle.rtr_differences.specs.FilesRead.{HoldsStopError, ReadsContents}
+use Rattle.rtr_differences.specs.Printing.{Puts}
+use Rattle.rtr_differences.specs.declared.file.Contents.{Contents}
+use Rattle.rtr_differences.specs.declared.program.Trouble.{Trouble}
+use Rattle.rtr_differences.specs.declared.program.Trouble.TheVariants as troubles
+use Rattle.rtr_differences.specs.declared.words.Form.{Form}
+
+-- the changes from what one file holds to what the other does were printed, with whether there is
+-- one; or a front of what is printed of them was
+abbrev pub PrintsDifferences : Form → (old new : Contents) → Result Bool Fault →
+    (before after : WriterState) → Type 0
+PrintsDifferences form old new r before after =
+    Puts r before after
+    (differences form (end_meaning new.end).version old.payloads new.payloads (end_bytes new.end))
+    × IfOk r (λ any. any ≡ has_some (changes old.payloads new.payloads))
+
+-- both files hold data, and the differences were printed
+pub record BothRead (form : Form) (r : Result Bool Fault) (old old_left new new_left : ReaderState)
+    (before after : WriterState) : Type 0 where
+  pub first : Contents
+  pub second : Contents
+  pub first_read : ReadsContents (Ok first) old old_left
+  pub second_read : ReadsContents (Ok second) new new_left
+  pub prints : PrintsDifferences form first second r before after
+
+-- How two files were compared, by the answer: the readers have these states before and after it,
+-- the writer those. The second file is read after the first, and printing begins where both hold
+-- data.
+abbrev pub ComparesFiles : Form → Result Bool Trouble →
+    (old old_left new new_left : ReaderState) → (before after : WriterState) → Type 0
+ComparesFiles form (Ok any) old old_left new new_left before after =
+    BothRead form (Ok any) old old_left new new_left before after
+ComparesFiles form (Err (troubles.Output f)) old old_left new new_left before after =
+    BothRead form (Err f) old old_left new new_left before after
+ComparesFiles form (Err (troubles.Old stop)) old old_left new new_left before after =
+    ReadsContents (Err stop) old old_left × (new_left ≡ new) × (after ≡ before)
+ComparesFiles form (Err (troubles.New stop)) old old_left new new_left before after =
+    (first : Contents) × ReadsContents (Ok first) old old_left
+    × ReadsContents (Err stop) new new_left × (after ≡ before)
+
+-- the error in a reader's fault is one that the last read of its file may have given
+abbrev pub HoldsTroubleError : (old new : Error → Type 0) → Trouble → Type 0
+HoldsTroubleError old new (troubles.Old stop) = HoldsStopError old stop
+HoldsTroubleError old new (troubles.New stop) = HoldsStopError new stop
+HoldsTroubleError old new (troubles.Output f) = ⊤
