@@ -1,4 +1,5 @@
 """Caches: how each is started on the loopback interface, and how its list is changed."""
+import contextlib
 import os
 import shutil
 import signal
@@ -7,8 +8,9 @@ import threading
 
 import ours as examples
 import payloads
+import recorder
 import trust_anchor
-from processes import Missing, Server, free_port, package_version, program
+from processes import READY_SECONDS, Missing, Server, free_port, package_version, program, until
 
 FOLDER = os.path.dirname(os.path.abspath(__file__))
 
@@ -59,14 +61,23 @@ class Cache:
         return path
 
     def start(self, words):
-        """Starts its program, and waits until it listens."""
+        """Starts its program, and waits until it has data: some listen before they do."""
         self.server = Server(words, os.path.join(self.folder, "log"))
         try:
             self.server.listens(self.port)
+            until(self.has_data, READY_SECONDS, f"{self.name} has data")
         except BaseException:
             self.server.end()
             raise
         return self
+
+    def has_data(self):
+        """Whether it answers a reset query by data."""
+        query = recorder.reset_query(self.version)
+        with contextlib.suppress(OSError):
+            with recorder.Session(self.port, self.folder, "probe") as session:
+                return session.ask(query).last == payloads.END
+        return False
 
     def restart(self, listed):
         """Ends it, and starts it on the same port with another list and another session."""
@@ -184,6 +195,11 @@ class Ours(Cache):
     highest = 2
     example = None
     session, serial = 4660, 0
+
+    @classmethod
+    def release(cls):
+        """It is of this tree."""
+        return "this tree"
 
     def write(self, listed):
         """Writes the file that it serves."""

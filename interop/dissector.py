@@ -8,7 +8,7 @@ import payloads
 import programs
 import recorder
 from payloads import ASPA, END, IPV4, IPV6, REPORT, RESET, RESET_QUERY, ROUTER_KEY
-from processes import program
+from processes import package_version, program
 from results import Pair
 
 PART = "dissector"
@@ -79,7 +79,7 @@ def key_info(unit, content):
 
 
 def as_shown(unit, content):
-    """The values that tshark should show of a unit of `rtr_list --json`; `content` has its bytes."""
+    """What tshark should show of a unit of `rtr_list --json`; `content` has its bytes."""
     wanted = {"pdu_type": KINDS[unit["kind"]]}
     wanted |= {shown: unit[name] for name, shown in NUMBERS.items() if name in unit}
     wanted |= {shown: unit[name] for name, shown in BYTES.items() if unit.get(name)}
@@ -139,7 +139,7 @@ def compare(results, folder):
     """Compares both over the sample of all types, and each recording that the run left."""
     captures = os.path.join(folder, "captures")
     os.makedirs(captures, exist_ok=True)
-    with Pair(results, PART, "tshark", "") as pair:
+    with Pair(results, PART, "tshark", "", package_version("tshark")) as pair:
         program("tshark")
         sample = read(os.path.join(programs.TOP, "crates/rtr_list/stdin"))
         compare_streams(pair, "the sample of types 0 to 10", [sample],

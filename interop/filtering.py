@@ -51,8 +51,8 @@ def compare_bytes(pair, cache, relays):
 def compare(results, maker, folder):
     """Runs all routers and clients after the filter, over one cache."""
     old, new = payloads.made_up()
-    with Pair(results, PART, f"rtr_clean after {maker.name}", "v1") as pair, \
-            contextlib.ExitStack() as stack:
+    names = (f"rtr_clean after {maker.name}", "v1", maker.release())
+    with Pair(results, PART, *names) as pair, contextlib.ExitStack() as stack:
         clean = programs.path("rtr_clean")
         cache = maker(os.path.join(folder, f"filter.{maker.__name__.lower()}"), 1)
         stack.enter_context(cache.serve(old))

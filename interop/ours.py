@@ -83,7 +83,8 @@ class Example:
         words = [self.built(), f"127.0.0.1:{port}", "--once", "--json", "--version", str(version)]
         done = subprocess.run(words, capture_output=True, text=True, timeout=SECONDS, check=False)
         if done.returncode:
-            raise OSError(f"client in {self.name} ends with {done.returncode}: {done.stderr[-300:]}")
+            said = done.stderr[-300:]
+            raise OSError(f"client in {self.name} ends with {done.returncode}: {said}")
         return {payloads.as_line(json.loads(line)) for line in done.stdout.splitlines()}
 
 

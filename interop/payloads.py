@@ -179,10 +179,11 @@ def origins(chance, count, version):
     """So many origins of a family, some of them with one prefix, AS or max length."""
     size = 32 if version == 4 else 128
     base = "10.0.0.0" if version == 4 else "2001:db8::"
+    lengths = [8, 16, 20, 22, 24, 28, 32] if version == 4 else [32, 40, 48, 64, 128]
     first = int(ipaddress.ip_address(base))
     found = set()
     while len(found) < count:
-        length = chance.choice([8, 16, 20, 22, 24, 28, 32] if version == 4 else [32, 40, 48, 64, 128])
+        length = chance.choice(lengths)
         host = chance.getrandbits(24) if version == 4 else chance.getrandbits(96)
         address = (first + host) >> (size - length) << (size - length)
         prefix = str(ipaddress.ip_network((address, length)))

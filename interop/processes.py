@@ -61,7 +61,7 @@ class Server:
     lock = threading.Lock()
 
     def __init__(self, words, log, split=None):
-        """Starts it. What it prints on standard output goes to the file `split`, if there is one."""
+        """Starts it. Its standard output goes to the file `split`, if there is one."""
         self.words = words
         self.log = log
         with open(log, "ab") as file:

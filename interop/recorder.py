@@ -77,7 +77,8 @@ class Answer:
 
 
 class Session:
-    """A connection to a cache. What came is kept in NAME.answers, what was asked in NAME.queries."""
+    """A connection to a cache. What came is kept in NAME.answers, what was asked in NAME.queries; a
+    later session of the same name takes their place."""
 
     def __init__(self, port, folder, name):
         self.path = os.path.join(folder, name + ".answers")

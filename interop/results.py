@@ -11,15 +11,24 @@ README = os.path.join(os.path.dirname(os.path.abspath(__file__)), "README.md")
 PASSED, FAILED, SKIPPED = "passed", "failed", "skipped"
 OUTCOMES = (PASSED, FAILED, SKIPPED)
 
+# What is said of a difference that README.md lists.
+NAMED = "a difference that README.md lists"
+
 # How many differences of a comparison are printed.
 SHOWN = 4
 
 
-class Row(NamedTuple):
-    """A comparison: with whom, of what, of how many units, and how it ended."""
+class Names(NamedTuple):
+    """A pair: the part of the run, the peer, the version of RTR, and that of the peer's package."""
     part: str
     peer: str
     version: str
+    release: str
+
+
+class Row(NamedTuple):
+    """A comparison: with whom, of what, of how many units, and how it ended."""
+    names: Names
     what: str
     outcome: str
     units: int | None
@@ -29,7 +38,8 @@ class Row(NamedTuple):
         """It as a line of the screen."""
         units = "" if self.units is None else f", {self.units} units"
         said = f": {self.said}" if self.said else ""
-        return f"{self.outcome}  {self.peer} {self.version}, {self.what}{units}{said}"
+        peer = f"{self.names.peer} {self.names.version}".strip()
+        return f"{self.outcome}  {peer}, {self.what}{units}{said}"
 
 
 class Results:
@@ -54,9 +64,9 @@ class Results:
 class Pair:
     """What is compared with one peer in one version."""
 
-    def __init__(self, results, part, peer, version):
+    def __init__(self, results, part, peer, version, release=""):
         self.results = results
-        self.names = (part, peer, version)
+        self.names = Names(part, peer, version, release)
 
     def __enter__(self):
         return self
@@ -76,7 +86,7 @@ class Pair:
 
     def add(self, what, outcome, units, said):
         """Adds a row."""
-        self.results.add(Row(*self.names, what, outcome, units, said))
+        self.results.add(Row(self.names, what, outcome, units, said))
 
     def skip(self, what, reason):
         """Says what isn't compared, and why."""
@@ -89,18 +99,18 @@ class Pair:
     def equal(self, what, got, wanted, units=None):
         """Passes if both are equal, or if README.md lists that they differ; else shows where."""
         said = difference(got, wanted) if got != wanted else ""
-        named = (*self.names[1:], what) in known()
+        named = (self.names.peer, self.names.version, what) in known()
         if named and not said:
             said = "README.md lists a difference here, and there is none"
         elif named:
-            return self.add(what, PASSED, 0, "a difference that README.md lists")
+            return self.add(what, PASSED, 0, NAMED)
         counts = units if units is not None else len(wanted)
         return self.add(what, FAILED if said else PASSED, counts, said)
 
     def sees(self, what, seen):
         """Keeps something that is seen, for the table of the page."""
         with self.results.lock:
-            self.results.seen.append((*self.names, what, seen))
+            self.results.seen.append((self.names, what, seen))
 
 
 def difference(got, wanted):

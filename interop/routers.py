@@ -131,8 +131,8 @@ class Bird(Router):
         """What it holds."""
         held = set()
         for table in ("origins4", "origins6"):
-            words = ["-s", self.path("control"), "show", "route", "table", table]
-            held |= {origin(*found) for found in self.LINE.findall(asked([program("birdc"), *words]))}
+            ask = [program("birdc"), "-s", self.path("control"), "show", "route", "table", table]
+            held |= {origin(*found) for found in self.LINE.findall(asked(ask))}
         return held
 
 
@@ -167,7 +167,8 @@ class FRR(Router):
 
 class OpenBGPD(Router):
     """bgpd of OpenBGPD, in a mount namespace of its own that has the folder it changes its root to.
-    It shows no table: it counts the prefixes in it, and says of each route whether its origin is valid."""
+    It shows no table: it counts the prefixes in it, and says of each route whether its origin is
+    valid."""
 
     name, package = "OpenBGPD", "openbgpd"
     INSIDE = "mount -t tmpfs none /run && mkdir -m 755 /run/openbgpd && exec \"$@\""

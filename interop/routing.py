@@ -35,12 +35,12 @@ HOSTILE = [
 def refused(port, content):
     """Whether a cache answers a hostile client by a report or the end of the connection alone."""
     with socket.create_connection(("127.0.0.1", port), 5) as client:
-        with contextlib.suppress(ConnectionError):
+        with contextlib.suppress(OSError):
             client.sendall(content)
             client.shutdown(socket.SHUT_WR)
         client.settimeout(5)
         answer = b""
-        with contextlib.suppress(ConnectionError, TimeoutError):
+        with contextlib.suppress(OSError):
             while piece := client.recv(1 << 16):
                 answer += piece
     kinds = {unit[1] for unit in recorder.units(answer)}
@@ -51,7 +51,8 @@ class Beside:
     """A router beside a cache, with a tap between them."""
 
     def __init__(self, results, cache, maker, stack, part=PART):
-        self.pair = Pair(results, part, f"{maker.name} at {cache.name}", f"v{cache.version}")
+        names = (f"{maker.name} at {cache.name}", f"v{cache.version}", maker.release())
+        self.pair = Pair(results, part, *names)
         self.live = False
         with self.pair:
             folder = os.path.join(cache.folder, maker.__name__.lower())
@@ -106,7 +107,8 @@ def compare(results, maker, folder):
     """Runs all routers beside one cache."""
     old, new = payloads.made_up()
     other = payloads.varied(old, 1)
-    with Pair(results, PART, maker.name, "v1") as pair, contextlib.ExitStack() as stack:
+    names = (maker.name, "v1", maker.release())
+    with Pair(results, PART, *names) as pair, contextlib.ExitStack() as stack:
         cache = maker(os.path.join(folder, f"routers.{maker.name.lower()}"), 1)
         cache.retry = 2
         stack.enter_context(cache.serve(old))

@@ -1,4 +1,4 @@
-"""A tap between a router and a cache: it passes all bytes on, and keeps them, each way in a file."""
+"""A tap between a router and a cache: all bytes pass, and are kept, each way in a file."""
 import contextlib
 import os
 import socket

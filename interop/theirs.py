@@ -157,7 +157,7 @@ def clients_hold(pair, cache, listed, clients):
 def compare(results, maker, version, folder):
     """Records one cache in one version, and compares all of it."""
     old, new = payloads.made_up()
-    with Pair(results, PART, maker.name, f"v{version}") as pair:
+    with Pair(results, PART, maker.name, f"v{version}", maker.release()) as pair:
         cache = maker(os.path.join(folder, f"{maker.__name__.lower()}{version}"), version)
         with cache.serve(old):
             recorded = Recorded(cache, old, new)

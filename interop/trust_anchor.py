@@ -77,7 +77,7 @@ def manifest(listed):
 
 
 def make(folder):
-    """Makes the anchor in this new folder; answers the folders of locators and of the repository."""
+    """Makes the anchor in this new folder: the folders of its locator and of its repository."""
     work, locators = os.path.join(folder, "made"), os.path.join(folder, "locators")
     repository = os.path.join(folder, "repository")
     shown = os.path.join(repository, BASE.replace("rsync://", ""))
