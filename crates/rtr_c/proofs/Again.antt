@@ -1,12 +1,12 @@
 -- What is shown of units says all of their forms.
 use Rattle.std.proofs.Common.{◌≡◌, ℕ, ◌+◌, ◌≤◌, cond, ltb, nat_le, List, [], ◌++◌, length, take, drop, Option}
-use Rattle.std.proofs.Common.{Some, None, Result, Ok, Err, refl, sym, ap, subst, ◌∙◌, append_assoc}
+use Rattle.std.proofs.Common.{Some, None, Ok, refl, sym, ap, ◌∙◌, append_assoc}
 use Rattle.std.proofs.Common.{arith, inl, inr, length-append}
 use Rattle.std.proofs.lemmas.Bool.Decides.{nat_tests}
 use Rattle.std.proofs.lemmas.List.{take_at, drop_at, drop-drop}
 use Rattle.rtr_base.specs.Bytes.{be}
 use Rattle.rtr_base.specs.declared.timing.Timing.{Timing}
-use Rattle.rtr_units.specs.End.{EndMeaning, HasTimingOf, end_list}
+use Rattle.rtr_units.specs.End.{HasTimingOf, end_list}
 use Rattle.rtr_units.specs.Header.{version_field, session_field}
 use Rattle.rtr_units.specs.Report.{report}
 use Rattle.rtr_session.specs.AnyFields.{AnyFields, HasAnyFields, serial_notify, serial_query}
@@ -15,9 +15,9 @@ use Rattle.rtr_session.specs.AnyFields.{cache_reset, error_report}
 use Rattle.rtr_session.specs.SessionForms.{session_form}
 use Rattle.rtr_session.specs.Reports.{HasParts}
 use Rattle.rtr_c.proofs.AgainPayload.{payload_again}
-use Rattle.rtr_c.specs.Said.{said, session_said, piece_said, part_said, text_said, report_said}
-use Rattle.rtr_c.specs.Shown.{CallShows, ShowsReport, IsWrittenAgain}
-use Rattle.rtr_c.specs.Shown.{serial_shown, bare_shown, end_shown}
+use Rattle.rtr_c.specs.Said.{said, session_said, piece_said, report_said}
+use Rattle.rtr_c.specs.Shown.{CallShows, IsWrittenAgain}
+use Rattle.rtr_c.specs.Shown.{end_shown}
 use Rattle.rtr_c.specs.Shown.{with_parts, report_shown}
 use Rattle.rtr_c.specs.declared.unit.RtrUnit.{RtrUnit}
 

@@ -1,6 +1,6 @@
 -- What is shown of payload units says all of their forms.
-use Rattle.std.proofs.Common.{◌≡◌, ◌≢◌, ℕ, ◌+◌, ◌-◌, ◌*◌, ◌^◌, ◌%◌, ◌<◌, ◌≤◌, not, cond, ltb, eqb, nat_le, List}
-use Rattle.std.proofs.Common.{false, None, [], ◌++◌, length, take, drop, Some, Ok, refl, sym, ap, subst, ◌∙◌}
+use Rattle.std.proofs.Common.{◌≡◌, ℕ, ◌+◌, ◌-◌, ◌*◌, ◌^◌, ◌%◌, ◌<◌, ◌≤◌, not, cond, ltb, eqb, nat_le, List}
+use Rattle.std.proofs.Common.{false, None, [], ◌++◌, length, take, drop, Some, Ok, refl, sym, ap, ◌∙◌}
 use Rattle.std.proofs.Common.{append_assoc, arith, length-append, inl, inr, ◌⊎◌, Err}
 use Rattle.std.proofs.lemmas.Bool.Decides.{nat_tests}
 use Rattle.std.proofs.lemmas.List.{take_at, drop_at, drop-drop}

@@ -1,6 +1,6 @@
 -- A delta is never longer than the two data that it is made of.
-use Rattle.std.proofs.Common.{◌≡◌, ◌≢◌, ℕ, ◌+◌, ◌<◌, ◌≤◌, Bool, true, false, List, [], ◌∷◌, ◌++◌, length, not}
-use Rattle.std.proofs.Common.{Some, None, Result, Ok, Err, refl, sym, ap, ◌∙◌, arith, length-append}
+use Rattle.std.proofs.Common.{◌≡◌, ◌≢◌, ℕ, ◌+◌, ◌≤◌, Bool, true, false, List, [], ◌∷◌, ◌++◌, length, not}
+use Rattle.std.proofs.Common.{Result, Ok, Err, refl, sym, ap, ◌∙◌, arith, length-append}
 use Rattle.std.proofs.Common.{map, filter, cond}
 use Rattle.std.proofs.lemmas.List.{map-append}
 use Rattle.rtr_base.specs.Actions.{act, flags_of}
@@ -18,17 +18,16 @@ use Rattle.rtr_payload.specs.Units.{IsUnit, form_of}
 use Rattle.rtr_payload.proofs.ByFields.{unit_fields_of}
 use Rattle.rtr_views.specs.declared.fault.ViewFault.{ViewFault}
 use Rattle.rtr_views.specs.declared.fault.ViewFault.TheVariants as faults
-use Rattle.rtr_wire.specs.Sequences.{Accepts, AreUnits, forms}
+use Rattle.rtr_wire.specs.Sequences.{AreUnits, forms}
 use Rattle.rtr_wire.proofs.Push.{forms_append}
 use Rattle.rtr_data.specs.Changes.{announcements, changes, withdrawals}
 use Rattle.rtr_data.specs.Data.{Change, announcement, withdrawal, has, has_name}
 use Rattle.rtr_data.specs.Deltas.{change_forms, unit_of}
 use Rattle.rtr_deltas.specs.Canonical.{HoldsData}
-use Rattle.rtr_deltas.specs.Delta.{Deltas, WritesDelta, delta_form}
+use Rattle.rtr_deltas.specs.Delta.{Deltas, delta_form}
 use Rattle.rtr_deltas.specs.declared.fault.DeltaFault.{DeltaFault}
 use Rattle.rtr_deltas.specs.declared.fault.DeltaFault.TheVariants.{Old, New, UnitVersion, Session}
 use Rattle.rtr_deltas.specs.declared.fault.DeltaFault.TheVariants.{NoRoom}
-use Rattle.rtr_deltas.specs.declared.fault.Flaw.{Flaw}
 use Rattle.rtr_deltas.specs.declared.fault.Reason.{Reason}
 use Rattle.rtr_deltas.specs.declared.fault.Reason.TheVariants.{Refused, NotCanonical}
 use Rattle.rtr_c.specs.Answers.{fault_status}

@@ -5,3 +5,4 @@ mod Joined
 mod Again
 mod AgainPayload
 mod DeltaRoom
+mod Wanted
