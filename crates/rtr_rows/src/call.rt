@@ -3,7 +3,8 @@
 use crate::answer::Answer;
 use crate::row::{Row, Way};
 use crate::{
-    data, fixed, into, meanings, parts, payloads, placing, sequences, session, variable, views,
+    data, deltas, fixed, into, meanings, parts, payloads, placing, sequences, session, variable,
+    views,
 };
 
 /// Makes the call of a row in one way, and answers its result, if there is such a call.
@@ -14,6 +15,7 @@ pub fn call(row: &Row<'_>, way: Way) -> Option<Answer> {
         .or_else(|| payloads::answer(row, way))
         .or_else(|| meanings::answer(row))
         .or_else(|| data::answer(row, way))
+        .or_else(|| deltas::answer(row))
         .or_else(|| variable::answer(row, way))
         .or_else(|| session::answer(row, way))
         .or_else(|| placing::answer(row))

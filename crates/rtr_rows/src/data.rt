@@ -2,16 +2,21 @@
 
 use crate::answer::Answer;
 use crate::row::{Row, Way};
-use rtr_data::{ChangeError, Data};
-use rtr_tests::support::Recorder;
+use crate::views::tell_end;
+use rtr_data::{ApplyCause, ChangeError, Data};
+use rtr_tests::support::{Pieces, Recorder};
 use rtr_wire::payload;
 use rtr_wire::payload::Action;
 use rtr_wire::pdu::{Counted, Fault, Payload, SliceSource};
+
+/// More units than any row has.
+const LIMIT: u64 = 4294967295;
 
 /// Makes the call of a row if it is one of these.
 pub fn answer(row: &Row<'_>, way: Way) -> Option<Answer> {
     match row.call {
         "data" => Some(changed(row)),
+        "apply" => Some(applied(row, way)),
         "write_all" => Some(written(row, way)),
         "write_delta" => Some(delta(row, way)),
         _ => None,
@@ -48,11 +53,18 @@ fn change(data: &mut Data, action: Action, payload: payload::Payload) -> Result<
 fn name(outcome: Result<(), ChangeError>) -> &'static str {
     match outcome {
         Ok(()) => "Ok",
-        Err(ChangeError::Duplicate) => "Duplicate",
-        Err(ChangeError::Unknown) => "Unknown",
-        Err(ChangeError::KeyTooLong) => "KeyTooLong",
-        Err(ChangeError::NoProviders) => "NoProviders",
-        Err(ChangeError::Memory) => "Memory",
+        Err(error) => error_name(error),
+    }
+}
+
+/// The name of why a change wasn't made.
+fn error_name(error: ChangeError) -> &'static str {
+    match error {
+        ChangeError::Duplicate => "Duplicate",
+        ChangeError::Unknown => "Unknown",
+        ChangeError::KeyTooLong => "KeyTooLong",
+        ChangeError::NoProviders => "NoProviders",
+        ChangeError::Memory => "Memory",
     }
 }
 
@@ -94,6 +106,38 @@ fn changed(row: &Row<'_>) -> Answer {
     let answer = data.write_all(2, &mut writer);
     tell(&mut seen, &answer, &writer.into_inner());
     seen
+}
+
+/// `Data::apply` of the sequence on the right side to what the units of the left side make of
+/// nothing: the end of data, or how many units came before the one at fault and what that is; how
+/// many bytes were taken; and the units that announce what there is then.
+fn applied(row: &Row<'_>, way: Way) -> Answer {
+    let limit = row.number("limit", LIMIT);
+    let mut data = data_of(row, &row.left);
+    let mut reader = Counted::new(Pieces::failing(&row.right, way.sizes, row.place("fails")));
+    let mut writer = Counted::new(writer(row, usize::MAX));
+    row.ready();
+    let answer = data.apply(row.alloc, &mut reader, limit);
+    let mut seen = row.answer();
+    match &answer {
+        Ok(end) => tell_end(&mut seen, end),
+        Err(error) => {
+            seen.word(error.units);
+            tell_cause(&mut seen, &error.cause);
+        }
+    }
+    seen.word(reader.into_inner().taken());
+    let written = data.write_all(2, &mut writer);
+    tell(&mut seen, &written, &writer.into_inner());
+    seen
+}
+
+/// Appends why a sequence wasn't applied.
+fn tell_cause(seen: &mut Answer, cause: &ApplyCause) {
+    match cause {
+        ApplyCause::Read(fault) => seen.fault(fault),
+        ApplyCause::Change(error) => seen.word(error_name(*error)),
+    }
 }
 
 /// Appends `Ok` or the fault, and what was written.

@@ -20,11 +20,11 @@ pub fn answer(row: &Row<'_>) -> Option<Answer> {
     }
 }
 
-/// An output of this many bytes, each `FILL`.
-fn output(row: &Row<'_>) -> Option<Vec<u8>> {
+/// An output of as many bytes as the setting `room` says, or else as many as given, each `FILL`.
+pub fn output(row: &Row<'_>, otherwise: usize) -> Option<Vec<u8>> {
     let room = match row.setting("room") {
         Some(_) => row.place("room"),
-        None => row.left.len().saturating_add(12),
+        None => otherwise,
     };
     Vec::from_elem(row.alloc, FILL, room).ok()
 }
@@ -32,7 +32,7 @@ fn output(row: &Row<'_>) -> Option<Vec<u8>> {
 /// `normalise_into`, or `normalise_for_into` if there is a version.
 fn normalised(row: &Row<'_>, version: Option<u8>) -> Answer {
     let limit = row.number("limit", LIMIT);
-    let Some(mut output) = output(row) else {
+    let Some(mut output) = output(row, row.left.len().saturating_add(12)) else {
         return row.no_unit();
     };
     row.ready();
@@ -65,6 +65,12 @@ fn tell_progress(seen: &mut Answer, progress: &Progress, output: &[u8]) {
     let (units, forms) = (progress.units, progress.forms);
     let (taken, written) = (progress.taken, progress.written);
     seen.word(format_args!("{units} {forms} {taken} {written} :"));
+    tell_output(seen, written, output)
+}
+
+/// Appends as many bytes of the output as were written; and `spoilt` if another byte of it has
+/// changed.
+pub fn tell_output(seen: &mut Answer, written: usize, output: &[u8]) {
     let Some((form, rest)) = output.split_at_checked(written) else {
         seen.word("outside");
         return;

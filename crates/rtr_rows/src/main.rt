@@ -17,6 +17,7 @@
 mod answer;
 mod call;
 mod data;
+mod deltas;
 mod fixed;
 mod into;
 mod meanings;
