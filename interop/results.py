@@ -98,14 +98,15 @@ class Pair:
 
     def equal(self, what, got, wanted, units=None):
         """Passes if both are equal, or if README.md lists that they differ; else shows where."""
-        said = difference(got, wanted) if got != wanted else ""
-        named = (self.names.peer, self.names.version, what) in known()
-        if named and not said:
-            said = "README.md lists a difference here, and there is none"
-        elif named:
+        if got != wanted and what in self.known():
             return self.add(what, PASSED, 0, NAMED)
+        said = difference(got, wanted) if got != wanted else ""
         counts = units if units is not None else len(wanted)
         return self.add(what, FAILED if said else PASSED, counts, said)
+
+    def known(self):
+        """The findings that README.md lists for this pair."""
+        return {text for *names, text in known() if names == [self.names.peer, self.names.version]}
 
     def sees(self, what, seen):
         """Keeps something that is seen, for the table of the page."""

@@ -33,16 +33,20 @@ HOSTILE = [
 
 
 def refused(port, content):
-    """Whether a cache answers a hostile client by a report or the end of the connection alone."""
+    """Whether a cache ends the connection of a hostile client, by a report or without one."""
     with socket.create_connection(("127.0.0.1", port), 5) as client:
         with contextlib.suppress(OSError):
             client.sendall(content)
             client.shutdown(socket.SHUT_WR)
         client.settimeout(5)
         answer = b""
-        with contextlib.suppress(OSError):
+        try:
             while piece := client.recv(1 << 16):
                 answer += piece
+        except TimeoutError:
+            return False
+        except OSError:
+            pass
     kinds = {unit[1] for unit in recorder.units(answer)}
     return kinds <= {payloads.REPORT}
 
