@@ -21,6 +21,8 @@ class Cache:
     name = package = ""
     # The versions that it speaks, each a run of its own unless one run has all of them.
     versions = (0, 1)
+    # Its file, if rtr_make reads that too.
+    json = None
     # Whether its ASPAs have another layout than ours.
     other_aspas = False
     # After how many seconds a router that lost it asks again, where that can be set.
@@ -93,6 +95,7 @@ class StayRTR(Cache):
     """stayrtr, over the JSON that rpki-client writes."""
 
     name, package = "stayrtr", "stayrtr"
+    json = "list.json"
     versions = (0, 1, 2)
 
     @property

@@ -264,7 +264,8 @@ def varied(payloads, turn):
 def stayrtr_json(payloads):
     """The JSON that rpki-client writes and stayrtr reads."""
     ordered = sorted(payloads, key=lambda payload: payload.order())
-    wholes = {"roas": [], "bgpsec_keys": [], "aspas": []}
+    wholes = {"roas": [], "bgpsec_keys": []}
+    aspas = []
     for payload in ordered:
         if isinstance(payload, Origin):
             wholes["roas"].append({
@@ -278,13 +279,11 @@ def stayrtr_json(payloads):
                 "ta": "made up", "expires": int(time.time()) + 86400,
             })
         else:
-            wholes["aspas"].append({
+            aspas.append({
                 "customer_asid": payload.customer, "providers": list(payload.providers),
                 "expires": int(time.time()) + 86400,
             })
-    both = [{"customer_asid": a["customer_asid"], "providers": a["providers"]}
-            for a in wholes["aspas"]]
-    wholes["provider_authorizations"] = {"ipv4": both, "ipv6": both}
+    wholes["provider_authorizations"] = {"ipv4": aspas, "ipv6": aspas}
     wholes["metadata"] = {"buildtime": time.strftime("%Y-%m-%dT%H:%M:%SZ", time.gmtime())}
     return json.dumps(wholes, indent=1)
 

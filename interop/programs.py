@@ -9,7 +9,7 @@ from processes import Missing
 TOP = os.path.join(os.path.dirname(os.path.abspath(__file__)), "..")
 FOLDER = os.environ.get("RTR_PROGRAMS", os.path.join(TOP, "prebuilt", "x86_64"))
 SHOWN = os.path.relpath(FOLDER, TOP)
-NAMES = ("rtr_list", "rtr_normalise", "rtr_diff", "rtr_clean")
+NAMES = ("rtr_list", "rtr_normalise", "rtr_diff", "rtr_clean", "rtr_make")
 SECONDS = 60
 
 # The fields of a line of `rtr_list --json` that `rtr_diff --json` doesn't print.
@@ -79,6 +79,15 @@ def normalised(content):
     if status:
         raise ValueError(f"rtr_normalise ends with {status}: {said}")
     return form
+
+
+def made(content, version):
+    """What `rtr_make --json` makes of a file that caches read, without what the version lacks."""
+    words = ["rtr_make", "--json", "--version", str(version), "--session", "4660", "--serial", "1"]
+    status, units, said = run([*words, "--drop"], content)
+    if status:
+        raise ValueError(f"rtr_make ends with {status}: {said}")
+    return units
 
 
 def cleaned(content):

@@ -117,6 +117,21 @@ def compare_forms(pair, recorded):
         pair.equal(f"rtr_clean of {name}", programs.cleaned(content), content, units)
 
 
+def compare_made(pair, recorded):
+    """What rtr_make makes of the file that the cache has read is what the cache sends."""
+    cache = recorded.cache
+    if not programs.there("rtr_make") or cache.json is None or cache.other_aspas:
+        return
+    with open(os.path.join(cache.folder, cache.json), "rb") as file:
+        made = programs.made(file.read(), cache.version)
+    path = os.path.join(cache.folder, "made.sequence")
+    with open(path, "wb") as file:
+        file.write(made)
+    units = len(recorder.units(made))
+    second = os.path.join(cache.folder, "second.sequence")
+    pair.equal("rtr_make of its file", programs.differing(path, second), set(), units)
+
+
 def findings(pair, recorded):
     """What breaks the rules, against what README.md lists for this cache and version."""
     found, units = set(), 0
@@ -148,10 +163,14 @@ def older_aspas(pair, recorded):
 
 
 def clients_hold(pair, cache, listed, clients):
-    """Each of our clients holds exactly what is served."""
+    """Each of our clients holds exactly what is served, also if it asks for a higher version."""
     for client in clients:
         lines = client.fetch(cache.port, cache.version)
         pair.equal(f"client in {client.name} holds the list", lines, announced(listed))
+        if cache.version == cache.highest < 2:
+            lines = client.fetch(cache.port, cache.version + 1)
+            what = f"client in {client.name} falls to the cache's version"
+            pair.equal(what, lines, announced(listed))
 
 
 def compare(results, maker, version, folder):
@@ -165,6 +184,7 @@ def compare(results, maker, version, folder):
                 clients_hold(pair, cache, cache.serves(new), ours.clients(folder))
         compare_lists(pair, recorded)
         compare_forms(pair, recorded)
+        compare_made(pair, recorded)
         findings(pair, recorded)
         if cache.other_aspas:
             older_aspas(pair, recorded)
