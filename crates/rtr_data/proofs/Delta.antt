@@ -27,7 +27,7 @@ use Rattle.rtr_data.proofs.Names.{name_total, name_alike, one_of_name, above, be
 use Rattle.rtr_data.proofs.Names.{below_all, as_first, absent, not_very, absent_very}
 
 -- data behind a first payload
-abbrev behind : Payload → Result (List Payload) ChangeError → Result (List Payload) ChangeError
+abbrev pub behind : Payload → Result (List Payload) ChangeError → Result (List Payload) ChangeError
 behind h (Ok d) = Ok (h ∷ d)
 behind h (Err e) = Err e
 
@@ -53,10 +53,10 @@ step_behind h Withdraw p d g =
     (Ok (cond (is_eq o) d (h ∷ remove_key (is_at (name_cmp p)) d))) (Err Unknown)) g
     ∙ behind_unless h (has_name d p) Unknown (remove_key (is_at (name_cmp p)) d)
 
-abbrev AllAbove : Payload → List Change → Type 0
+abbrev pub AllAbove : Payload → List Change → Type 0
 AllAbove h cs = AllByRecursion (λ c. name_cmp c.payload h ≡ Greater) cs
 
-all_behind : (h : Payload) (cs : List Change) → AllAbove h cs →
+pub all_behind : (h : Payload) (cs : List Change) → AllAbove h cs →
     (r : Result (List Payload) ChangeError) → after_all cs (behind h r) ≡ behind h (after_all cs r)
 all_behind h [] a r = refl
 all_behind h (c ∷ cs) a (Err e) = refl
@@ -87,7 +87,7 @@ announced_above h keep (x ∷ xs) (g, a) =
     ]
 
 -- the first is withdrawn
-withdraw_first : (x : Payload) (xs : List Payload) → after (withdrawal x) (x ∷ xs) ≡ Ok xs
+pub withdraw_first : (x : Payload) (xs : List Payload) → after (withdrawal x) (x ∷ xs) ≡ Ok xs
 withdraw_first x xs =
     let e : name_cmp (name_of x) x ≡ Equal = name_alike x x ∙ tied_itself name_total x in
     ap (λ o. cond (is_eq o || has_name xs (name_of x))
@@ -154,7 +154,7 @@ first_kept fresh y ys rest a f ih =
     ∙ all_behind y (map announcement (filter fresh ys)) (announced_above y fresh ys a) (Ok rest)
     ∙ ap (behind y) ih
 
-announce_before : (y x : Payload) (k : List Payload) → name_cmp y x ≡ Less →
+pub announce_before : (y x : Payload) (k : List Payload) → name_cmp y x ≡ Less →
     has_name (x ∷ k) y ≡ false → after (announcement y) (x ∷ k) ≡ Ok (y ∷ x ∷ k)
 announce_before y x k e h =
     ap (λ b. cond (b && not (takes_place y)) (Err Duplicate)
@@ -165,7 +165,7 @@ no_and : (b : Bool) → (b && false) ≡ false
 no_and true = refl
 no_and false = refl
 
-announce_over : (y x : Payload) (k : List Payload) → name_cmp y x ≡ Equal →
+pub announce_over : (y x : Payload) (k : List Payload) → name_cmp y x ≡ Equal →
     takes_place y ≡ true → after (announcement y) (x ∷ k) ≡ Ok (y ∷ k)
 announce_over y x k e t =
     ap (λ b. cond (has_name (x ∷ k) y && not b) (Err Duplicate)
