@@ -207,7 +207,7 @@ module _ (input r : List ℕ) (last : Option PayloadView) (c : Checked input r l
 -- ---- flaws
 
 -- what has a fault doesn't begin without one
-not_refused : (e : ViewFault) (r : List ℕ) → IsFirstFault r e → first_fault r ≡ None → ⊥
+pub not_refused : (e : ViewFault) (r : List ℕ) → IsFirstFault r e → first_fault r ≡ None → ⊥
 not_refused (Writer x) r h n = h
 not_refused Short r h n = let s = sym n ∙ h in absurd cc
 not_refused (UnitType t) r h n = let s = sym n ∙ h in absurd cc

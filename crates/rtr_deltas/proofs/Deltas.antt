@@ -35,7 +35,7 @@ delta_parts o n e =
 -- ---- pieces
 
 -- a front of a piece is one of a longer piece
-longer : (x y before after : List ℕ) → PlacesFront None x before after →
+pub longer : (x y before after : List ℕ) → PlacesFront None x before after →
     PlacesFront None (x ++ y) before after
 longer x y before after (less, (front, back, split, out)) = (
   omega (arith, less, length-append x y),
@@ -47,7 +47,7 @@ longer x y before after (less, (front, back, split, out)) = (
   ),
 )
 
-joined_none : (x y before now part : List ℕ) (n : ℕ) → PlacesFront (Some n) x before now →
+pub joined_none : (x y before now part : List ℕ) (n : ℕ) → PlacesFront (Some n) x before now →
     PlacesFront None y (rest_of n now) part →
     PlacesFront None (x ++ y) before (put_mid n (length now - n) now part)
 joined_none x y before now part n (is, le, out) (less, (front, back, split, wrote)) =
@@ -76,7 +76,7 @@ joined_none x y before now part n (is, le, out) (less, (front, back, split, wrot
       ),
     )
 
-joined : (x y before now part : List ℕ) (n k : ℕ) → PlacesFront (Some n) x before now →
+pub joined : (x y before now part : List ℕ) (n k : ℕ) → PlacesFront (Some n) x before now →
     PlacesFront (Some k) y (rest_of n now) part →
     PlacesFront (Some (n + k)) (x ++ y) before (put_mid n (length now - n) now part)
 joined x y before now part n k (is, le, out) placed =

@@ -1,5 +1,5 @@
 -- Names of payloads, compared part by part.
-use Rattle.std.proofs.Common.{◌≡◌, [], refl, ◌∙◌}
+use Rattle.std.proofs.Common.{◌≡◌, [], true, false, refl, ◌∙◌}
 use Rattle.std.specs.Ordering.{nat_cmp, ordering_then}
 use Rattle.std.specs.declared.cmp.Ordering.{Ordering}
 use Rattle.std.specs.declared.cmp.Ordering.TheVariants.{Less, Equal, Greater}
@@ -7,7 +7,7 @@ use Rattle.rtr_units.specs.PrefixUnits.{OriginParts}
 use Rattle.rtr_payload.specs.Orders.{payload_cmp}
 use Rattle.rtr_payload.specs.Payloads.{AspaParts, KeyParts, origin, key, aspa}
 use Rattle.rtr_payload.proofs.Orders.{aspa_chain}
-use Rattle.rtr_data.specs.Data.{name_cmp}
+use Rattle.rtr_data.specs.Data.{name_cmp, takes_place}
 
 pub origin_names : (o p : OriginParts) →
     name_cmp (origin o) (origin p) ≡ payload_cmp (origin o) (origin p)
@@ -55,3 +55,17 @@ aspa_origin a o = refl
 pub aspa_key : (a : AspaParts) (k : KeyParts) → name_cmp (aspa a) (key k) ≡ Greater
 unfolding name_cmp
 aspa_key a k = refl
+
+-- ---- which payloads take the place of others
+
+pub origin_stays : (o : OriginParts) → false ≡ takes_place (origin o)
+unfolding takes_place
+origin_stays o = refl
+
+pub key_stays : (k : KeyParts) → false ≡ takes_place (key k)
+unfolding takes_place
+key_stays k = refl
+
+pub aspa_takes : (a : AspaParts) → true ≡ takes_place (aspa a)
+unfolding takes_place
+aspa_takes a = refl

@@ -7,3 +7,13 @@ pub mod Merging
 pub mod OneData
 pub mod Deltas
 pub mod Answered
+pub mod Units
+pub mod Refusing
+pub mod Running
+pub mod Leasts
+pub mod Making
+pub mod Applying
+pub mod Parting
+pub mod Allowed
+pub mod Placed
+pub mod Answering

@@ -37,10 +37,10 @@ use Rattle.rtr_deltas.proofs.Sequences.{splits, no_fault}
 abbrev pub rest_of : ℕ → List ℕ → List ℕ
 rest_of n xs = take (length xs - n) (drop n xs)
 
-rest_is : (n : ℕ) (xs : List ℕ) → rest_of n xs ≡ drop n xs
+pub rest_is : (n : ℕ) (xs : List ℕ) → rest_of n xs ≡ drop n xs
 rest_is n xs = take_all (length xs - n) (drop n xs) (omega (arith, length-drop n xs))
 
-put_is : (n : ℕ) (xs ys : List ℕ) → put_mid n (length xs - n) xs ys ≡ take n xs ++ ys
+pub put_is : (n : ℕ) (xs ys : List ℕ) → put_mid n (length xs - n) xs ys ≡ take n xs ++ ys
 put_is n xs ys =
     ap (λ l. take n xs ++ l)
     (ap (λ l. ys ++ l) (drop_all (length xs - n) (drop n xs) (omega (arith, length-drop n xs)))

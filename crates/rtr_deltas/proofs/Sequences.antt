@@ -138,7 +138,7 @@ no_fault l b (m ∷ ms) d a =
 
 -- ---- an item isn't empty
 
-no_unit : (m : Meaning) → IsUnit [] m → ⊥
+pub no_unit : (m : Meaning) → IsUnit [] m → ⊥
 no_unit m u =
     let e = begins_unit_none []
     (record { bytes = []; means = m; rest = []; unit = u; parts = refl }) in

@@ -42,3 +42,35 @@ pub enum DeltaFault {
     #[error("no room in the output")]
     NoRoom,
 }
+
+/// Why changes aren't applied to data, or the output has no room for what they make of it.
+#[derive(Debug, Drop, thiserror::Error)]
+pub enum ApplyFault {
+    /// The first slice isn't data.
+    #[error("the first slice holds no data in canonical form")]
+    Data(Flaw),
+    /// The second slice isn't changes.
+    #[error("the second slice holds no changes in canonical form")]
+    Changes(Flaw),
+    /// The changes are of this protocol version, and the data of another.
+    #[error("version {0} is not that of the data")]
+    UnitVersion(u8),
+    /// The changes are of this session, and the data of another.
+    #[error("session {0} is not that of the data")]
+    Session(u16),
+    /// The unit at this offset of the changes announces what is there already.
+    #[error("duplicate announcement at byte {offset} of the changes")]
+    Duplicate {
+        /// How many bytes of the changes come before the unit.
+        offset: usize,
+    },
+    /// The unit at this offset of the changes withdraws what isn't there.
+    #[error("withdrawal of an unknown record at byte {offset} of the changes")]
+    Unknown {
+        /// How many bytes of the changes come before the unit.
+        offset: usize,
+    },
+    /// The output has no room for all of the data.
+    #[error("no room in the output")]
+    NoRoom,
+}

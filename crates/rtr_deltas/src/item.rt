@@ -1,12 +1,13 @@
 //! Units at the front of a slice.
 
-ghost use Rattle.std.specs.Prelude.{◌≡◌, ◌++◌, ◌<◌, ℕ, List, length, IfOk, IfErr};
-ghost use Rattle.rtr_data.specs.Data.{name_cmp};
+ghost use Rattle.std.specs.Prelude.{◌≡◌, ◌++◌, ◌<◌, ℕ, List, length, IfOk, IfErr, IfSome, None};
+ghost use Rattle.rtr_data.specs.Data.{name_cmp, takes_place};
 ghost use Rattle.rtr_views.specs.Faults.{IsFirstFault};
 ghost use Rattle.rtr_payload.specs.KeyUnits.{key_at};
 ghost use Rattle.rtr_payload.specs.Orders.{payload_cmp};
 ghost use Rattle.rtr_payload.specs.Payloads.{key};
 ghost use Rattle.rtr_deltas.specs.Items.{IsItem, item_view, meant};
+ghost use Rattle.rtr_deltas.specs.PrivateChanges.{IsNext, NoUnit};
 
 use rtr_base::action::Action;
 use rtr_units::end::EndOfData;
@@ -55,6 +56,22 @@ pub(crate) fn next<'a>(input: &'a [u8]) -> Result<(Item<'a>, &'a [u8]), ViewFaul
     }
 }
 
+/// The payload unit at the front of the input, and what follows it, if a unit begins there.
+#[inline(always)]
+pub(crate) fn next_unit<'a>(input: &'a [u8]) -> Option<(PayloadView<'a>, &'a [u8])>
+    ensures unit { IfSome result (λ p. IsNext p.0 p.1.now input.now) }
+    ensures none { result ≡ None → NoUnit input.now }
+    ensures shorter { IfSome result (λ p. length p.1.now < length input.now) }
+{
+    match next(input) {
+        Ok((item, left)) => match item {
+            Item::Unit(view) => Some((view, left)),
+            Item::End(_) => None,
+        },
+        Err(_) => None,
+    }
+}
+
 /// The same view, as an item.
 #[inline(always)]
 fn item_of<'a>(view: &UnitView<'a>) -> Item<'a>
@@ -90,6 +107,18 @@ impl<'a> PayloadView<'a> {
             PayloadView::Origin(view) => Action::from_flags(view.flags()),
             PayloadView::RouterKey(view) => Action::from_flags(view.flags()),
             PayloadView::Aspa(view) => Action::from_flags(view.flags()),
+        }
+    }
+
+    /// Whether the payload takes the place of the one of its name: an ASPA does.
+    #[inline(always)]
+    pub(crate) fn takes_place(&self) -> bool
+        ensures { result ≡ takes_place (meant self.now).payload }
+    {
+        match self {
+            PayloadView::Origin(_) => false,
+            PayloadView::RouterKey(_) => false,
+            PayloadView::Aspa(_) => true,
         }
     }
 

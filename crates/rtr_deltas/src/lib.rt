@@ -2,6 +2,9 @@
 //! memory.
 #![tactic(auto)]
 
+mod applied;
+mod apply;
+mod changes;
 mod check;
 mod delta;
 mod fault;
@@ -9,7 +12,10 @@ mod item;
 pub mod laws;
 mod missing;
 mod placing;
+mod refused;
 
+pub use apply::apply_into;
+pub use changes::check_changes;
 pub use check::check_data;
 pub use delta::delta_into;
-pub use fault::{DeltaFault, Flaw, Reason};
+pub use fault::{ApplyFault, DeltaFault, Flaw, Reason};

@@ -94,7 +94,7 @@ fn place_withdrawal(view: &PayloadView<'_>, output: &mut [u8]) -> Option<usize>
 
 /// Writes the viewed unit, which announces.
 #[inline(always)]
-fn place_announcement(view: &PayloadView<'_>, output: &mut [u8]) -> Option<usize>
+pub(crate) fn place_announcement(view: &PayloadView<'_>, output: &mut [u8]) -> Option<usize>
     ensures { Places result (view_form (unit_view view.now)) output.old output.new }
 {
     match view {

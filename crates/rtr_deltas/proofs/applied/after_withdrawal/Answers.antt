@@ -1,0 +1,5 @@
+use Rattle.std.proofs.Common.{inl, inr, refl}
+use Rattle.rtr_deltas.proofs.applied.after_withdrawal.Goals as goal
+
+pub returns-in-None : goal.returns-in-None
+returns-in-None c = inr (inl (c.in-None.ensures.none refl))

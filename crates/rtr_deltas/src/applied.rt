@@ -1,0 +1,126 @@
+//! What changes make of data, written into a slice.
+
+ghost use Rattle.std.specs.Prelude.{◌≡◌, ◌≤◌, ◌<◌, ◌+◌, IfSome, None, length, true, false};
+ghost use Rattle.std.specs.Option.{option_map};
+ghost use Rattle.rtr_deltas.specs.Items.{meant};
+ghost use Rattle.rtr_deltas.specs.PrivateChanges.{IsAfterWithdrawal, LeastOf, NothingLeft};
+ghost use Rattle.rtr_deltas.specs.PrivateChanges.{PlacesApplied};
+
+use crate::item::{PayloadView, next_unit};
+use crate::placing::place_announcement;
+use std::cmp::Ordering;
+
+/// The first of data and of announcements.
+#[derive(Clone, Copy)]
+struct Least<'a> {
+    /// The unit: an announcement, if both are of one name.
+    view: PayloadView<'a>,
+    /// Whether it is of the data.
+    is_old: bool,
+    /// What follows of the data: it is after the unit.
+    old: &'a [u8],
+    /// What follows of the announcements.
+    new: &'a [u8],
+}
+
+/// Writes the units that announce what announcements and withdrawals make of data, in order, and
+/// answers their length in bytes, or none where there is no room for all of them.
+pub(crate) fn place_applied(
+    old: &[u8],
+    announced: &[u8],
+    withdrawn: &[u8],
+    output: &mut [u8],
+) -> Option<usize>
+    ensures bytes { PlacesApplied result old.now announced.now withdrawn.now output.old output.new }
+    ensures within { IfSome result (λ n. n ≤ length output.old) }
+{
+    let (mut old_rest, mut new_rest) = (old, announced);
+    let (mut withdrawn_rest, mut written) = (withdrawn, 0);
+    'units: loop {
+        let least = match least_of(old_rest, new_rest) {
+            Some(least) => least,
+            None => return Some(written),
+        };
+        old_rest = least.old;
+        new_rest = least.new;
+        match after_withdrawal(&least.view, least.is_old, withdrawn_rest) {
+            Some(left) => withdrawn_rest = left,
+            None => match place_announcement(&least.view, &mut output[written..]) {
+                Some(size) => written += size,
+                None => return None,
+            },
+        }
+    }
+}
+
+/// The first of data and announcements by name, if anything is left of them.
+#[inline(always)]
+fn least_of<'a>(old: &'a [u8], new: &'a [u8]) -> Option<Least<'a>>
+    ensures least { IfSome result
+        (λ l. LeastOf l.view l.is_old l.old.now l.new.now old.now new.now) }
+    ensures shorter { IfSome result (λ l. length l.old.now + length l.new.now <
+        length old.now + length new.now) }
+    ensures none { result ≡ None → NothingLeft old.now new.now }
+{
+    match next_unit(old) {
+        Some((first, left)) => match next_unit(new) {
+            Some((second, right)) => match first.compare_names(&second) {
+                Ordering::Less => Some(Least {
+                    view: first,
+                    is_old: true,
+                    old: left,
+                    new,
+                }),
+                Ordering::Equal => Some(Least {
+                    view: second,
+                    is_old: false,
+                    old: left,
+                    new: right,
+                }),
+                Ordering::Greater => Some(Least {
+                    view: second,
+                    is_old: false,
+                    old,
+                    new: right,
+                }),
+            },
+            None => Some(Least {
+                view: first,
+                is_old: true,
+                old: left,
+                new,
+            }),
+        },
+        None => match next_unit(new) {
+            Some((second, right)) => Some(Least {
+                view: second,
+                is_old: false,
+                old,
+                new: right,
+            }),
+            None => None,
+        },
+    }
+}
+
+/// What follows the first withdrawal, if it names the unit and this is of the data.
+#[inline(always)]
+fn after_withdrawal<'a>(
+    view: &PayloadView<'_>,
+    is_old: bool,
+    withdrawn: &'a [u8],
+) -> Option<&'a [u8]>
+    ensures { IsAfterWithdrawal (option_map (λ l. l.now) result) view.now is_old withdrawn.now }
+{
+    if !is_old {
+        return None;
+    }
+    match next_unit(withdrawn) {
+        Some((first, left)) => match view.compare_names(&first) {
+            Ordering::Equal => Some(left),
+            Ordering::Less => None,
+            Ordering::Greater => None,
+        },
+        None => None,
+    }
+}
