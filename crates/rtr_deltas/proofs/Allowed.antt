@@ -23,7 +23,7 @@ use Rattle.rtr_data.specs.declared.change_error.ChangeError.TheVariants as refus
 use Rattle.rtr_data.proofs.Changes.{withdrawn_is}
 use Rattle.rtr_data.proofs.Names.{above}
 use Rattle.rtr_deltas.specs.Apply.{RefusedAt}
-use Rattle.rtr_deltas.specs.PrivateChanges.{Breaks, HoldsParts, IsBelow, IsWithin, Makes}
+use Rattle.rtr_deltas.specs.PrivateChanges.{Breaks, HoldsParts, IsBelow, IsWithin, MakesNew}
 use Rattle.rtr_deltas.specs.declared.refused.Rule.TheVariants.{Duplicate, Unknown}
 use Rattle.rtr_deltas.proofs.Applying.{IsApart}
 use Rattle.rtr_deltas.proofs.Making.{both, in_turn, named_there, names_after, not_refused}

@@ -19,7 +19,7 @@ use Rattle.rtr_data.specs.Deltas.{change_forms, unit_of}
 use Rattle.rtr_deltas.specs.Canonical.{PlacesFront, change}
 use Rattle.rtr_deltas.specs.Items.{meant, unit_view}
 use Rattle.rtr_deltas.specs.PrivateChanges.{HoldsUnits, IsAfterWithdrawal, IsFirst, IsNext}
-use Rattle.rtr_deltas.specs.PrivateChanges.{LeastOf, Makes, NothingLeft, PlacesApplied}
+use Rattle.rtr_deltas.specs.PrivateChanges.{LeastOf, MakesNew, NothingLeft, PlacesApplied}
 use Rattle.rtr_deltas.specs.declared.item.PayloadView.{PayloadView}
 use Rattle.rtr_deltas.proofs.Making.{Follows, StartsElsewhere, or_parts, step_added, step_end}
 use Rattle.rtr_deltas.proofs.Making.{step_gone, step_kept}
@@ -44,7 +44,7 @@ pub record Placing (v : ℕ) (made : List Payload) (old new gone before now : Li
   pub news : HoldsUnits Announce v new ps
   pub gones : HoldsUnits Withdraw v gone qs
   pub apart : IsApart ps qs
-  pub makes : Makes d ps qs rest
+  pub makes : MakesNew d ps qs rest
   pub piece : List ℕ
   pub so_far : Written piece before now written
   pub whole : announced_forms v made ≡ piece ++ announced_forms v rest
@@ -55,7 +55,7 @@ pub record Along (old announced withdrawn old_rest new_rest gone_rest before now
   pub room : length now ≡ length before
   pub placing : (v : ℕ) (d ps qs d' : List Payload) → HoldsUnits Announce v old d →
       HoldsUnits Announce v announced ps → HoldsUnits Withdraw v withdrawn qs → IsApart ps qs →
-      Makes d ps qs d' → Placing v d' old_rest new_rest gone_rest before now written
+      MakesNew d ps qs d' → Placing v d' old_rest new_rest gone_rest before now written
 
 pub begins : (old announced withdrawn before : List ℕ) →
     Along old announced withdrawn old announced withdrawn before before 0
@@ -93,8 +93,8 @@ module _ (v : ℕ) (made : List Payload) (old new gone before now : List ℕ) (w
       let no_d : g.d ≡ [] = nothing Announce v old g.d none g.olds in
       let no_ps : g.ps ≡ [] = nothing Announce v new g.ps none' g.news in
       let end : g.rest ≡ [] =
-      step_end g.qs g.rest (subst (λ l. Makes l [] g.qs g.rest) no_d
-      (subst (λ l. Makes g.d l g.qs g.rest) no_ps g.makes)) in
+      step_end g.qs g.rest (subst (λ l. MakesNew l [] g.qs g.rest) no_d
+      (subst (λ l. MakesNew g.d l g.qs g.rest) no_ps g.makes)) in
       let is : announced_forms v made ≡ g.piece =
       g.whole ∙ ap (λ l. g.piece ++ announced_forms v l) end ∙ append-nil g.piece in
       subst (λ l. PlacesFront (Some written) l before now) (sym is)
@@ -126,8 +126,8 @@ module _ (v : ℕ) (made : List Payload) (old new gone before now : List ℕ) (w
           apart = (subst (IsApart g.ps) w.all g.apart).1;
           makes =
               step_gone p w.first d' g.ps w.others g.rest under named
-              (subst (λ l. Makes (p ∷ d') g.ps l g.rest) w.all
-              (subst (λ l. Makes l g.ps g.qs g.rest) at g.makes));
+              (subst (λ l. MakesNew (p ∷ d') g.ps l g.rest) w.all
+              (subst (λ l. MakesNew l g.ps g.qs g.rest) at g.makes));
           piece = g.piece;
           so_far = g.so_far;
           whole = g.whole;
@@ -172,7 +172,7 @@ module _ (v : ℕ) (made : List Payload) (old new gone before now : List ℕ) (w
           follows =
               step_kept p d' g.ps g.qs g.rest (subst IsData at g.olds.in_order) under
               g.gones.in_order (elsewhere g.qs g.gones true_is other)
-              (subst (λ l. Makes l g.ps g.qs g.rest) at g.makes);
+              (subst (λ l. MakesNew l g.ps g.qs g.rest) at g.makes);
         }
 
     pub added : is_old ≡ false → Next
@@ -190,7 +190,7 @@ module _ (v : ℕ) (made : List Payload) (old new gone before now : List ℕ) (w
           follows =
               step_added p g.d d' ps' g.qs g.rest g.olds.in_order over
               (subst IsData at g.news.in_order) g.gones.in_order apart
-              (subst (λ l. Makes g.d l g.qs g.rest) at g.makes);
+              (subst (λ l. MakesNew g.d l g.qs g.rest) at g.makes);
         }
 
     module _ (next : Next) (part : List ℕ) where

@@ -23,7 +23,7 @@ use Rattle.rtr_data.proofs.Delta.{AllAbove, after_append, all_behind, announce_b
 use Rattle.rtr_data.proofs.Delta.{announce_over, behind}
 use Rattle.rtr_data.proofs.Merge.{laws, refused_all}
 use Rattle.rtr_data.proofs.Names.{above, absent, as_first, below, below_all, name_alike, name_total}
-use Rattle.rtr_deltas.specs.PrivateChanges.{IsBelow, Makes}
+use Rattle.rtr_deltas.specs.PrivateChanges.{IsBelow, MakesNew}
 
 -- ---- names that are there
 
@@ -134,7 +134,7 @@ after_first p ps qs a b d =
 -- what else is made
 pub record Follows (p : Payload) (d ps qs d' : List Payload) : Type 0 where
   pub others : List Payload
-  pub makes : Makes d ps qs others
+  pub makes : MakesNew d ps qs others
   pub first : d' ≡ p ∷ others
 
 follows : (p : Payload) (d ps qs d' : List Payload) (r : Result (List Payload) ChangeError) →
@@ -151,7 +151,7 @@ in_turn d ps qs = after_append (map announcement ps) (map withdrawal qs) (Ok d)
 
 -- what is below all data and announcements can't be withdrawn
 no_lower : (q : Payload) (d ps qs d' : List Payload) → IsBelow q d → IsBelow q ps →
-    Makes d ps (q ∷ qs) d' → ⊥
+    MakesNew d ps (q ∷ qs) d' → ⊥
 no_lower q d ps qs d' a b m =
     by_result (after_all (map announcement ps) (Ok d)) refl (sym (in_turn d ps (q ∷ qs)) ∙ m)
   where
@@ -169,7 +169,7 @@ StartsElsewhere p (q ∷ qs) = name_cmp p q ≢ Equal
 
 -- withdrawals that are allowed are above the least of data and announcements
 above_least : (p : Payload) (d ps qs d' : List Payload) → IsData qs → StartsElsewhere p qs →
-    ((q : Payload) → name_cmp q p ≡ Less → IsBelow q d × IsBelow q ps) → Makes d ps qs d' →
+    ((q : Payload) → name_cmp q p ≡ Less → IsBelow q d × IsBelow q ps) → MakesNew d ps qs d' →
     IsBelow p qs
 unfolding IsStrictlySortedBy
 above_least p d ps [] d' s other low m = tt
@@ -185,7 +185,7 @@ above_least p d ps (q ∷ qs) d' s other low m = by_order (name_cmp p q) refl
 
 -- a payload of the data is withdrawn
 pub step_gone : (p q : Payload) (d ps qs d' : List Payload) → IsBelow p ps →
-    name_cmp p q ≡ Equal → Makes (p ∷ d) ps (q ∷ qs) d' → Makes d ps qs d'
+    name_cmp p q ≡ Equal → MakesNew (p ∷ d) ps (q ∷ qs) d' → MakesNew d ps qs d'
 step_gone p q d ps qs d' a e m =
     in_turn d ps qs ∙ sym (gone (after_all (map announcement ps) (Ok d)))
     ∙ sym (ap (after_all (map withdrawal (q ∷ qs)))
@@ -208,7 +208,7 @@ step_gone p q d ps qs d' a e m =
 
 -- a payload of the data stays
 pub step_kept : (p : Payload) (d ps qs d' : List Payload) → IsData (p ∷ d) → IsBelow p ps →
-    IsData qs → StartsElsewhere p qs → Makes (p ∷ d) ps qs d' → Follows p d ps qs d'
+    IsData qs → StartsElsewhere p qs → MakesNew (p ∷ d) ps qs d' → Follows p d ps qs d'
 unfolding IsStrictlySortedBy
 step_kept p d ps qs d' s a t other m =
     let b = above_least p (p ∷ d) ps qs d' t other
@@ -261,7 +261,7 @@ announced_over p d d' e cs (inr (q, is, tied)) m =
 -- a payload is announced
 pub step_added : (p : Payload) (d d1 ps qs d' : List Payload) → IsData d → IsOver p d d1 →
     IsData (p ∷ ps) → IsData qs → AllByRecursion (λ q. has_name (p ∷ ps) q ≡ false) qs →
-    Makes d (p ∷ ps) qs d' → Follows p d1 ps qs d'
+    MakesNew d (p ∷ ps) qs d' → Follows p d1 ps qs d'
 unfolding IsStrictlySortedBy
 step_added p d d1 ps qs d' s over t u apart m =
     let b = above_least p d (p ∷ ps) qs d' u (elsewhere qs apart)
@@ -278,6 +278,6 @@ step_added p d d1 ps qs d' s over t u apart m =
         ∙ (or_parts (is_eq (name_cmp q p)) (has_name ps q) n).0)
 
 -- nothing is left
-pub step_end : (qs d' : List Payload) → Makes [] [] qs d' → d' ≡ []
+pub step_end : (qs d' : List Payload) → MakesNew [] [] qs d' → d' ≡ []
 step_end [] d' m = sym (is_ok [] d' m)
 step_end (q ∷ qs) d' m = absurd (no_lower q [] [] qs d' tt tt m)

@@ -8,7 +8,7 @@ use Rattle.rtr_units.specs.End.{EndMeaning, end_list}
 use Rattle.rtr_payload.specs.Payloads.{Payload}
 use Rattle.rtr_views.specs.Placing.{Places}
 use Rattle.rtr_deltas.specs.Canonical.{PlacesFront}
-use Rattle.rtr_deltas.specs.PrivateChanges.{FindsAmong, FindsRefused, HoldsParts, HoldsUnits, Makes}
+use Rattle.rtr_deltas.specs.PrivateChanges.{FindsAmong, FindsRefused, HoldsParts, HoldsUnits, MakesNew}
 use Rattle.rtr_deltas.specs.PrivateChanges.{PlacesAll, PlacesApplied}
 use Rattle.rtr_deltas.specs.declared.refused.Rule.TheVariants.{Duplicate, Unknown}
 use Rattle.rtr_deltas.proofs.Applying.{announced_forms}
@@ -72,7 +72,7 @@ module _ (old changes : List ℕ) (middle stop : ℕ) (e : EndMeaning) (before n
   placed : (result : Option ℕ) →
       PlacesApplied result old (announcing changes middle) (withdrawing changes middle stop) before
       now → (d d' : List Payload) → HoldsUnits Announce e.version old d →
-      (p : HoldsParts changes middle stop e) → Makes d p.announced p.withdrawn d' →
+      (p : HoldsParts changes middle stop e) → MakesNew d p.announced p.withdrawn d' →
       PlacesFront result (announced_forms e.version d') before now
   placed result w d d' h p makes =
       w e.version d p.announced p.withdrawn d' h (announced_held changes middle stop e p)

@@ -17,7 +17,7 @@ use Rattle.rtr_data.proofs.Names.{above, absent, below, below_all}
 use Rattle.rtr_deltas.specs.Canonical.{change}
 use Rattle.rtr_deltas.specs.Items.{meant}
 use Rattle.rtr_deltas.specs.PrivateChanges.{Breaks, HoldsUnits, IsNext, IsOrderOf, IsWithin, NoUnit}
-use Rattle.rtr_deltas.specs.PrivateChanges.{action_of, is_against, units_of}
+use Rattle.rtr_deltas.specs.PrivateChanges.{rule_action, is_against, units_of}
 use Rattle.rtr_deltas.specs.declared.item.PayloadView.{PayloadView}
 use Rattle.rtr_deltas.specs.declared.refused.Rule.{Rule}
 use Rattle.rtr_deltas.specs.declared.refused.Rule.TheVariants.{Apart, Duplicate, Unknown}
@@ -32,15 +32,15 @@ pub record Finding (rule : Rule) (v w : ℕ) (ps qs : List Payload)
   pub all : ps ≡ before ++ xs
   pub front : List ℕ
   pub parts : these ≡ front ++ these_rest
-  pub units : AreUnits front (units_of (action_of rule) v before)
+  pub units : AreUnits front (units_of (rule_action rule) v before)
   pub within : AllByRecursion (IsWithin rule qs) before
-  pub held : HoldsUnits (action_of rule) v these_rest xs
+  pub held : HoldsUnits (rule_action rule) v these_rest xs
   pub others : HoldsUnits Announce w those_rest ys
   pub same : AllByRecursion (λ x. has_name qs x ≡ has_name ys x) xs
 
 pub record Going (rule : Rule) (these those these_rest those_rest : List ℕ) : Type 0 where
   pub fits : length these_rest ≤ length these
-  pub finding : (v w : ℕ) (ps qs : List Payload) → HoldsUnits (action_of rule) v these ps →
+  pub finding : (v w : ℕ) (ps qs : List Payload) → HoldsUnits (rule_action rule) v these ps →
       HoldsUnits Announce w those qs → Finding rule v w ps qs these these_rest those_rest
 
 all_same : (qs ps : List Payload) → AllByRecursion (λ x. has_name qs x ≡ has_name qs x) ps
@@ -80,7 +80,7 @@ passed y qs ys (x ∷ xs) (g, h) (e, s) =
 
 -- only an announcement may take the place of what is there
 against_name : (rule : Rule) (there : Bool) (p : Payload) →
-    is_against rule there (change (action_of rule) p).payload ≡ is_against rule there p
+    is_against rule there (change (rule_action rule) p).payload ≡ is_against rule there p
 against_name Apart there p = refl
 against_name Duplicate there p = refl
 against_name Unknown there p = refl
@@ -95,17 +95,17 @@ module _ (rule : Rule) (v w : ℕ) (ps qs : List Payload) (these these_rest thos
   -- none breaks the rule
   pub found_none : NoUnit these_rest → AllByRecursion (IsWithin rule qs) ps
   found_none none =
-      let is = nothing (action_of rule) v these_rest f.xs none f.held in
+      let is = nothing (rule_action rule) v these_rest f.xs none f.held in
       subst (AllByRecursion (IsWithin rule qs))
       (sym (f.all ∙ ap (λ l. f.before ++ l) is ∙ append-nil f.before)) f.within
 
   module _ (first : PayloadView) (left : List ℕ) (next : IsNext first left these_rest) where
-    h : Head (action_of rule) v first left f.xs
-    h = head (action_of rule) v first left these_rest f.xs next f.held
+    h : Head (rule_action rule) v first left f.xs
+    h = head (rule_action rule) v first left these_rest f.xs next f.held
 
     name_is : (q : Payload) → name_cmp (meant first).payload q ≡ name_cmp h.first q
     name_is q =
-        ap (λ (m : Meaning). name_cmp m.payload q) h.means ∙ left_name (action_of rule) h.first q
+        ap (λ (m : Meaning). name_cmp m.payload q) h.means ∙ left_name (rule_action rule) h.first q
 
     same : AllByRecursion (λ x. has_name qs x ≡ has_name f.ys x) (h.first ∷ h.others)
     same = subst (AllByRecursion (λ x. has_name qs x ≡ has_name f.ys x)) h.all f.same
@@ -166,7 +166,7 @@ module _ (rule : Rule) (v w : ℕ) (ps qs : List Payload) (these these_rest thos
             (sym e, below_all h.first j.first (sym e) j.others j.below)
         by_test true e = ap (λ x. is_eq x || has_name j.others h.first) (sym e)
 
-    unit_is : IsUnit next.0 (unit_of v (change (action_of rule) h.first))
+    unit_is : IsUnit next.0 (unit_of v (change (rule_action rule) h.first))
     unit_is = subst (IsUnit next.0) h.means next.1.0
 
     -- by what was found of it
@@ -214,7 +214,7 @@ module _ (rule : Rule) (v w : ℕ) (ps qs : List Payload) (these these_rest thos
       front = f.front ++ next.0;
       parts =
           f.parts ∙ ap (λ l. f.front ++ l) next.2 ∙ sym (append_assoc f.front next.0 left);
-      units = one_more (action_of rule) v f.front next.0 f.before h.first (meant first) f.units
+      units = one_more (rule_action rule) v f.front next.0 f.before h.first (meant first) f.units
           next.1.0 h.means;
       within =
           all_push (IsWithin rule qs) f.before h.first f.within
@@ -251,7 +251,7 @@ module _ (rule : Rule) (these those these_rest those_rest : List ℕ)
   }
 
   pub stop : (t b : Bool) → o ≡ place t → b ≡ is_against rule t (meant first).payload →
-      b ≡ true → (v w : ℕ) (ps qs : List Payload) → HoldsUnits (action_of rule) v these ps →
+      b ≡ true → (v w : ℕ) (ps qs : List Payload) → HoldsUnits (rule_action rule) v these ps →
       HoldsUnits Announce w those qs → Breaks rule v ps qs these (length these - length these_rest)
   stop t b at is e v w ps qs h j =
       found rule v w ps qs these these_rest those_rest (g.finding v w ps qs h j) first left next

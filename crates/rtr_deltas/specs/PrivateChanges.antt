@@ -108,10 +108,10 @@ pub record HoldsParts (input : List ℕ) (middle stop : ℕ) (e : EndMeaning) : 
 -- ---- what breaks a rule
 
 -- units of which action the rule is for
-abbrev pub action_of : Rule → Action
-action_of Apart = Withdraw
-action_of Duplicate = Announce
-action_of Unknown = Withdraw
+abbrev pub rule_action : Rule → Action
+rule_action Apart = Withdraw
+rule_action Duplicate = Announce
+rule_action Unknown = Withdraw
 
 -- whether a unit of the payload breaks the rule, where its name is there or not
 abbrev pub is_against : Rule → (there : Bool) → Payload → Bool
@@ -137,8 +137,8 @@ pub record Breaks (rule : Rule) (v : ℕ) (ps qs : List Payload) (these : List �
   pub left : List ℕ
   pub parts : these ≡ front ++ (unit ++ left)
   pub size : offset ≡ length front
-  pub units : AreUnits front (units_of (action_of rule) v before)
-  pub is_unit : IsUnit unit (unit_of v (change (action_of rule) first))
+  pub units : AreUnits front (units_of (rule_action rule) v before)
+  pub is_unit : IsUnit unit (unit_of v (change (rule_action rule) first))
 
 abbrev pub FindsAmong : Option ℕ → Rule → ℕ → (ps qs : List Payload) → List ℕ → Type 0
 FindsAmong (Some n) rule v ps qs these = Breaks rule v ps qs these n
@@ -147,7 +147,7 @@ FindsAmong None rule v ps qs these = AllByRecursion (IsWithin rule qs) ps
 -- the first unit that breaks the rule, or none does
 abbrev pub FindsRefused : Option ℕ → Rule → (these those : List ℕ) → Type 0
 FindsRefused result rule these those = (v w : ℕ) (ps qs : List Payload) →
-    HoldsUnits (action_of rule) v these ps → HoldsUnits Announce w those qs →
+    HoldsUnits (rule_action rule) v these ps → HoldsUnits Announce w those qs →
     FindsAmong result rule v ps qs these
 
 -- whether a unit and the first of others are in this order, and what follows that one; the end of
@@ -159,8 +159,8 @@ IsOrderOf order first left those =
 
 -- ---- what changes make of data
 
-abbrev pub Makes : (d announced withdrawn d' : List Payload) → Type 0
-Makes d announced withdrawn d' =
+abbrev pub MakesNew : (d announced withdrawn d' : List Payload) → Type 0
+MakesNew d announced withdrawn d' =
     after_all (map announcement announced ++ map withdrawal withdrawn) (Ok d) ≡ Ok d'
 
 abbrev pub IsBelow : Payload → List Payload → Type 0
@@ -205,7 +205,7 @@ abbrev pub PlacesApplied : Option ℕ → (old announced withdrawn before after 
 PlacesApplied result old announced withdrawn before after =
     (v : ℕ) (d ps qs d' : List Payload) → HoldsUnits Announce v old d →
     HoldsUnits Announce v announced ps → HoldsUnits Withdraw v withdrawn qs →
-    AllByRecursion (λ p. has_name ps p ≡ false) qs → Makes d ps qs d' →
+    AllByRecursion (λ p. has_name ps p ≡ false) qs → MakesNew d ps qs d' →
     PlacesFront result (change_forms v (map announcement d')) before after
 
 -- the same, and then an end of data
@@ -213,5 +213,5 @@ abbrev pub PlacesAll : Option ℕ → (old changes : List ℕ) → (middle stop 
     (before after : List ℕ) → Type 0
 PlacesAll result old changes middle stop e before after =
     (d d' : List Payload) → HoldsUnits Announce e.version old d →
-    (parts : HoldsParts changes middle stop e) → Makes d parts.announced parts.withdrawn d' →
+    (parts : HoldsParts changes middle stop e) → MakesNew d parts.announced parts.withdrawn d' →
     PlacesFront result (data_form d' e) before after
