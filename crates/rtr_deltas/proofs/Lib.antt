@@ -17,3 +17,5 @@ pub mod Parting
 pub mod Allowed
 pub mod Placed
 pub mod Answering
+pub mod Sent
+pub mod Reapplied

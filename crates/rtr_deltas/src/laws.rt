@@ -1,11 +1,15 @@
 //! Laws of data that lies in slices.
 
-ghost use Rattle.std.specs.Prelude.{◌≡◌, ◌≤◌, ℕ, List, Result, Ok, IsOk, length};
+ghost use Rattle.std.specs.Prelude.{◌≡◌, ◌≤◌, ◌++◌, ℕ, List, Result, Ok, IsOk, length};
 ghost use Rattle.rtr_payload.specs.Payloads.{Payload};
 ghost use Rattle.rtr_units.specs.End.{EndMeaning};
 ghost use Rattle.rtr_data.specs.Changes.{after_all, changes};
+ghost use Rattle.rtr_data.specs.Data.{Change};
+ghost use Rattle.rtr_deltas.specs.Apply.{AppliesChanges, IsApplied, data_form};
 ghost use Rattle.rtr_deltas.specs.Canonical.{HoldsData};
+ghost use Rattle.rtr_deltas.specs.CanonicalChanges.{HoldsChanges};
 ghost use Rattle.rtr_deltas.specs.Delta.{Deltas, IsPlaced, delta_form};
+ghost use Rattle.rtr_deltas.specs.declared.fault.ApplyFault.{ApplyFault};
 ghost use Rattle.rtr_deltas.specs.declared.fault.DeltaFault.{DeltaFault};
 
 /// A slice holds one data at most, and the changes of which `delta_into` writes the units make new
@@ -28,4 +32,35 @@ pub fn deltas_of_data()
         Deltas r old new before after → IsPlaced r (delta_form d d' end') before after }
     ensures room { (r : Result ℕ DeltaFault) (form before after : List ℕ) →
         IsPlaced r form before after → length form ≤ length before → IsOk r }
+{}
+
+/// A slice holds one list of changes at most. Where they are of the version and the session of the
+/// data, and all of them are allowed, one after the other, `apply_into` refuses nothing: what they
+/// make of the data is written, or a front of it, and all of it where the output is as long.
+pub fn changes_in_slices()
+    ensures one { (input : List ℕ) (cs ds : List Change) (end end' : EndMeaning) →
+        HoldsChanges input cs end → HoldsChanges input ds end' → (cs ≡ ds) × (end ≡ end') }
+    ensures applied { (r : Result ℕ ApplyFault) (old input before after : List ℕ)
+        (d d' : List Payload) (cs : List Change) (end end' : EndMeaning) →
+        HoldsData old d end → HoldsChanges input cs end' →
+        end.version ≡ end'.version → end.session ≡ end'.session →
+        after_all cs (Ok d) ≡ Ok d' → AppliesChanges r old input before after →
+        IsApplied r (data_form d' end') before after }
+    ensures room { (r : Result ℕ ApplyFault) (form before after : List ℕ) →
+        IsApplied r form before after → length form ≤ length before → IsOk r }
+{}
+
+/// What `delta_into` writes for two slices of data of one version and one session is changes in
+/// canonical form, whatever follows it, and `apply_into` makes of old data by them new data: the
+/// units that announce it, and its end of data.
+pub fn deltas_in_slices()
+    ensures canonical { (old new rest : List ℕ) (d d' : List Payload) (end end' : EndMeaning) →
+        HoldsData old d end → HoldsData new d' end' → end.version ≡ end'.version →
+        HoldsChanges (delta_form d d' end' ++ rest) (changes d d') end' }
+    ensures makes_new { (r : Result ℕ ApplyFault) (old new rest before after : List ℕ)
+        (d d' : List Payload) (end end' : EndMeaning) →
+        HoldsData old d end → HoldsData new d' end' →
+        end.version ≡ end'.version → end.session ≡ end'.session →
+        AppliesChanges r old (delta_form d d' end' ++ rest) before after →
+        IsApplied r (data_form d' end') before after }
 {}
