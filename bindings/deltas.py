@@ -1,5 +1,5 @@
 #!/usr/bin/env python3
-"""Data and deltas, and what the calls on them have to answer, computed by RFC 8210 and
+"""Data and changes, and what the calls on them have to answer, computed by RFC 8210 and
 docs/PROTOCOL.md without the library: data is a Python set of payloads.
 
 usage: deltas.py [SEED] > CASES    for the tests of the bindings
@@ -18,8 +18,8 @@ import sys
 import sessions
 from sessions import ASPA, END, IPV4, IPV6, KEY, OK, UNIT_TYPE, UNIT_VERSION
 
-CALLS = {"delta": 0}
-NOT_CANONICAL, OTHER_SESSION = 12, 13
+CALLS = {"delta": 0, "apply": 1}
+NOT_CANONICAL, OTHER_SESSION, DUPLICATE, UNKNOWN = range(12, 16)
 ANNOUNCE, WITHDRAW = 1, 0
 WIDTHS = {IPV4: 4, IPV6: 16}
 
@@ -75,20 +75,57 @@ def stray(rng, unit):
     return bytes(unit)
 
 
+def units_of(rng, version, changes):
+    """The units that make the changes, some of them with stray bits or with providers of a
+    withdrawal."""
+    units = []
+    for action, payload in changes:
+        unit = form(version, action, payload)
+        if payload[0] == ASPA and action == WITHDRAW and rng.random() < 0.3:
+            unit = form(version, ANNOUNCE, payload[:2] + ((1, 2),))
+            unit = unit[:2] + b"\0" + unit[3:]
+        units.append(stray(rng, unit) if rng.random() < 0.3 else unit)
+    return units
+
+
+def in_order(changes):
+    """Announcements and then withdrawals, each in the order of payloads."""
+    return sorted(changes, key=lambda change: (1 - change[0], name(change[1])))
+
+
 def data_units(rng, data, version):
-    """The units of data in canonical form, some of them with stray bits."""
-    return [stray(rng, unit) if rng.random() < 0.3 else unit
-            for unit in (form(version, ANNOUNCE, payload) for payload in sorted(data, key=name))]
+    """The units of data in canonical form."""
+    return units_of(rng, version, in_order((ANNOUNCE, payload) for payload in data))
 
 
-def delta(old, new, end):
-    """The delta from old data to new."""
-    names = {name(payload) for payload in new}
-    announced = sorted((payload for payload in new if payload not in old), key=name)
-    withdrawn = sorted((payload for payload in old if name(payload) not in names), key=name)
-    units = [form(end[0], ANNOUNCE, payload) for payload in announced]
-    units += [form(end[0], WITHDRAW, payload) for payload in withdrawn]
+def written(changes, end):
+    """Changes in canonical form, and their end of data."""
+    units = [form(end[0], action, payload) for action, payload in in_order(changes)]
     return b"".join(units) + end_form(end)
+
+
+def delta(old, new):
+    """The changes from old data to new."""
+    names = {name(payload) for payload in new}
+    return ([(ANNOUNCE, payload) for payload in new if payload not in old]
+            + [(WITHDRAW, payload) for payload in old if name(payload) not in names])
+
+
+def applied(data, changes):
+    """What the changes make of the data, or the status of the first that is refused, and how many
+    changes come before it."""
+    held = {name(payload): payload for payload in data}
+    for count, (action, payload) in enumerate(changes):
+        there = name(payload) in held
+        if action == ANNOUNCE and there and payload[0] != ASPA:
+            return DUPLICATE, count
+        if action == WITHDRAW and not there:
+            return UNKNOWN, count
+        if action == ANNOUNCE:
+            held[name(payload)] = payload
+        else:
+            del held[name(payload)]
+    return frozenset(held.values()), None
 
 
 # ---- what is wrong with an input
@@ -112,38 +149,65 @@ def unit_fault(rest):
     return shown.get("status", OK), shown.get("detail", 0)
 
 
-def flaw(data):
-    """The status, the offset and the detail of the first fault of data, and its end of data."""
-    at, last = 0, None
+def may_follow(last, unit, call, announced):
+    """Whether a unit, or an end of data, may come after the last unit in what the call reads."""
+    if last is not None and last[0] != unit[0]:
+        return False
+    if unit[1] == END:
+        return True
+    action, payload = change_of(unit)
+    if action == WITHDRAW and (call == "data" or name(payload) in announced):
+        return False
+    before, other = change_of(last) if last is not None else (ANNOUNCE, None)
+    if action == before:
+        return other is None or name(other) < name(payload)
+    return action == WITHDRAW
+
+
+def change_of(unit):
+    """The action and the payload of a unit."""
+    return unit[8 if unit[1] in WIDTHS else 2] % 2, meant(unit)
+
+
+def read(data, call):
+    """The status, the offset and the detail of the first fault of an input, or None; its units and
+    its end of data."""
+    at, units, announced = 0, [], set()
     while True:
         status, detail = unit_fault(data[at:])
         if status != OK:
-            return (status, at, detail), None
+            return (status, at, detail), units
         unit = data[at:at + sessions.number(data[at + 4:at + 8])]
-        other_version = last is not None and last[0] != unit[0]
+        if not may_follow(units[-1] if units else None, unit, call, announced):
+            return (NOT_CANONICAL, at, 0), units
+        units.append(unit)
         if unit[1] == END:
-            return ((NOT_CANONICAL, at, 0), None) if other_version else (None, unit)
-        action = unit[8 if unit[1] in WIDTHS else 2] % 2
-        if action == WITHDRAW or other_version or (last and not last[1] < name(meant(unit))):
-            return (NOT_CANONICAL, at, 0), None
-        last = unit[0], name(meant(unit))
+            return None, units
+        if change_of(unit)[0] == ANNOUNCE:
+            announced.add(name(meant(unit)))
         at += len(unit)
 
 
-def delta_case(old, new, output):
-    """The case of two inputs, of which the delta is this output where they aren't refused."""
-    sides = [flaw(old), flaw(new)]
+def of_two(call, first, second, output):
+    """The case of two inputs, for which this is written where they aren't refused."""
+    sides = read(first, "data"), read(second, "data" if call == "delta" else "changes")
     for side, (wrong, _) in enumerate(sides, 1):
         if wrong:
             status, offset, detail = wrong
-            return "delta", status, side, detail, offset, old, new, b""
-    (_, old_end), (_, new_end) = sides
+            return call, status, side, detail, offset, first, second, b""
+    old_end, new_end = sides[0][1][-1], sides[1][1][-1]
     if old_end[0] != new_end[0]:
-        return "delta", UNIT_VERSION, 0, new_end[0], 0, old, new, b""
+        return call, UNIT_VERSION, 0, new_end[0], 0, first, second, b""
     if old_end[2:4] != new_end[2:4]:
-        return "delta", OTHER_SESSION, 0, 0, 0, old, new, b""
+        return call, OTHER_SESSION, 0, 0, 0, first, second, b""
+    if call == "apply":
+        units = sides[1][1]
+        made, count = applied([meant(unit) for unit in sides[0][1][:-1]],
+                              [change_of(unit) for unit in units[:-1]])
+        if count is not None:
+            return call, made, 2, 0, sum(map(len, units[:count])), first, second, b""
     assert output is not None
-    return "delta", OK, 0, 0, 0, old, new, output
+    return call, OK, 0, 0, 0, first, second, output
 
 
 # ---- inputs
@@ -214,6 +278,15 @@ def spoiled(rng, units):
     return units
 
 
+def spoiled_pairs(rng, call, units):
+    """Cases of two inputs, of which one or both are spoiled."""
+    first, second = (b"".join(side) for side in units)
+    bad = b"".join(spoiled(rng, units[0])), b"".join(spoiled(rng, units[1]))
+    for one, other in ((bad[0], second), (first, bad[1]), bad):
+        if read(one, "data")[0] or read(other, "data" if call == "delta" else "changes")[0]:
+            yield of_two(call, one, other, None)
+
+
 def delta_cases(rng):
     """Pairs of data, and pairs of which one or both are spoiled."""
     for _ in range(700):
@@ -224,15 +297,50 @@ def delta_cases(rng):
         units = [data_units(rng, data, version) + [end_form(end)]
                  for data, end in zip((old, new), ends)]
         first, second = (b"".join(side) for side in units)
-        yield delta_case(first + rng.choice([b"", rng.randbytes(9)]),
-                         second + rng.choice([b"", rng.randbytes(30)]), delta(old, new, ends[1]))
+        yield of_two("delta", first + rng.choice([b"", rng.randbytes(9)]),
+                     second + rng.choice([b"", rng.randbytes(30)]),
+                     written(delta(old, new), ends[1]))
         other = any_end(rng, rng.choice([version, (version + 1) % 3]), rng.choice([session, 7]))
         moved = b"".join(data_units(rng, new, other[0])) + end_form(other)
-        yield delta_case(first, moved, delta(old, new, other))
-        bad = b"".join(spoiled(rng, units[0])), b"".join(spoiled(rng, units[1]))
-        for pair in ((bad[0], second), (first, bad[1]), bad):
-            if any(flaw(side)[0] for side in pair):
-                yield delta_case(*pair, None)
+        yield of_two("delta", first, moved, written(delta(old, new), other))
+        yield from spoiled_pairs(rng, "delta", units)
+
+
+def any_changes(rng, data):
+    """Changes of which each name has one, most of them allowed by the data."""
+    named = {name(payload): payload for payload in data}
+    changes = {}
+    for payload in list(data) + list(any_data(rng, 8)):
+        there, wrong = name(payload) in named, rng.random() < 0.05
+        action = WITHDRAW if there != wrong else ANNOUNCE
+        if payload[0] == ASPA and there and rng.random() < 0.5:
+            action, payload = ANNOUNCE, payload[:2] + ((rng.choice([1, 2]),),)
+        if rng.random() < 0.5:
+            changes[name(payload)] = action, payload
+    return list(changes.values())
+
+
+def apply_cases(rng):
+    """Data and changes, and such of which one or both are spoiled."""
+    for _ in range(700):
+        version, session = rng.choice([0, 1, 2]), rng.getrandbits(16)
+        data = any_data(rng, 12)
+        changes = in_order(any_changes(rng, data))
+        ends = any_end(rng, version, session), any_end(rng, version, session)
+        units = (data_units(rng, data, version) + [end_form(ends[0])],
+                 units_of(rng, version, changes) + [end_form(ends[1])])
+        made, refused = applied(data, changes)
+        output = None if refused is not None else written([(ANNOUNCE, one) for one in made],
+                                                          ends[1])
+        first, second = (b"".join(side) for side in units)
+        yield of_two("apply", first + rng.choice([b"", rng.randbytes(9)]),
+                     second + rng.choice([b"", rng.randbytes(30)]), output)
+        other = any_end(rng, (version + 1) % 3, rng.choice([session, 7]))
+        moved = b"".join(units_of(rng, other[0], changes)) + end_form(other)
+        yield of_two("apply", first, moved, None)
+        yield of_two("apply", first, b"".join(units[1][:-1]) + end_form(
+            any_end(rng, version, session ^ 1)), None)
+        yield from spoiled_pairs(rng, "apply", units)
 
 
 def large_cases(rng):
@@ -245,14 +353,17 @@ def large_cases(rng):
     for old, new in ((few, frozenset()), (frozenset(), few), (many, frozenset(list(many)[::2])),
                      (few, frozenset([(ASPA, 7, long_aspa[2][:-1] + (3,)), long_key]))):
         sides = [b"".join(data_units(rng, data, 2)) + end_form(end) for data in (old, new)]
-        yield delta_case(*sides, delta(old, new, end))
+        changes = in_order(delta(old, new))
+        bytes_of = b"".join(units_of(rng, 2, changes)) + end_form(end)
+        yield of_two("delta", *sides, written(changes, end))
+        yield of_two("apply", sides[0], bytes_of, written([(ANNOUNCE, one) for one in new], end))
 
 
 def main():
     if len(sys.argv) > 2:
         sys.exit(__doc__)
     rng = random.Random(sys.argv[1] if len(sys.argv) > 1 else "1")
-    for cases in (delta_cases, large_cases):
+    for cases in (delta_cases, apply_cases, large_cases):
         for call, status, side, detail, offset, first, second, output in cases(rng):
             sys.stdout.buffer.write(
                 struct.pack("<4B4Q", CALLS[call], status, side, detail, offset, len(first),

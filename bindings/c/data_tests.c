@@ -4,7 +4,7 @@
  * usage: data_tests CASES */
 #include "testing.h"
 
-enum call { DELTA = 0 };
+enum call { DELTA = 0, APPLY = 1 };
 
 /* One case: a call, and what is expected of it. The numbers are little-endian. */
 struct data_case {
@@ -31,8 +31,11 @@ static struct data_case next_case(const uint8_t **at)
 static uint8_t called(const struct data_case *one, const uint8_t *first, const uint8_t *second,
                       uint8_t *output, size_t room, struct rtr_data_answer *answer)
 {
-    CHECK(one->call == DELTA);
-    return rtr_delta(first, one->first_length, second, one->second_length, output, room, answer);
+    if (one->call == DELTA)
+        return rtr_delta(first, one->first_length, second, one->second_length, output, room,
+                         answer);
+    CHECK(one->call == APPLY);
+    return rtr_apply(first, one->first_length, second, one->second_length, output, room, answer);
 }
 
 /* With this much room the call answers this status, and writes that many bytes. Where it isn't for
@@ -82,6 +85,8 @@ static void check_null(const struct place *place)
     CHECK(answer->side == 2 && answer->offset == 0 && answer->written == 0);
     CHECK(rtr_delta(data, sizeof end, data, sizeof end, NULL, 0, answer) == RTR_NO_ROOM);
     CHECK(answer->side == 0 && answer->offset == 0 && answer->written == 0);
+    CHECK(rtr_apply(NULL, 0, data, sizeof end, NULL, 0, answer) == RTR_SHORT && answer->side == 1);
+    CHECK(rtr_apply(data, sizeof end, NULL, 0, NULL, 0, answer) == RTR_SHORT && answer->side == 2);
 }
 
 int main(int count, char **words)

@@ -181,6 +181,9 @@ uint8_t rtr_same_meaning_nonnull(const uint8_t *left, size_t left_length,
 uint8_t rtr_delta_nonnull(const uint8_t *old_data, size_t old_length,
                           const uint8_t *new_data, size_t new_length,
                           uint8_t *output, size_t output_length, struct rtr_data_answer *answer);
+uint8_t rtr_apply_nonnull(const uint8_t *data, size_t data_length,
+                          const uint8_t *changes, size_t changes_length,
+                          uint8_t *output, size_t output_length, struct rtr_data_answer *answer);
 
 /* The pointer of a slice to be read; in place of a null pointer, whose length is 0, another. */
 static inline const uint8_t *rtr_readable(const uint8_t *bytes)
@@ -355,7 +358,7 @@ static inline uint8_t rtr_same_meaning(const uint8_t *left, size_t left_length,
 
 /* Writes the delta that leads a router from the old data to the new (RFC 8210 section 8.2): changes
  * in canonical form, with the end of data of the new data. An output of old_length + new_length
- * bytes always suffices.
+ * bytes always suffices. rtr_apply then makes of the old data the new.
  *
  * RTR_OK; or, in this order,
  *   RTR_SHORT to RTR_PREFIX, RTR_NOT_CANONICAL   the first fault of the old data (side 1), or else
@@ -370,6 +373,28 @@ static inline uint8_t rtr_delta(const uint8_t *old_data, size_t old_length,
                                 struct rtr_data_answer *answer)
 {
     return rtr_delta_nonnull(rtr_readable(old_data), old_length, rtr_readable(new_data), new_length,
+                             rtr_writable(output), output_length, answer);
+}
+
+/* Writes what the changes make of the data: data in canonical form, with the end of data of the
+ * changes. All changes are made, or none. An ASPA that is announced takes the place of the one of
+ * its customer. An output of data_length + changes_length bytes always suffices.
+ *
+ * RTR_OK; or, in this order,
+ *   RTR_SHORT to RTR_PREFIX, RTR_NOT_CANONICAL   the first fault of the data (side 1), or else of
+ *                                                the changes (side 2)
+ *   RTR_UNIT_VERSION                             the changes are of another version than the data:
+ *                                                of the one in `detail`
+ *   RTR_OTHER_SESSION                            the changes are of another session than the data
+ *   RTR_DUPLICATE, RTR_UNKNOWN                   the first of the changes that the rules refuse
+ *                                                (side 2), at `offset`
+ *   RTR_NO_ROOM                                  the output is shorter than the data */
+static inline uint8_t rtr_apply(const uint8_t *data, size_t data_length,
+                                const uint8_t *changes, size_t changes_length,
+                                uint8_t *output, size_t output_length,
+                                struct rtr_data_answer *answer)
+{
+    return rtr_apply_nonnull(rtr_readable(data), data_length, rtr_readable(changes), changes_length,
                              rtr_writable(output), output_length, answer);
 }
 

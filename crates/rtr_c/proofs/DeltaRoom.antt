@@ -66,7 +66,7 @@ unit_fits b m unit =
     let h = unit_fields_of b m unit in
     omega (arith, form_fits h.fields, ap length h.bytes, ap (λ m. length (form_of m)) h.means)
 
-units_fit : (us : List ℕ) (ms : List Meaning) → AreUnits us ms → length (forms ms) ≤ length us
+pub units_fit : (us : List ℕ) (ms : List Meaning) → AreUnits us ms → length (forms ms) ≤ length us
 units_fit us [] h = omega arith
 units_fit us (m ∷ ms) (first, rest, parts, unit, others) =
     omega (
@@ -97,7 +97,7 @@ withdrawn_fits v (aspa a) =
       length-append (be a.customer 4) (words []),
     )
 
-abbrev announced_size : ℕ → List Payload → ℕ
+abbrev pub announced_size : ℕ → List Payload → ℕ
 announced_size v ps = length (change_forms v (map announcement ps))
 
 module _ (v : ℕ) (to : Payload → Change)
@@ -129,7 +129,7 @@ module _ (v : ℕ) (to : Payload → Change)
 -- ---- a delta
 
 -- data, without its end, announced once more
-data_fits : (input : List ℕ) (d : List Payload) (e : EndMeaning) → HoldsData input d e →
+pub data_fits : (input : List ℕ) (d : List Payload) (e : EndMeaning) → HoldsData input d e →
     announced_size e.version d + length (end_list e) ≤ length input
 data_fits input d e h =
     let s = h.accepts.sequence in
@@ -177,7 +177,7 @@ fault_else (faults.UnitVersion v) = λ i. omega (arith, i)
 fault_else (faults.Prefix rule) = λ i. omega (arith, i)
 fault_else faults.TooMany = λ i. omega (arith, i)
 
-reason_else : (r : Reason) → reason_status r ≢ 9
+pub reason_else : (r : Reason) → reason_status r ≢ 9
 reason_else (Refused e) = fault_else e
 reason_else NotCanonical = λ i. omega (arith, i)
 

@@ -6,3 +6,4 @@ mod Again
 mod AgainPayload
 mod DeltaRoom
 mod Wanted
+mod ApplyRoom

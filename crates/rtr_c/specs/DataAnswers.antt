@@ -1,11 +1,14 @@
 -- What C gets of a call on data and changes (this library's own).
 use Rattle.std.specs.Prelude.{◌≡◌, ℕ, Result, Ok, Err}
+use Rattle.rtr_deltas.specs.declared.fault.ApplyFault.{ApplyFault}
+use Rattle.rtr_deltas.specs.declared.fault.ApplyFault.TheVariants as applied
 use Rattle.rtr_deltas.specs.declared.fault.DeltaFault.{DeltaFault}
 use Rattle.rtr_deltas.specs.declared.fault.DeltaFault.TheVariants.{Old, New, UnitVersion, Session}
 use Rattle.rtr_deltas.specs.declared.fault.DeltaFault.TheVariants.{NoRoom}
 use Rattle.rtr_deltas.specs.declared.fault.Flaw.{Flaw}
 use Rattle.rtr_deltas.specs.declared.fault.Reason.{Reason}
 use Rattle.rtr_deltas.specs.declared.fault.Reason.TheVariants.{Refused, NotCanonical}
+use Rattle.rtr_c.specs.Answers.{rtr_duplicate, rtr_unknown}
 use Rattle.rtr_c.specs.Answers.{rtr_ok, rtr_unit_version, rtr_no_room, rtr_not_canonical}
 use Rattle.rtr_c.specs.Answers.{rtr_other_session, fault_status, fault_detail}
 use Rattle.rtr_c.specs.declared.data_answer.RtrDataAnswer.{RtrDataAnswer}
@@ -47,3 +50,13 @@ delta_told (Err (New f)) = flaw_told 2 f
 delta_told (Err (UnitVersion v)) = refused_told rtr_unit_version v
 delta_told (Err (Session s)) = refused_told rtr_other_session 0
 delta_told (Err NoRoom) = refused_told rtr_no_room 0
+
+abbrev pub apply_told : Result ℕ ApplyFault → RtrDataAnswer
+apply_told (Ok n) = written_told n
+apply_told (Err (applied.Data f)) = flaw_told 1 f
+apply_told (Err (applied.Changes f)) = flaw_told 2 f
+apply_told (Err (applied.UnitVersion v)) = refused_told rtr_unit_version v
+apply_told (Err (applied.Session s)) = refused_told rtr_other_session 0
+apply_told (Err (applied.Duplicate offset)) = side_told 2 offset rtr_duplicate 0
+apply_told (Err (applied.Unknown offset)) = side_told 2 offset rtr_unknown 0
+apply_told (Err applied.NoRoom) = refused_told rtr_no_room 0

@@ -5,6 +5,7 @@
 #![tactic(auto)]
 
 mod answer;
+mod apply;
 mod compare;
 mod data_answer;
 mod delta;
