@@ -1,0 +1,3 @@
+pub mod HeldData
+pub mod SoFar
+pub mod AskedFor
