@@ -58,16 +58,19 @@ class Server:
     """A program that runs until it is ended. Its output goes to a file."""
 
     running = []
-    lock = threading.Lock()
+    lock = threading.RLock()
+    # Whether the run ends, so that no server may start any more.
+    stopping = False
 
     def __init__(self, words, log, split=None):
         """Starts it. Its standard output goes to the file `split`, if there is one."""
         self.words = words
         self.log = log
-        with open(log, "ab") as file:
+        with open(log, "ab") as file, Server.lock:
+            if Server.stopping:
+                raise OSError("the run ends")
             self.process = subprocess.Popen(words, stdin=subprocess.DEVNULL, stdout=split or file,
                                             stderr=file, start_new_session=True)
-        with Server.lock:
             Server.running.append(self)
 
     def __enter__(self):
@@ -108,7 +111,9 @@ class Server:
 
 
 def end_all():
-    """Ends each server that still runs."""
+    """Ends each server that still runs; none starts after it."""
+    with Server.lock:
+        Server.stopping = True
     for server in list(Server.running):
         server.end()
 

@@ -8,6 +8,7 @@ import threading
 AS = 64999
 MARKER = b"\xff" * 16
 OPEN, UPDATE, KEEPALIVE = 1, 2, 4
+HOLD_SECONDS = 90
 
 
 def message(kind, content=b""):
@@ -21,11 +22,11 @@ def capability(code, content):
 
 
 def opening():
-    """Our OPEN: both families, AS numbers of four bytes, several paths a prefix, no hold timer."""
+    """Our OPEN: both families, AS numbers of four bytes, several paths a prefix."""
     capabilities = capability(1, bytes([0, 1, 0, 1])) + capability(1, bytes([0, 2, 0, 1]))
     capabilities += capability(65, struct.pack(">I", AS))
     capabilities += capability(69, bytes([0, 1, 1, 2, 0, 2, 1, 2]))
-    fixed = struct.pack(">BHH4s", 4, 23456, 0, bytes([192, 0, 2, 2]))
+    fixed = struct.pack(">BHH4s", 4, 23456, HOLD_SECONDS, bytes([192, 0, 2, 2]))
     return message(OPEN, fixed + bytes([len(capabilities)]) + capabilities)
 
 
@@ -62,7 +63,7 @@ class Speaker:
         for prefix, asn in sorted(routes):
             paths[prefix] = paths.get(prefix, 0) + 1
             self.socket.sendall(update(prefix, asn, paths[prefix]))
-        self.socket.settimeout(None)
+        self.socket.settimeout(HOLD_SECONDS / 4)
         threading.Thread(target=self.drain, daemon=True).start()
 
     def receive(self):
@@ -74,10 +75,13 @@ class Speaker:
         self.socket.recv(length - 19, socket.MSG_WAITALL)
 
     def drain(self):
-        """Takes what the router sends."""
+        """Takes what the router sends, and keeps the session alive."""
         with contextlib.suppress(OSError):
-            while self.socket.recv(1 << 16):
-                pass
+            open_still = True
+            while open_still:
+                with contextlib.suppress(TimeoutError):
+                    open_still = bool(self.socket.recv(1 << 16))
+                self.socket.sendall(message(KEEPALIVE))
 
     def close(self):
         """Ends the session."""
