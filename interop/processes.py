@@ -1,5 +1,6 @@
 """Servers of a run: each in a process group of its own, ended by its id whatever happens."""
 import contextlib
+import itertools
 import os
 import shutil
 import signal
@@ -36,11 +37,27 @@ def package_version(package):
         return "of no package"
 
 
+class Ports:
+    """Ports of the loopback interface, each given once: below those that clients get."""
+
+    lock = threading.Lock()
+    given = itertools.cycle(range(20000, 32000))
+    place = os.getpid() * 97 % 12000
+
+    @classmethod
+    def free(cls):
+        """A port that nothing listens on now."""
+        with cls.lock:
+            for port in itertools.islice(cls.given, cls.place, cls.place + 1000):
+                cls.place = 0
+                with contextlib.suppress(OSError), socket.create_server(("127.0.0.1", port)):
+                    return port
+        raise OSError("no port is free")
+
+
 def free_port():
     """A port of the loopback interface that nothing listens on now."""
-    with socket.socket() as probe:
-        probe.bind(("127.0.0.1", 0))
-        return probe.getsockname()[1]
+    return Ports.free()
 
 
 def until(condition, seconds, what):
@@ -120,6 +137,7 @@ def end_all():
 
 def stop(number, _frame):
     """A handler of signals: the servers are ended, and then the run."""
+    print(f"interop: ended by signal {number}, {signal.Signals(number).name}", flush=True)
     end_all()
     os._exit(128 + number)
 

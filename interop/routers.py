@@ -172,6 +172,7 @@ class OpenBGPD(Router):
 
     name, package = "OpenBGPD", "openbgpd"
     INSIDE = "mount -t tmpfs none /run && mkdir -m 755 /run/openbgpd && exec \"$@\""
+    NEEDS_ROOT = "bgpd of OpenBGPD changes its root and its user: that needs root and a namespace"
 
     def __init__(self, folder, port):
         super().__init__(folder, port)
@@ -188,8 +189,10 @@ class OpenBGPD(Router):
     def start(self):
         """Starts it, and announces routes to it."""
         daemon = program("bgpd")
-        if os.geteuid() != 0:
-            raise Missing("bgpd of OpenBGPD changes its root and its user: that needs root")
+        inside = [program("unshare"), "--mount", "sh", "-c", self.INSIDE, "sh"]
+        tried = subprocess.run([*inside, "true"], capture_output=True, timeout=SECONDS, check=False)
+        if os.geteuid() != 0 or tried.returncode:
+            raise Missing(self.NEEDS_ROOT)
         listen = free_port()
         path = self.keep("conf", f"""
             AS 65000
@@ -211,7 +214,6 @@ class OpenBGPD(Router):
             allow from any
         """)
         os.chmod(path, 0o600)
-        inside = [program("unshare"), "--mount", "sh", "-c", self.INSIDE, "sh"]
         self.run([*inside, daemon, "-d", "-v", "-f", path])
         self.server.listens(listen)
         self.speaker = until(lambda: self.connected(listen), SECONDS, "OpenBGPD takes a neighbor")

@@ -6,11 +6,13 @@ It has a certificate, a list of revocations and a manifest (RFC 6487, RFC 9286),
 import base64
 import hashlib
 import os
+import shutil
 import subprocess
 import time
 
 BASE = "rsync://rpki.example/ta"
 MANIFEST_TYPE = "1.2.840.113549.1.9.16.1.26"
+REQUEST = ("req", "-config", "config", "-newkey", "rsa:2048", "-nodes", "-sha256")
 SHA256 = bytes.fromhex("0609608648016503040201")
 
 CONFIG = """
@@ -76,46 +78,66 @@ def manifest(listed):
     return der(0x30, der(0x02, b"\1"), moment(-3600), moment(86400), SHA256, der(0x30, *files))
 
 
-def make(folder):
-    """Makes the anchor in this new folder: the folders of its locator and of its repository."""
-    work, locators = os.path.join(folder, "made"), os.path.join(folder, "locators")
-    repository = os.path.join(folder, "repository")
-    shown = os.path.join(repository, BASE.replace("rsync://", ""))
-    for path in (work, locators, shown):
-        os.makedirs(path)
+class Workshop:
+    """A folder in which `openssl` makes the parts of an anchor."""
 
-    def openssl(*words):
-        subprocess.run(["openssl", *words], cwd=work, check=True, capture_output=True, timeout=60)
+    def __init__(self, folder):
+        self.folder = folder
+        os.makedirs(folder)
 
-    def keep(name, content):
-        with open(os.path.join(work, name), "wb") as file:
+    def openssl(self, *words):
+        """Runs openssl in the folder."""
+        subprocess.run(["openssl", *words], cwd=self.folder, check=True, capture_output=True,
+                       timeout=60)
+
+    def keep(self, name, content):
+        """Writes a file."""
+        with open(os.path.join(self.folder, name), "wb") as file:
             file.write(content)
 
-    def kept(name):
-        with open(os.path.join(work, name), "rb") as file:
+    def kept(self, name):
+        """The content of a file."""
+        with open(os.path.join(self.folder, name), "rb") as file:
             return file.read()
 
-    keep("config", CONFIG.encode())
-    keep("index", b"")
-    keep("number", b"01\n")
-    request = ("req", "-config", "config", "-newkey", "rsa:2048", "-nodes", "-sha256")
-    openssl(*request, "-x509", "-days", "2", "-keyout", "anchor.key", "-out", "anchor.pem",
-            "-extensions", "anchor_certificate", "-set_serial", "1")
-    openssl("x509", "-in", "anchor.pem", "-outform", "DER", "-out", "anchor.cer")
-    openssl("ca", "-config", "config", "-gencrl", "-out", "crl.pem")
-    openssl("crl", "-in", "crl.pem", "-outform", "DER", "-out", "anchor.crl")
-    openssl(*request, "-subj", "/CN=manifest", "-keyout", "manifest.key", "-out", "request.pem")
-    openssl("x509", "-req", "-in", "request.pem", "-CA", "anchor.pem", "-CAkey", "anchor.key",
-            "-set_serial", "2", "-days", "2", "-sha256", "-extfile", "config",
-            "-extensions", "manifest_certificate", "-out", "manifest.pem")
-    keep("content", manifest([("anchor.crl", kept("anchor.crl"))]))
-    openssl("cms", "-sign", "-binary", "-nodetach", "-keyid", "-md", "sha256", "-nosmimecap",
-            "-econtent_type", MANIFEST_TYPE, "-in", "content", "-signer", "manifest.pem",
-            "-inkey", "manifest.key", "-outform", "DER", "-out", "anchor.mft")
+    def make_anchor(self):
+        """Makes the anchor's key, its certificate and its list of revocations, in DER."""
+        self.keep("config", CONFIG.encode())
+        self.keep("index", b"")
+        self.keep("number", b"01\n")
+        self.openssl(*REQUEST, "-x509", "-days", "2", "-set_serial", "1", "-keyout", "anchor.key",
+                     "-extensions", "anchor_certificate", "-out", "anchor.pem")
+        self.openssl("x509", "-in", "anchor.pem", "-outform", "DER", "-out", "anchor.cer")
+        self.openssl("rsa", "-in", "anchor.key", "-pubout", "-outform", "DER", "-out", "public")
+        self.openssl("ca", "-config", "config", "-gencrl", "-out", "crl.pem")
+        self.openssl("crl", "-in", "crl.pem", "-outform", "DER", "-out", "anchor.crl")
+
+    def make_manifest(self):
+        """Makes the manifest, signed with a key of its own."""
+        self.openssl(*REQUEST, "-subj", "/CN=manifest", "-keyout", "manifest.key",
+                     "-out", "request.pem")
+        self.openssl("x509", "-req", "-in", "request.pem", "-CA", "anchor.pem",
+                     "-CAkey", "anchor.key", "-set_serial", "2", "-days", "2", "-sha256",
+                     "-extfile", "config", "-extensions", "manifest_certificate",
+                     "-out", "manifest.pem")
+        self.keep("content", manifest([("anchor.crl", self.kept("anchor.crl"))]))
+        self.openssl("cms", "-sign", "-binary", "-nodetach", "-keyid", "-md", "sha256",
+                     "-nosmimecap", "-econtent_type", MANIFEST_TYPE, "-in", "content",
+                     "-signer", "manifest.pem", "-inkey", "manifest.key", "-outform", "DER",
+                     "-out", "anchor.mft")
+
+
+def make(folder):
+    """Makes the anchor in this new folder: the folders of its locator and of its repository."""
+    shop = Workshop(os.path.join(folder, "made"))
+    shop.make_anchor()
+    shop.make_manifest()
+    locators, repository = os.path.join(folder, "locators"), os.path.join(folder, "repository")
+    shown = os.path.join(repository, BASE.replace("rsync://", ""))
+    for path in (locators, shown):
+        os.makedirs(path)
     for name in ("anchor.cer", "anchor.crl", "anchor.mft"):
-        with open(os.path.join(shown, name), "wb") as file:
-            file.write(kept(name))
-    openssl("rsa", "-in", "anchor.key", "-pubout", "-outform", "DER", "-out", "public")
+        shutil.copy(os.path.join(shop.folder, name), shown)
     with open(os.path.join(locators, "anchor.tal"), "w", encoding="ascii") as file:
-        file.write(f"{BASE}/anchor.cer\n\n{base64.b64encode(kept('public')).decode()}\n")
+        file.write(f"{BASE}/anchor.cer\n\n{base64.b64encode(shop.kept('public')).decode()}\n")
     return locators, repository
