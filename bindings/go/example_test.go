@@ -185,3 +185,59 @@ func ExampleNewProviders() {
 	// 65001
 	// 65551
 }
+
+// A cache changes its data, and a router follows by the delta.
+func ExampleDelta() {
+	// One prefix, and an end of data of session 7 and serial number 1.
+	input := []byte{
+		1, 4, 0, 0, 0, 0, 0, 20, 1, 23, 26, 0, 192, 0, 2, 0, 0, 1, 0, 15,
+		1, 7, 0, 7, 0, 0, 0, 24, 0, 0, 0, 1, 0, 0, 0x0e, 0x10, 0, 0, 2, 0x58, 0, 0, 0x1c, 0x20,
+	}
+	old, err := rtr.ParseData(input)
+	if err != nil {
+		fmt.Println(err)
+		return
+	}
+	// The cache has nothing any more.
+	new, err := rtr.NewData(1, 7, 2, rtr.RecommendedTiming)
+	if err != nil {
+		fmt.Println(err)
+		return
+	}
+	changes, err := rtr.Delta(old, new)
+	if err != nil {
+		fmt.Println(err)
+		return
+	}
+	router, err := rtr.Apply(old, changes)
+	fmt.Println(router.Len(), "payloads at serial number", router.Serial(), err)
+	_, err = rtr.Apply(router, changes)
+	fmt.Println(err, errors.Is(err, rtr.Unknown))
+	// Output:
+	// 0 payloads at serial number 2 <nil>
+	// rtr: withdrawal of an unknown record, at byte 0 true
+}
+
+// Changes as they come from a cache are put in order, and then applied, all or none.
+func ExampleApply() {
+	reader := rtr.NewReader(bytes.NewReader(sent[8:]))
+	read, err := reader.Sequence(1000).Collect(1 << 20)
+	if err != nil {
+		fmt.Println(err)
+		return
+	}
+	changes, err := rtr.Order(read)
+	if err != nil {
+		fmt.Println(err)
+		return
+	}
+	data, err := rtr.NewData(1, 0x1234, 4, rtr.RecommendedTiming)
+	if err != nil {
+		fmt.Println(err)
+		return
+	}
+	// The second of them withdraws a prefix that isn't there.
+	after, err := rtr.Apply(data, changes)
+	fmt.Println(after.IsZero(), err)
+	// Output: true rtr: withdrawal of an unknown record, at byte 20
+}

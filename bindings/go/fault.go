@@ -22,6 +22,12 @@ const (
 	TooMany               // as many units as were allowed were taken
 	NoRoom                // the output is too short for what comes next
 	NoForm                // no unit has these fields
+	_                     // 11 was "out of memory", which no call answers any more
+	NotCanonical          // a unit or an end of data may not stand there in data or changes in canonical form
+	OtherSession          // changes or data are of another session than the data
+	Duplicate             // a payload is announced that is there already
+	Unknown               // a payload is withdrawn that isn't there
+	Undecided             // an ASPA is announced and then withdrawn, so that what the changes come to depends on the data
 )
 
 var statusTexts = [...]string{
@@ -36,11 +42,16 @@ var statusTexts = [...]string{
 	TooMany:        "too many units",
 	NoRoom:         "no room in the output",
 	NoForm:         "no unit has these fields",
+	NotCanonical:   "not in canonical form",
+	OtherSession:   "of another session",
+	Duplicate:      "duplicate announcement",
+	Unknown:        "withdrawal of an unknown record",
+	Undecided:      "an ASPA is announced and then withdrawn",
 }
 
 // String is the text of the status.
 func (s Status) String() string {
-	if int(s) < len(statusTexts) {
+	if int(s) < len(statusTexts) && statusTexts[s] != "" {
 		return statusTexts[s]
 	}
 	return fmt.Sprintf("unknown status %d", uint8(s))
@@ -67,7 +78,7 @@ type Fault struct {
 	// front of the input. -1 where no unit was read.
 	Offset int64
 	// The bytes of that unit, as far as they are there and its header can be believed. They lie in the input of
-	// Next, UnitSize, Normalise, NormaliseFor and SameMeaning; those of a Reader are a copy.
+	// Next, UnitSize, Normalise, NormaliseFor, SameMeaning and the calls on changes; those of a Reader are a copy.
 	Unit []byte
 }
 
@@ -141,7 +152,8 @@ func refusal(status Status, detail uint8, input []byte, offset int64) *Fault {
 	size := len(input)
 	switch status {
 	case Short:
-	case PrefixRule:
+	case PrefixRule, NotCanonical, Duplicate, Unknown, Undecided:
+		// The unit is whole.
 		size, _, _ = unitSize(input)
 	case TooMany, NoRoom:
 		size = 0

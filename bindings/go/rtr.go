@@ -24,6 +24,12 @@
 // Next shows the unit that bytes begin with, and Unit.AppendBinary appends one. Normalise, NormaliseFor and
 // SameMeaning take whole sequences.
 //
+// # Data and deltas
+//
+// Data is what a cache has, or a router has of it. Delta leads from old data to new, and Apply makes all changes of
+// a delta, or none; Order puts changes that came in any order into the form that Apply takes, and Sequence.Collect
+// reads them from a connection.
+//
 // # Errors
 //
 // What is wrong with a unit is a *Fault, for errors.As, with the place and the bytes of the unit, and the error

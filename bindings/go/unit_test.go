@@ -461,13 +461,19 @@ func TestStatus(t *testing.T) {
 		"no room in the output",
 		"no unit has these fields",
 		"unknown status 11",
+		"not in canonical form",
+		"of another session",
+		"duplicate announcement",
+		"withdrawal of an unknown record",
+		"an ASPA is announced and then withdrawn",
+		"unknown status 17",
 	} {
 		var err error = Status(status)
 		if err.Error() != text || Status(status).String() != text {
 			t.Fatalf("%d: %v", status, err)
 		}
 		fault := fmt.Errorf("wrapped: %w", &Fault{Status: Status(status)})
-		for other := OK; other < 12; other++ {
+		for other := OK; other < 18; other++ {
 			if errors.Is(fault, other) != (other == Status(status)) {
 				t.Fatalf("%v: %v", fault, other)
 			}
