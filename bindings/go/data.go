@@ -1,12 +1,18 @@
 package rtr
 
-import "encoding/binary"
+import (
+	"bytes"
+	"encoding/binary"
+)
 
 // The shortest payload unit, an ASPA that is withdrawn, has so many bytes.
 const shortestPayload = 12
 
-// The longest end of data has so many bytes.
-const longestEnd = 24
+// An end of data has so many bytes in version 0, and in later ones.
+const (
+	shortestEnd = 12
+	longestEnd  = 24
+)
 
 // Timing are the three times of an end of data, in seconds (RFC 8210 section 6). Version 0 has
 // none.
@@ -90,6 +96,11 @@ func checkedData(bytes []byte) Data {
 	return data
 }
 
+// Equal says whether two data are the same, with their version, session, serial number and timing.
+func (d Data) Equal(other Data) bool {
+	return bytes.Equal(d.bytes, other.bytes)
+}
+
 // IsZero says whether this is the zero Data.
 func (d Data) IsZero() bool {
 	return len(d.bytes) == 0
@@ -149,6 +160,18 @@ func fitted(output []byte, written int) []byte {
 		return append([]byte{}, output[:written]...)
 	}
 	return output[:written:written]
+}
+
+// inSession are the data under another session.
+func (d Data) inSession(session uint16) Data {
+	d.bytes = append([]byte{}, d.bytes...)
+	size := longestEnd
+	if d.Version() == 0 {
+		size = shortestEnd
+	}
+	binary.BigEndian.PutUint16(d.bytes[len(d.bytes)-size+2:], session)
+	d.session = session
+	return d
 }
 
 // Units is a loop over the payload units of the data, in the order of payloads.

@@ -134,9 +134,14 @@ func (f *Fault) Report() (report *Unit, owed bool) {
 	if !owed {
 		return nil, false
 	}
-	report = &Unit{Kind: ErrorReport, Code: code, Enclosed: f.Unit, Text: []byte(f.text())}
-	if len(f.Unit) > 0 {
-		report.Version = f.Unit[0]
+	return reportOn(code, f.Unit, f.text()), true
+}
+
+// reportOn is the error report with this code and text about a unit, in the version of that unit.
+func reportOn(code ErrorCode, unit []byte, text string) *Unit {
+	report := &Unit{Kind: ErrorReport, Code: code, Enclosed: unit, Text: []byte(text)}
+	if len(unit) > 0 {
+		report.Version = unit[0]
 	}
 	if len(report.Enclosed) > mostInReport {
 		report.Enclosed = report.Enclosed[:mostInReport]
@@ -144,7 +149,7 @@ func (f *Fault) Report() (report *Unit, owed bool) {
 	if left := mostInReport - len(report.Enclosed); len(report.Text) > left {
 		report.Text = report.Text[:left]
 	}
-	return report, true
+	return report
 }
 
 // refusal is the fault of the unit that input begins with, at this offset.

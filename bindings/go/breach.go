@@ -1,0 +1,144 @@
+package rtr
+
+import (
+	"errors"
+	"fmt"
+	"net"
+	"os"
+	"time"
+)
+
+// What a Client and a Server refuse of a session, each in a Breach that says which unit it was.
+var (
+	// ErrOtherVersion is of a unit whose version isn't the one that the session has.
+	ErrOtherVersion = errors.New("unit of another version than the session")
+	// ErrNoVersion is of a unit whose version isn't supported at all.
+	ErrNoVersion = errors.New("version is not supported")
+	// ErrOtherSession is of a unit of a cache whose session isn't that of its data.
+	ErrOtherSession = errors.New("unit of another session")
+	// ErrSerialBack is of an end of data whose serial number comes before that of the query.
+	ErrSerialBack = errors.New("serial number before that of the query")
+	// ErrNoQuery is of a unit of a client that is no query.
+	ErrNoQuery = errors.New("unit is not a query")
+	// ErrMisplaced is of a unit of a cache that may not stand where it came.
+	ErrMisplaced = errors.New("unit is not allowed here")
+	// ErrNoPayload is of a payload unit that its version doesn't have.
+	ErrNoPayload = errors.New("version does not have such payloads")
+)
+
+// ErrTooSlow is of a peer that let a limit of time pass.
+var ErrTooSlow = errors.New("rtr: the peer is too slow")
+
+// Breach is a unit that the rules of a session don't allow, and that ends it. A unit that is wrong
+// by itself is a Fault. errors.Is finds the reason in it.
+type Breach struct {
+	Reason error     // one of the errors above
+	Code   ErrorCode // what it is reported with (RFC 8210 section 12)
+	Unit   []byte    // its bytes, as far as they were read
+}
+
+// Error names the reason, and the type and the version of the unit.
+func (b *Breach) Error() string {
+	if len(b.Unit) < 2 {
+		return "rtr: " + b.Reason.Error()
+	}
+	return fmt.Sprintf("rtr: %v: %v of version %d", b.Reason, Kind(b.Unit[1]), b.Unit[0])
+}
+
+// Unwrap gives the reason.
+func (b *Breach) Unwrap() error {
+	return b.Reason
+}
+
+// Report is the error report that is owed to the peer, and whether one is: none about an error
+// report (RFC 8210 section 5.11).
+func (b *Breach) Report() (report *Unit, owed bool) {
+	if len(b.Unit) >= 2 && Kind(b.Unit[1]) == ErrorReport {
+		return nil, false
+	}
+	return reportOn(b.Code, b.Unit, b.Reason.Error()), true
+}
+
+// breach is the breach of a unit, of which it has a copy.
+func breach(reason error, code ErrorCode, unit []byte) error {
+	return &Breach{Reason: reason, Code: code, Unit: append([]byte{}, unit...)}
+}
+
+// Reported is an error report that the peer sent, which ended the session unless it says that a
+// cache has no data yet.
+type Reported struct {
+	Version uint8
+	Code    ErrorCode
+	Text    string // as the peer gave it
+}
+
+// Error names the code, and quotes the text.
+func (r *Reported) Error() string {
+	if r.Text == "" {
+		return fmt.Sprintf("rtr: the peer reports: %v", r.Code)
+	}
+	return fmt.Sprintf("rtr: the peer reports: %v: %.200q", r.Code, r.Text)
+}
+
+// reported is what an error report says.
+func reported(unit *Unit) error {
+	return &Reported{Version: unit.Version, Code: unit.Code, Text: string(unit.Text)}
+}
+
+// owing is an error for which a report may be owed to the peer: a Fault or a Breach.
+type owing interface {
+	error
+	Report() (*Unit, bool)
+}
+
+// owedReport is the report that an error owes to the peer, in the version of the session, or nil.
+func owedReport(err error, version uint8) *Unit {
+	var one owing
+	if !errors.As(err, &one) {
+		return nil
+	}
+	report, owed := one.Report()
+	if !owed {
+		return nil
+	}
+	report.Version = version
+	return report
+}
+
+// isTimeout says whether a deadline passed.
+func isTimeout(err error) bool {
+	return errors.Is(err, os.ErrDeadlineExceeded)
+}
+
+// How much is read of a peer, and how long, after a report was sent to it: a connection that is
+// closed while bytes of the peer are unread is reset, and the report may be lost.
+const lingerBytes = 1 << 20
+
+// sendLast writes a last unit to a connection, if there is one, and lets the peer read it.
+func sendLast(connection net.Conn, unit *Unit, patience time.Duration) {
+	if unit == nil {
+		return
+	}
+	if connection.SetDeadline(time.Now().Add(patience)) != nil {
+		return
+	}
+	if NewWriter(connection).Write(unit) != nil {
+		return
+	}
+	if half, ok := connection.(interface{ CloseWrite() error }); !ok || half.CloseWrite() != nil {
+		return
+	}
+	discard(connection, lingerBytes)
+}
+
+// discard reads what a connection still gives, at most so many bytes.
+func discard(connection net.Conn, most int) {
+	buffer := make([]byte, 4096)
+	for most > 0 {
+		n, err := connection.Read(buffer)
+		if err != nil {
+			return
+		}
+		most -= n
+	}
+}

@@ -1,0 +1,108 @@
+package rtr
+
+import (
+	"bytes"
+	"io"
+	"net"
+	"runtime"
+	"testing"
+	"time"
+)
+
+// Longer than any step takes that these tests wait for, on a machine that is busy.
+const patience = 20 * time.Second
+
+// noLeaks says at the end of a test that no goroutine is left of it.
+func noLeaks(t *testing.T) {
+	t.Helper()
+	before := runtime.NumGoroutine()
+	t.Cleanup(func() {
+		for end := time.Now().Add(patience); ; time.Sleep(time.Millisecond) {
+			now := runtime.NumGoroutine()
+			if now <= before {
+				return
+			}
+			if time.Now().After(end) {
+				stacks := make([]byte, 1<<16)
+				stacks = stacks[:runtime.Stack(stacks, true)]
+				t.Errorf("%d goroutines, and %d before:\n%s", now, before, stacks)
+				return
+			}
+		}
+	})
+}
+
+// listen is a listener on this machine.
+func listen(t testing.TB, address string) net.Listener {
+	t.Helper()
+	listener, err := net.Listen("tcp", address)
+	if err != nil {
+		t.Fatal(err)
+	}
+	return listener
+}
+
+// started is a server on 127.0.0.1 with these data, and its address. Its limits are as a test
+// changes them.
+func started(t *testing.T, change func(*ServerLimits), all ...Data) (*Server, string) {
+	t.Helper()
+	server := NewServer()
+	server.Limits.Notify = 0
+	if change != nil {
+		change(&server.Limits)
+	}
+	for _, data := range all {
+		if err := server.Update(data); err != nil {
+			t.Fatal(err)
+		}
+	}
+	listener := listen(t, "127.0.0.1:0")
+	done := make(chan error, 1)
+	go func() { done <- server.Serve(listener) }()
+	t.Cleanup(func() {
+		server.Close()
+		if err := <-done; err != ErrServerClosed {
+			t.Error(err)
+		}
+	})
+	return server, listener.Addr().String()
+}
+
+// dial is a connection to a server, with a limit of time for all of the test.
+func dial(t testing.TB, address string) *net.TCPConn {
+	t.Helper()
+	connection, err := net.Dial("tcp", address)
+	if err != nil {
+		t.Fatal(err)
+	}
+	connection.SetDeadline(time.Now().Add(patience))
+	t.Cleanup(func() { connection.Close() })
+	return connection.(*net.TCPConn)
+}
+
+// send sends bytes to a server.
+func send(t testing.TB, connection net.Conn, bytes []byte) {
+	t.Helper()
+	if _, err := connection.Write(bytes); err != nil {
+		t.Fatal(err)
+	}
+}
+
+// expect reads what has to come from a server.
+func expect(t testing.TB, connection net.Conn, expected []byte) {
+	t.Helper()
+	got := make([]byte, len(expected))
+	n, err := io.ReadFull(connection, got)
+	if err != nil || !bytes.Equal(got, expected) {
+		t.Fatalf("%x, but expected is %x: %v", got[:n], expected, err)
+	}
+}
+
+// expectEnd reads until a server closes the connection, which has to come after these bytes.
+func expectEnd(t testing.TB, connection net.Conn, expected []byte) {
+	t.Helper()
+	got, err := io.ReadAll(connection)
+	if err != nil || !bytes.Equal(got, expected) {
+		t.Fatalf("%x, but expected is %x: %v", got, expected, err)
+	}
+}

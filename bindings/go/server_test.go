@@ -1,0 +1,425 @@
+package rtr
+
+import (
+	"bytes"
+	"context"
+	"encoding/binary"
+	"errors"
+	"math/rand"
+	"net"
+	"os"
+	"testing"
+	"time"
+)
+
+// asked is a query of a version: a serial query, or without a serial number a reset query.
+func asked(version byte, session uint16, serial ...uint32) []byte {
+	if len(serial) == 0 {
+		return []byte{version, 2, 0, 0, 0, 0, 0, 8}
+	}
+	return numbered(version, 1, session, serial[0])
+}
+
+// numbered is a unit of a session and a serial number: a serial notify or a serial query.
+func numbered(version, kind byte, session uint16, serial uint32) []byte {
+	unit := []byte{version, kind, 0, 0, 0, 0, 0, 12, 0, 0, 0, 0}
+	binary.BigEndian.PutUint16(unit[2:], session)
+	binary.BigEndian.PutUint32(unit[8:], serial)
+	return unit
+}
+
+// response is a cache response.
+func response(version byte, session uint16) []byte {
+	unit := []byte{version, 3, 0, 0, 0, 0, 0, 8}
+	binary.BigEndian.PutUint16(unit[2:], session)
+	return unit
+}
+
+// versionOf are those of the records that a version has.
+func (rs records) versionOf(version byte) records {
+	some := records{}
+	for name, one := range rs {
+		if one.kind.In(version) {
+			some[name] = one
+		}
+	}
+	return some
+}
+
+// The answers to each query, in each version, as maps have them.
+func TestServerAnswers(t *testing.T) {
+	noLeaks(t)
+	random := rand.New(rand.NewSource(6))
+	var sets []records
+	server, address := started(t, func(limits *ServerLimits) { limits.Keep = 3 })
+	for serial := uint32(0); serial < 6; serial++ {
+		sets = append(sets, someRecords(random, 12))
+		if err := server.Update(parsed(t, sets[serial].canonical(2, serial))); err != nil {
+			t.Fatal(err)
+		}
+	}
+	for version := byte(0); version < 3; version++ {
+		connection := dial(t, address)
+		last := sets[5].versionOf(version)
+		for round := 0; round < 2; round++ {
+			send(t, connection, asked(version, 0))
+			expect(t, connection, join(response(version, 0x1234), last.canonical(version, 5)))
+			for serial := uint32(0); serial < 9; serial++ {
+				send(t, connection, asked(version, 0x1234, serial))
+				if serial < 2 || serial > 5 {
+					expect(t, connection, []byte{version, 8, 0, 0, 0, 0, 0, 8})
+					continue
+				}
+				changes := sets[serial].versionOf(version).leadingTo(last, version)
+				changes = append(changes, ending(version, 0x1234, 5))
+				expect(t, connection, append(response(version, 0x1234), join(changes...)...))
+			}
+			send(t, connection, asked(version, 0x1235, 5))
+			expect(t, connection, []byte{version, 8, 0, 0, 0, 0, 0, 8})
+		}
+	}
+}
+
+// A cache without data says so, and keeps the connection (RFC 8210 section 8.4). When it has
+// some, it tells the clients that asked.
+func TestServerWithoutData(t *testing.T) {
+	noLeaks(t)
+	server, address := started(t, nil)
+	connection, silent := dial(t, address), dial(t, address)
+	for _, query := range [][]byte{asked(1, 0), asked(1, 7, 8)} {
+		send(t, connection, query)
+		expect(t, connection, reportBytes(1, 2, query, "the cache has no data yet"))
+	}
+	for serial := uint32(1); serial < 3; serial++ {
+		if err := server.Update(parsed(t, ending(1, 7, serial))); err != nil {
+			t.Fatal(err)
+		}
+		expect(t, connection, numbered(1, 0, 7, serial))
+	}
+	send(t, connection, asked(1, 0))
+	expect(t, connection, join(response(1, 7), ending(1, 7, 2)))
+	// The other one has said no version yet, so that it gets no notify.
+	send(t, silent, asked(0, 0))
+	expect(t, silent, join(response(0, 7), ending(0, 7, 2)))
+}
+
+// What a client may not send: the report that it gets, and then the end.
+func TestServerRefusals(t *testing.T) {
+	noLeaks(t)
+	_, address := started(t, nil, parsed(t, join(ipv4, end)))
+	all := join(response(1, 0x1234), ipv4, end)
+	for name, one := range map[string]struct{ input, expected []byte }{
+		"version 3": {
+			[]byte{3, 2, 0, 0, 0, 0, 0, 8},
+			reportBytes(2, 4, []byte{3, 2, 0, 0, 0, 0, 0, 8}, "version is not supported"),
+		},
+		"version 255, and no type": {
+			[]byte{255, 255, 0, 0, 0, 0, 0, 0},
+			reportBytes(2, 4, []byte{255, 255, 0, 0, 0, 0, 0, 0}, "version is not supported"),
+		},
+		"another version": {
+			join(asked(1, 0), asked(0, 0)), join(all,
+				reportBytes(1, 8, asked(0, 0), "unit of another version than the session")),
+		},
+		"version 3 later": {
+			join(asked(1, 0), asked(3, 0)), join(all,
+				reportBytes(1, 8, asked(3, 0), "unit of another version than the session")),
+		},
+		"a prefix": {ipv4, reportBytes(1, 3, ipv4, "unit is not a query")},
+		"a notify": {serialNotify, reportBytes(1, 3, serialNotify, "unit is not a query")},
+		"no type": {
+			[]byte{0, 5, 0, 0, 0, 0, 0, 8},
+			reportBytes(0, 5, []byte{0, 5, 0, 0, 0, 0, 0, 8}, "unit type 5 is not allowed here"),
+		},
+		"a long reset query": {
+			[]byte{1, 2, 0, 0, 0, 0, 0, 9, 0},
+			reportBytes(1, 0, []byte{1, 2, 0, 0, 0, 0, 0, 9}, "invalid unit length"),
+		},
+		"four gigabytes": {
+			[]byte{1, 9, 0, 0, 255, 255, 255, 255},
+			reportBytes(1, 0, []byte{1, 9, 0, 0, 255, 255, 255, 255},
+				"unit is longer than 65535 bytes"),
+		},
+		"four gigabytes of a report": {[]byte{1, 10, 0, 0, 255, 255, 255, 255}, nil},
+		"a report":                   {errorReport, nil},
+		"a report of version 9":      {changed(errorReport, 0, 9), nil},
+		"a cut header":               {[]byte{1, 2, 0}, reportBytes(1, 0, []byte{1, 2, 0}, "unexpected end of input")},
+		"a cut query": {
+			asked(1, 7, 8)[:11],
+			reportBytes(1, 0, asked(1, 7, 8)[:11], "unexpected end of input"),
+		},
+		"nothing": {nil, nil},
+	} {
+		connection := dial(t, address)
+		send(t, connection, one.input)
+		if err := connection.CloseWrite(); err != nil {
+			t.Fatal(err)
+		}
+		t.Log(name)
+		expectEnd(t, connection, one.expected)
+	}
+}
+
+// Notifies aren't more frequent than the limit says, and name the newest data.
+func TestServerNotifies(t *testing.T) {
+	noLeaks(t)
+	const least = 50 * time.Millisecond
+	server, address := started(t, func(limits *ServerLimits) { limits.Notify = least },
+		parsed(t, ending(1, 7, 0)))
+	connection := dial(t, address)
+	send(t, connection, asked(1, 0))
+	expect(t, connection, join(response(1, 7), ending(1, 7, 0)))
+	for serial := uint32(1); serial <= 20; serial++ {
+		if err := server.Update(parsed(t, ending(1, 7, serial))); err != nil {
+			t.Fatal(err)
+		}
+	}
+	begun, notifies := time.Now(), 0
+	for serial := uint32(0); serial < 20; notifies++ {
+		unit := make([]byte, 12)
+		if _, err := connection.Read(unit); err != nil {
+			t.Fatal(err)
+		}
+		if !bytes.Equal(unit[:8], numbered(1, 0, 7, 0)[:8]) {
+			t.Fatalf("%x", unit)
+		}
+		serial = binary.BigEndian.Uint32(unit[8:])
+	}
+	if longest := time.Since(begun)/least + 2; time.Duration(notifies) > longest {
+		t.Fatalf("%d notifies in %v", notifies, time.Since(begun))
+	}
+}
+
+// New data are taken if their serial number comes later, and end connections if they are of
+// another session.
+func TestServerUpdate(t *testing.T) {
+	noLeaks(t)
+	server, address := started(t, nil, parsed(t, join(ipv4, ending(1, 7, 0xffffffff))))
+	connection := dial(t, address)
+	send(t, connection, asked(1, 0))
+	expect(t, connection, join(response(1, 7), ipv4, ending(1, 7, 0xffffffff)))
+	for _, serial := range []uint32{0xffffffff, 0xfffffffe, 0x7fffffff} {
+		if err := server.Update(parsed(t, ending(1, 7, serial))); !errors.Is(err, ErrSameSerial) {
+			t.Fatal(serial, err)
+		}
+	}
+	if err := server.Update(Data{}); !errors.Is(err, Short) {
+		t.Fatal(err)
+	}
+	for _, data := range [][]byte{join(ipv4, ending(1, 7, 0xffffffff)), ending(1, 7, 0)} {
+		if err := server.Update(parsed(t, data)); err != nil {
+			t.Fatal(err)
+		}
+	}
+	expect(t, connection, numbered(1, 0, 7, 0))
+	if err := server.Update(parsed(t, ending(1, 8, 0))); err != nil {
+		t.Fatal(err)
+	}
+	expectEnd(t, connection, nil)
+	again := dial(t, address)
+	send(t, again, asked(1, 7, 0))
+	expect(t, again, []byte{1, 8, 0, 0, 0, 0, 0, 8})
+}
+
+// why gives the errors with which the connections of a server end.
+func why(server *Server) <-chan error {
+	errs := make(chan error, 1000)
+	server.Ended = func(_ net.Addr, err error) { errs <- err }
+	return errs
+}
+
+// A client that says nothing, stops inside of a unit, or reads nothing is closed, with the reason
+// named, and another one is served in the meantime.
+func TestServerLimits(t *testing.T) {
+	noLeaks(t)
+	large := make([][]byte, 0, 200000)
+	for i := uint32(0); i < 200000; i++ {
+		unit := append([]byte{}, ipv4...)
+		unit[9], unit[10] = 32, 32
+		binary.BigEndian.PutUint32(unit[12:], i)
+		large = append(large, unit)
+	}
+	data := parsed(t, join(join(large...), ending(1, 7, 1)))
+	server, address := started(t, func(limits *ServerLimits) {
+		limits.First, limits.Unit = 30*time.Millisecond, 30*time.Millisecond
+		limits.Idle, limits.Write = 60*time.Millisecond, 50*time.Millisecond
+	})
+	errs := why(server)
+	if err := server.Update(data); err != nil {
+		t.Fatal(err)
+	}
+	for _, input := range [][]byte{nil, {1}, asked(1, 0)[:7], asked(1, 7, 2)[:11], asked(1, 7, 1)} {
+		connection := dial(t, address)
+		send(t, connection, input)
+		ended := make(chan error, 1)
+		go func() { ended <- <-errs }()
+		other := dial(t, address)
+		send(t, other, asked(1, 7, 1))
+		expect(t, other, join(response(1, 7), ending(1, 7, 1)))
+		other.Close()
+		if err := <-ended; !errors.Is(err, ErrTooSlow) {
+			t.Fatalf("%x: %v", input, err)
+		}
+	}
+	// It asks for megabytes again and again, and reads none of them.
+	greedy := dial(t, address)
+	send(t, greedy, bytes.Repeat(asked(1, 0), 1000))
+	other := dial(t, address)
+	send(t, other, asked(1, 0))
+	expect(t, other, join(response(1, 7), data.Bytes()))
+	if err := <-errs; !errors.Is(err, ErrTooSlow) {
+		t.Fatal(err)
+	}
+}
+
+// A client above the limit is closed at once, and when another has gone its place is free.
+func TestServerConnections(t *testing.T) {
+	noLeaks(t)
+	server, address := started(t, func(limits *ServerLimits) { limits.Connections = 2 })
+	errs := why(server)
+	if err := server.Update(parsed(t, ending(1, 7, 1))); err != nil {
+		t.Fatal(err)
+	}
+	answer := join(response(1, 7), ending(1, 7, 1))
+	for round := 0; round < 3; round++ {
+		first, second := dial(t, address), dial(t, address)
+		for _, connection := range []*net.TCPConn{first, second} {
+			send(t, connection, asked(1, 0))
+			expect(t, connection, answer)
+		}
+		expectEnd(t, dial(t, address), nil)
+		if err := <-errs; err != ErrManyClients {
+			t.Fatal(err)
+		}
+		for _, connection := range []*net.TCPConn{first, second} {
+			send(t, connection, ipv4)
+			expectEnd(t, connection, reportBytes(1, 3, ipv4, "unit is not a query"))
+			connection.Close()
+			if err := <-errs; !errors.Is(err, ErrNoQuery) {
+				t.Fatal(err)
+			}
+		}
+	}
+}
+
+// Close ends connections in each of their states, and all goroutines.
+func TestServerClose(t *testing.T) {
+	noLeaks(t)
+	server := NewServer()
+	errs := why(server)
+	if err := server.Update(parsed(t, join(ipv4, end))); err != nil {
+		t.Fatal(err)
+	}
+	listeners := []net.Listener{listen(t, "127.0.0.1:0"), listen(t, "127.0.0.1:0")}
+	done := make(chan error, len(listeners))
+	for _, listener := range listeners {
+		go func(listener net.Listener) { done <- server.Serve(listener) }(listener)
+	}
+	var connections []net.Conn
+	for _, input := range [][]byte{asked(1, 0), asked(1, 0)[:3], asked(3, 0)} {
+		connection := dial(t, listeners[len(connections)%2].Addr().String())
+		send(t, connection, input)
+		connections = append(connections, connection)
+	}
+	expect(t, connections[0], join(response(1, 0x1234), ipv4, end))
+	server.Close()
+	for range listeners {
+		if err := <-done; err != ErrServerClosed {
+			t.Fatal(err)
+		}
+	}
+	if err := server.Serve(listen(t, "127.0.0.1:0")); err != ErrServerClosed {
+		t.Fatal(err)
+	}
+	for len(errs) > 0 {
+		if err := <-errs; err != ErrServerClosed && !errors.Is(err, ErrNoVersion) {
+			t.Fatal(err)
+		}
+	}
+	for _, connection := range connections[:1] {
+		expectEnd(t, connection, nil)
+	}
+}
+
+// A file of data in any order, with or without a cache response, and one that isn't data.
+func TestLoadData(t *testing.T) {
+	path := t.TempDir() + "/data"
+	for name, one := range map[string]struct {
+		input, data []byte
+		status      Status
+		offset      int64
+	}{
+		"in order":       {join(ipv4, announced6, end), join(ipv4, announced6, end), OK, 0},
+		"not in order":   {join(announced6, ipv4, end), join(ipv4, announced6, end), OK, 0},
+		"recorded":       {join(cacheResponse, announced6, ipv4, end, end), join(ipv4, announced6, end), OK, 0},
+		"withdrawn":      {join(cacheResponse, ipv6, ipv4, end), nil, NotCanonical, 8},
+		"twice":          {join(cacheResponse, ipv4, ipv4, end), nil, Duplicate, 28},
+		"cut":            {join(ipv4, end[:5]), nil, Short, 20},
+		"of two sorts":   {join(ipv4, withdrawn, end), nil, NotCanonical, 20},
+		"of a query":     {resetQuery, nil, UnitType, 0},
+		"of nothing":     {nil, nil, Short, 0},
+		"one withdrawal": {join(ipv4, ipv6, end), nil, NotCanonical, 20},
+	} {
+		if err := os.WriteFile(path, one.input, 0o600); err != nil {
+			t.Fatal(err)
+		}
+		data, err := LoadData(path)
+		var fault *Fault
+		if one.status == OK {
+			if err != nil || !bytes.Equal(data.Bytes(), one.data) {
+				t.Fatalf("%s: %x %v", name, data.Bytes(), err)
+			}
+		} else if !errors.As(err, &fault) || fault.Status != one.status || fault.Offset != one.offset {
+			t.Fatalf("%s: %v", name, err)
+		}
+	}
+	if _, err := LoadData(path + "/none"); err == nil {
+		t.Fatal("a file that isn't there")
+	}
+}
+
+// A file is taken up when it changes; one that isn't data is told once, and the data stay.
+func TestServerWatch(t *testing.T) {
+	noLeaks(t)
+	server, address := started(t, nil)
+	path := t.TempDir() + "/data"
+	write := func(input []byte) {
+		if err := os.WriteFile(path+".new", input, 0o600); err != nil {
+			t.Fatal(err)
+		}
+		if err := os.Rename(path+".new", path); err != nil {
+			t.Fatal(err)
+		}
+	}
+	ctx, stop := context.WithCancel(context.Background())
+	errs, ended := make(chan error, 100), make(chan struct{})
+	go func() {
+		server.Watch(ctx, path, time.Millisecond, func(err error) { errs <- err })
+		close(ended)
+	}()
+	if err := <-errs; !errors.Is(err, os.ErrNotExist) {
+		t.Fatal(err)
+	}
+	connection := dial(t, address)
+	send(t, connection, asked(1, 0))
+	expect(t, connection, reportBytes(1, 2, asked(1, 0), "the cache has no data yet"))
+	for serial := uint32(1); serial < 4; serial++ {
+		write(join(announced6, ipv4, ending(1, 7, serial)))
+		expect(t, connection, numbered(1, 0, 7, serial))
+		write(join(ipv4, ending(1, 7, serial)))
+		if err := <-errs; !errors.Is(err, ErrSameSerial) {
+			t.Fatal(err)
+		}
+		write(join(ipv4, ending(1, 7, serial)[:13]))
+		if err := <-errs; !errors.Is(err, Short) {
+			t.Fatal(err)
+		}
+		send(t, connection, asked(1, 0))
+		expect(t, connection, join(response(1, 7), ipv4, announced6, ending(1, 7, serial)))
+	}
+	stop()
+	<-ended
+	if len(errs) > 0 {
+		t.Fatal(<-errs)
+	}
+}
