@@ -1,0 +1,498 @@
+package rtr
+
+import (
+	"bytes"
+	"context"
+	"errors"
+	"fmt"
+	"math/rand"
+	"net"
+	"strings"
+	"sync"
+	"testing"
+	"time"
+)
+
+// fakeCache serves each connection in turn by a function of its own, the last one again and again,
+// and ends with the test. It gives its address.
+func fakeCache(t testing.TB, serve ...func(*net.TCPConn)) string {
+	t.Helper()
+	listener := listen(t, "127.0.0.1:0")
+	var running sync.WaitGroup
+	var lock sync.Mutex
+	open := map[net.Conn]bool{}
+	running.Add(1)
+	go func() {
+		defer running.Done()
+		for i := 0; ; i++ {
+			connection, err := listener.Accept()
+			if err != nil {
+				return
+			}
+			lock.Lock()
+			open[connection] = true
+			lock.Unlock()
+			one := serve[len(serve)-1]
+			if i < len(serve) {
+				one = serve[i]
+			}
+			running.Add(1)
+			go func() {
+				defer running.Done()
+				defer connection.Close()
+				connection.SetDeadline(time.Now().Add(patience))
+				one(connection.(*net.TCPConn))
+			}()
+		}
+	}()
+	t.Cleanup(func() {
+		listener.Close()
+		lock.Lock()
+		for connection := range open {
+			connection.Close()
+		}
+		lock.Unlock()
+		running.Wait()
+	})
+	return listener.Addr().String()
+}
+
+// quick is a client that waits for nothing long.
+func quick(address string) *Client {
+	client := NewClient(address)
+	client.Version = 2
+	client.Limits.Response = patience
+	client.Limits.Pause = time.Millisecond
+	client.Limits.Report = patience
+	client.Retry = time.Millisecond
+	return client
+}
+
+// limited is a context that ends with a test's patience.
+func limited(t testing.TB) (context.Context, context.CancelFunc) {
+	t.Helper()
+	return context.WithTimeout(context.Background(), patience)
+}
+
+// readUnit reads a unit, and gives its bytes, or none at an error.
+func readUnit(reader *Reader) []byte {
+	if _, err := reader.Next(); err != nil {
+		return nil
+	}
+	return append([]byte{}, reader.Bytes()...)
+}
+
+// errEnough ends a client that has what a test wants.
+var errEnough = errors.New("enough")
+
+// follow runs a client until this answers true of an update, and gives all updates and failures.
+func follow(t testing.TB, client *Client, enough func(Update) bool) ([]Update, []error) {
+	t.Helper()
+	ctx, cancel := limited(t)
+	defer cancel()
+	var updates []Update
+	var failures []error
+	client.Failed = func(err error) { failures = append(failures, err) }
+	err := client.Run(ctx, func(update Update) error {
+		updates = append(updates, update)
+		if enough(update) {
+			return errEnough
+		}
+		return nil
+	})
+	if err != errEnough {
+		t.Fatalf("%v after %d updates and %v", err, len(updates), failures)
+	}
+	return updates, failures
+}
+
+// changesOf are the bytes of the units of an update.
+func changesOf(update Update) []byte {
+	var all []byte
+	for units := update.Changes(); units.Scan(); {
+		all, _ = units.Unit().AppendBinary(all)
+	}
+	return all
+}
+
+// All data are fetched in each version, over IPv4 and IPv6.
+func TestFetch(t *testing.T) {
+	noLeaks(t)
+	random := rand.New(rand.NewSource(7))
+	all := someRecords(random, 30)
+	server, address := started(t, nil, parsed(t, all.canonical(2, 5)))
+	addresses := []string{address}
+	if listener, err := net.Listen("tcp", "[::1]:0"); err == nil {
+		go server.Serve(listener)
+		addresses = append(addresses, listener.Addr().String())
+	} else {
+		t.Log("no IPv6 here: ", err)
+	}
+	ctx, cancel := limited(t)
+	defer cancel()
+	for version := uint8(0); version < 5; version++ {
+		for _, address := range addresses {
+			client := quick(address)
+			client.Version = version
+			data, err := client.Fetch(ctx)
+			asked := version
+			if asked > 2 {
+				asked = 2
+			}
+			if err != nil || !bytes.Equal(data.Bytes(), all.versionOf(asked).canonical(asked, 5)) {
+				t.Fatalf("version %d: %x %v", version, data.Bytes(), err)
+			}
+		}
+	}
+}
+
+// A client follows a server: each of its updates is a set that the server had, and the changes lead
+// from one to the next, as maps have them.
+func TestFollow(t *testing.T) {
+	noLeaks(t)
+	random := rand.New(rand.NewSource(8))
+	sets := []records{{}}
+	server, address := started(t, func(limits *ServerLimits) { limits.Keep = 1 })
+	next := func() {
+		serial := uint32(len(sets))
+		sets = append(sets, someRecords(random, 20))
+		if err := server.Update(parsed(t, sets[serial].canonical(2, serial))); err != nil {
+			t.Error(err)
+		}
+	}
+	next()
+	last := uint32(0)
+	updates, failures := follow(t, quick(address), func(update Update) bool {
+		for i := random.Intn(4); i >= 0 && last == 0; i-- {
+			next()
+		}
+		if len(sets) > 60 {
+			last = uint32(len(sets) - 1)
+		}
+		return last > 0 && update.Data.Serial() == last
+	})
+	if len(failures) > 0 {
+		t.Fatal(failures)
+	}
+	before := uint32(0)
+	for _, update := range updates {
+		serial := update.Data.Serial()
+		if !bytes.Equal(update.Data.Bytes(), sets[serial].canonical(2, serial)) {
+			t.Fatalf("%x isn't what the cache had at %d", update.Data.Bytes(), serial)
+		}
+		if expected := join(sets[before].leadingTo(sets[serial], 2)...); !bytes.Equal(
+			changesOf(update), expected) {
+			t.Fatalf("%x led from %d to %d, not %x", changesOf(update), before, serial, expected)
+		}
+		before = serial
+	}
+}
+
+// scene is a script for a cache: what comes, and what it answers.
+type scene struct{ query, answer []byte }
+
+// play plays scenes, and then waits until the client closes the connection. It gives what came
+// after them to last, if that isn't nil.
+func play(t testing.TB, last chan<- []byte, scenes ...scene) func(*net.TCPConn) {
+	return func(connection *net.TCPConn) {
+		reader := NewReader(connection)
+		for _, one := range scenes {
+			if got := readUnit(reader); !bytes.Equal(got, one.query) {
+				t.Errorf("%x was asked, not %x", got, one.query)
+				return
+			}
+			connection.Write(one.answer)
+		}
+		unit := readUnit(reader)
+		if last != nil {
+			last <- unit
+		}
+		for unit != nil {
+			unit = readUnit(reader)
+		}
+	}
+}
+
+// full is an answer with all data in version 1: prefixes, and an end of data.
+func full(session uint16, serial uint32, prefixes ...[]byte) []byte {
+	return join(response(1, session), join(prefixes...), ending(1, session, serial))
+}
+
+// texts are the errors as texts.
+func texts(errs []error) string {
+	var all []string
+	for _, err := range errs {
+		all = append(all, err.Error())
+	}
+	return strings.Join(all, "\n")
+}
+
+// What a client does in each state that a cache brings it to: the connections that it makes, with
+// the queries in each, the serial numbers that it gets to, and its failures.
+func TestClientStates(t *testing.T) {
+	reset1, reset0 := asked(1, 0), asked(0, 0)
+	all0 := join(response(0, 7), changed(ipv4, 0, 0), ending(0, 7, 3))
+	report := func(version, code byte) []byte { return reportBytes(version, code, nil, "no") }
+	for name, test := range map[string]struct {
+		connections [][]scene
+		serials     []uint32 // of the updates; 0 where the data were dropped
+		failures    []error
+	}{
+		"a notify of what it has, and one of more": {
+			[][]scene{{
+				{reset1, join(full(7, 1, ipv4), numbered(1, 0, 7, 1), numbered(1, 0, 7, 2))},
+				{asked(1, 7, 1), full(7, 3, otherIPv4)},
+			}}, []uint32{1, 3}, nil,
+		},
+		"notifies before an answer": {
+			[][]scene{{
+				{reset1, join(numbered(2, 0, 9, 9), numbered(0, 0, 9, 9), full(7, 3))},
+			}}, []uint32{3}, nil,
+		},
+		"a cache reset": {
+			[][]scene{{
+				{reset1, join(full(7, 1, ipv4), numbered(1, 0, 7, 2))},
+				{asked(1, 7, 1), []byte{1, 8, 0, 0, 0, 0, 0, 8}},
+				{reset1, full(7, 3, otherIPv4)},
+			}}, []uint32{1, 3}, nil,
+		},
+		"a cache reset, and a new session": {
+			[][]scene{{
+				{reset1, join(full(7, 1, ipv4), numbered(1, 0, 7, 2))},
+				{asked(1, 7, 1), []byte{1, 8, 0, 0, 0, 0, 0, 8}},
+				{reset1, full(8, 3, otherIPv4)},
+			}}, []uint32{1, 3}, nil,
+		},
+		"no data yet, and a notify": {
+			[][]scene{{
+				{reset1, join(report(1, 2), numbered(1, 0, 7, 3))},
+				{reset1, full(7, 3)},
+			}}, []uint32{3}, []error{&Reported{Code: NoDataAvailable}},
+		},
+		"no data yet, and asked again": {
+			[][]scene{{{reset1, report(1, 2)}, {reset1, report(1, 2)}, {reset1, full(7, 3)}}},
+			[]uint32{3},
+			[]error{&Reported{Code: NoDataAvailable}, &Reported{Code: NoDataAvailable}},
+		},
+		"a report of version 1 on version 1": {
+			[][]scene{{{reset1, report(1, 4)}}, {{reset0, all0}}}, []uint32{3}, nil,
+		},
+		"a report of version 0": {
+			[][]scene{{{reset1, report(0, 4)}}, {{reset0, all0}}}, []uint32{3}, nil,
+		},
+		"an answer of version 0": {[][]scene{{{reset1, all0}}}, []uint32{3}, nil},
+		"an answer of version 0 to a serial query": {
+			[][]scene{
+				{{reset1, join(full(7, 1), report(1, 1))}}, {{asked(1, 7, 1), all0}},
+				{{reset0, all0}},
+			}, []uint32{1, 3}, []error{&Reported{Code: InternalError}},
+		},
+		"another session in a response": {
+			[][]scene{{
+				{reset1, join(full(7, 1, ipv4), numbered(1, 0, 7, 2))}, {asked(1, 7, 1), full(8, 2)},
+			}, {{reset1, full(8, 3)}}}, []uint32{1, 0, 3}, []error{ErrOtherSession},
+		},
+		"another session in a notify": {
+			[][]scene{
+				{{reset1, join(full(7, 1, ipv4), numbered(1, 0, 8, 1))}}, {{reset1, full(8, 3)}},
+			}, []uint32{1, 0, 3}, []error{ErrOtherSession},
+		},
+		"another session in an end of data": {
+			[][]scene{
+				{{reset1, join(response(1, 7), ending(1, 8, 1))}}, {{reset1, full(8, 3)}},
+			}, []uint32{3}, []error{ErrOtherSession},
+		},
+		"a serial number that goes back": {
+			[][]scene{{
+				{reset1, join(full(7, 1, ipv4), numbered(1, 0, 7, 0))},
+				{asked(1, 7, 1), full(7, 0xffffffff)},
+			}, {{reset1, full(7, 3)}}}, []uint32{1, 3}, []error{ErrSerialBack},
+		},
+		"a delta that doesn't fit": {
+			[][]scene{{
+				{reset1, join(full(7, 1, ipv4), numbered(1, 0, 7, 2))},
+				{asked(1, 7, 1), full(7, 2, otherIPv4, ipv4)},
+			}, {{reset1, full(7, 3, otherIPv4, ipv4)}}}, []uint32{1, 3}, []error{Duplicate},
+		},
+		"a report while it waits": {
+			[][]scene{{{reset1, join(full(7, 1), report(1, 1))}}, {{asked(1, 7, 1), full(7, 3)}}},
+			[]uint32{1, 3}, []error{&Reported{Code: InternalError}},
+		},
+		"a response that it didn't ask for": {
+			[][]scene{{{reset1, join(full(7, 1), full(7, 2))}}, {{asked(1, 7, 1), full(7, 3)}}},
+			[]uint32{1, 3}, []error{ErrMisplaced},
+		},
+		"a cache reset for a reset query": {
+			[][]scene{{{reset1, []byte{1, 8, 0, 0, 0, 0, 0, 8}}}, {{reset1, full(7, 3)}}},
+			[]uint32{3}, []error{ErrMisplaced},
+		},
+		"a higher version": {
+			[][]scene{{{reset1, changed(full(7, 1), 0, 2)}}, {{reset1, full(7, 3)}}},
+			[]uint32{3}, []error{ErrNoVersion},
+		},
+		"another version later": {
+			[][]scene{
+				{{reset1, join(full(7, 1), numbered(0, 0, 7, 2))}}, {{asked(1, 7, 1), full(7, 3)}},
+			}, []uint32{1, 3}, []error{ErrOtherVersion},
+		},
+	} {
+		t.Run(name, func(t *testing.T) {
+			noLeaks(t)
+			var connections []func(*net.TCPConn)
+			for _, scenes := range test.connections {
+				connections = append(connections, play(t, nil, scenes...))
+			}
+			client := quick(fakeCache(t, connections...))
+			client.Version = 1
+			updates, failures := follow(t, client, func(update Update) bool {
+				return update.Data.Serial() == 3
+			})
+			var serials []uint32
+			for _, update := range updates {
+				serials = append(serials, update.Data.Serial())
+			}
+			if fmt.Sprint(serials) != fmt.Sprint(test.serials) || len(failures) != len(test.failures) {
+				t.Fatalf("%v\n%s", serials, texts(failures))
+			}
+			for i, err := range failures {
+				if !sameReason(err, test.failures[i]) {
+					t.Fatalf("%v, but expected is %v", err, test.failures[i])
+				}
+			}
+		})
+	}
+}
+
+// sameReason says whether an error is the other one, or a report with its code.
+func sameReason(err, other error) bool {
+	var report, code *Reported
+	if errors.As(other, &code) {
+		return errors.As(err, &report) && report.Code == code.Code
+	}
+	return errors.Is(err, other)
+}
+
+// Without an answer at all a client falls to version 0, and then fails.
+func TestFetchFalls(t *testing.T) {
+	noLeaks(t)
+	var lock sync.Mutex
+	var versions []byte
+	address := fakeCache(t, func(connection *net.TCPConn) {
+		lock.Lock()
+		defer lock.Unlock()
+		versions = append(versions, readUnit(NewReader(connection))[0])
+	})
+	ctx, cancel := limited(t)
+	defer cancel()
+	_, err := quick(address).Fetch(ctx)
+	lock.Lock()
+	defer lock.Unlock()
+	if !errors.Is(err, ErrClosed) || !bytes.Equal(versions, []byte{2, 1, 0}) {
+		t.Fatal(versions, err)
+	}
+}
+
+// The times of an end of data, kept within RFC 8210 section 6, and those that stand for them.
+func TestTimes(t *testing.T) {
+	const day = 24 * time.Hour
+	second := time.Second
+	for _, one := range []struct {
+		version                uint8
+		timing                 Timing
+		client                 Client
+		refresh, retry, expire time.Duration
+	}{
+		{1, Timing{60, 50, 700}, Client{}, 60 * second, 50 * second, 700 * second},
+		{2, Timing{0, 0, 0}, Client{}, second, second, 600 * second},
+		{1, Timing{1 << 31, 1 << 31, 1 << 31}, Client{}, day, 2 * time.Hour, 2 * day},
+		{0, Timing{1, 2, 3}, Client{}, time.Hour, 600 * second, 2 * time.Hour},
+		{1, Timing{60, 50, 700}, Client{Refresh: 1, Retry: 2, Expire: 3}, 1, 2, 3},
+	} {
+		data, err := NewData(one.version, 7, 1, one.timing)
+		if err != nil {
+			t.Fatal(err)
+		}
+		f := follower{client: &one.client, data: data}
+		if f.refresh() != one.refresh || f.retry() != one.retry || f.expire() != one.expire {
+			t.Fatal(one, f.refresh(), f.retry(), f.expire())
+		}
+	}
+	f := follower{client: &Client{}}
+	if f.refresh() != time.Hour || f.retry() != 600*second || f.expire() != 2*time.Hour {
+		t.Fatal(f.refresh(), f.retry(), f.expire())
+	}
+}
+
+// A client asks when the refresh time has passed, without a notify.
+func TestRefresh(t *testing.T) {
+	noLeaks(t)
+	address := fakeCache(t, play(t, nil, scene{asked(1, 0), full(7, 1)},
+		scene{asked(1, 7, 1), full(7, 1)}, scene{asked(1, 7, 1), full(7, 2, ipv4)},
+		scene{asked(1, 7, 2), full(7, 3, otherIPv4)}))
+	client := quick(address)
+	client.Version, client.Refresh = 1, 10*time.Millisecond
+	begun := time.Now()
+	updates, failures := follow(t, client, func(update Update) bool {
+		return update.Data.Serial() == 3
+	})
+	if len(updates) != 4 || len(failures) > 0 || time.Since(begun) < 3*client.Refresh {
+		t.Fatal(len(updates), failures, time.Since(begun))
+	}
+}
+
+// Data that aren't renewed in time are dropped, on a connection that is silent and without one.
+func TestExpire(t *testing.T) {
+	noLeaks(t)
+	silent := play(t, nil, scene{asked(1, 0), full(7, 1, ipv4)})
+	late := play(t, nil, scene{asked(1, 0), full(7, 1, ipv4)}, scene{asked(1, 7, 1), nil})
+	gone := func(connection *net.TCPConn) {
+		readUnit(NewReader(connection))
+		connection.Write(full(7, 1, ipv4))
+	}
+	for name, one := range map[string]func(*net.TCPConn){
+		"silent": silent, "late": late, "gone": gone,
+	} {
+		client := quick(fakeCache(t, one, play(t, nil, scene{asked(1, 0), full(7, 3)})))
+		client.Version, client.Expire = 1, 50*time.Millisecond
+		switch name {
+		case "late":
+			client.Refresh = time.Millisecond
+		case "gone":
+			client.Limits.Pause = 200 * time.Millisecond
+		}
+		updates, failures := follow(t, client, func(update Update) bool {
+			return update.Data.Serial() == 3
+		})
+		if len(updates) != 3 || !updates[1].Data.IsZero() ||
+			!bytes.Equal(changesOf(updates[1]), withdrawn4) {
+			t.Fatalf("%s: %d updates, %v", name, len(updates), failures)
+		}
+		if !errors.Is(failures[len(failures)-1], ErrExpired) {
+			t.Fatalf("%s: %v", name, failures)
+		}
+	}
+}
+
+// The context ends a client in each of its states.
+func TestClientContext(t *testing.T) {
+	noLeaks(t)
+	closed := listen(t, "127.0.0.1:0")
+	closed.Close()
+	for name, address := range map[string]string{
+		"no answer":    fakeCache(t, play(t, nil)),
+		"half of one":  fakeCache(t, play(t, nil, scene{asked(2, 0), response(2, 7)})),
+		"it waits":     fakeCache(t, play(t, nil, scene{asked(2, 0), join(response(2, 7), ending(2, 7, 1))})),
+		"nobody there": closed.Addr().String(),
+	} {
+		ctx, cancel := context.WithTimeout(context.Background(), 20*time.Millisecond)
+		client := quick(address)
+		client.Retry = patience
+		if err := client.Run(ctx, func(Update) error { return nil }); err != ctx.Err() || err == nil {
+			t.Fatalf("%s: %v", name, err)
+		}
+		if _, err := client.Fetch(ctx); !errors.Is(err, context.DeadlineExceeded) {
+			t.Fatalf("%s: %v", name, err)
+		}
+		cancel()
+	}
+}
