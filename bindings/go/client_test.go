@@ -314,6 +314,10 @@ func TestClientStates(t *testing.T) {
 				{asked(1, 7, 1), full(7, 2, otherIPv4, ipv4)},
 			}, {{reset1, full(7, 3, otherIPv4, ipv4)}}}, []uint32{1, 3}, []error{Duplicate},
 		},
+		"a report in a response": {
+			[][]scene{{{reset1, join(response(1, 7), ipv4, report(1, 1))}}, {{reset1, full(7, 3)}}},
+			[]uint32{3}, []error{&Reported{Code: InternalError}},
+		},
 		"a report while it waits": {
 			[][]scene{{{reset1, join(full(7, 1), report(1, 1))}}, {{asked(1, 7, 1), full(7, 3)}}},
 			[]uint32{1, 3}, []error{&Reported{Code: InternalError}},
@@ -478,10 +482,12 @@ func TestClientContext(t *testing.T) {
 	noLeaks(t)
 	closed := listen(t, "127.0.0.1:0")
 	closed.Close()
+	half := scene{asked(2, 0), response(2, 7)}
+	whole := scene{asked(2, 0), join(response(2, 7), ending(2, 7, 1))}
 	for name, address := range map[string]string{
 		"no answer":    fakeCache(t, play(t, nil)),
-		"half of one":  fakeCache(t, play(t, nil, scene{asked(2, 0), response(2, 7)})),
-		"it waits":     fakeCache(t, play(t, nil, scene{asked(2, 0), join(response(2, 7), ending(2, 7, 1))})),
+		"half of one":  fakeCache(t, play(t, nil, half)),
+		"it waits":     fakeCache(t, play(t, nil, whole)),
 		"nobody there": closed.Addr().String(),
 	} {
 		ctx, cancel := context.WithTimeout(context.Background(), 20*time.Millisecond)

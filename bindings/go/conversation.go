@@ -238,7 +238,7 @@ func (c *conversation) receive(session uint16, serial bool) error {
 	sequence := c.reader.Sequence(c.client.Limits.Units)
 	read, err := sequence.collect(c.client.Limits.Bytes, c.checkPayload)
 	if err != nil {
-		return c.problem(err)
+		return c.interrupted(err)
 	}
 	end := sequence.Unit()
 	if end.Session != session {
@@ -261,6 +261,16 @@ func (c *conversation) receive(session uint16, serial bool) error {
 		return err
 	}
 	return c.take(data)
+}
+
+// interrupted is why a response ended before its end of data: it may have been a report.
+func (c *conversation) interrupted(err error) error {
+	var fault *Fault
+	if errors.As(err, &fault) && fault.Status == UnitType && Kind(fault.Detail) == ErrorReport {
+		_, err = c.next()
+		return err
+	}
+	return c.problem(err)
 }
 
 // applied are the data with changes in any order.

@@ -5,6 +5,7 @@ import (
 	"context"
 	"encoding/binary"
 	"errors"
+	"io"
 	"math/rand"
 	"net"
 	"os"
@@ -143,7 +144,9 @@ func TestServerRefusals(t *testing.T) {
 		"four gigabytes of a report": {[]byte{1, 10, 0, 0, 255, 255, 255, 255}, nil},
 		"a report":                   {errorReport, nil},
 		"a report of version 9":      {changed(errorReport, 0, 9), nil},
-		"a cut header":               {[]byte{1, 2, 0}, reportBytes(1, 0, []byte{1, 2, 0}, "unexpected end of input")},
+		"a cut header": {
+			[]byte{1, 2, 0}, reportBytes(1, 0, []byte{1, 2, 0}, "unexpected end of input"),
+		},
 		"a cut query": {
 			asked(1, 7, 8)[:11],
 			reportBytes(1, 0, asked(1, 7, 8)[:11], "unexpected end of input"),
@@ -155,8 +158,10 @@ func TestServerRefusals(t *testing.T) {
 		if err := connection.CloseWrite(); err != nil {
 			t.Fatal(err)
 		}
-		t.Log(name)
-		expectEnd(t, connection, one.expected)
+		got, err := io.ReadAll(connection)
+		if err != nil || !bytes.Equal(got, one.expected) {
+			t.Fatalf("%s: %x, but expected is %x: %v", name, got, one.expected, err)
+		}
 	}
 }
 
@@ -241,8 +246,8 @@ func TestServerLimits(t *testing.T) {
 	}
 	data := parsed(t, join(join(large...), ending(1, 7, 1)))
 	server, address := started(t, func(limits *ServerLimits) {
-		limits.First, limits.Unit = 30*time.Millisecond, 30*time.Millisecond
-		limits.Idle, limits.Write = 60*time.Millisecond, 50*time.Millisecond
+		limits.First, limits.Unit = 200*time.Millisecond, 100*time.Millisecond
+		limits.Idle, limits.Write = 300*time.Millisecond, 400*time.Millisecond
 	})
 	errs := why(server)
 	if err := server.Update(data); err != nil {
@@ -344,14 +349,15 @@ func TestServerClose(t *testing.T) {
 // A file of data in any order, with or without a cache response, and one that isn't data.
 func TestLoadData(t *testing.T) {
 	path := t.TempDir() + "/data"
+	ordered := join(ipv4, announced6, end)
 	for name, one := range map[string]struct {
 		input, data []byte
 		status      Status
 		offset      int64
 	}{
-		"in order":       {join(ipv4, announced6, end), join(ipv4, announced6, end), OK, 0},
-		"not in order":   {join(announced6, ipv4, end), join(ipv4, announced6, end), OK, 0},
-		"recorded":       {join(cacheResponse, announced6, ipv4, end, end), join(ipv4, announced6, end), OK, 0},
+		"in order":       {ordered, ordered, OK, 0},
+		"not in order":   {join(announced6, ipv4, end), ordered, OK, 0},
+		"recorded":       {join(cacheResponse, announced6, ipv4, end, end), ordered, OK, 0},
 		"withdrawn":      {join(cacheResponse, ipv6, ipv4, end), nil, NotCanonical, 8},
 		"twice":          {join(cacheResponse, ipv4, ipv4, end), nil, Duplicate, 28},
 		"cut":            {join(ipv4, end[:5]), nil, Short, 20},
