@@ -188,7 +188,7 @@ func TestFollow(t *testing.T) {
 	}
 }
 
-// scene is a script for a cache: what comes, and what it answers.
+// scene is a script for a cache: what comes, and what it answers. If that is nil, it closes.
 type scene struct{ query, answer []byte }
 
 // play plays scenes, and then waits until the client closes the connection. It gives what came
@@ -199,6 +199,9 @@ func play(t testing.TB, last chan<- []byte, scenes ...scene) func(*net.TCPConn) 
 		for _, one := range scenes {
 			if got := readUnit(reader); !bytes.Equal(got, one.query) {
 				t.Errorf("%x was asked, not %x", got, one.query)
+				return
+			}
+			if one.answer == nil {
 				return
 			}
 			connection.Write(one.answer)
@@ -227,119 +230,142 @@ func texts(errs []error) string {
 	return strings.Join(all, "\n")
 }
 
+// Queries and answers of the states below.
+var (
+	reset1 = asked(1, 0)
+	reset0 = asked(0, 0)
+	all0   = join(response(0, 7), changed(ipv4, 0, 0), ending(0, 7, 3))
+)
+
+// report is a report of a version with this code.
+func report(version, code byte) []byte {
+	return reportBytes(version, code, nil, "no")
+}
+
 // What a client does in each state that a cache brings it to: the connections that it makes, with
 // the queries in each, the serial numbers that it gets to, and its failures.
+var clientStates = map[string]struct {
+	connections [][]scene
+	serials     []uint32 // of the updates; 0 where the data were dropped
+	failures    []error
+}{
+	"a notify of what it has, and one of more": {
+		[][]scene{{
+			{reset1, join(full(7, 1, ipv4), numbered(1, 0, 7, 1), numbered(1, 0, 7, 2))},
+			{asked(1, 7, 1), full(7, 3, otherIPv4)},
+		}}, []uint32{1, 3}, nil,
+	},
+	"notifies before an answer": {
+		[][]scene{{
+			{reset1, join(numbered(2, 0, 9, 9), numbered(0, 0, 9, 9), full(7, 3))},
+		}}, []uint32{3}, nil,
+	},
+	"a cache reset": {
+		[][]scene{{
+			{reset1, join(full(7, 1, ipv4), numbered(1, 0, 7, 2))},
+			{asked(1, 7, 1), []byte{1, 8, 0, 0, 0, 0, 0, 8}},
+			{reset1, full(7, 3, otherIPv4)},
+		}}, []uint32{1, 3}, nil,
+	},
+	"a cache reset, and a new session": {
+		[][]scene{{
+			{reset1, join(full(7, 1, ipv4), numbered(1, 0, 7, 2))},
+			{asked(1, 7, 1), []byte{1, 8, 0, 0, 0, 0, 0, 8}},
+			{reset1, full(8, 3, otherIPv4)},
+		}}, []uint32{1, 3}, nil,
+	},
+	"no data yet, and a notify": {
+		[][]scene{{
+			{reset1, join(report(1, 2), numbered(1, 0, 7, 3))},
+			{reset1, full(7, 3)},
+		}}, []uint32{3}, []error{&Reported{Code: NoDataAvailable}},
+	},
+	"no data yet, and asked again": {
+		[][]scene{{{reset1, report(1, 2)}, {reset1, report(1, 2)}, {reset1, full(7, 3)}}},
+		[]uint32{3},
+		[]error{&Reported{Code: NoDataAvailable}, &Reported{Code: NoDataAvailable}},
+	},
+	"a report of version 1 on version 1": {
+		[][]scene{{{reset1, report(1, 4)}}, {{reset0, all0}}}, []uint32{3}, nil,
+	},
+	"a report of version 0": {
+		[][]scene{{{reset1, report(0, 4)}}, {{reset0, all0}}}, []uint32{3}, nil,
+	},
+	"an answer of version 0": {[][]scene{{{reset1, all0}}}, []uint32{3}, nil},
+	"an answer of version 0 to a serial query": {
+		[][]scene{
+			{{reset1, join(full(7, 1), report(1, 1))}}, {{asked(1, 7, 1), all0}},
+			{{reset0, all0}},
+		}, []uint32{1, 3}, []error{&Reported{Code: InternalError}},
+	},
+	"a report on a serial query": {
+		[][]scene{{
+			{reset1, join(full(7, 1, ipv4), numbered(1, 0, 7, 2))},
+			{asked(1, 7, 1), report(1, 0)},
+		}, {{reset1, full(8, 3)}}}, []uint32{1, 3}, []error{&Reported{Code: CorruptData}},
+	},
+	"a close on a serial query": {
+		[][]scene{
+			{{reset1, join(full(7, 1), report(1, 1))}}, {{asked(1, 7, 1), nil}},
+			{{reset1, full(8, 3)}},
+		}, []uint32{1, 3}, []error{&Reported{Code: InternalError}, ErrClosed},
+	},
+	"another session in a response": {
+		[][]scene{{
+			{reset1, join(full(7, 1, ipv4), numbered(1, 0, 7, 2))}, {asked(1, 7, 1), full(8, 2)},
+		}, {{reset1, full(8, 3)}}}, []uint32{1, 0, 3}, []error{ErrOtherSession},
+	},
+	"another session in a notify": {
+		[][]scene{
+			{{reset1, join(full(7, 1, ipv4), numbered(1, 0, 8, 1))}}, {{reset1, full(8, 3)}},
+		}, []uint32{1, 0, 3}, []error{ErrOtherSession},
+	},
+	"another session in an end of data": {
+		[][]scene{
+			{{reset1, join(response(1, 7), ending(1, 8, 1))}}, {{reset1, full(8, 3)}},
+		}, []uint32{3}, []error{ErrOtherSession},
+	},
+	"a serial number that goes back": {
+		[][]scene{{
+			{reset1, join(full(7, 1, ipv4), numbered(1, 0, 7, 0))},
+			{asked(1, 7, 1), full(7, 0xffffffff)},
+		}, {{reset1, full(7, 3)}}}, []uint32{1, 3}, []error{ErrSerialBack},
+	},
+	"a delta that doesn't fit": {
+		[][]scene{{
+			{reset1, join(full(7, 1, ipv4), numbered(1, 0, 7, 2))},
+			{asked(1, 7, 1), full(7, 2, otherIPv4, ipv4)},
+		}, {{reset1, full(7, 3, otherIPv4, ipv4)}}}, []uint32{1, 3}, []error{Duplicate},
+	},
+	"a report in a response": {
+		[][]scene{{{reset1, join(response(1, 7), ipv4, report(1, 1))}}, {{reset1, full(7, 3)}}},
+		[]uint32{3}, []error{&Reported{Code: InternalError}},
+	},
+	"a report while it waits": {
+		[][]scene{{{reset1, join(full(7, 1), report(1, 1))}}, {{asked(1, 7, 1), full(7, 3)}}},
+		[]uint32{1, 3}, []error{&Reported{Code: InternalError}},
+	},
+	"a response that it didn't ask for": {
+		[][]scene{{{reset1, join(full(7, 1), full(7, 2))}}, {{asked(1, 7, 1), full(7, 3)}}},
+		[]uint32{1, 3}, []error{ErrMisplaced},
+	},
+	"a cache reset for a reset query": {
+		[][]scene{{{reset1, []byte{1, 8, 0, 0, 0, 0, 0, 8}}}, {{reset1, full(7, 3)}}},
+		[]uint32{3}, []error{ErrMisplaced},
+	},
+	"a higher version": {
+		[][]scene{{{reset1, changed(full(7, 1), 0, 2)}}, {{reset1, full(7, 3)}}},
+		[]uint32{3}, []error{ErrNoVersion},
+	},
+	"another version later": {
+		[][]scene{
+			{{reset1, join(full(7, 1), numbered(0, 0, 7, 2))}}, {{asked(1, 7, 1), full(7, 3)}},
+		}, []uint32{1, 3}, []error{ErrOtherVersion},
+	},
+}
+
 func TestClientStates(t *testing.T) {
-	reset1, reset0 := asked(1, 0), asked(0, 0)
-	all0 := join(response(0, 7), changed(ipv4, 0, 0), ending(0, 7, 3))
-	report := func(version, code byte) []byte { return reportBytes(version, code, nil, "no") }
-	for name, test := range map[string]struct {
-		connections [][]scene
-		serials     []uint32 // of the updates; 0 where the data were dropped
-		failures    []error
-	}{
-		"a notify of what it has, and one of more": {
-			[][]scene{{
-				{reset1, join(full(7, 1, ipv4), numbered(1, 0, 7, 1), numbered(1, 0, 7, 2))},
-				{asked(1, 7, 1), full(7, 3, otherIPv4)},
-			}}, []uint32{1, 3}, nil,
-		},
-		"notifies before an answer": {
-			[][]scene{{
-				{reset1, join(numbered(2, 0, 9, 9), numbered(0, 0, 9, 9), full(7, 3))},
-			}}, []uint32{3}, nil,
-		},
-		"a cache reset": {
-			[][]scene{{
-				{reset1, join(full(7, 1, ipv4), numbered(1, 0, 7, 2))},
-				{asked(1, 7, 1), []byte{1, 8, 0, 0, 0, 0, 0, 8}},
-				{reset1, full(7, 3, otherIPv4)},
-			}}, []uint32{1, 3}, nil,
-		},
-		"a cache reset, and a new session": {
-			[][]scene{{
-				{reset1, join(full(7, 1, ipv4), numbered(1, 0, 7, 2))},
-				{asked(1, 7, 1), []byte{1, 8, 0, 0, 0, 0, 0, 8}},
-				{reset1, full(8, 3, otherIPv4)},
-			}}, []uint32{1, 3}, nil,
-		},
-		"no data yet, and a notify": {
-			[][]scene{{
-				{reset1, join(report(1, 2), numbered(1, 0, 7, 3))},
-				{reset1, full(7, 3)},
-			}}, []uint32{3}, []error{&Reported{Code: NoDataAvailable}},
-		},
-		"no data yet, and asked again": {
-			[][]scene{{{reset1, report(1, 2)}, {reset1, report(1, 2)}, {reset1, full(7, 3)}}},
-			[]uint32{3},
-			[]error{&Reported{Code: NoDataAvailable}, &Reported{Code: NoDataAvailable}},
-		},
-		"a report of version 1 on version 1": {
-			[][]scene{{{reset1, report(1, 4)}}, {{reset0, all0}}}, []uint32{3}, nil,
-		},
-		"a report of version 0": {
-			[][]scene{{{reset1, report(0, 4)}}, {{reset0, all0}}}, []uint32{3}, nil,
-		},
-		"an answer of version 0": {[][]scene{{{reset1, all0}}}, []uint32{3}, nil},
-		"an answer of version 0 to a serial query": {
-			[][]scene{
-				{{reset1, join(full(7, 1), report(1, 1))}}, {{asked(1, 7, 1), all0}},
-				{{reset0, all0}},
-			}, []uint32{1, 3}, []error{&Reported{Code: InternalError}},
-		},
-		"another session in a response": {
-			[][]scene{{
-				{reset1, join(full(7, 1, ipv4), numbered(1, 0, 7, 2))}, {asked(1, 7, 1), full(8, 2)},
-			}, {{reset1, full(8, 3)}}}, []uint32{1, 0, 3}, []error{ErrOtherSession},
-		},
-		"another session in a notify": {
-			[][]scene{
-				{{reset1, join(full(7, 1, ipv4), numbered(1, 0, 8, 1))}}, {{reset1, full(8, 3)}},
-			}, []uint32{1, 0, 3}, []error{ErrOtherSession},
-		},
-		"another session in an end of data": {
-			[][]scene{
-				{{reset1, join(response(1, 7), ending(1, 8, 1))}}, {{reset1, full(8, 3)}},
-			}, []uint32{3}, []error{ErrOtherSession},
-		},
-		"a serial number that goes back": {
-			[][]scene{{
-				{reset1, join(full(7, 1, ipv4), numbered(1, 0, 7, 0))},
-				{asked(1, 7, 1), full(7, 0xffffffff)},
-			}, {{reset1, full(7, 3)}}}, []uint32{1, 3}, []error{ErrSerialBack},
-		},
-		"a delta that doesn't fit": {
-			[][]scene{{
-				{reset1, join(full(7, 1, ipv4), numbered(1, 0, 7, 2))},
-				{asked(1, 7, 1), full(7, 2, otherIPv4, ipv4)},
-			}, {{reset1, full(7, 3, otherIPv4, ipv4)}}}, []uint32{1, 3}, []error{Duplicate},
-		},
-		"a report in a response": {
-			[][]scene{{{reset1, join(response(1, 7), ipv4, report(1, 1))}}, {{reset1, full(7, 3)}}},
-			[]uint32{3}, []error{&Reported{Code: InternalError}},
-		},
-		"a report while it waits": {
-			[][]scene{{{reset1, join(full(7, 1), report(1, 1))}}, {{asked(1, 7, 1), full(7, 3)}}},
-			[]uint32{1, 3}, []error{&Reported{Code: InternalError}},
-		},
-		"a response that it didn't ask for": {
-			[][]scene{{{reset1, join(full(7, 1), full(7, 2))}}, {{asked(1, 7, 1), full(7, 3)}}},
-			[]uint32{1, 3}, []error{ErrMisplaced},
-		},
-		"a cache reset for a reset query": {
-			[][]scene{{{reset1, []byte{1, 8, 0, 0, 0, 0, 0, 8}}}, {{reset1, full(7, 3)}}},
-			[]uint32{3}, []error{ErrMisplaced},
-		},
-		"a higher version": {
-			[][]scene{{{reset1, changed(full(7, 1), 0, 2)}}, {{reset1, full(7, 3)}}},
-			[]uint32{3}, []error{ErrNoVersion},
-		},
-		"another version later": {
-			[][]scene{
-				{{reset1, join(full(7, 1), numbered(0, 0, 7, 2))}}, {{asked(1, 7, 1), full(7, 3)}},
-			}, []uint32{1, 3}, []error{ErrOtherVersion},
-		},
-	} {
+	for name, test := range clientStates {
 		t.Run(name, func(t *testing.T) {
 			noLeaks(t)
 			var connections []func(*net.TCPConn)
@@ -448,7 +474,7 @@ func TestRefresh(t *testing.T) {
 func TestExpire(t *testing.T) {
 	noLeaks(t)
 	silent := play(t, nil, scene{asked(1, 0), full(7, 1, ipv4)})
-	late := play(t, nil, scene{asked(1, 0), full(7, 1, ipv4)}, scene{asked(1, 7, 1), nil})
+	late := play(t, nil, scene{asked(1, 0), full(7, 1, ipv4)}, scene{asked(1, 7, 1), []byte{}})
 	gone := func(connection *net.TCPConn) {
 		readUnit(NewReader(connection))
 		connection.Write(full(7, 1, ipv4))

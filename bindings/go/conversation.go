@@ -19,6 +19,7 @@ type conversation struct {
 	writer     *Writer
 	version    uint8 // of the session, once it is agreed on, and before that the one it asks in
 	agreed     bool  // the cache answered in this version
+	serial     bool  // the last query was a serial query
 	asked      time.Time
 }
 
@@ -26,8 +27,11 @@ type conversation struct {
 // that the cache wants a lower version, which is then set.
 func (f *follower) follow(ctx context.Context) (fell bool, err error) {
 	f.answered = false
-	dialer := net.Dialer{Timeout: f.client.Limits.Dial}
+	dialer := net.Dialer{Deadline: f.soonest(time.Now().Add(f.client.Limits.Dial))}
 	connection, err := dialer.DialContext(ctx, "tcp", f.client.Address)
+	if err != nil && f.dropExpired() {
+		return false, ErrExpired
+	}
 	if err != nil {
 		return false, err
 	}
@@ -76,7 +80,7 @@ func (v errLower) Error() string {
 
 // lower is the version to ask in after a conversation that ended so, if the cache has none as high
 // as it was asked in (RFC 8210 section 7): it says so by a report, or by a report or an answer in
-// a lower version, or closes the connection without a word.
+// a lower version, or closes the connection without a word on a reset query.
 func (c *conversation) lower(err error) (uint8, bool) {
 	var lower errLower
 	var report *Reported
@@ -93,7 +97,7 @@ func (c *conversation) lower(err error) (uint8, bool) {
 	}
 	var fault *Fault
 	silent := c.reader.Offset() == 0 && !errors.As(err, &fault) && !errors.Is(err, ErrTooSlow)
-	return c.version - 1, silent && !errors.Is(err, ErrExpired)
+	return c.version - 1, silent && !c.serial && !errors.Is(err, ErrExpired)
 }
 
 // converse asks, and asks again, until something ends it.
@@ -101,11 +105,10 @@ func (c *conversation) converse() error {
 	for {
 		err := c.fetch()
 		wait := c.refresh()
-		var report *Reported
 		switch {
 		case c.once && err == nil:
 			return nil
-		case c.agreed && !c.once && errors.As(err, &report) && report.Code == NoDataAvailable:
+		case c.agreed && !c.once && isNoData(err):
 			c.client.failed(err)
 			wait = c.retry()
 		case err != nil:
@@ -117,21 +120,29 @@ func (c *conversation) converse() error {
 	}
 }
 
+// isNoData says whether a cache reports that it has no data yet (RFC 8210 section 8.4).
+func isNoData(err error) bool {
+	var report *Reported
+	return errors.As(err, &report) && report.Code == NoDataAvailable
+}
+
 // fetch asks for changes, or for all data, and takes the answer.
 func (c *conversation) fetch() error {
 	for {
-		serial := !c.data.IsZero() && !c.resync && c.data.Version() == c.version
-		if err := c.ask(serial); err != nil {
+		c.serial = !c.data.IsZero() && !c.resync && c.data.Version() == c.version
+		if err := c.ask(); err != nil {
 			return err
 		}
-		unit, err := c.response(serial)
+		unit, err := c.response()
 		if err != nil {
+			// A cache may refuse the serial query of a session that it doesn't know.
+			c.resync = c.resync || c.serial && !errors.Is(err, ErrTooSlow) && !isNoData(err)
 			return err
 		}
 		switch {
 		case unit.Kind == CacheResponse:
-			return c.receive(unit.Session, serial)
-		case unit.Kind == CacheReset && serial:
+			return c.receive(unit.Session)
+		case unit.Kind == CacheReset && c.serial:
 			// RFC 8210 section 8.3
 			c.resync = true
 		default:
@@ -141,9 +152,9 @@ func (c *conversation) fetch() error {
 }
 
 // ask sends a serial query or a reset query, and sets the time for its answer.
-func (c *conversation) ask(serial bool) error {
+func (c *conversation) ask() error {
 	query := Unit{Kind: ResetQuery, Version: c.version}
-	if serial {
+	if c.serial {
 		query = Unit{
 			Kind: SerialQuery, Version: c.version,
 			Session: c.data.Session(), Serial: c.data.Serial(),
@@ -173,7 +184,7 @@ func (c *conversation) problem(err error) error {
 
 // response reads the first unit of an answer. The first answer says what version the session has
 // (RFC 8210 section 7). Notifies in between say nothing new.
-func (c *conversation) response(serial bool) (*Unit, error) {
+func (c *conversation) response() (*Unit, error) {
 	for {
 		unit, err := c.next()
 		if err != nil {
@@ -185,7 +196,7 @@ func (c *conversation) response(serial bool) (*Unit, error) {
 		case c.agreed:
 		case unit.Version > c.version:
 			return nil, breach(ErrNoVersion, UnsupportedProtocolVersion, c.reader.Bytes())
-		case unit.Version < c.version && serial:
+		case unit.Version < c.version && c.serial:
 			return nil, errLower(unit.Version)
 		}
 		c.version, c.agreed = unit.Version, true
@@ -231,8 +242,8 @@ func (c *conversation) checkPayload(unit *Unit) error {
 }
 
 // receive reads what follows a cache response, and makes all of the changes or none.
-func (c *conversation) receive(session uint16, serial bool) error {
-	if serial && session != c.data.Session() {
+func (c *conversation) receive(session uint16) error {
+	if c.serial && session != c.data.Session() {
 		return c.otherSession()
 	}
 	sequence := c.reader.Sequence(c.client.Limits.Units)
@@ -245,7 +256,7 @@ func (c *conversation) receive(session uint16, serial bool) error {
 		return c.otherSession()
 	}
 	base, err := NewData(c.version, session, end.Serial, Timing{})
-	if serial {
+	if c.serial {
 		base = c.data
 		if order, ok := CompareSerials(end.Serial, base.Serial()); ok && order < 0 {
 			c.resync = true
@@ -257,7 +268,7 @@ func (c *conversation) receive(session uint16, serial bool) error {
 	}
 	data, err := applied(base, read)
 	if err != nil {
-		c.resync = serial || c.resync
+		c.resync = c.serial || c.resync
 		return err
 	}
 	return c.take(data)

@@ -104,55 +104,56 @@ func TestServerWithoutData(t *testing.T) {
 	expect(t, silent, join(response(0, 7), ending(0, 7, 2)))
 }
 
-// What a client may not send: the report that it gets, and then the end.
+// What a client may not send to a cache that has one prefix, and what comes before the end.
+var serverRefusals = map[string]struct{ input, expected []byte }{
+	"version 3": {
+		[]byte{3, 2, 0, 0, 0, 0, 0, 8},
+		reportBytes(2, 4, []byte{3, 2, 0, 0, 0, 0, 0, 8}, "version is not supported"),
+	},
+	"version 255, and no type": {
+		[]byte{255, 255, 0, 0, 0, 0, 0, 0},
+		reportBytes(2, 4, []byte{255, 255, 0, 0, 0, 0, 0, 0}, "version is not supported"),
+	},
+	"another version": {
+		join(asked(1, 0), asked(0, 0)), join(response(1, 0x1234), ipv4, end,
+			reportBytes(1, 8, asked(0, 0), "unit of another version than the session")),
+	},
+	"version 3 later": {
+		join(asked(1, 0), asked(3, 0)), join(response(1, 0x1234), ipv4, end,
+			reportBytes(1, 8, asked(3, 0), "unit of another version than the session")),
+	},
+	"a prefix": {ipv4, reportBytes(1, 3, ipv4, "unit is not a query")},
+	"a notify": {serialNotify, reportBytes(1, 3, serialNotify, "unit is not a query")},
+	"no type": {
+		[]byte{0, 5, 0, 0, 0, 0, 0, 8},
+		reportBytes(0, 5, []byte{0, 5, 0, 0, 0, 0, 0, 8}, "unit type 5 is not allowed here"),
+	},
+	"a long reset query": {
+		[]byte{1, 2, 0, 0, 0, 0, 0, 9, 0},
+		reportBytes(1, 0, []byte{1, 2, 0, 0, 0, 0, 0, 9}, "invalid unit length"),
+	},
+	"four gigabytes": {
+		[]byte{1, 9, 0, 0, 255, 255, 255, 255},
+		reportBytes(1, 0, []byte{1, 9, 0, 0, 255, 255, 255, 255},
+			"unit is longer than 65535 bytes"),
+	},
+	"four gigabytes of a report": {[]byte{1, 10, 0, 0, 255, 255, 255, 255}, nil},
+	"a report":                   {errorReport, nil},
+	"a report of version 9":      {changed(errorReport, 0, 9), nil},
+	"a cut header": {
+		[]byte{1, 2, 0}, reportBytes(1, 0, []byte{1, 2, 0}, "unexpected end of input"),
+	},
+	"a cut query": {
+		asked(1, 7, 8)[:11],
+		reportBytes(1, 0, asked(1, 7, 8)[:11], "unexpected end of input"),
+	},
+	"nothing": {nil, nil},
+}
+
 func TestServerRefusals(t *testing.T) {
 	noLeaks(t)
 	_, address := started(t, nil, parsed(t, join(ipv4, end)))
-	all := join(response(1, 0x1234), ipv4, end)
-	for name, one := range map[string]struct{ input, expected []byte }{
-		"version 3": {
-			[]byte{3, 2, 0, 0, 0, 0, 0, 8},
-			reportBytes(2, 4, []byte{3, 2, 0, 0, 0, 0, 0, 8}, "version is not supported"),
-		},
-		"version 255, and no type": {
-			[]byte{255, 255, 0, 0, 0, 0, 0, 0},
-			reportBytes(2, 4, []byte{255, 255, 0, 0, 0, 0, 0, 0}, "version is not supported"),
-		},
-		"another version": {
-			join(asked(1, 0), asked(0, 0)), join(all,
-				reportBytes(1, 8, asked(0, 0), "unit of another version than the session")),
-		},
-		"version 3 later": {
-			join(asked(1, 0), asked(3, 0)), join(all,
-				reportBytes(1, 8, asked(3, 0), "unit of another version than the session")),
-		},
-		"a prefix": {ipv4, reportBytes(1, 3, ipv4, "unit is not a query")},
-		"a notify": {serialNotify, reportBytes(1, 3, serialNotify, "unit is not a query")},
-		"no type": {
-			[]byte{0, 5, 0, 0, 0, 0, 0, 8},
-			reportBytes(0, 5, []byte{0, 5, 0, 0, 0, 0, 0, 8}, "unit type 5 is not allowed here"),
-		},
-		"a long reset query": {
-			[]byte{1, 2, 0, 0, 0, 0, 0, 9, 0},
-			reportBytes(1, 0, []byte{1, 2, 0, 0, 0, 0, 0, 9}, "invalid unit length"),
-		},
-		"four gigabytes": {
-			[]byte{1, 9, 0, 0, 255, 255, 255, 255},
-			reportBytes(1, 0, []byte{1, 9, 0, 0, 255, 255, 255, 255},
-				"unit is longer than 65535 bytes"),
-		},
-		"four gigabytes of a report": {[]byte{1, 10, 0, 0, 255, 255, 255, 255}, nil},
-		"a report":                   {errorReport, nil},
-		"a report of version 9":      {changed(errorReport, 0, 9), nil},
-		"a cut header": {
-			[]byte{1, 2, 0}, reportBytes(1, 0, []byte{1, 2, 0}, "unexpected end of input"),
-		},
-		"a cut query": {
-			asked(1, 7, 8)[:11],
-			reportBytes(1, 0, asked(1, 7, 8)[:11], "unexpected end of input"),
-		},
-		"nothing": {nil, nil},
-	} {
+	for name, one := range serverRefusals {
 		connection := dial(t, address)
 		send(t, connection, one.input)
 		if err := connection.CloseWrite(); err != nil {
