@@ -401,8 +401,14 @@ func TestServerWatch(t *testing.T) {
 	ctx, stop := context.WithCancel(context.Background())
 	errs, ended := make(chan error, 100), make(chan struct{})
 	go func() {
-		server.Watch(ctx, path, time.Millisecond, func(err error) { errs <- err })
-		close(ended)
+		defer close(ended)
+		server.Watch(ctx, path, time.Millisecond, func(data Data, err error) {
+			if err != nil {
+				errs <- err
+			} else if data.Session() != 7 {
+				t.Error(data)
+			}
+		})
 	}()
 	if err := <-errs; !errors.Is(err, os.ErrNotExist) {
 		t.Fatal(err)

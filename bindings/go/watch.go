@@ -70,22 +70,19 @@ func moved(err error, by int) error {
 }
 
 // Watch looks at a file of data in this interval, until the context ends. It gives new data to the
-// server when the file has another time or size than before, and once at the beginning. Why a file
-// couldn't be taken, it tells once; the server then keeps the data that it has.
-func (s *Server) Watch(ctx context.Context, path string, every time.Duration, failed func(error)) {
+// server when the file has another time or size than before, and once at the beginning. Each time
+// it tells which data these are, or why they couldn't be taken; the server then keeps those that
+// it has.
+func (s *Server) Watch(
+	ctx context.Context, path string, every time.Duration, told func(Data, error),
+) {
 	ticks := time.NewTicker(every)
 	defer ticks.Stop()
 	seen := stamp{size: -1}
 	for {
 		if now := stampOf(path); now != seen {
 			seen = now
-			data, err := LoadData(path)
-			if err == nil {
-				err = s.Update(data)
-			}
-			if err != nil {
-				failed(err)
-			}
+			told(s.load(path))
 		}
 		select {
 		case <-ctx.Done():
@@ -93,6 +90,18 @@ func (s *Server) Watch(ctx context.Context, path string, every time.Duration, fa
 		case <-ticks.C:
 		}
 	}
+}
+
+// load takes the data of a file.
+func (s *Server) load(path string) (Data, error) {
+	data, err := LoadData(path)
+	if err != nil {
+		return Data{}, err
+	}
+	if err := s.Update(data); err != nil {
+		return Data{}, fmt.Errorf("%s: %w", path, err)
+	}
+	return data, nil
 }
 
 // stamp says which state of a file was read.

@@ -73,8 +73,15 @@ func run(ctx context.Context, path string, addresses []string) error {
 	ctx, stop := context.WithCancel(ctx)
 	watched := make(chan struct{})
 	go func() {
-		server.Watch(ctx, path, interval, func(err error) { say(err) })
-		close(watched)
+		defer close(watched)
+		server.Watch(ctx, path, interval, func(data rtr.Data, err error) {
+			if err != nil {
+				say(err)
+				return
+			}
+			say(fmt.Sprintf("%s: session %d serial %d: %d payloads",
+				path, data.Session(), data.Serial(), data.Len()))
+		})
 	}()
 	var err error
 	select {

@@ -69,18 +69,19 @@ func run(ctx context.Context, wanted options, output io.Writer) error {
 	client := rtr.NewClient(wanted.address)
 	client.Version = wanted.version
 	client.Failed = func(err error) { say(wanted.address, err) }
-	print := textLine
+	words := rtr.ChangeLine
 	if wanted.json {
-		print = jsonLine
+		words = rtr.ChangeJSON
 	}
 	buffered := bufio.NewWriter(output)
 	show := func(data rtr.Data, units *rtr.Units) error {
-		for units.Scan() {
-			if err := print(buffered, units.Unit()); err != nil {
-				return err
-			}
+		if !data.IsZero() {
+			fmt.Fprintf(os.Stderr, "session %d serial %d version %d: %d payloads\n",
+				data.Session(), data.Serial(), data.Version(), data.Len())
 		}
-		say(wanted.address, state(data))
+		for units.Scan() {
+			fmt.Fprintln(buffered, words(units.Unit()))
+		}
 		return buffered.Flush()
 	}
 	if wanted.once {
@@ -93,15 +94,6 @@ func run(ctx context.Context, wanted options, output io.Writer) error {
 	return client.Run(ctx, func(update rtr.Update) error {
 		return show(update.Data, update.Changes())
 	})
-}
-
-// state says which data there are.
-func state(data rtr.Data) string {
-	if data.IsZero() {
-		return "no data"
-	}
-	return fmt.Sprintf("session %d serial %d version %d: %d payloads",
-		data.Session(), data.Serial(), data.Version(), data.Len())
 }
 
 // say writes a line on standard error.
