@@ -3,6 +3,7 @@ package rtr
 import (
 	"bytes"
 	"encoding/binary"
+	"math"
 )
 
 // The shortest payload unit, an ASPA that is withdrawn, has so many bytes.
@@ -56,7 +57,7 @@ func NewData(version uint8, session uint16, serial uint32, timing Timing) (Data,
 
 // ParseData makes data of the bytes that input begins with, if they are in canonical form and
 // withdraw nothing. What follows the end of data doesn't count. Order puts other sequences into
-// this form. The data have a copy of the bytes.
+// this form. The data have the written form of the units: what means nothing is zero.
 //
 // Errors, each a Fault with the offset and the bytes of the unit: Short to PrefixRule;
 // NotCanonical.
@@ -65,16 +66,12 @@ func ParseData(input []byte) (Data, error) {
 	if _, err := delta(input, input, make([]byte, longestEnd)); err != nil {
 		return Data{}, err
 	}
-	return checkedData(append([]byte{}, input[:sequenceSize(input)]...)), nil
-}
-
-// sequenceSize is how long the sequence is that the input begins with, which was checked.
-func sequenceSize(input []byte) int {
-	at := 0
-	for Kind(input[at+1]) != EndOfData {
-		at += unitLength(input[at:])
+	output := make([]byte, len(input))
+	progress, err := Normalise(input, output, math.MaxUint64)
+	if err != nil {
+		return Data{}, err
 	}
-	return at + unitLength(input[at:])
+	return checkedData(fitted(output, progress.Written)), nil
 }
 
 // unitLength is the length in the header of a unit that was checked.
@@ -96,7 +93,7 @@ func checkedData(bytes []byte) Data {
 	return data
 }
 
-// Equal says whether two data are the same, with their version, session, serial number and timing.
+// Equal says whether two data mean the same, with their version, session, serial number and timing.
 func (d Data) Equal(other Data) bool {
 	return bytes.Equal(d.bytes, other.bytes)
 }

@@ -518,6 +518,31 @@ func TestNewData(t *testing.T) {
 	}
 }
 
+// Bytes that mean nothing may differ in what is parsed: the data are the same.
+func TestDataForm(t *testing.T) {
+	stray := changed(changed(changed(ipv4, 3, 9), 8, 3), 15, 77)
+	data := parsed(t, join(stray, end, stray))
+	if !bytes.Equal(data.Bytes(), join(ipv4, end)) || !data.Equal(parsed(t, join(ipv4, end))) {
+		t.Fatalf("%x", data.Bytes())
+	}
+	if data.Equal(parsed(t, join(ipv4, otherEnd))) || data.Equal(Data{}) {
+		t.Fatalf("%x", data.Bytes())
+	}
+	for changes, expected := range map[string][]byte{
+		string(join(changed(otherIPv4, 11, 1), end)):   join(ipv4, otherIPv4, end),
+		string(join(changed(withdrawn4, 8, 254), end)): end,
+	} {
+		after, err := Apply(data, []byte(changes))
+		if err != nil || !bytes.Equal(after.Bytes(), expected) {
+			t.Fatalf("%x: %x %v", changes, after.Bytes(), err)
+		}
+	}
+	ordered, err := Order(join(changed(withdrawn4, 8, 254), changed(announced6, 11, 7), end))
+	if err != nil || !bytes.Equal(ordered, join(announced6, withdrawn4, end)) {
+		t.Fatalf("%x %v", ordered, err)
+	}
+}
+
 // Data for each version have what the version has.
 func TestDataFor(t *testing.T) {
 	random := rand.New(rand.NewSource(4))
