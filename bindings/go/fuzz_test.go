@@ -47,3 +47,43 @@ func FuzzReader(f *testing.F) {
 		}
 	})
 }
+
+// What Order gives of any bytes is in canonical form, and stays as it is; data are what leads from
+// nothing to them; and what leads from some data to others, makes these of them.
+func FuzzOrder(f *testing.F) {
+	f.Add(join(ipv4, announced6, key, end))
+	f.Add(join(withdrawn4, otherIPv4, announced6, end))
+	f.Add(join(aspa, withdrawn, changed(end, 0, 2)))
+	f.Fuzz(func(t *testing.T, input []byte) {
+		ordered, err := Order(input)
+		if err != nil {
+			if data, err := ParseData(input); err == nil {
+				t.Fatalf("%x are data: %x", input, data.Bytes())
+			}
+			return
+		}
+		again, err := Order(ordered)
+		if err != nil || !bytes.Equal(again, ordered) {
+			t.Fatalf("%x: %x %v", ordered, again, err)
+		}
+		data, err := ParseData(ordered)
+		if err != nil {
+			return // something is withdrawn
+		}
+		nothing, err := NewData(data.Version(), data.Session(), 0, RecommendedTiming)
+		if err != nil {
+			t.Fatal(err)
+		}
+		changes, err := Delta(nothing, data)
+		if err != nil || !bytes.Equal(changes, data.Bytes()) || !bytes.Equal(changes, ordered) {
+			t.Fatalf("%x: %x %v", ordered, changes, err)
+		}
+		back, err := Delta(data, nothing)
+		if err != nil {
+			t.Fatal(err)
+		}
+		if left, err := Apply(data, back); err != nil || !left.Equal(nothing) {
+			t.Fatalf("%x: %x %v", back, left.Bytes(), err)
+		}
+	})
+}

@@ -30,6 +30,11 @@
 // a delta, or none; Order puts changes that came in any order into the form that Apply takes, and Sequence.Collect
 // reads them from a connection.
 //
+// # Clients and caches
+//
+// A Client follows the data of a cache over TCP, and a Server is a cache. docs/SESSIONS.md says what they do in each
+// state, by the sections of RFC 8210.
+//
 // # Errors
 //
 // What is wrong with a unit is a *Fault, for errors.As, with the place and the bytes of the unit, and the error
@@ -38,7 +43,7 @@
 //
 // # Goroutines and memory
 //
-// Several goroutines may call at once, but one at a time for each Reader, Sequence and Writer. Slices may be nil
+// Several goroutines may call at once, but one at a time for each Reader, Sequence, Units and Writer. Slices may be nil
 // or empty. What is written must not overlap what is read, and until a call returns no other goroutine may write
 // to its arguments or read its output. No unit allocates memory, when it is read or written, once the buffers
 // are as long as the longest unit; an error does.

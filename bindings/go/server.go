@@ -5,11 +5,13 @@ import (
 	"fmt"
 	"net"
 	"sync"
+	"syscall"
 	"time"
 )
 
 // ServerLimits are what a Server allows its clients. What is pending for a client is never more
-// than one write of 64 KiB, as all clients share the data.
+// than one write of 64 KiB, and what the system buffers of its connection: all clients share the
+// data.
 type ServerLimits struct {
 	Connections int           // at once; a client above them is closed
 	First       time.Duration // from the connection to the first query
@@ -111,36 +113,57 @@ func (s *Server) edition() *edition {
 	return s.present
 }
 
-// Failures of a listener that are taken in a row, and the longest pause after one.
+// Failures of a listener that are taken in a row, and the pauses after one.
 const (
-	mostFailures = 10
-	longestPause = time.Second
+	mostFailures  = 10
+	shortestPause = time.Millisecond
+	longestPause  = 100 * time.Millisecond
 )
 
 // Serve takes the clients of a listener until the server is closed, and closes the listener.
 //
-// Errors: ErrServerClosed; that of the listener, after it failed ten times in a row.
+// Errors: ErrServerClosed; that of the listener, after it failed ten times in a row for another
+// reason than that the system has no place for one more connection.
 func (s *Server) Serve(listener net.Listener) error {
 	if !s.add(listener) {
 		listener.Close()
 		return ErrServerClosed
 	}
 	defer s.remove(listener)
-	for failures := 0; ; {
+	failures, wait := 0, shortestPause
+	for {
 		connection, err := listener.Accept()
 		if err == nil {
-			failures = 0
+			failures, wait = 0, shortestPause
 			s.take(connection)
 			continue
 		}
 		if s.isClosed() {
 			return ErrServerClosed
 		}
-		if failures++; failures == mostFailures {
+		if !isFull(err) {
+			failures++
+		}
+		if failures == mostFailures {
 			return err
 		}
-		time.Sleep(longestPause >> (mostFailures - failures))
+		time.Sleep(wait)
+		if wait *= 2; wait > longestPause {
+			wait = longestPause
+		}
 	}
+}
+
+// isFull says whether the system has no place for one more connection.
+func isFull(err error) bool {
+	for _, full := range []syscall.Errno{
+		syscall.EMFILE, syscall.ENFILE, syscall.ENOBUFS, syscall.ENOMEM,
+	} {
+		if errors.Is(err, full) {
+			return true
+		}
+	}
+	return false
 }
 
 // add says whether the server takes the listener.
@@ -166,6 +189,9 @@ func (s *Server) remove(listener net.Listener) {
 
 // take serves a client in goroutines of its own, or closes it.
 func (s *Server) take(connection net.Conn) {
+	if tcp, ok := connection.(*net.TCPConn); ok {
+		tcp.SetWriteBuffer(chunk)
+	}
 	client := newServed(s, connection)
 	s.lock.Lock()
 	many := len(s.clients) >= s.Limits.Connections

@@ -9,6 +9,7 @@ import (
 	"math/rand"
 	"net"
 	"os"
+	"syscall"
 	"testing"
 	"time"
 )
@@ -344,6 +345,45 @@ func TestServerClose(t *testing.T) {
 	}
 	for _, connection := range connections[:1] {
 		expectEnd(t, connection, nil)
+	}
+}
+
+// failingListener is one that fails so many times, and then takes a connection.
+type failingListener struct {
+	net.Listener
+	err   error
+	times int
+}
+
+func (f *failingListener) Accept() (net.Conn, error) {
+	if f.times--; f.times >= 0 {
+		return nil, f.err
+	}
+	return f.Listener.Accept()
+}
+
+// A server goes on when there was no place for a connection, and ends when a listener is broken.
+func TestServerListener(t *testing.T) {
+	noLeaks(t)
+	server, _ := started(t, nil, parsed(t, ending(1, 7, 1)))
+	full := &net.OpError{Op: "accept", Err: syscall.EMFILE}
+	for _, one := range []struct {
+		err    error
+		times  int
+		broken bool
+	}{{full, 12, false}, {errFailed, 9, false}, {errFailed, 10, true}} {
+		listener := listen(t, "127.0.0.1:0")
+		done := make(chan error, 1)
+		go func() { done <- server.Serve(&failingListener{listener, one.err, one.times}) }()
+		if one.broken {
+			if err := <-done; err != errFailed {
+				t.Fatal(err)
+			}
+			continue
+		}
+		connection := dial(t, listener.Addr().String())
+		send(t, connection, asked(1, 0))
+		expect(t, connection, join(response(1, 7), ending(1, 7, 1)))
 	}
 }
 

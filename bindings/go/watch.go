@@ -10,7 +10,7 @@ import (
 )
 
 // MostDataBytes is how long a file of data may be.
-const MostDataBytes = 1 << 30
+const MostDataBytes = 1 << 28
 
 // LoadData reads data from a file: a sequence, with or without a cache response before it, that
 // only announces. What isn't in canonical form is put in order. What follows the end of data
