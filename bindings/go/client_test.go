@@ -402,6 +402,19 @@ func sameReason(err, other error) bool {
 	return errors.Is(err, other)
 }
 
+// A report in version 0 doesn't say that the cache lacks version 1.
+func TestFetchFallsByOne(t *testing.T) {
+	noLeaks(t)
+	address := fakeCache(t, play(t, nil, scene{asked(2, 0), report(0, 4)}),
+		play(t, nil, scene{asked(1, 0), full(7, 3, ipv4)}))
+	ctx, cancel := limited(t)
+	defer cancel()
+	data, err := quick(address).Fetch(ctx)
+	if err != nil || !bytes.Equal(data.Bytes(), join(ipv4, ending(1, 7, 3))) {
+		t.Fatalf("%x %v", data.Bytes(), err)
+	}
+}
+
 // Without an answer at all a client falls to version 0, and then fails.
 func TestFetchFalls(t *testing.T) {
 	noLeaks(t)

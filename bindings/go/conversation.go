@@ -90,10 +90,9 @@ func (c *conversation) lower(err error) (uint8, bool) {
 	case errors.As(err, &lower):
 		return uint8(lower), true
 	case errors.As(err, &report):
-		if report.Version < c.version {
-			return report.Version, true
-		}
-		return c.version - 1, report.Code == UnsupportedProtocolVersion
+		// The version of the report needn't be the highest that the cache has.
+		older := report.Version < c.version
+		return c.version - 1, older || report.Code == UnsupportedProtocolVersion
 	}
 	var fault *Fault
 	silent := c.reader.Offset() == 0 && !errors.As(err, &fault) && !errors.Is(err, ErrTooSlow)
