@@ -89,7 +89,7 @@ func (c *Client) Run(ctx context.Context, changed func(Update) error) error {
 		}
 		c.failed(err)
 		wait := f.retry()
-		if f.answered {
+		if f.soon {
 			wait = c.Limits.Pause
 		}
 		if err := f.wait(ctx, wait); err != nil {
@@ -112,11 +112,11 @@ type follower struct {
 	changed func(Update) error
 	stopped error // of changed, which ends it
 
-	data     Data
-	expires  time.Time // when the data are dropped
-	resync   bool      // the next query asks for all data, though there are some
-	version  uint8     // that it asks in
-	answered bool      // the connection gave data
+	data    Data
+	expires time.Time // when the data are dropped
+	resync  bool      // the next query asks for all data, though there are some
+	version uint8     // that it asks in
+	soon    bool      // the next connection needn't wait for the retry time
 }
 
 // attempt connects in the version of the data, or without any in the highest, falls to those that
@@ -163,7 +163,7 @@ func (f *follower) take(data Data) error {
 	if err != nil {
 		return err
 	}
-	f.data, f.resync, f.answered = data, false, true
+	f.data, f.resync, f.soon = data, false, true
 	f.expires = time.Now().Add(f.expire())
 	f.tell(Update{data, changes})
 	return f.stopped
@@ -184,6 +184,12 @@ func (f *follower) drop() {
 	if err == nil {
 		f.tell(Update{Data{}, changes})
 	}
+}
+
+// reset makes the next query a reset query, which may follow soon.
+func (f *follower) reset() {
+	f.soon = f.soon || !f.resync
+	f.resync = true
 }
 
 // tell calls the caller, unless it wants no more.

@@ -393,6 +393,33 @@ func TestClientStates(t *testing.T) {
 	}
 }
 
+// After a serial query that is refused a reset query follows soon, and then one each retry time.
+func TestRetry(t *testing.T) {
+	noLeaks(t)
+	address := fakeCache(t, play(t, nil, scene{reset1, join(full(7, 1), report(1, 1))}),
+		play(t, nil, scene{asked(1, 7, 1), report(1, 0)}), play(t, nil, scene{reset1, nil}),
+		play(t, nil, scene{reset0, nil}), play(t, nil, scene{reset1, full(7, 3)}))
+	client := quick(address)
+	client.Version, client.Retry = 1, 800*time.Millisecond
+	begun := time.Now()
+	var times []time.Duration
+	ctx, cancel := limited(t)
+	defer cancel()
+	client.Failed = func(error) { times = append(times, time.Since(begun)) }
+	err := client.Run(ctx, func(update Update) error {
+		if update.Data.Serial() == 3 {
+			return errEnough
+		}
+		return nil
+	})
+	if err != errEnough || len(times) != 3 {
+		t.Fatal(err, times)
+	}
+	if times[2] > client.Retry || time.Since(begun) < client.Retry {
+		t.Fatal(times, time.Since(begun))
+	}
+}
+
 // sameReason says whether an error is the other one, or a report with its code.
 func sameReason(err, other error) bool {
 	var report, code *Reported

@@ -26,7 +26,7 @@ type conversation struct {
 // follow connects to the cache, and follows it until the connection ends. It says why it did, or
 // that the cache wants a lower version, which is then set.
 func (f *follower) follow(ctx context.Context) (fell bool, err error) {
-	f.answered = false
+	f.soon = false
 	dialer := net.Dialer{Deadline: f.soonest(time.Now().Add(f.client.Limits.Dial))}
 	connection, err := dialer.DialContext(ctx, "tcp", f.client.Address)
 	if err != nil && f.dropExpired() {
@@ -134,8 +134,10 @@ func (c *conversation) fetch() error {
 		}
 		unit, err := c.response()
 		if err != nil {
-			// A cache may refuse the serial query of a session that it doesn't know.
-			c.resync = c.resync || c.serial && !errors.Is(err, ErrTooSlow) && !isNoData(err)
+			if c.serial && !errors.Is(err, ErrTooSlow) && !isNoData(err) {
+				// Some caches refuse the serial query of a session that they don't know.
+				c.reset()
+			}
 			return err
 		}
 		switch {
@@ -258,7 +260,7 @@ func (c *conversation) receive(session uint16) error {
 	if c.serial {
 		base = c.data
 		if order, ok := CompareSerials(end.Serial, base.Serial()); ok && order < 0 {
-			c.resync = true
+			c.reset()
 			return breach(ErrSerialBack, CorruptData, c.reader.Bytes())
 		}
 	}
@@ -267,7 +269,9 @@ func (c *conversation) receive(session uint16) error {
 	}
 	data, err := applied(base, read)
 	if err != nil {
-		c.resync = c.serial || c.resync
+		if c.serial {
+			c.reset()
+		}
 		return err
 	}
 	return c.take(data)
@@ -296,6 +300,7 @@ func applied(data Data, read []byte) (Data, error) {
 // data are dropped (RFC 8210 section 5.1).
 func (c *conversation) otherSession() error {
 	err := breach(ErrOtherSession, CorruptData, c.reader.Bytes())
+	c.soon = c.soon || !c.data.IsZero()
 	c.drop()
 	return err
 }
