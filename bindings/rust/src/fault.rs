@@ -4,7 +4,8 @@ use crate::sys;
 use crate::unit::{ErrorReport, ReportParts, MOST_IN_REPORT};
 use core::fmt;
 
-/// Why a call failed, in the order in which the faults of a unit are checked.
+/// Why a call failed. `Short` to `Prefix` are the faults of a unit, in the order in which they are
+/// checked.
 #[derive(Clone, Copy, Debug, PartialEq, Eq, Hash)]
 #[non_exhaustive]
 pub enum Fault {
@@ -28,6 +29,19 @@ pub enum Fault {
     NoRoom,
     /// No unit has these fields.
     NoForm,
+    /// This unit or end of data may not stand there in data or changes in canonical form.
+    NotCanonical,
+    /// The second input is of another session than the first.
+    OtherSession,
+    /// A payload is announced that is there already.
+    Duplicate,
+    /// A payload is withdrawn that isn't there.
+    UnknownRecord,
+    /// An ASPA is announced and then withdrawn, so that what the changes come to depends on the
+    /// data.
+    Undecided,
+    /// The index has fewer places than there are units.
+    NoIndex,
     /// A status that this version of the crate doesn't know.
     Unknown(u8),
 }
@@ -61,6 +75,12 @@ impl Fault {
             8 => Fault::TooMany,
             9 => Fault::NoRoom,
             10 => Fault::NoForm,
+            12 => Fault::NotCanonical,
+            13 => Fault::OtherSession,
+            14 => Fault::Duplicate,
+            15 => Fault::UnknownRecord,
+            16 => Fault::Undecided,
+            17 => Fault::NoIndex,
             status => Fault::Unknown(status),
         }
     }
@@ -78,6 +98,12 @@ impl Fault {
             Fault::TooMany => 8,
             Fault::NoRoom => 9,
             Fault::NoForm => 10,
+            Fault::NotCanonical => 12,
+            Fault::OtherSession => 13,
+            Fault::Duplicate => 14,
+            Fault::UnknownRecord => 15,
+            Fault::Undecided => 16,
+            Fault::NoIndex => 17,
             Fault::Unknown(status) => status,
         }
     }
@@ -116,8 +142,13 @@ impl Fault {
     pub(crate) fn of_unit(self, bytes: &[u8]) -> &[u8] {
         let size = match self {
             Fault::Short => bytes.len(),
-            Fault::Prefix(_) => sys::unit_size(bytes).unwrap_or(8),
+            Fault::Prefix(_)
+            | Fault::NotCanonical
+            | Fault::Duplicate
+            | Fault::UnknownRecord
+            | Fault::Undecided => sys::unit_size(bytes).unwrap_or(8),
             Fault::TooMany | Fault::NoRoom | Fault::NoForm => 0,
+            Fault::OtherSession | Fault::NoIndex => 0,
             _ => 8,
         };
         &bytes[..size.min(bytes.len())]
@@ -141,6 +172,12 @@ impl fmt::Display for Fault {
             Fault::TooMany => f.write_str("too many units"),
             Fault::NoRoom => f.write_str("no room in the output"),
             Fault::NoForm => f.write_str("no unit has these fields"),
+            Fault::NotCanonical => f.write_str("not in canonical form"),
+            Fault::OtherSession => f.write_str("of another session"),
+            Fault::Duplicate => f.write_str("duplicate announcement"),
+            Fault::UnknownRecord => f.write_str("withdrawal of an unknown record"),
+            Fault::Undecided => f.write_str("an ASPA is announced and then withdrawn"),
+            Fault::NoIndex => f.write_str("no room in the index"),
             Fault::Unknown(status) => write!(f, "unknown status {status}"),
         }
     }

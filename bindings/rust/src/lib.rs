@@ -38,18 +38,28 @@
 //! [`Unit::write`] writes one. [`normalise`], [`normalise_for`] and [`same_meaning`] take whole
 //! sequences. All of these allocate nothing.
 //!
+//! # Data and deltas
+//!
+//! `Data` is what a cache has, or a router has of it, in canonical form. `Data::delta_to` makes
+//! what a serial query is answered by, `order` takes in what a cache sends, and `Data::apply` makes
+//! all of its changes, or none. [`delta_into`], [`order_into`] and [`apply_into`] do the same over
+//! slices, and allocate nothing.
+//!
 //! # Features
 //!
-//! `std`, on by default, has readers, writers and units that own their bytes. Without it the crate
-//! is `no_std`.
+//! `std`, on by default, has readers, writers, and units, data and changes that own their bytes.
+//! Without it the crate is `no_std`.
 #![no_std]
 #![deny(missing_docs, unsafe_op_in_unsafe_fn)]
 
 #[cfg(any(feature = "std", test))]
 extern crate std;
 
+mod data;
 mod fault;
 mod kind;
+#[cfg(feature = "std")]
+mod owned_data;
 #[cfg(feature = "std")]
 mod reader;
 mod sequence;
@@ -59,8 +69,11 @@ mod units;
 #[cfg(feature = "std")]
 mod writer;
 
+pub use data::{apply_into, delta_into, order_into, DataError, Place, Side};
 pub use fault::{ErrorCode, Fault, PrefixRule};
 pub use kind::{Kind, UnknownKind};
+#[cfg(feature = "std")]
+pub use owned_data::{order, Changes, Data};
 #[cfg(feature = "std")]
 pub use reader::{Error, Reader, Refusal, Sequence};
 pub use sequence::{normalise, normalise_for, same_meaning, Progress, Stopped};

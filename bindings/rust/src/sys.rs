@@ -1,5 +1,6 @@
 //! The functions of the archive, as `bindings/c/rtr.h` declares them, and safe calls of them.
 
+use crate::data::{DataError, Place, Side};
 use crate::fault::{ErrorCode, Fault};
 use crate::kind::Kind;
 use crate::sequence::{Progress, Stopped};
@@ -16,6 +17,17 @@ pub(crate) struct Answer {
     pub(crate) written: usize,
     pub(crate) wanted: usize,
     pub(crate) status: u8,
+    pub(crate) detail: u8,
+}
+
+/// The result of a call on data and changes.
+#[repr(C)]
+#[derive(Default)]
+pub(crate) struct DataAnswer {
+    pub(crate) written: usize,
+    pub(crate) offset: usize,
+    pub(crate) status: u8,
+    pub(crate) side: u8,
     pub(crate) detail: u8,
 }
 
@@ -89,6 +101,33 @@ extern "C" {
         right_length: usize,
         limit: u64,
         same: *mut bool,
+    ) -> u8;
+    fn rtr_delta_nonnull(
+        old_data: *const u8,
+        old_length: usize,
+        new_data: *const u8,
+        new_length: usize,
+        output: *mut u8,
+        output_length: usize,
+        answer: *mut DataAnswer,
+    ) -> u8;
+    fn rtr_apply_nonnull(
+        data: *const u8,
+        data_length: usize,
+        changes: *const u8,
+        changes_length: usize,
+        output: *mut u8,
+        output_length: usize,
+        answer: *mut DataAnswer,
+    ) -> u8;
+    fn rtr_order_nonnull(
+        input: *const u8,
+        input_length: usize,
+        index: *mut usize,
+        index_length: usize,
+        output: *mut u8,
+        output_length: usize,
+        answer: *mut DataAnswer,
     ) -> u8;
     fn rtr_error_code_nonnull(
         status: u8,
@@ -218,6 +257,80 @@ pub(crate) fn same_meaning(left: &[u8], right: &[u8], limit: u64) -> Result<bool
         0 => Ok(same),
         status => Err(Fault::of(status, 0)),
     }
+}
+
+/// The bytes that were written, or why the call failed.
+fn data_result(answer: DataAnswer) -> Result<usize, DataError> {
+    let place = |side| Place {
+        side,
+        offset: answer.offset,
+    };
+    match answer.status {
+        0 => Ok(answer.written),
+        status => Err(DataError {
+            fault: Fault::of(status, answer.detail),
+            place: match answer.side {
+                1 => Some(place(Side::First)),
+                2 => Some(place(Side::Second)),
+                _ => None,
+            },
+        }),
+    }
+}
+
+pub(crate) fn delta(old: &[u8], new: &[u8], output: &mut [u8]) -> Result<usize, DataError> {
+    let mut answer = DataAnswer::default();
+    // SAFETY: as in `normalise`.
+    unsafe {
+        rtr_delta_nonnull(
+            old.as_ptr(),
+            old.len(),
+            new.as_ptr(),
+            new.len(),
+            output.as_mut_ptr(),
+            output.len(),
+            &mut answer,
+        )
+    };
+    data_result(answer)
+}
+
+pub(crate) fn apply(data: &[u8], changes: &[u8], output: &mut [u8]) -> Result<usize, DataError> {
+    let mut answer = DataAnswer::default();
+    // SAFETY: as in `normalise`.
+    unsafe {
+        rtr_apply_nonnull(
+            data.as_ptr(),
+            data.len(),
+            changes.as_ptr(),
+            changes.len(),
+            output.as_mut_ptr(),
+            output.len(),
+            &mut answer,
+        )
+    };
+    data_result(answer)
+}
+
+pub(crate) fn order(
+    input: &[u8],
+    index: &mut [usize],
+    output: &mut [u8],
+) -> Result<usize, DataError> {
+    let mut answer = DataAnswer::default();
+    // SAFETY: as in `normalise`; the index too is borrowed mutably.
+    unsafe {
+        rtr_order_nonnull(
+            input.as_ptr(),
+            input.len(),
+            index.as_mut_ptr(),
+            index.len(),
+            output.as_mut_ptr(),
+            output.len(),
+            &mut answer,
+        )
+    };
+    data_result(answer)
 }
 
 /// The code of the report that is owed for this status of the unit that the input begins with.
@@ -398,7 +511,7 @@ impl Unit {
 
 #[cfg(test)]
 mod tests {
-    use super::{write, Answer, Fault, Unit};
+    use super::{write, Answer, DataAnswer, Fault, Unit};
     use core::mem::{offset_of, size_of};
     use std::string::ToString;
 
@@ -434,8 +547,11 @@ mod tests {
     #[test]
     fn unknown_status() {
         assert_eq!(Fault::of(11, 0), Fault::Unknown(11));
-        assert_eq!(Fault::of(12, 0), Fault::Unknown(12));
-        assert_eq!(Fault::of(12, 0).to_string(), "unknown status 12");
+        assert_eq!(Fault::of(18, 0), Fault::Unknown(18));
+        assert_eq!(Fault::of(18, 0).to_string(), "unknown status 18");
+        for status in 1..=255 {
+            assert_eq!(Fault::of(status, 1).status(), status);
+        }
     }
 
     /// The layout that `crates/rtr_c` states, if a `usize` has eight bytes.
@@ -453,6 +569,15 @@ mod tests {
             offset_of!(Answer, detail),
         ];
         assert_eq!(answer, [0, 8, 16, 24, 32, 40, 41]);
+        assert_eq!(size_of::<DataAnswer>(), 24);
+        let data_answer = [
+            offset_of!(DataAnswer, written),
+            offset_of!(DataAnswer, offset),
+            offset_of!(DataAnswer, status),
+            offset_of!(DataAnswer, side),
+            offset_of!(DataAnswer, detail),
+        ];
+        assert_eq!(data_answer, [0, 8, 16, 17, 18]);
         assert_eq!(size_of::<Unit>(), 120);
         let unit = [
             offset_of!(Unit, size),

@@ -1,9 +1,10 @@
-//! No unit allocates memory. This is the only test of its program, so that no other allocates.
+//! No unit allocates memory, nor do the calls over slices of data and changes. This is the only
+//! test of its program, so that no other allocates.
 #![cfg(feature = "std")]
 
 mod common;
 
-use rtr_wire::{Reader, Units, Writer};
+use rtr_wire::{apply_into, delta_into, order_into, Reader, Units, Writer};
 use std::alloc::{GlobalAlloc, Layout, System};
 use std::sync::atomic::{AtomicUsize, Ordering};
 
@@ -38,6 +39,7 @@ fn allocations() {
     for (_, unit) in common::rows() {
         writer.write(&unit).expect("it has a form");
     }
+    let (nothing, data) = (common::END, [common::IPV4, common::END].concat());
     let before = COUNT.load(Ordering::Relaxed);
     while let Some(unit) = reader.next_unit().expect("it is read") {
         writer.write(&unit).expect("it has a form");
@@ -45,6 +47,11 @@ fn allocations() {
     for unit in Units::new(&session) {
         let written = unit.expect("it is accepted").write(&mut output);
         written.expect("it fits");
+    }
+    for _ in 0..10 {
+        let length = order_into(&data, &mut [0; 3], &mut output).expect("it has an order");
+        assert_eq!(apply_into(nothing, &data, &mut output), Ok(length));
+        assert_eq!(delta_into(nothing, &data, &mut output), Ok(length));
     }
     assert_eq!(COUNT.load(Ordering::Relaxed) - before, 0);
     assert_eq!(reader.offset(), session.len() as u64);

@@ -1,0 +1,278 @@
+//! Data and changes that own their bytes.
+
+use crate::data::{apply_into, delta_into, order_into, DataError};
+use crate::fault::Fault;
+use crate::sequence::normalise_for;
+use crate::unit::{EndOfData, Timing, Unit, UnitRef};
+use crate::units::Units;
+use std::vec;
+use std::vec::Vec;
+
+/// The bytes of an end of data, at most.
+const LONGEST_END: usize = 24;
+/// The bytes of a payload unit, at least: those of an ASPA that is withdrawn.
+const SHORTEST_UNIT: usize = 12;
+
+/// Bytes in canonical form that end with an end of data.
+#[derive(Clone, Debug, PartialEq, Eq, Hash)]
+struct Canonical {
+    bytes: Vec<u8>,
+    payloads: usize,
+    end: EndOfData,
+}
+
+impl Canonical {
+    /// These bytes, which are in canonical form.
+    fn new(mut bytes: Vec<u8>, length: usize) -> Self {
+        bytes.truncate(length);
+        bytes.shrink_to_fit();
+        let (mut payloads, mut last) = (0, None);
+        for unit in Units::sequence(&bytes, u64::MAX) {
+            match unit {
+                Ok(Unit::EndOfData(end)) => last = Some(end),
+                _ => payloads += 1,
+            }
+        }
+        let end = last.expect("the archive wrote an end of data");
+        Canonical {
+            bytes,
+            payloads,
+            end,
+        }
+    }
+
+    /// The payload units, without the end of data.
+    fn units(&self) -> impl Iterator<Item = UnitRef<'_>> + Clone + '_ {
+        Units::sequence(&self.bytes, u64::MAX)
+            .filter_map(Result::ok)
+            .take(self.payloads)
+    }
+}
+
+/// Data in canonical form: what a cache has, or a router has of it. It owns its bytes.
+///
+/// These are units that announce payloads, all of one version, each payload once, and of each
+/// customer one ASPA, and then an end of data of that version. Their order is that of payloads:
+/// origins, IPv4 before IPv6, by address, prefix length, max length and ASN; router keys by key
+/// identifier, ASN and key info; ASPAs by customer.
+///
+/// Two data are equal if their payloads and their ends of data are.
+///
+/// ```
+/// use rtr_wire::{order, Data, Unit};
+///
+/// // What a cache sends: a prefix and an end of data (RFC 8210 sections 5.6 and 5.8).
+/// let sent = [
+///     1, 4, 0, 0, 0, 0, 0, 20, 1, 23, 26, 0, 192, 0, 2, 0, 0, 1, 0, 15, //
+///     1, 7, 0, 9, 0, 0, 0, 24, 0, 0, 0, 5, 0, 0, 0x0e, 0x10, 0, 0, 2, 0x58, 0, 0, 0x1c, 0x20,
+/// ];
+/// let nothing = Data::new(1, 9, 4, None)?;
+/// let data = nothing.apply(&order(&sent)?)?;
+/// assert_eq!(data.as_bytes(), sent);
+/// assert_eq!((data.len(), data.end().serial), (1, 5));
+///
+/// // What leads back to no payloads withdraws it.
+/// let changes = data.delta_to(&nothing)?;
+/// let unit = changes.units().next();
+/// assert!(matches!(unit, Some(Unit::Ipv4Prefix(prefix)) if !prefix.announce));
+/// assert_eq!(data.apply(&changes)?, nothing);
+/// # Ok::<(), Box<dyn std::error::Error>>(())
+/// ```
+#[derive(Clone, Debug, PartialEq, Eq, Hash)]
+pub struct Data(Canonical);
+
+/// Changes in canonical form, made by [`order`] or [`Data::delta_to`]. They own their bytes.
+///
+/// These are units that announce payloads, then units that withdraw some, each in the order that
+/// [`Data`] has, all of one version, no payload and no customer of an ASPA named twice, and then an
+/// end of data of that version.
+#[derive(Clone, Debug, PartialEq, Eq, Hash)]
+pub struct Changes(Canonical);
+
+impl Data {
+    /// Data without payloads. In versions 1 and 2 the intervals that RFC 8210 section 6 recommends
+    /// stand for none.
+    ///
+    /// # Errors
+    ///
+    /// `UnitVersion` for a version above 2.
+    pub fn new(
+        version: u8,
+        session: u16,
+        serial: u32,
+        timing: Option<Timing>,
+    ) -> Result<Data, Fault> {
+        let end: UnitRef = Unit::EndOfData(EndOfData {
+            version,
+            session,
+            serial,
+            timing,
+        });
+        let mut bytes = Vec::with_capacity(LONGEST_END);
+        let length = end.append(&mut bytes)?;
+        Ok(Data(Canonical::new(bytes, length)))
+    }
+
+    /// The data that these bytes begin with, which have to be in canonical form. What follows the
+    /// end of data doesn't count, and what is free in a unit isn't kept.
+    ///
+    /// # Errors
+    ///
+    /// `Short` to `Prefix` or `NotCanonical`, with the place of the first fault.
+    pub fn parse(bytes: &[u8]) -> Result<Data, DataError> {
+        // The delta from data to itself is its end of data, and applied it leaves the data.
+        let mut end = [0; LONGEST_END];
+        let size = delta_into(bytes, bytes, &mut end)?;
+        let mut form = vec![0; bytes.len() + size];
+        let length = apply_into(bytes, &end[..size], &mut form)?;
+        Ok(Data(Canonical::new(form, length)))
+    }
+
+    /// The bytes: payload units, and the end of data.
+    pub fn as_bytes(&self) -> &[u8] {
+        &self.0.bytes
+    }
+
+    /// The bytes.
+    pub fn into_bytes(self) -> Vec<u8> {
+        self.0.bytes
+    }
+
+    /// The payload units, in their order. Each of them announces.
+    pub fn units(&self) -> impl Iterator<Item = UnitRef<'_>> + Clone + '_ {
+        self.0.units()
+    }
+
+    /// The end of data, with the version, the session and the serial number.
+    pub fn end(&self) -> EndOfData {
+        self.0.end
+    }
+
+    /// How many payloads there are.
+    pub fn len(&self) -> usize {
+        self.0.payloads
+    }
+
+    /// Whether there are no payloads.
+    pub fn is_empty(&self) -> bool {
+        self.0.payloads == 0
+    }
+
+    /// The changes that lead a router from this data to the new (RFC 8210 section 8.2). They have
+    /// the new data's end of data, and [`apply`](Data::apply) makes the new data of them.
+    ///
+    /// # Errors
+    ///
+    /// `UnitVersion` with the version of the new data, where this is of another; `OtherSession`.
+    pub fn delta_to(&self, new: &Data) -> Result<Changes, DataError> {
+        let mut bytes = vec![0; self.0.bytes.len() + new.0.bytes.len()];
+        let length = delta_into(self.as_bytes(), new.as_bytes(), &mut bytes)?;
+        Ok(Changes(Canonical::new(bytes, length)))
+    }
+
+    /// What the changes make of this data: all of them are made, or none. An ASPA that is announced
+    /// takes the place of the one of its customer. The end of data is that of the changes.
+    ///
+    /// # Errors
+    ///
+    /// In this order: `UnitVersion` with the version of the changes, where the data is of another;
+    /// `OtherSession`; `Duplicate` or `UnknownRecord`, with the place of the first of the changes
+    /// that isn't allowed.
+    pub fn apply(&self, changes: &Changes) -> Result<Data, DataError> {
+        let mut bytes = vec![0; self.0.bytes.len() + changes.0.bytes.len()];
+        let length = apply_into(self.as_bytes(), changes.as_bytes(), &mut bytes)?;
+        Ok(Data(Canonical::new(bytes, length)))
+    }
+
+    /// The data for clients of a version, as [`normalise_for`] writes it: without what that version
+    /// doesn't have.
+    ///
+    /// # Errors
+    ///
+    /// `UnitVersion` for a version above 2.
+    pub fn for_version(&self, version: u8) -> Result<Data, Fault> {
+        let mut bytes = vec![0; self.0.bytes.len() + LONGEST_END];
+        match normalise_for(self.as_bytes(), &mut bytes, u64::MAX, version) {
+            Ok(progress) => Ok(Data(Canonical::new(bytes, progress.written))),
+            Err(stopped) => Err(stopped.fault),
+        }
+    }
+
+    /// The same payloads in another session and with another serial number.
+    #[must_use]
+    pub fn numbered(&self, session: u16, serial: u32) -> Data {
+        let end = EndOfData {
+            session,
+            serial,
+            ..self.0.end
+        };
+        let unit: UnitRef = Unit::EndOfData(end);
+        let mut bytes = self.0.bytes.clone();
+        bytes.truncate(bytes.len() - unit.size());
+        unit.append(&mut bytes).expect("its version has this form");
+        Data(Canonical {
+            bytes,
+            end,
+            ..self.0
+        })
+    }
+}
+
+impl Changes {
+    /// The bytes: payload units, and the end of data.
+    pub fn as_bytes(&self) -> &[u8] {
+        &self.0.bytes
+    }
+
+    /// The bytes.
+    pub fn into_bytes(self) -> Vec<u8> {
+        self.0.bytes
+    }
+
+    /// The payload units, in their order: first those that announce, then those that withdraw.
+    pub fn units(&self) -> impl Iterator<Item = UnitRef<'_>> + Clone + '_ {
+        self.0.units()
+    }
+
+    /// The end of data, with the version, the session and the serial number.
+    pub fn end(&self) -> EndOfData {
+        self.0.end
+    }
+
+    /// How many payloads are announced or withdrawn.
+    pub fn len(&self) -> usize {
+        self.0.payloads
+    }
+
+    /// Whether no payload is announced or withdrawn.
+    pub fn is_empty(&self) -> bool {
+        self.0.payloads == 0
+    }
+}
+
+/// What the changes of the sequence that the input begins with come to, made one after the other.
+/// Caches send deltas in any order, and [`Data::apply`] takes what this makes of them. What a reset
+/// query is answered by is ordered in the same way, and applied to data without payloads.
+///
+/// # Errors
+///
+/// Those of [`order_into`], but `NoIndex` and `NoRoom`.
+///
+/// ```
+/// use rtr_wire::{order, Fault};
+///
+/// // The same prefix twice (RFC 8210 section 5.6), and an end of data.
+/// let prefix = [0, 4, 0, 0, 0, 0, 0, 20, 1, 23, 26, 0, 192, 0, 2, 0, 0, 1, 0, 15];
+/// let sent = [&prefix[..], &prefix, &[0, 7, 0, 1, 0, 0, 0, 12, 0, 0, 0, 2]].concat();
+/// let error = order(&sent).unwrap_err();
+/// assert_eq!(error.fault, Fault::Duplicate);
+/// assert_eq!(error.to_string(), "duplicate announcement, at byte 20");
+/// let report = error.report(&sent, "twice").expect("it is owed");
+/// assert_eq!(report.code, rtr_wire::ErrorCode::DUPLICATE_ANNOUNCEMENT_RECEIVED);
+/// ```
+pub fn order(input: &[u8]) -> Result<Changes, DataError> {
+    let mut index = vec![0; input.len() / SHORTEST_UNIT];
+    let mut bytes = vec![0; input.len()];
+    let length = order_into(input, &mut index, &mut bytes)?;
+    Ok(Changes(Canonical::new(bytes, length)))
+}
