@@ -63,7 +63,15 @@ mod owned_data;
 #[cfg(feature = "std")]
 mod reader;
 mod sequence;
+#[cfg(feature = "std")]
+mod server;
+#[cfg(feature = "std")]
+mod serving;
+#[cfg(feature = "std")]
+mod snapshot;
 mod sys;
+#[cfg(feature = "std")]
+mod timed;
 mod unit;
 mod units;
 #[cfg(feature = "std")]
@@ -77,6 +85,10 @@ pub use owned_data::{order, Changes, Data};
 #[cfg(feature = "std")]
 pub use reader::{Error, Reader, Refusal, Sequence};
 pub use sequence::{normalise, normalise_for, same_meaning, Progress, Stopped};
+#[cfg(feature = "std")]
+pub use server::{Server, ServerOptions};
+#[cfg(feature = "std")]
+pub use snapshot::UpdateError;
 #[cfg(feature = "std")]
 pub use unit::OwnedUnit;
 pub use unit::{

@@ -1,6 +1,6 @@
 //! Data and changes that own their bytes.
 
-use crate::data::{apply_into, delta_into, order_into, DataError};
+use crate::data::{apply_into, delta_into, order_into, DataError, Place, Side};
 use crate::fault::Fault;
 use crate::sequence::normalise_for;
 use crate::unit::{EndOfData, Timing, Unit, UnitRef};
@@ -126,6 +126,30 @@ impl Data {
         let mut form = vec![0; bytes.len() + size];
         let length = apply_into(bytes, &end[..size], &mut form)?;
         Ok(Data(Canonical::new(form, length)))
+    }
+
+    /// The data that a sequence makes which only announces, in whatever order.
+    ///
+    /// # Errors
+    ///
+    /// `NotCanonical` for the first unit that withdraws; else those of [`order`].
+    pub fn from_sequence(input: &[u8]) -> Result<Data, DataError> {
+        let changes = order(input)?;
+        let mut units = Units::sequence(input, u64::MAX);
+        let mut offset = 0;
+        while let Some(Ok(unit)) = units.next() {
+            if unit.announces() == Some(false) {
+                return Err(DataError {
+                    fault: Fault::NotCanonical,
+                    place: Some(Place {
+                        side: Side::First,
+                        offset,
+                    }),
+                });
+            }
+            offset = units.offset();
+        }
+        Ok(Data(changes.0))
     }
 
     /// The bytes: payload units, and the end of data.

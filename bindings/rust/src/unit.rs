@@ -310,6 +310,17 @@ impl<B> Unit<B> {
         }
     }
 
+    /// Whether a payload unit announces or else withdraws; none for units of other types.
+    pub fn announces(&self) -> Option<bool> {
+        match self {
+            Unit::Ipv4Prefix(prefix) => Some(prefix.announce),
+            Unit::Ipv6Prefix(prefix) => Some(prefix.announce),
+            Unit::RouterKey(key) => Some(key.announce),
+            Unit::Aspa(aspa) => Some(aspa.announce),
+            _ => None,
+        }
+    }
+
     /// The unit with other bytes, made from those that it has.
     pub fn map<C>(self, mut bytes: impl FnMut(B) -> C) -> Unit<C> {
         match self {

@@ -487,6 +487,37 @@ mod owned {
         assert_eq!(Data::new(3, 5, 0, None), Err(Fault::UnitVersion(3)));
     }
 
+    /// What only announces is data in whatever order.
+    #[test]
+    fn from_sequences() {
+        let (a, b, end) = (ipv4(1), ipv4(2), end(5, 1));
+        let data = Data::parse(&[&a.announce[..], &b.announce, &end].concat());
+        let other = [&b.announce[..], &a.announce, &end].concat();
+        assert_eq!(Data::from_sequence(&other), data);
+        let rows = [
+            ([&b.announce[..], &b.announce, &end], Fault::Duplicate, 20),
+            (
+                [&b.announce[..], &a.withdraw, &end],
+                Fault::NotCanonical,
+                20,
+            ),
+            (
+                [&b.announce[..], &b.withdraw, &end],
+                Fault::NotCanonical,
+                20,
+            ),
+            ([&b.announce[..], &a.announce, &[]], Fault::Short, 40),
+        ];
+        for (units, fault, offset) in rows {
+            let error = Data::from_sequence(&units.concat()).unwrap_err();
+            assert_eq!((error.fault, error.place), (fault, at(Side::First, offset)));
+        }
+        assert_eq!(
+            Unit::<&[u8]>::CacheReset(CacheReset { version: 1 }).announces(),
+            None
+        );
+    }
+
     /// A version has what it has, and an end of data of its own length. Bits that are free aren't
     /// kept.
     #[test]

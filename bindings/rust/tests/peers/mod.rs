@@ -1,0 +1,180 @@
+//! Peers on the loopback interface, and the data that caches have in the tests.
+#![allow(dead_code)]
+
+use rtr_wire::*;
+use std::io::{Read, Write};
+use std::net::{Shutdown, SocketAddr, TcpStream};
+use std::sync::{Mutex, MutexGuard, PoisonError};
+use std::time::{Duration, Instant};
+
+pub const SESSION: u16 = 4660;
+/// How long a test waits for something that has to come.
+pub const PATIENCE: Duration = Duration::from_secs(10);
+
+pub fn milliseconds(count: u64) -> Duration {
+    Duration::from_millis(count)
+}
+
+/// Has one test run after the other, so that each can count its threads.
+pub fn alone() -> MutexGuard<'static, ()> {
+    static ONE: Mutex<()> = Mutex::new(());
+    ONE.lock().unwrap_or_else(PoisonError::into_inner)
+}
+
+/// An IPv4 prefix of version 2 (RFC 8210 section 5.6).
+pub fn prefix(flags: u8, number: u16) -> Vec<u8> {
+    let [high, low] = number.to_be_bytes();
+    vec![
+        2, 4, 0, 0, 0, 0, 0, 20, flags, 24, 24, 0, 10, high, low, 0, 0, 1, 0, 15,
+    ]
+}
+
+fn end(session: u16, serial: u32) -> Vec<u8> {
+    let mut bytes = vec![2, 7];
+    bytes.extend(session.to_be_bytes());
+    bytes.extend([0, 0, 0, 24]);
+    bytes.extend(serial.to_be_bytes());
+    bytes.extend([0, 0, 0x0e, 0x10, 0, 0, 2, 0x58, 0, 0, 0x1c, 0x20]);
+    bytes
+}
+
+/// The data of a serial number: three of five prefixes, a router key and an ASPA.
+pub fn data_of(session: u16, serial: u32, count: u16) -> Data {
+    let mut bytes = Vec::new();
+    for number in 0..count {
+        if (u32::from(number) + serial) % 5 > 1 {
+            bytes.extend(prefix(1, number));
+        }
+    }
+    bytes.extend([2, 9, 1, 0, 0, 0, 0, 34]);
+    bytes.extend([7; 20]);
+    bytes.extend([0, 1, 0, 15, 0xca, 0xfe]);
+    bytes.extend([2, 11, 1, 0, 0, 0, 0, 16, 0, 0, 0xfd, 0xe8]);
+    bytes.extend(serial.to_be_bytes());
+    bytes.extend(end(session, serial));
+    Data::parse(&bytes).expect("it is canonical")
+}
+
+pub fn data(serial: u32) -> Data {
+    data_of(SESSION, serial, 20)
+}
+
+/// A connection as the tests have one.
+pub struct Peer {
+    pub stream: TcpStream,
+}
+
+pub fn bytes_of(unit: &UnitRef) -> Vec<u8> {
+    let mut bytes = Vec::new();
+    unit.append(&mut bytes).expect("it has a form");
+    bytes
+}
+
+pub fn reset_query(version: u8) -> Vec<u8> {
+    vec![version, 2, 0, 0, 0, 0, 0, 8]
+}
+
+pub fn serial_query(version: u8, session: u16, serial: u32) -> Vec<u8> {
+    bytes_of(&Unit::SerialQuery(SerialQuery {
+        version,
+        session,
+        serial,
+    }))
+}
+
+impl Peer {
+    pub fn connect(address: SocketAddr) -> Peer {
+        Peer::of(TcpStream::connect(address).expect("somebody listens"))
+    }
+
+    pub fn of(stream: TcpStream) -> Peer {
+        stream.set_nodelay(true).unwrap();
+        stream.set_read_timeout(Some(PATIENCE)).unwrap();
+        stream.set_write_timeout(Some(PATIENCE)).unwrap();
+        Peer { stream }
+    }
+
+    pub fn send(&mut self, bytes: &[u8]) {
+        self.stream.write_all(bytes).expect("the peer is there");
+    }
+
+    /// Sends as much as the peer takes.
+    pub fn try_send(&mut self, bytes: &[u8]) {
+        let _ = self.stream.write_all(bytes);
+    }
+
+    pub fn finish(&self) {
+        let _ = self.stream.shutdown(Shutdown::Write);
+    }
+
+    /// The next unit, or none where the peer has closed.
+    pub fn unit(&mut self) -> Option<OwnedUnit> {
+        let mut reader = Reader::new(&self.stream);
+        let unit = reader.next_unit();
+        unit.expect("a unit comes").map(Unit::into_owned)
+    }
+
+    /// The bytes up to the end of data, which have to come.
+    pub fn sequence(&mut self) -> Vec<u8> {
+        let mut reader = Reader::new(&self.stream);
+        let mut bytes = Vec::new();
+        loop {
+            let unit = reader.next_unit().expect("a unit comes");
+            let ended = matches!(unit.expect("it isn't closed"), Unit::EndOfData(_));
+            bytes.extend(reader.bytes());
+            if ended {
+                return bytes;
+            }
+        }
+    }
+
+    /// A cache response, and the sequence after it.
+    pub fn response(&mut self) -> Vec<u8> {
+        match self.unit() {
+            Some(Unit::CacheResponse(response)) => assert_eq!(response.session, SESSION),
+            other => panic!("{other:?}"),
+        }
+        self.sequence()
+    }
+
+    /// The code and the version of a report that comes, after which the peer closes.
+    pub fn report(&mut self) -> Option<(ErrorCode, u8)> {
+        match self.unit()? {
+            Unit::ErrorReport(report) => {
+                assert!(self.is_closed());
+                Some((report.code, report.version))
+            }
+            other => panic!("{other:?}"),
+        }
+    }
+
+    /// Whether the peer closes, with nothing sent before.
+    pub fn is_closed(&mut self) -> bool {
+        match self.stream.read(&mut [0]) {
+            Ok(count) => count == 0,
+            Err(error) => error.kind() == std::io::ErrorKind::ConnectionReset,
+        }
+    }
+}
+
+/// Waits until something holds; answers whether it does before patience ends.
+pub fn holds(mut what: impl FnMut() -> bool) -> bool {
+    let began = Instant::now();
+    while began.elapsed() < PATIENCE {
+        if what() {
+            return true;
+        }
+        std::thread::sleep(milliseconds(5));
+    }
+    false
+}
+
+/// How many threads of this process have a name that begins with this.
+pub fn threads(name: &str) -> usize {
+    let Ok(tasks) = std::fs::read_dir("/proc/self/task") else {
+        return 0;
+    };
+    let names =
+        tasks.filter_map(|task| std::fs::read_to_string(task.ok()?.path().join("comm")).ok());
+    names.filter(|found| found.starts_with(name)).count()
+}

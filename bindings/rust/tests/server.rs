@@ -1,0 +1,427 @@
+//! A cache, and clients that behave or don't.
+#![cfg(feature = "std")]
+
+mod common;
+mod peers;
+
+use peers::*;
+use rtr_wire::*;
+use std::net::SocketAddr;
+use std::time::{Duration, Instant};
+
+/// A server on a port of the loopback interface, whose threads are gone after it.
+struct Cache {
+    server: Server,
+    address: SocketAddr,
+}
+
+fn options() -> ServerOptions {
+    ServerOptions {
+        first_query: milliseconds(600),
+        unit: milliseconds(400),
+        idle: PATIENCE,
+        write: milliseconds(600),
+        response: milliseconds(2000),
+        notify: milliseconds(300),
+        serials: 3,
+        ..ServerOptions::default()
+    }
+}
+
+impl Cache {
+    fn new(options: ServerOptions) -> Cache {
+        let server = Server::new(options);
+        let address = server.listen("127.0.0.1:0").expect("a port is free");
+        Cache { server, address }
+    }
+
+    /// With data of serial numbers up to this one.
+    fn with_data(serial: u32) -> Cache {
+        let cache = Cache::new(options());
+        for serial in 1..=serial {
+            assert_eq!(cache.server.update(data(serial)), Ok(true));
+        }
+        cache
+    }
+
+    fn client(&self) -> Peer {
+        Peer::connect(self.address)
+    }
+
+    /// Another client is answered, so the cache serves.
+    fn serves(&self, serial: u32) {
+        let mut client = self.client();
+        client.send(&reset_query(2));
+        assert_eq!(client.response(), data(serial).as_bytes());
+    }
+}
+
+impl Drop for Cache {
+    fn drop(&mut self) {
+        let began = Instant::now();
+        self.server.stop();
+        assert!(
+            began.elapsed() < Duration::from_secs(2),
+            "the server stops late"
+        );
+        assert_eq!(self.server.clients(), 0);
+        assert!(holds(|| threads("rtr ") == 0), "threads are left");
+    }
+}
+
+#[test]
+fn reset_queries() {
+    let _alone = alone();
+    let cache = Cache::with_data(5);
+    for version in 0..=2 {
+        let mut client = cache.client();
+        for _ in 0..2 {
+            client.send(&reset_query(version));
+            let wanted = data(5).for_version(version).unwrap();
+            assert_eq!(client.response(), wanted.as_bytes());
+        }
+    }
+}
+
+/// A serial query is answered by what leads to the present data, for as many serial numbers as are
+/// kept.
+#[test]
+fn serial_queries() {
+    let _alone = alone();
+    let cache = Cache::with_data(6);
+    for version in 0..=2 {
+        let mut client = cache.client();
+        let new = data(6).for_version(version).unwrap();
+        for serial in 3..=6 {
+            client.send(&serial_query(version, SESSION, serial));
+            let changes = order(&client.response()).expect("it is canonical");
+            let old = data(serial).for_version(version).unwrap();
+            assert_eq!(old.apply(&changes), Ok(new.clone()));
+            assert_eq!(changes.is_empty(), serial == 6);
+        }
+        for (session, serial) in [(SESSION, 2), (SESSION, 7), (1, 6)] {
+            client.send(&serial_query(version, session, serial));
+            let reset = Unit::CacheReset(CacheReset { version });
+            assert_eq!(client.unit(), Some(reset));
+        }
+    }
+}
+
+/// Before there are data, a report says so, and the connection stays. Then the client is notified,
+/// not more often than is allowed, and never before its first query.
+#[test]
+fn no_data_and_notifies() {
+    let _alone = alone();
+    let cache = Cache::new(options());
+    let (mut client, mut silent) = (cache.client(), cache.client());
+    for query in [reset_query(1), serial_query(1, SESSION, 1)] {
+        client.send(&query);
+        match client.unit() {
+            Some(Unit::ErrorReport(report)) => {
+                assert_eq!(report.code, ErrorCode::NO_DATA_AVAILABLE);
+                assert_eq!(report.parts.map(|parts| parts.unit), Some(query));
+            }
+            other => panic!("{other:?}"),
+        }
+    }
+    let notify = |serial| {
+        Some(Unit::SerialNotify(SerialNotify {
+            version: 1,
+            session: SESSION,
+            serial,
+        }))
+    };
+    assert_eq!(cache.server.update(data(1)), Ok(true));
+    assert_eq!(client.unit(), notify(1));
+    let began = Instant::now();
+    for serial in 2..=3 {
+        assert_eq!(cache.server.update(data(serial)), Ok(true));
+    }
+    assert_eq!(client.unit(), notify(3));
+    assert!(began.elapsed() > milliseconds(150), "too many notifies");
+    client.send(&serial_query(1, SESSION, 1));
+    let changes = order(&client.response()).unwrap();
+    let old = data(1).for_version(1).unwrap();
+    assert_eq!(
+        old.apply(&changes),
+        data(3).for_version(1).map_err(|_| unreachable!())
+    );
+    assert!(silent.is_closed(), "a client that doesn't ask is closed");
+}
+
+#[test]
+fn updates() {
+    let _alone = alone();
+    let cache = Cache::with_data(3);
+    let refused = UpdateError::SerialNotAfter { present: 3, new: 2 };
+    assert_eq!(cache.server.update(data(2)), Err(refused));
+    let text = "serial 2 of other data isn't after serial 3";
+    assert_eq!(refused.to_string(), text);
+    let other = data(1).numbered(SESSION, 3);
+    assert!(cache.server.update(other).is_err());
+    assert_eq!(cache.server.update(data(3)), Ok(false));
+    assert_eq!(cache.server.update(data(3).numbered(SESSION, 1)), Ok(false));
+    cache.serves(3);
+    // Those who have data of another session are disconnected.
+    let mut client = cache.client();
+    client.send(&reset_query(2));
+    client.response();
+    assert_eq!(cache.server.update(data_of(7, 1, 20)), Ok(true));
+    assert!(client.is_closed());
+    let mut client = cache.client();
+    client.send(&serial_query(2, SESSION, 3));
+    assert!(matches!(client.unit(), Some(Unit::CacheReset(_))));
+}
+
+/// What a client sends that isn't a query, and the code of the report that it gets, if any.
+fn refused_units() -> Vec<(Vec<u8>, Option<ErrorCode>)> {
+    let mut rows = Vec::new();
+    for (bytes, unit) in common::rows() {
+        let code = match unit.kind() {
+            Kind::ResetQuery | Kind::SerialQuery => continue,
+            Kind::ErrorReport => None,
+            _ => Some(ErrorCode::INVALID_REQUEST),
+        };
+        rows.push((bytes.to_vec(), code));
+    }
+    for row in common::hostile_lengths() {
+        let (version, kind, _, _, fault) = row;
+        let code = match fault {
+            _ if kind == 10 => None,
+            _ if version > 2 => Some(ErrorCode::UNSUPPORTED_PROTOCOL_VERSION),
+            Fault::UnitType(_) => Some(ErrorCode::UNSUPPORTED_PDU_TYPE),
+            Fault::EmptyProviders => Some(ErrorCode::ASPA_PROVIDER_LIST_ERROR),
+            _ => Some(ErrorCode::CORRUPT_DATA),
+        };
+        rows.push((common::hostile_input(row), code));
+    }
+    let mut prefix = common::IPV4.to_vec();
+    prefix[9] = 33;
+    rows.push((prefix, Some(ErrorCode::CORRUPT_DATA)));
+    let unsupported = Some(ErrorCode::UNSUPPORTED_PROTOCOL_VERSION);
+    rows.push((reset_query(3), unsupported));
+    rows.push((serial_query(255, 1, 1), unsupported));
+    rows
+}
+
+#[test]
+fn bad_units() {
+    let _alone = alone();
+    let cache = Cache::with_data(2);
+    for (bytes, code) in refused_units() {
+        let mut client = cache.client();
+        client.try_send(&bytes);
+        let version = bytes[0].min(2);
+        assert_eq!(
+            client.report(),
+            code.map(|code| (code, version)),
+            "{bytes:02x?}"
+        );
+    }
+    // The first query says in which version the rest is.
+    let unexpected = Some((ErrorCode::UNEXPECTED_PROTOCOL_VERSION, 1));
+    for later in [
+        reset_query(0),
+        reset_query(3),
+        common::ASPA.to_vec(),
+        vec![2; 8],
+    ] {
+        let mut client = cache.client();
+        client.send(&reset_query(1));
+        client.response();
+        client.try_send(&later);
+        assert_eq!(client.report(), unexpected);
+    }
+    // A long unit is enclosed as far as there is room.
+    let mut key = vec![1, 9, 1, 0, 0, 0, 0xff, 0xff];
+    key.resize(65535, 0);
+    let mut client = cache.client();
+    client.try_send(&key);
+    assert_eq!(client.report(), Some((ErrorCode::INVALID_REQUEST, 1)));
+    cache.serves(2);
+}
+
+/// A session that ends after each of its bytes.
+#[test]
+fn clients_that_stop() {
+    let _alone = alone();
+    let cache = Cache::with_data(4);
+    let session = [reset_query(2), serial_query(2, SESSION, 2), reset_query(2)].concat();
+    for length in 0..=session.len() {
+        let mut client = cache.client();
+        client.send(&session[..length]);
+        client.finish();
+        if length >= 8 {
+            assert_eq!(client.response(), data(4).as_bytes());
+        }
+        if length >= 20 {
+            let changes = order(&client.response()).unwrap();
+            assert_eq!(data(2).apply(&changes), Ok(data(4)));
+        }
+        if length == session.len() {
+            client.response();
+        }
+        let inside = !matches!(length, 0 | 8 | 20 | 28);
+        let corrupt = inside.then_some(ErrorCode::CORRUPT_DATA);
+        assert_eq!(client.report().map(|report| report.0), corrupt);
+    }
+    assert!(holds(|| cache.server.clients() == 0));
+}
+
+/// A client that is too slow is disconnected, and no other notices.
+#[test]
+fn slow_clients() {
+    let _alone = alone();
+    let cache = Cache::new(ServerOptions {
+        idle: milliseconds(500),
+        ..options()
+    });
+    assert_eq!(cache.server.update(data_of(SESSION, 1, 20)), Ok(true));
+    // Nothing comes, a unit comes a byte at a time, or nothing comes after a query.
+    let (mut nothing, mut bytes, mut idle) = (cache.client(), cache.client(), cache.client());
+    idle.send(&reset_query(2));
+    idle.response();
+    let began = Instant::now();
+    for byte in reset_query(2) {
+        bytes.try_send(&[byte]);
+        std::thread::sleep(milliseconds(100));
+    }
+    assert!(bytes.is_closed() && idle.is_closed() && nothing.is_closed());
+    assert!(began.elapsed() < Duration::from_secs(3));
+    cache.serves(1);
+    // Long units come without an end.
+    let mut flood = cache.client();
+    let mut report = vec![2, 9, 1, 0, 0, 0, 0xff, 0xff];
+    report.resize(65535, 1);
+    (0..100).for_each(|_| flood.try_send(&report));
+    assert!(holds(|| cache.server.clients() <= 1));
+}
+
+/// A client that asks and doesn't read is cut, while others are served, and nothing is left of it.
+#[test]
+fn clients_that_do_not_read() {
+    let _alone = alone();
+    let cache = Cache::new(options());
+    assert_eq!(cache.server.update(data_of(SESSION, 1, u16::MAX)), Ok(true));
+    let mut stalled: Vec<Peer> = (0..4).map(|_| cache.client()).collect();
+    for client in &mut stalled {
+        (0..40).for_each(|_| client.try_send(&reset_query(2)));
+    }
+    let mut reading = cache.client();
+    for _ in 0..3 {
+        reading.send(&reset_query(1));
+        reading.response();
+    }
+    drop(reading);
+    assert!(holds(|| cache.server.clients() == 0));
+    // One that reads too slowly is cut where its data are too old, or the response takes too long.
+    let mut slow = cache.client();
+    (0..40).for_each(|_| slow.try_send(&reset_query(2)));
+    std::thread::sleep(milliseconds(200));
+    for serial in 2..=6 {
+        assert_eq!(cache.server.update(data(serial)), Ok(true));
+    }
+    assert!(holds(|| cache.server.clients() == 0));
+}
+
+/// As many clients as are allowed are served, and others when one has gone.
+#[test]
+fn too_many_clients() {
+    let _alone = alone();
+    let cache = Cache::new(ServerOptions {
+        connections: 2,
+        first_query: PATIENCE,
+        ..options()
+    });
+    assert_eq!(cache.server.update(data(1)), Ok(true));
+    let (mut one, two) = (cache.client(), cache.client());
+    assert!(holds(|| cache.server.clients() == 2));
+    assert!(cache.client().is_closed());
+    drop(two);
+    assert!(holds(|| cache.server.clients() == 1));
+    cache.serves(1);
+    one.send(&reset_query(2));
+    one.response();
+}
+
+/// What a hostile client does, by its number.
+fn attack(mut client: Peer, number: usize) {
+    match number % 6 {
+        0 => client.try_send(&[2, 9, 1, 0, 0xff, 0xff, 0xff, 0xff]),
+        1 => client.try_send(&[2, 2, 0]),
+        2 => (0..500).for_each(|_| client.try_send(&reset_query(2))),
+        3 => client.try_send(&[0xff; 70_000]),
+        4 => client.try_send(common::REPORT),
+        _ => return,
+    }
+    std::thread::sleep(milliseconds(700));
+}
+
+/// A hundred clients at once, of which half are hostile: the others get all data and each change.
+#[test]
+fn a_hundred_clients() {
+    let _alone = alone();
+    let cache = Cache::with_data(1);
+    let address = cache.address;
+    let client = move || {
+        let mut client = Peer::connect(address);
+        client.send(&reset_query(2));
+        let mut mine = Data::from_sequence(&client.response()).unwrap();
+        while mine.end().serial < 4 {
+            // An answer, or a notify.
+            match client.unit() {
+                Some(Unit::SerialNotify(_)) => {
+                    client.send(&serial_query(2, SESSION, mine.end().serial));
+                }
+                Some(Unit::CacheResponse(_)) => {
+                    let changes = order(&client.sequence()).unwrap();
+                    mine = mine.apply(&changes).expect("it leads from these data");
+                }
+                other => panic!("{other:?}"),
+            }
+            assert_eq!(mine, data(mine.end().serial));
+        }
+    };
+    std::thread::scope(|scope| {
+        for number in 0..50 {
+            scope.spawn(client);
+            scope.spawn(move || attack(Peer::connect(address), number));
+        }
+        for serial in 2..=4 {
+            std::thread::sleep(milliseconds(200));
+            assert_eq!(cache.server.update(data(serial)), Ok(true));
+        }
+    });
+    assert!(holds(|| cache.server.clients() == 0));
+}
+
+/// A server stops while clients are connected, in the middle of answers too.
+#[test]
+fn stops() {
+    let _alone = alone();
+    let cache = Cache::new(options());
+    assert_eq!(cache.server.update(data_of(SESSION, 1, u16::MAX)), Ok(true));
+    let mut clients: Vec<Peer> = (0..10).map(|_| cache.client()).collect();
+    for client in &mut clients {
+        (0..20).for_each(|_| client.send(&reset_query(2)));
+    }
+    std::thread::sleep(milliseconds(100));
+    drop(cache);
+}
+
+/// IPv6 too, and two addresses at once.
+#[test]
+fn addresses() {
+    let _alone = alone();
+    let cache = Cache::with_data(1);
+    match cache.server.listen("[::1]:0") {
+        Ok(address) => {
+            let mut client = Peer::connect(address);
+            client.send(&reset_query(2));
+            assert_eq!(client.response(), data(1).as_bytes());
+        }
+        Err(error) => println!("no IPv6 here: {error}"),
+    }
+    cache.serves(1);
+    assert!(cache.server.listen(cache.address).is_err());
+}
