@@ -4,8 +4,8 @@
 //!
 //! The file holds a sequence that only announces, in whatever order, with or without a cache
 //! response before it. It is read again when it changes: put another in its place by renaming that
-//! one. A file that can't be taken is named, and the data before it stay. SIGINT and SIGTERM end the
-//! program.
+//! one. A file that can't be taken is named, and the data before it stay. SIGINT and SIGTERM end
+//! the program.
 //!
 //! Ends with status 0 after a signal, 1 where it can't serve, 2 for other arguments.
 

@@ -55,9 +55,17 @@
 #[cfg(any(feature = "std", test))]
 extern crate std;
 
+#[cfg(feature = "std")]
+mod client;
+#[cfg(feature = "std")]
+mod conversation;
 mod data;
 mod fault;
+#[cfg(feature = "std")]
+mod following;
 mod kind;
+#[cfg(feature = "std")]
+mod lines;
 #[cfg(feature = "std")]
 mod owned_data;
 #[cfg(feature = "std")]
@@ -77,9 +85,13 @@ mod units;
 #[cfg(feature = "std")]
 mod writer;
 
+#[cfg(feature = "std")]
+pub use client::{Breach, Client, ClientError, ClientOptions, Event};
 pub use data::{apply_into, delta_into, order_into, DataError, Place, Side};
 pub use fault::{ErrorCode, Fault, PrefixRule};
 pub use kind::{Kind, UnknownKind};
+#[cfg(feature = "std")]
+pub use lines::{change_json, change_line};
 #[cfg(feature = "std")]
 pub use owned_data::{order, Changes, Data};
 #[cfg(feature = "std")]

@@ -107,15 +107,16 @@ impl Drop for Client {
 /// A cache over TCP (RFC 8210), for clients of versions 0 to 2, each in a thread of its own.
 ///
 /// A reset query is answered by all data, and a serial query by the changes since that serial
-/// number, as [`Data::delta_to`] makes them; for a session or a serial number that isn't known, by a
-/// cache reset. The first query says in which version; one that there isn't is answered by a report
-/// with code 4. Before there are data, queries are answered by a report with code 2. Clients that
-/// have asked are notified of new data; where these are of another session they are disconnected.
+/// number, as [`Data::delta_to`] makes them; for a session or a serial number that isn't known, by
+/// a cache reset. The first query says in which version; one that there isn't is answered by a
+/// report with code 4. Before there are data, queries are answered by a report with code 2. Clients
+/// that have asked are notified of new data; where these are of another session they are
+/// disconnected.
 ///
-/// A bad unit is answered by the report that it owes, and the client is disconnected; so it is, with
-/// no report, if it sends a report, or is slower than [`ServerOptions`] allow. No client waits for
-/// another. An answer to a slow one is cut where its data are no longer kept, so that memory stays
-/// bounded by the data of twice as many serial numbers as are kept.
+/// A bad unit is answered by the report that it owes, and the client is disconnected; so it is,
+/// with no report, if it sends a report, or is slower than [`ServerOptions`] allow. No client waits
+/// for another. An answer to a slow one is cut where its data are no longer kept, so that memory
+/// stays bounded by the data of twice as many serial numbers as are kept.
 ///
 /// Neither is anything encrypted nor is a client authenticated (RFC 8210 section 9).
 ///

@@ -5,11 +5,8 @@ use crate::kind::Kind;
 use crate::reader::{Error, Refusal};
 use crate::server::Shared;
 use crate::snapshot::Snapshot;
-use crate::timed::{after, close, is_tick_of_reader, units, write_all, Units};
-use crate::unit::{
-    CacheReset, CacheResponse, ErrorReport, ReportParts, SerialNotify, Unit, UnitRef,
-    MOST_IN_REPORT,
-};
+use crate::timed::{after, close, is_tick_of_reader, report_on, units, write_all, Units};
+use crate::unit::{CacheReset, CacheResponse, ErrorReport, SerialNotify, Unit, UnitRef};
 use std::io::{self, ErrorKind};
 use std::net::TcpStream;
 use std::string::ToString;
@@ -147,16 +144,8 @@ impl Connection<'_> {
         let code_text = code.to_string();
         let text = if text.is_empty() { &code_text } else { text };
         let version = unit.first().copied().unwrap_or(NEWEST);
-        let most = MOST_IN_REPORT - text.len();
-        let parts = ReportParts {
-            unit: unit[..unit.len().min(most)].to_vec(),
-            text: text.as_bytes().to_vec(),
-        };
-        End::Report(ErrorReport {
-            version: self.version.unwrap_or(version.min(NEWEST)),
-            code,
-            parts: Some(parts),
-        })
+        let version = self.version.unwrap_or(version.min(NEWEST));
+        End::Report(report_on(version, code, unit, text))
     }
 
     /// Answers a query (RFC 8210 section 8).

@@ -40,7 +40,8 @@ impl std::error::Error for UpdateError {}
 /// A delta that is made once, by the first who asks for it.
 type Made = Arc<OnceLock<Changes>>;
 
-/// Data, and those of the same session that came before. What clients are sent of them is made once.
+/// Data, and those of the same session that came before. What clients are sent of them is made
+/// once.
 #[derive(Debug)]
 pub(crate) struct Snapshot {
     /// How many snapshots the server had before this one.
@@ -65,7 +66,8 @@ impl Snapshot {
         }
     }
 
-    /// These data after the present ones, of which so many are kept; none where nothing has changed.
+    /// These data after the present ones, of which so many are kept; none where nothing has
+    /// changed.
     pub(crate) fn next(&self, data: Data, kept: usize) -> Result<Option<Self>, UpdateError> {
         let (old, new) = (self.data.end(), data.end());
         if old.session != new.session {

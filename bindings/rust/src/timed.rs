@@ -1,11 +1,14 @@
 //! Connections that never wait for ever.
 
+use crate::fault::ErrorCode;
 use crate::reader::{Error, Reader};
+use crate::unit::{ErrorReport, ReportParts, MOST_IN_REPORT};
 use std::io::{self, BufReader, ErrorKind, Read, Write};
 use std::net::{Shutdown, TcpStream};
 use std::sync::atomic::{AtomicBool, Ordering};
 use std::sync::Arc;
 use std::time::{Duration, Instant};
+use std::vec::Vec;
 
 /// How long a call of the system waits, at most: as late as that a thread sees that it has to stop,
 /// or that there is new data.
@@ -83,8 +86,8 @@ impl Read for Timed<'_> {
     }
 }
 
-/// Units from a stream. Errors of the kind `WouldBlock` are ticks, and after the deadline they are of
-/// the kind `TimedOut`; after both the next call goes on.
+/// Units from a stream. Errors of the kind `WouldBlock` are ticks, and after the deadline they are
+/// of the kind `TimedOut`; after both the next call goes on.
 pub(crate) type Units<'s> = Reader<BufReader<Timed<'s>>>;
 
 /// The units of a stream, each within a limit after it has begun.
@@ -121,6 +124,25 @@ impl Units<'_> {
 /// Whether this is a tick of a reader.
 pub(crate) fn is_tick_of_reader(error: &Error) -> bool {
     matches!(error, Error::Io(error) if is_tick(error))
+}
+
+/// A report about a unit, of which as much is enclosed as there is room for beside the text.
+pub(crate) fn report_on(
+    version: u8,
+    code: ErrorCode,
+    unit: &[u8],
+    text: &str,
+) -> ErrorReport<Vec<u8>> {
+    let most = MOST_IN_REPORT - text.len();
+    let parts = ReportParts {
+        unit: unit[..unit.len().min(most)].to_vec(),
+        text: text.as_bytes().to_vec(),
+    };
+    ErrorReport {
+        version,
+        code,
+        parts: Some(parts),
+    }
 }
 
 /// Writes all of the bytes, in pieces. Before each piece and after each tick it asks whether it may

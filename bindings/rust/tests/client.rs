@@ -1,0 +1,793 @@
+//! A client, and caches that behave or don't.
+#![cfg(feature = "std")]
+
+mod common;
+mod peers;
+
+use peers::*;
+use rtr_wire::*;
+use std::collections::BTreeMap;
+use std::io::Write;
+use std::net::{SocketAddr, TcpListener};
+use std::ops::ControlFlow;
+use std::sync::Mutex;
+use std::time::{Duration, Instant};
+
+/// A cache that a test plays.
+struct Played {
+    listener: TcpListener,
+}
+
+impl Played {
+    fn new() -> Played {
+        let listener = TcpListener::bind("127.0.0.1:0").expect("a port is free");
+        listener.set_nonblocking(true).unwrap();
+        Played { listener }
+    }
+
+    fn address(&self) -> SocketAddr {
+        self.listener.local_addr().unwrap()
+    }
+
+    /// The next connection, if one comes in this time.
+    fn within(&self, time: Duration) -> Option<Peer> {
+        let began = Instant::now();
+        while began.elapsed() < time {
+            if let Ok((stream, _)) = self.listener.accept() {
+                stream.set_nonblocking(false).unwrap();
+                return Some(Peer::of(stream));
+            }
+            std::thread::sleep(milliseconds(1));
+        }
+        None
+    }
+
+    fn accept(&self) -> Peer {
+        self.within(PATIENCE).expect("the client connects")
+    }
+
+    /// A connection on which this query comes.
+    fn asked(&self, query: &[u8]) -> Peer {
+        let mut peer = self.accept();
+        peer.expect(query);
+        peer
+    }
+}
+
+impl Peer {
+    /// These bytes have to come.
+    fn expect(&mut self, bytes: &[u8]) {
+        let unit = self.unit().expect("the client is there");
+        let wanted = Unit::first(bytes).unwrap().0.into_owned();
+        assert_eq!(unit, wanted);
+    }
+}
+
+fn options() -> ClientOptions {
+    ClientOptions {
+        version: 2,
+        dial: PATIENCE,
+        response: PATIENCE,
+        pause: milliseconds(5),
+        retry: Some(milliseconds(20)),
+        ..ClientOptions::default()
+    }
+}
+
+/// What a client told.
+#[derive(Clone, Debug, PartialEq)]
+enum Told {
+    Data(Data),
+    Dropped,
+    Failed(String),
+}
+
+/// What a client told, and the payloads that its changes made, as lines by their names.
+#[derive(Default)]
+struct Log {
+    told: Vec<Told>,
+    payloads: BTreeMap<String, String>,
+}
+
+/// The name of a payload, and its line.
+fn named(unit: &UnitRef) -> (String, String) {
+    let line = change_line(unit).expect("it has a payload");
+    let name = match unit {
+        Unit::Aspa(aspa) => format!("ASPA {}", aspa.customer),
+        _ => line[2..].to_string(),
+    };
+    (name, line[2..].to_string())
+}
+
+impl Log {
+    /// The changes have to lead from what was there to what is.
+    fn add(&mut self, event: &Event<'_>) {
+        let (changes, data) = match event {
+            Event::Data { data, changes, .. } => (*changes, Some(*data)),
+            Event::Dropped { changes } => (*changes, None),
+            Event::Failed(error) => {
+                self.told.push(Told::Failed(error.to_string()));
+                return;
+            }
+            other => panic!("{other:?}"),
+        };
+        for unit in changes.units() {
+            let (name, line) = named(&unit);
+            if unit.announces() == Some(true) {
+                self.payloads.insert(name, line);
+            } else {
+                assert!(self.payloads.remove(&name).is_some(), "{name} is withdrawn");
+            }
+        }
+        let wanted = data.into_iter().flat_map(Data::units);
+        assert_eq!(self.payloads, wanted.map(|unit| named(&unit)).collect());
+        self.told
+            .push(data.map_or(Told::Dropped, |data| Told::Data(data.clone())));
+    }
+}
+
+/// Stops the client when it is dropped, so that a test that fails ends.
+struct Stopping<'c>(&'c Client);
+
+impl Drop for Stopping<'_> {
+    fn drop(&mut self) {
+        self.0.stop();
+    }
+}
+
+/// Runs a client beside the script, which may look at the log, and answers what the client told.
+/// What the script answers, such as a connection, is there until the client is stopped.
+fn follow<T>(
+    address: SocketAddr,
+    options: ClientOptions,
+    script: impl FnOnce(&Mutex<Log>) -> T,
+) -> Vec<Told> {
+    let client = Client::new(address.to_string(), options);
+    let log = Mutex::new(Log::default());
+    std::thread::scope(|scope| {
+        let running = scope.spawn(|| {
+            client.run(|event| {
+                log.lock().unwrap().add(&event);
+                ControlFlow::Continue(())
+            })
+        });
+        {
+            let stopping = Stopping(&client);
+            let kept = script(&log);
+            drop(stopping);
+            drop(kept);
+        }
+        let began = Instant::now();
+        running.join().expect("the client doesn't panic");
+        assert!(
+            began.elapsed() < Duration::from_secs(1),
+            "the client ends late"
+        );
+    });
+    log.into_inner().unwrap().told
+}
+
+/// Whether the client has told this last.
+fn told_last(log: &Mutex<Log>, wanted: &Told) -> bool {
+    holds(|| log.lock().unwrap().told.last() == Some(wanted))
+}
+
+fn response(version: u8, session: u16) -> Vec<u8> {
+    bytes_of(&Unit::CacheResponse(CacheResponse { version, session }))
+}
+
+/// A cache response, and these bytes after it.
+fn answer(version: u8, sequence: &[u8]) -> Vec<u8> {
+    [&response(version, SESSION), sequence].concat()
+}
+
+/// All data of a serial number, as a cache sends them.
+fn all(version: u8, serial: u32) -> Vec<u8> {
+    answer(
+        version,
+        data(serial).for_version(version).unwrap().as_bytes(),
+    )
+}
+
+/// What has changed between two serial numbers.
+fn changed(from: u32, to: u32) -> Vec<u8> {
+    answer(2, data(from).delta_to(&data(to)).unwrap().as_bytes())
+}
+
+fn notify(version: u8, session: u16, serial: u32) -> Vec<u8> {
+    bytes_of(&Unit::SerialNotify(SerialNotify {
+        version,
+        session,
+        serial,
+    }))
+}
+
+fn report(version: u8, code: ErrorCode) -> Vec<u8> {
+    let (unit, text) = (&[][..], &b"so it is"[..]);
+    bytes_of(&Unit::ErrorReport(ErrorReport {
+        version,
+        code,
+        parts: Some(ReportParts { unit, text }),
+    }))
+}
+
+/// A client of the crate's own cache gets each of its data, in each version.
+#[test]
+fn follows_a_server() {
+    let _alone = alone();
+    let server = Server::new(ServerOptions {
+        notify: milliseconds(1),
+        ..ServerOptions::default()
+    });
+    let address = server.listen("127.0.0.1:0").unwrap();
+    server.update(data(1)).unwrap();
+    for version in 0..=2 {
+        server
+            .update(data_of(SESSION + u16::from(version), 1, 20))
+            .unwrap();
+        let of = |serial| {
+            let data = data_of(SESSION + u16::from(version), serial, 20);
+            data.for_version(version).unwrap()
+        };
+        let options = ClientOptions {
+            version,
+            ..options()
+        };
+        let told = follow(address, options, |log| {
+            for serial in 1..=4 {
+                if serial > 1 {
+                    let data = data_of(SESSION + u16::from(version), serial, 20);
+                    assert_eq!(server.update(data), Ok(true));
+                }
+                assert!(told_last(log, &Told::Data(of(serial))));
+            }
+        });
+        assert_eq!(
+            told,
+            (1..=4)
+                .map(|serial| Told::Data(of(serial)))
+                .collect::<Vec<_>>()
+        );
+    }
+    let client = Client::new(address.to_string(), options());
+    let data = client.fetch().unwrap();
+    assert_eq!((data.end().session, data.end().serial), (SESSION + 2, 4));
+    drop(server);
+    assert!(matches!(client.fetch(), Err(ClientError::Io(_))));
+    assert!(holds(|| threads("rtr ") == 0), "threads are left");
+}
+
+const UNSUPPORTED: ErrorCode = ErrorCode::UNSUPPORTED_PROTOCOL_VERSION;
+
+fn told_of(version: u8, serial: u32) -> Told {
+    Told::Data(data(serial).for_version(version).unwrap())
+}
+
+/// It falls to the version that the cache has (RFC 8210 section 7), by reports, by reports of a
+/// lower version, and where a cache closes without a word.
+#[test]
+fn lower_versions() {
+    let _alone = alone();
+    let ways: [Option<u8>; 3] = [Some(0), Some(1), None];
+    for lower in ways {
+        let cache = Played::new();
+        let told = follow(cache.address(), options(), |log| {
+            for version in [2, 1] {
+                let mut peer = cache.asked(&reset_query(version));
+                if let Some(lower) = lower {
+                    peer.send(&report(version - lower, UNSUPPORTED));
+                }
+            }
+            let mut peer = cache.asked(&reset_query(0));
+            peer.send(&all(0, 1));
+            assert!(told_last(log, &told_of(0, 1)));
+            peer
+        });
+        assert_eq!(told, [told_of(0, 1)]);
+    }
+}
+
+/// All data come in a lower version, and then the changes are asked for in that one.
+#[test]
+fn answers_of_lower_versions() {
+    let _alone = alone();
+    let cache = Played::new();
+    let told = follow(cache.address(), options(), |log| {
+        let mut peer = cache.asked(&reset_query(2));
+        peer.send(&all(1, 1));
+        assert!(told_last(log, &told_of(1, 1)));
+        peer.send(&notify(1, SESSION, 2));
+        peer.expect(&serial_query(1, SESSION, 1));
+        drop(peer);
+        // The next one has no version 1 any more.
+        let mut peer = cache.asked(&serial_query(1, SESSION, 1));
+        peer.send(&all(0, 2));
+        let mut peer = cache.asked(&reset_query(0));
+        peer.send(&all(0, 2));
+        assert!(told_last(log, &told_of(0, 2)));
+        peer
+    });
+    assert_eq!(told.len(), 3, "{told:?}");
+}
+
+/// Where no version is left it says so.
+#[test]
+fn no_version() {
+    let _alone = alone();
+    let cache = Played::new();
+    let client = Client::new(cache.address().to_string(), options());
+    std::thread::scope(|scope| {
+        let fetched = scope.spawn(|| client.fetch());
+        for version in [2, 1, 0] {
+            let mut peer = cache.asked(&reset_query(version));
+            peer.send(&report(version, UNSUPPORTED));
+        }
+        let error = fetched.join().unwrap().unwrap_err();
+        let text = r#"the cache reports: Unsupported Protocol Version: "so it is""#;
+        assert_eq!(error.to_string(), text);
+    });
+}
+
+/// Notifies, refreshing, a cache reset, a new session, and data that expire.
+#[test]
+fn a_session() {
+    let _alone = alone();
+    let cache = Played::new();
+    let options = ClientOptions {
+        refresh: Some(milliseconds(300)),
+        ..options()
+    };
+    let told = follow(cache.address(), options, |log| {
+        let mut peer = cache.asked(&reset_query(2));
+        peer.send(&notify(2, SESSION, 9)); // before an answer it says nothing
+        peer.send(&all(2, 1));
+        assert!(told_last(log, &Told::Data(data(1))));
+        peer.send(&notify(2, SESSION, 1)); // nor where nothing is new
+        peer.send(&notify(2, SESSION, 2));
+        peer.expect(&serial_query(2, SESSION, 1));
+        peer.send(&changed(1, 2));
+        // It asks again by itself.
+        peer.expect(&serial_query(2, SESSION, 2));
+        peer.send(&[2, 8, 0, 0, 0, 0, 0, 8]);
+        peer.expect(&reset_query(2));
+        peer.send(&all(2, 5));
+        assert!(told_last(log, &Told::Data(data(5))));
+        // The session is another: all is dropped, and asked for anew.
+        peer.expect(&serial_query(2, SESSION, 5));
+        peer.send(&response(2, 7));
+        let code = ErrorCode::CORRUPT_DATA;
+        assert_eq!(peer.report(), Some((code, 2)));
+        let mut peer = cache.asked(&reset_query(2));
+        let new = data_of(7, 1, 20);
+        peer.send(&[&response(2, 7), new.as_bytes()].concat());
+        assert!(told_last(log, &Told::Data(new)));
+        peer
+    });
+    let other = "unit of another session";
+    let wanted = [
+        Told::Data(data(1)),
+        Told::Data(data(2)),
+        Told::Data(data(5)),
+        Told::Dropped,
+        Told::Failed(other.to_string()),
+        Told::Data(data_of(7, 1, 20)),
+    ];
+    assert_eq!(told, wanted);
+}
+
+/// Before a cache has data it is asked again. Data that it can't refresh are kept until they
+/// expire.
+#[test]
+fn no_data_and_expired_data() {
+    let _alone = alone();
+    let cache = Played::new();
+    let options = ClientOptions {
+        expire: Some(milliseconds(500)),
+        ..options()
+    };
+    let told = follow(cache.address(), options, |log| {
+        let mut peer = cache.asked(&reset_query(2));
+        for _ in 0..2 {
+            peer.send(&report(2, ErrorCode::NO_DATA_AVAILABLE));
+            peer.expect(&reset_query(2));
+        }
+        peer.send(&all(2, 1));
+        assert!(told_last(log, &Told::Data(data(1))));
+        let came = Instant::now();
+        drop(peer);
+        // It connects again, and keeps asking for changes while it has data.
+        while came.elapsed() < milliseconds(350) {
+            drop(cache.asked(&serial_query(2, SESSION, 1)));
+        }
+        assert!(holds(|| log.lock().unwrap().told.contains(&Told::Dropped)));
+        assert!(came.elapsed() >= milliseconds(400));
+    });
+    let expired = Told::Failed("the data have expired".to_string());
+    let place = told.iter().position(|told| *told == Told::Dropped).unwrap();
+    assert_eq!(told[..2], [told[0].clone(), told[0].clone()]);
+    assert_eq!(told[2], Told::Data(data(1)));
+    assert_eq!(told.get(place + 1), Some(&expired));
+}
+
+/// An answer to a reset query that ends after each of its bytes gives no data, and what has changed
+/// is applied whole or not at all.
+#[test]
+fn caches_that_stop() {
+    let _alone = alone();
+    let cache = Played::new();
+    let (whole, delta) = (all(2, 1), changed(1, 2));
+    for length in 0..whole.len() {
+        let client = Client::new(cache.address().to_string(), options());
+        std::thread::scope(|scope| {
+            let fetched = scope.spawn(|| client.fetch());
+            let mut peer = cache.accept();
+            peer.expect(&reset_query(2));
+            peer.send(&whole[..length]);
+            drop(peer);
+            // Without a word a client asks in lower versions.
+            while let Some(peer) = cache.within(milliseconds(if length == 0 { 50 } else { 0 })) {
+                drop(peer);
+            }
+            let error = fetched.join().unwrap().unwrap_err();
+            assert!(matches!(
+                error,
+                ClientError::Closed | ClientError::Io(_) | ClientError::Refused(_)
+            ));
+        });
+    }
+    for length in 0..=delta.len() {
+        let told = follow(cache.address(), options(), |log| {
+            let mut peer = cache.asked(&reset_query(2));
+            peer.send(&[whole.clone(), notify(2, SESSION, 2)].concat());
+            peer.expect(&serial_query(2, SESSION, 1));
+            peer.send(&delta[..length]);
+            drop(peer);
+            let serial = if length == delta.len() { 2 } else { 1 };
+            cache.asked(&serial_query(2, SESSION, serial));
+            assert!(log.lock().unwrap().told.contains(&Told::Data(data(serial))));
+        });
+        let had = told.iter().filter(|told| !matches!(told, Told::Failed(_)));
+        let wanted = [Told::Data(data(1)), Told::Data(data(2))];
+        let count = 1 + usize::from(length == delta.len());
+        assert_eq!(had.cloned().collect::<Vec<_>>(), wanted[..count]);
+    }
+}
+
+/// An end of data of the session (RFC 8210 section 5.8).
+fn end_of(serial: u32) -> Vec<u8> {
+    let end = Data::new(2, SESSION, serial, None);
+    end.unwrap().into_bytes()
+}
+
+/// What comes after a query, what the client says of it, and the code of the report.
+type Refused = (Vec<u8>, &'static str, Option<ErrorCode>);
+
+/// Sequences that are refused.
+fn refused_sequences() -> Vec<Refused> {
+    let sequence = |units: &[&[u8]]| answer(2, &[&units.concat()[..], &end_of(1)].concat());
+    let one = prefix(1, 1);
+    let mut old = one.clone();
+    old[0] = 1;
+    let aspa = [2, 11, 1, 0, 0, 0, 0, 16, 0, 0, 0, 1, 0, 0, 0, 2];
+    let gone = [2, 11, 0, 0, 0, 0, 0, 12, 0, 0, 0, 1];
+    let duplicate = Some(ErrorCode::DUPLICATE_ANNOUNCEMENT_RECEIVED);
+    let unknown = Some(ErrorCode::WITHDRAWAL_OF_UNKNOWN_RECORD);
+    let unexpected = Some(ErrorCode::UNEXPECTED_PROTOCOL_VERSION);
+    let texts = [
+        "duplicate announcement, at byte 20",
+        "withdrawal of an unknown record, at byte 0",
+        "unit of another version than the session",
+        "an ASPA is announced and then withdrawn, at byte 16",
+    ];
+    vec![
+        (sequence(&[&one, &one]), texts[0], duplicate),
+        (sequence(&[&prefix(0, 1)]), texts[1], unknown),
+        (sequence(&[&old]), texts[2], unexpected),
+        (sequence(&[&aspa, &gone]), texts[3], None),
+    ]
+}
+
+/// Units that may not stand where they come.
+fn misplaced() -> Vec<Refused> {
+    let text = "unit is not allowed here";
+    let code = Some(ErrorCode::UNSUPPORTED_PDU_TYPE);
+    let mut other = end_of(1);
+    other[3] = 1;
+    let mut rows = vec![(
+        answer(2, &other),
+        "unit of another session",
+        Some(ErrorCode::CORRUPT_DATA),
+    )];
+    let inside = [response(2, SESSION), notify(2, SESSION, 1), reset_query(2)];
+    rows.extend(inside.map(|unit| (answer(2, &unit), text, code)));
+    let first = [
+        end_of(1),
+        vec![2, 8, 0, 0, 0, 0, 0, 8],
+        reset_query(2),
+        prefix(1, 1),
+    ];
+    rows.extend(first.map(|unit| (unit, text, code)));
+    let mut key = common::KEY.to_vec();
+    key[0] = 0;
+    let lower = [
+        bytes_of(&Unit::CacheResponse(CacheResponse {
+            version: 0,
+            session: 1,
+        })),
+        key,
+    ];
+    rows.push((lower.concat(), "version does not have such payloads", code));
+    rows
+}
+
+/// What a client says of an answer, and the code of the report that comes of it.
+fn fetch_refused(cache: &Played, bytes: &[u8]) -> (String, Option<ErrorCode>) {
+    let client = Client::new(cache.address().to_string(), options());
+    std::thread::scope(|scope| {
+        let fetched = scope.spawn(|| client.fetch());
+        let mut peer = cache.asked(&reset_query(2));
+        peer.try_send(bytes);
+        let report = peer.report();
+        assert!(!report.is_some_and(|report| report.1 != bytes[0]));
+        drop(peer);
+        let error = fetched.join().unwrap().unwrap_err();
+        (error.to_string(), report.map(|report| report.0))
+    })
+}
+
+#[test]
+fn bad_answers() {
+    let _alone = alone();
+    let cache = Played::new();
+    for (bytes, text, code) in refused_sequences().into_iter().chain(misplaced()) {
+        assert_eq!(
+            fetch_refused(&cache, &bytes),
+            (text.to_string(), code),
+            "{bytes:02x?}"
+        );
+    }
+    for row in common::hostile_lengths() {
+        let (_, kind, _, _, fault) = row;
+        let code = match fault {
+            _ if kind == 10 => None,
+            Fault::UnitType(_) => Some(ErrorCode::UNSUPPORTED_PDU_TYPE),
+            Fault::UnitVersion(_) => Some(ErrorCode::UNSUPPORTED_PROTOCOL_VERSION),
+            Fault::EmptyProviders => Some(ErrorCode::ASPA_PROVIDER_LIST_ERROR),
+            _ => Some(ErrorCode::CORRUPT_DATA),
+        };
+        let bytes = [response(2, SESSION), common::hostile_input(row)].concat();
+        assert_eq!(
+            fetch_refused(&cache, &bytes),
+            (format!("{fault}, at byte 8"), code)
+        );
+    }
+    let mut prefix = prefix(1, 1);
+    prefix[9] = 33;
+    let bytes = [response(2, SESSION), prefix].concat();
+    let text = "prefix length too large, at byte 8".to_string();
+    assert_eq!(
+        fetch_refused(&cache, &bytes),
+        (text, Some(ErrorCode::CORRUPT_DATA))
+    );
+}
+
+/// Changes that are refused leave the data as they are, and all data are asked for next.
+#[test]
+fn bad_changes() {
+    let _alone = alone();
+    let cache = Played::new();
+    let there = data(1).as_bytes()[..20].to_vec();
+    let (end, older) = (end_of(2), end_of(0));
+    let rows = [
+        (there, &end, ErrorCode::DUPLICATE_ANNOUNCEMENT_RECEIVED),
+        (
+            prefix(0, 999),
+            &end,
+            ErrorCode::WITHDRAWAL_OF_UNKNOWN_RECORD,
+        ),
+        (prefix(1, 999), &older, ErrorCode::CORRUPT_DATA),
+    ];
+    for (unit, end, code) in rows {
+        let told = follow(cache.address(), options(), |log| {
+            let mut peer = cache.asked(&reset_query(2));
+            peer.send(&[all(2, 1), notify(2, SESSION, 2)].concat());
+            peer.expect(&serial_query(2, SESSION, 1));
+            peer.send(&answer(2, &[&unit[..], end].concat()));
+            assert_eq!(peer.report(), Some((code, 2)));
+            let mut peer = cache.asked(&reset_query(2));
+            peer.send(&all(2, 3));
+            assert!(told_last(log, &Told::Data(data(3))));
+            peer
+        });
+        assert!(
+            matches!(&told[..], [Told::Data(one), Told::Failed(_), Told::Data(_)]
+            if *one == data(1))
+        );
+    }
+}
+
+/// What a cache does after a query.
+type Plays = Box<dyn FnOnce(Peer)>;
+
+/// Sends a unit over and over.
+fn flood(unit: Vec<u8>, count: usize) -> Plays {
+    Box::new(move |mut peer| {
+        (0..count).for_each(|_| peer.try_send(&unit));
+        hold(peer);
+    })
+}
+
+/// Sends a cache response, and then a unit over and over.
+fn flood_answer(unit: &[u8]) -> Plays {
+    let unit = unit.to_vec();
+    Box::new(move |mut peer| {
+        peer.send(&response(2, SESSION));
+        flood(unit, 30_000)(peer);
+    })
+}
+
+/// Sends a byte now and then.
+fn slow(bytes: Vec<u8>) -> Plays {
+    Box::new(|mut peer| {
+        for byte in bytes {
+            if peer.stream.write_all(&[byte]).is_err() {
+                return;
+            }
+            std::thread::sleep(milliseconds(20));
+        }
+        hold(peer);
+    })
+}
+
+/// A cache that stalls, is slow, or floods is left in a bounded time, with a name for it.
+#[test]
+fn hostile_caches() {
+    let _alone = alone();
+    let (too_slow, too_long) = ("the cache is too slow", "the answer has too many bytes");
+    let mut key = vec![2, 9, 1, 0, 0, 0, 0xff, 0xff];
+    key.resize(65535, 0);
+    let four_gigabytes = [2, 9, 1, 0, 0xff, 0xff, 0xff, 0xff];
+    let rows: [(Plays, &str); 7] = [
+        (Box::new(hold), too_slow),
+        (slow(all(2, 1)), too_slow),
+        (slow(vec![2, 3]), too_slow),
+        (flood(notify(2, SESSION, 1), 300_000), too_slow),
+        (flood_answer(&key), too_long),
+        (flood_answer(&prefix(0, 1)), too_long),
+        (
+            flood_answer(&four_gigabytes),
+            "unit is longer than 65535 bytes, at byte 8",
+        ),
+    ];
+    for (plays, text) in rows {
+        let options = ClientOptions {
+            response: milliseconds(300),
+            bytes: 100_000,
+            ..options()
+        };
+        let (error, time) = fetch_played(plays, options);
+        assert_eq!(error.to_string(), text);
+        assert!(time < Duration::from_secs(2), "{text} comes late");
+    }
+    // The count of units is a limit too.
+    let options = ClientOptions {
+        units: 3,
+        ..options()
+    };
+    let plays = Box::new(|mut peer: Peer| peer.send(&all(2, 1)));
+    let (error, _) = fetch_played(plays, options);
+    assert!(matches!(error, ClientError::TooManyUnits));
+}
+
+/// Why a client gets nothing of a cache, and how long it takes until then.
+fn fetch_played(plays: Plays, options: ClientOptions) -> (ClientError, Duration) {
+    let cache = Played::new();
+    let client = Client::new(cache.address().to_string(), options);
+    std::thread::scope(|scope| {
+        let began = Instant::now();
+        let fetched = scope.spawn(move || (client.fetch(), began.elapsed()));
+        plays(cache.asked(&reset_query(2)));
+        let (fetched, time) = fetched.join().unwrap();
+        (fetched.unwrap_err(), time)
+    })
+}
+
+/// Waits until the peer closes.
+fn hold(mut peer: Peer) {
+    let _ = peer.is_closed();
+}
+
+/// A cache that stalls after each byte of an answer.
+#[test]
+fn caches_that_stall() {
+    let _alone = alone();
+    let whole = all(2, 1);
+    std::thread::scope(|scope| {
+        for length in 0..whole.len() {
+            let whole = &whole;
+            scope.spawn(move || {
+                let cache = Played::new();
+                let options = ClientOptions {
+                    response: milliseconds(500),
+                    ..options()
+                };
+                let client = Client::new(cache.address().to_string(), options);
+                std::thread::scope(|scope| {
+                    let fetched = scope.spawn(|| client.fetch());
+                    let mut peer = cache.accept();
+                    peer.send(&whole[..length]);
+                    let error = fetched.join().unwrap().unwrap_err();
+                    assert!(matches!(error, ClientError::TooSlow), "{error:?}");
+                });
+            });
+        }
+    });
+}
+
+/// A client that is stopped ends soon, whatever it is about.
+#[test]
+fn stopped() {
+    let _alone = alone();
+    let cache = Played::new();
+    let told = follow(cache.address(), options(), |_| {
+        drop(cache.asked(&reset_query(2)))
+    });
+    assert!(told.len() <= 1);
+    let cache = Played::new();
+    follow(cache.address(), options(), |_| {
+        cache.asked(&reset_query(2)).send(&all(2, 1)[..30]);
+    });
+    let cache = Played::new();
+    follow(cache.address(), options(), |log| {
+        let mut peer = cache.accept();
+        peer.send(&all(2, 1));
+        assert!(told_last(log, &Told::Data(data(1))));
+    });
+    // It ends when it is told to, and answers the data.
+    let cache = Played::new();
+    let client = Client::new(cache.address().to_string(), options());
+    std::thread::scope(|scope| {
+        let running = scope.spawn(|| client.run(|_| ControlFlow::Break(())));
+        cache.accept().send(&all(2, 1));
+        assert_eq!(running.join().unwrap(), Some(data(1)));
+    });
+}
+
+/// As `docs/PROGRAMS.md` and `docs/LISTING.md` show them.
+#[test]
+fn lines() {
+    let rows: [(&[u8], &str, &str); 5] = [
+        (
+            common::IPV4,
+            "+ IPv4 prefix 192.0.2.0/23-26 AS65551",
+            r#"{"kind":"ipv4_prefix","action":"announce","prefix":"192.0.2.0","prefix_length":23,"max_length":26,"asn":65551}"#,
+        ),
+        (
+            common::IPV6,
+            "- IPv6 prefix 2001:db8::/32-48 AS65551",
+            r#"{"kind":"ipv6_prefix","action":"withdraw","prefix":"2001:db8::","prefix_length":32,"max_length":48,"asn":65551}"#,
+        ),
+        (
+            common::KEY,
+            "+ router key 0102030405060708090a0b0c0d0e0f1011121314 AS65551 yv4",
+            r#"{"kind":"router_key","action":"announce","subject_key_identifier":"0102030405060708090a0b0c0d0e0f1011121314","asn":65551,"subject_public_key_info":"yv4"}"#,
+        ),
+        (
+            common::ASPA,
+            "+ ASPA AS65000 providers AS65001 AS65551",
+            r#"{"kind":"aspa","action":"announce","customer_asn":65000,"provider_asns":[65001,65551]}"#,
+        ),
+        (
+            common::WITHDRAWN,
+            "- ASPA AS65000 providers",
+            r#"{"kind":"aspa","action":"withdraw","customer_asn":65000,"provider_asns":[]}"#,
+        ),
+    ];
+    for (bytes, line, json) in rows {
+        let (unit, _) = Unit::first(bytes).unwrap();
+        assert_eq!(change_line(&unit).as_deref(), Some(line));
+        assert_eq!(change_json(&unit).as_deref(), Some(json));
+    }
+    let (unit, _) = Unit::first(common::END).unwrap();
+    assert_eq!((change_line(&unit), change_json(&unit)), (None, None));
+}

@@ -1,0 +1,203 @@
+//! The example programs `cache` and `client`, run.
+#![cfg(feature = "std")]
+
+mod peers;
+
+use peers::*;
+use rtr_wire::*;
+use std::io::{BufRead, BufReader, Read};
+use std::path::PathBuf;
+use std::process::{Child, Command, Output, Stdio};
+use std::sync::mpsc::{channel, Receiver};
+
+/// An example program, as `cargo test` leaves it beside this test.
+fn program(name: &str) -> Command {
+    let mut path: PathBuf = std::env::current_exe().unwrap();
+    path.pop();
+    path.pop();
+    Command::new(path.join("examples").join(name))
+}
+
+/// The lines of what a program says, as they come.
+struct Lines(Receiver<String>);
+
+impl Lines {
+    fn of(input: impl Read + Send + 'static) -> Lines {
+        let (sender, receiver) = channel();
+        std::thread::spawn(move || {
+            let lines = BufReader::new(input).lines().map_while(Result::ok);
+            lines.for_each(|line| drop(sender.send(line)));
+        });
+        Lines(receiver)
+    }
+
+    fn next(&self) -> String {
+        self.0.recv_timeout(PATIENCE).expect("it says something")
+    }
+}
+
+/// The cache while it runs.
+struct Cache {
+    child: Child,
+    lines: Lines,
+    file: PathBuf,
+}
+
+impl Cache {
+    fn start(file: PathBuf) -> Cache {
+        let mut command = program("cache");
+        command.arg(&file).args(["--listen", "127.0.0.1:0"]);
+        let mut child = command.stderr(Stdio::piped()).spawn().unwrap();
+        let lines = Lines::of(child.stderr.take().unwrap());
+        Cache { child, lines, file }
+    }
+
+    fn line(&self) -> String {
+        self.lines.next()
+    }
+
+    /// Puts other data in the place of those before.
+    fn replace(&self, bytes: &[u8]) {
+        let new = self.file.with_extension("new");
+        std::fs::write(&new, bytes).unwrap();
+        std::fs::rename(&new, &self.file).unwrap();
+    }
+
+    /// Sends a signal, and answers the status.
+    fn end(mut self, signal: &str) -> Option<i32> {
+        let id = self.child.id().to_string();
+        let sent = Command::new("kill").args(["-s", signal, &id]).status();
+        assert!(sent.unwrap().success());
+        self.child.wait().unwrap().code()
+    }
+}
+
+impl Drop for Cache {
+    fn drop(&mut self) {
+        let _ = self.child.kill();
+        let _ = self.child.wait();
+        let _ = std::fs::remove_file(&self.file);
+    }
+}
+
+fn client(words: &[&str]) -> Output {
+    program("client").args(words).output().unwrap()
+}
+
+/// The lines of all units.
+fn lines(data: &Data, line: fn(&UnitRef) -> Option<String>) -> String {
+    let lines = data.units().map(|unit| line(&unit).unwrap() + "\n");
+    lines.collect()
+}
+
+#[test]
+fn cache_and_client() {
+    let file = std::env::temp_dir().join(format!("rtr-cache-{}", std::process::id()));
+    let cache = Cache::start(file.clone());
+    let listening = cache.line();
+    let address = listening.strip_prefix("listening on ").unwrap();
+    let name = file.display();
+    // There is no file yet, and then one that isn't taken.
+    assert!(cache.line().starts_with(&format!("{name}: ")));
+    let none = client(&[address, "--once"]);
+    assert_eq!(none.status.code(), Some(1));
+    let text = format!("{address}: the cache reports: No Data Available");
+    assert!(String::from_utf8(none.stderr).unwrap().starts_with(&text));
+    cache.replace(&data(1).as_bytes()[..30]);
+    assert_eq!(
+        cache.line(),
+        format!("{name}: unexpected end of input, at byte 20")
+    );
+    // Data in any order, after a cache response.
+    let prefixes = [prefix(1, 9), prefix(1, 8)].concat();
+    let end = Data::new(2, SESSION, 1, None).unwrap().into_bytes();
+    let response = [2, 3, 0, 0, 0, 0, 0, 8];
+    cache.replace(&[&response[..], &prefixes, &end].concat());
+    let taken = format!("{name}: session {SESSION} serial 1: 2 payloads");
+    assert_eq!(cache.line(), taken);
+    let got = client(&[address, "--once"]);
+    let wanted = "+ IPv4 prefix 10.0.8.0/24-24 AS65551\n+ IPv4 prefix 10.0.9.0/24-24 AS65551\n";
+    assert_eq!(String::from_utf8(got.stdout).unwrap(), wanted);
+    let said = format!("session {SESSION} serial 1 version 1: 2 payloads\n");
+    assert_eq!(String::from_utf8(got.stderr).unwrap(), said);
+    assert_eq!(got.status.code(), Some(0));
+    // New data.
+    cache.replace(data(2).as_bytes());
+    assert!(cache
+        .line()
+        .ends_with(&format!("serial 2: {} payloads", data(2).len())));
+    let got = client(&[address, "--json", "--version", "2", "--once"]);
+    assert_eq!(
+        String::from_utf8(got.stdout).unwrap(),
+        lines(&data(2), change_json)
+    );
+    let got = client(&[address, "--version", "0", "--once"]);
+    let of_0 = data(2).for_version(0).unwrap();
+    assert_eq!(
+        String::from_utf8(got.stdout).unwrap(),
+        lines(&of_0, change_line)
+    );
+    // The same serial number can't name other data.
+    cache.replace(data(3).numbered(SESSION, 2).as_bytes());
+    let refused = "serial 2 of other data isn't after serial 2";
+    assert_eq!(cache.line(), format!("{name}: {refused}"));
+    assert_eq!(cache.end("TERM"), Some(0));
+    let none = client(&[address, "--once"]);
+    assert_eq!(none.status.code(), Some(1));
+}
+
+/// A client that goes on prints each change, and a cache ends by SIGINT too.
+#[test]
+fn changes_as_they_come() {
+    let file = std::env::temp_dir().join(format!("rtr-cache-2-{}", std::process::id()));
+    std::fs::write(&file, data(1).as_bytes()).unwrap();
+    let cache = Cache::start(file);
+    let listening = cache.line();
+    cache.line();
+    let address = listening.strip_prefix("listening on ").unwrap();
+    let mut command = program("client");
+    command
+        .args([address, "--version", "2"])
+        .stdout(Stdio::piped());
+    let mut running = command.stderr(Stdio::null()).spawn().unwrap();
+    let printed = Lines::of(running.stdout.take().unwrap());
+    for unit in data(1).units() {
+        assert_eq!(printed.next(), change_line(&unit).unwrap());
+    }
+    cache.replace(data(2).as_bytes());
+    for unit in data(1).delta_to(&data(2)).unwrap().units() {
+        assert_eq!(printed.next(), change_line(&unit).unwrap());
+    }
+    running.kill().unwrap();
+    running.wait().unwrap();
+    assert_eq!(cache.end("INT"), Some(0));
+}
+
+#[test]
+fn arguments() {
+    let rows: [&[&str]; 6] = [
+        &[],
+        &["--once"],
+        &["127.0.0.1:1", "--version", "3"],
+        &["127.0.0.1:1", "--version"],
+        &["127.0.0.1:1", "other"],
+        &["--help"],
+    ];
+    for words in rows {
+        let got = client(words);
+        assert_eq!(got.status.code(), Some(2), "{words:?}");
+        assert!(got.stderr.starts_with(b"usage: client HOST:PORT"));
+    }
+    for words in [&[][..], &["a", "b"], &["a", "--listen"], &["--help"]] {
+        let got = program("cache").args(words).output().unwrap();
+        assert_eq!(got.status.code(), Some(2), "{words:?}");
+        assert!(got.stderr.starts_with(b"usage: cache FILE"));
+    }
+    let busy = std::net::TcpListener::bind("127.0.0.1:0").unwrap();
+    let address = busy.local_addr().unwrap().to_string();
+    let got = program("cache")
+        .args(["none", "--listen", &address])
+        .output()
+        .unwrap();
+    assert_eq!(got.status.code(), Some(1));
+}
