@@ -1,0 +1,414 @@
+#!/usr/bin/env python3
+"""Runs the client in C beside caches on the loopback interface that behave or don't.
+
+usage: client_test.py PROGRAM
+
+The program is `client.c` compiled with -DRESPONSE_LIMIT=600 and -DMOST_BYTES=100000, so that what
+never ends ends soon. What is expected is computed here. Quiet but for a line if all is well.
+"""
+import ipaddress
+import json
+import socket
+import struct
+import subprocess
+import sys
+import threading
+import time
+from concurrent.futures import ThreadPoolExecutor
+
+PROGRAM = sys.argv[1] if len(sys.argv) == 2 else sys.exit(__doc__)
+SESSION = 4660
+PATIENCE = 20  # seconds for something that has to come
+CORRUPT, NO_DATA, NO_VERSION, NO_TYPE, UNKNOWN, DUPLICATE, OTHER_VERSION = 0, 2, 4, 5, 6, 7, 8
+
+
+# ---- units (RFC 8210 section 5)
+
+def unit(version, kind, field, body=b""):
+    return struct.pack(">BBHI", version, kind, field, 8 + len(body)) + body
+
+
+def prefix(text, max_length, asn, announce=1, version=2):
+    net = ipaddress.ip_network(text)
+    kind = 4 if net.version == 4 else 6
+    head = struct.pack(">BBBB", announce, net.prefixlen, max_length, 0)
+    return unit(version, kind, 0, head + net.network_address.packed + struct.pack(">I", asn))
+
+
+def key(asn, info, announce=1, version=2):
+    return unit(version, 9, announce << 8, bytes(range(1, 21)) + struct.pack(">I", asn) + info)
+
+
+def aspa(customer, providers, announce=1):
+    return unit(2, 11, announce << 8, struct.pack(f">{1 + len(providers)}I", customer, *providers))
+
+
+def end(serial, version=2, session=SESSION):
+    timing = struct.pack(">III", 3600, 600, 7200) if version else b""
+    return unit(version, 7, session, struct.pack(">I", serial) + timing)
+
+
+def response(version=2, session=SESSION):
+    return unit(version, 3, session)
+
+
+def reset_query(version):
+    return unit(version, 2, 0)
+
+
+def serial_query(version, serial, session=SESSION):
+    return unit(version, 1, session, struct.pack(">I", serial))
+
+
+def notify(serial, version=2, session=SESSION):
+    return unit(version, 0, session, struct.pack(">I", serial))
+
+
+def report(version, code):
+    return unit(version, 10, code, struct.pack(">I", 0) + struct.pack(">I", 2) + b"no")
+
+
+def received(peer):
+    """The next unit that comes, or nothing where the client has closed."""
+    got = b""
+    while len(got) < 8 or len(got) < struct.unpack(">I", got[4:8])[0]:
+        try:
+            more = peer.recv((8 if len(got) < 8 else struct.unpack(">I", got[4:8])[0]) - len(got))
+        except ConnectionResetError:
+            return b""
+        if not more:
+            return b""
+        got += more
+    return got
+
+
+def expect(peer, wanted):
+    got = received(peer)
+    assert got == wanted, (got.hex(), wanted.hex())
+
+
+# ---- a cache that is played, and the client beside it
+
+class Run:
+    """What a client said to a cache that plays this script."""
+
+    def __init__(self, script, words=("--once", "--version", "2"), host="127.0.0.1"):
+        family = socket.AF_INET6 if ":" in host else socket.AF_INET
+        self.listener = socket.create_server((host, 0), family=family)
+        self.listener.settimeout(PATIENCE)
+        port = self.listener.getsockname()[1]
+        address = f"[{host}]:{port}" if ":" in host else f"{host}:{port}"
+        self.failed = None
+        thread = threading.Thread(target=self.play, args=(script,))
+        began = time.monotonic()
+        self.process = subprocess.Popen([PROGRAM, address, *words], stdout=subprocess.PIPE,
+                                        stderr=subprocess.PIPE)
+        thread.start()
+        try:
+            out, err = self.process.communicate(timeout=PATIENCE)
+        finally:
+            self.process.kill()
+            self.listener.close()
+        self.time = time.monotonic() - began
+        thread.join(PATIENCE)
+        assert not thread.is_alive()
+        if self.failed:
+            raise self.failed
+        self.status, self.lines = self.process.returncode, out.decode().splitlines()
+        self.said = err.decode().replace(address + ": ", "").splitlines()
+
+    def play(self, script):
+        try:
+            script(self)
+        except (AssertionError, OSError) as error:
+            self.failed = error
+            self.process.kill()
+
+    def accept(self):
+        peer, _ = self.listener.accept()
+        peer.settimeout(PATIENCE)
+        return peer
+
+    def asked(self, query):
+        peer = self.accept()
+        expect(peer, query)
+        return peer
+
+
+def answers(data, version=2):
+    def script(run):
+        with run.asked(reset_query(version)) as peer:
+            peer.sendall(data)
+            received(peer)
+    return script
+
+
+# Payloads in their order, with their lines.
+PAYLOADS = [
+    (prefix("10.0.0.0/8", 24, 65551), "IPv4 prefix 10.0.0.0/8-24 AS65551"),
+    (prefix("192.0.2.0/24", 26, 0), "IPv4 prefix 192.0.2.0/24-26 AS0"),
+    (prefix("::/0", 0, 1), "IPv6 prefix ::/0-0 AS1"),
+    (prefix("::102:304/128", 128, 1), "IPv6 prefix ::102:304/128-128 AS1"),
+    (prefix("::ffff:1.2.3.4/128", 128, 1), "IPv6 prefix ::ffff:1.2.3.4/128-128 AS1"),
+    (prefix("1:0:0:2::3:4/128", 128, 1), "IPv6 prefix 1::2:0:0:3:4/128-128 AS1"),
+    (prefix("1:0:2:3:4:5:6:7/128", 128, 1), "IPv6 prefix 1:0:2:3:4:5:6:7/128-128 AS1"),
+    (prefix("2001:db8::/32", 48, 4294967295), "IPv6 prefix 2001:db8::/32-48 AS4294967295"),
+    (key(65551, b""), f"router key {bytes(range(1, 21)).hex()} AS65551 "),
+    (key(65551, b"\xfb"), f"router key {bytes(range(1, 21)).hex()} AS65551 -w"),
+    (key(65551, b"\xfb\xff\x15\x16"), f"router key {bytes(range(1, 21)).hex()} AS65551 -_8VFg"),
+    (aspa(65000, [1, 65551]), "ASPA AS65000 providers AS1 AS65551"),
+]
+
+
+def sequence(payloads, serial=5):
+    return response() + b"".join(payloads) + end(serial)
+
+
+WHOLE = sequence([one for one, _ in PAYLOADS])
+
+
+def test_data():
+    plus = ["+ " + line for _, line in PAYLOADS]
+    for host in ("127.0.0.1", "::1"):
+        try:
+            run = Run(answers(WHOLE), host=host)
+        except OSError as error:
+            print(f"client_test.py: no IPv6 here: {error}")
+            continue
+        assert (run.status, run.lines) == (0, plus), (run.lines, run.said)
+        assert run.said == [f"session {SESSION} serial 5 version 2: {len(PAYLOADS)} payloads"]
+    backwards = sequence([one for one, _ in reversed(PAYLOADS)])
+    assert Run(answers(backwards)).lines == plus
+    # What is announced and withdrawn isn't there.
+    gone = prefix("10.0.0.0/8", 24, 65551, announce=0)
+    run = Run(answers(sequence([PAYLOADS[0][0], gone, PAYLOADS[1][0]])))
+    assert run.lines == plus[1:2]
+    # In version 1, which is that of a client that isn't told another.
+    old = response(1) + prefix("10.0.0.0/8", 24, 65551, version=1) + end(7, 1)
+    run = Run(answers(old, 1), ("--once",))
+    assert (run.status, run.lines) == (0, plus[:1])
+
+
+def test_json():
+    run = Run(answers(WHOLE), ("--json", "--once", "--version", "2"))
+    assert run.status == 0
+    got = [json.loads(line) for line in run.lines]
+    assert [one["action"] for one in got] == ["announce"] * len(PAYLOADS)
+    assert list(got[0].items()) == [
+        ("kind", "ipv4_prefix"), ("action", "announce"), ("prefix", "10.0.0.0"),
+        ("prefix_length", 8), ("max_length", 24), ("asn", 65551)]
+    assert got[7]["prefix"] == "2001:db8::" and got[7]["kind"] == "ipv6_prefix"
+    assert list(got[10].items()) == [
+        ("kind", "router_key"), ("action", "announce"),
+        ("subject_key_identifier", bytes(range(1, 21)).hex()), ("asn", 65551),
+        ("subject_public_key_info", "-_8VFg")]
+    assert list(got[11].items()) == [
+        ("kind", "aspa"), ("action", "announce"), ("customer_asn", 65000),
+        ("provider_asns", [1, 65551])]
+    assert " " not in "".join(run.lines)
+
+
+def test_versions():
+    """RFC 8210 section 7: by reports, by reports of a lower version, and without a word."""
+    data = response(0) + prefix("10.0.0.0/8", 24, 65551, version=0) + end(1, 0)
+
+    def falls(lower):
+        def script(run):
+            for version in (2, 1):
+                with run.asked(reset_query(version)) as peer:
+                    if lower is not None:
+                        peer.sendall(report(version - lower, NO_VERSION))
+            answers(data, 0)(run)
+        return script
+
+    for lower in (0, 1, None):
+        run = Run(falls(lower))
+        assert (run.status, len(run.lines)) == (0, 1), run.said
+
+    def refuses(run):
+        for version in (2, 1, 0):
+            run.asked(reset_query(version)).sendall(report(version, NO_VERSION))
+
+    run = Run(refuses)
+    assert (run.status, run.said) == (1, ["the cache reports code 4: no"])
+
+
+def refused(bytes_sent, text, code):
+    """The client names the fault, and answers by a report with this code, or by none."""
+    got = []
+
+    def script(run):
+        with run.asked(reset_query(2)) as peer:
+            try:
+                peer.sendall(bytes_sent)
+            except OSError:
+                pass
+            got.append(received(peer))
+
+    run = Run(script)
+    assert (run.status, run.lines, run.said) == (1, [], [text]), (bytes_sent.hex(), run.said)
+    if code is None:
+        assert got == [b""], (text, got[0].hex())
+    else:
+        kind, field = got[0][1], struct.unpack(">H", got[0][2:4])[0]
+        assert (kind, field) == (10, code), (text, got[0].hex())
+
+
+def refusals():
+    one, other = prefix("10.0.0.0/8", 24, 1), prefix("10.0.0.0/8", 24, 1, announce=0)
+    old = prefix("10.0.0.0/8", 24, 1, version=1)
+    misplaced = "unit is not allowed here"
+    rows = [
+        (sequence([one, one]), "duplicate announcement, at byte 20", DUPLICATE),
+        (sequence([other]), "withdrawal of an unknown record, at byte 0", UNKNOWN),
+        (sequence([aspa(1, [2]), aspa(1, [], 0)]),
+         "an ASPA is announced and then withdrawn, at byte 16", None),
+        (sequence([old]), "unit of another version than the session", OTHER_VERSION),
+        (response() + end(1, session=1), "unit of another session", CORRUPT),
+        (response(0) + key(1, b"", version=0), "version does not have such payloads", NO_TYPE),
+        (unit(3, 3, 1), "answer of a higher version than the query", NO_VERSION),
+    ]
+    rows += [(sent, misplaced, NO_TYPE) for sent in (
+        one, end(1), unit(2, 8, 0), reset_query(2), response() + response(),
+        response() + notify(1), response() + unit(2, 8, 0))]
+    at_8 = [
+        ("unit type is not allowed here", NO_TYPE, unit(2, 5, 0)),
+        ("unit type is not allowed here", NO_TYPE, unit(2, 255, 0)),
+        ("version is not supported here", NO_VERSION, end(1, 3)),
+        ("unit is longer than 65535 bytes", CORRUPT, b"\2\x09\1\0\xff\xff\xff\xff"),
+        ("unit is longer than 65535 bytes", None, b"\2\x0a\0\0\xff\xff\xff\xff"),
+        ("invalid unit length", CORRUPT, b"\2\4\0\0\0\0\0\x15"),
+        ("invalid unit length", CORRUPT, b"\2\7\0\0\0\0\0\0"),
+        ("ASPA unit has no providers", 9, b"\2\x0b\1\0\0\0\0\x0c"),
+        ("prefix fields are not allowed", CORRUPT, one[:9] + b"\x21" + one[10:]),
+    ]
+    rows += [(response() + sent, text + ", at byte 8", code) for text, code, sent in at_8]
+    rows += [(report(2, code), f"the cache reports code {code}: no", None) for code in (0, 2, 9)]
+    return rows
+
+
+def test_refusals():
+    with ThreadPoolExecutor(4) as pool:
+        list(pool.map(lambda row: refused(*row), refusals()))
+
+
+def stops(length, stalls):
+    """A cache that closes, or stalls, after so many bytes gives no data."""
+    def script(run):
+        peer = run.asked(reset_query(0))
+        peer.sendall(data[:length])
+        if stalls:
+            received(peer)
+        peer.close()
+
+    data = response(0) + prefix("10.0.0.0/8", 24, 1, version=0) + end(1, 0)
+    run = Run(script, ("--once", "--version", "0"))
+    if length == len(data):
+        assert (run.status, len(run.lines)) == (0, 1), (length, run.said)
+        return
+    assert (run.status, run.lines, len(run.said)) == (1, [], 1), (length, run.said)
+    assert not stalls or run.said == ["the cache is too slow"], run.said
+    assert run.time < 5
+
+
+def test_stops():
+    with ThreadPoolExecutor(8) as pool:
+        list(pool.map(lambda row: stops(*row), [(n, s) for s in (False, True) for n in range(41)]))
+
+
+def test_hostile():
+    """One byte now and then, and units without an end."""
+    def send(peer, what):
+        try:
+            for _ in range(20000):
+                peer.sendall(what)
+        except OSError:
+            pass
+
+    def slow(run):
+        with run.asked(reset_query(2)) as peer:
+            try:
+                for byte in WHOLE:
+                    peer.sendall(bytes([byte]))
+                    time.sleep(0.02)
+            except OSError:
+                pass
+
+    def flood(first, what):
+        def script(run):
+            with run.asked(reset_query(2)) as peer:
+                peer.sendall(first)
+                send(peer, what)
+                received(peer)
+        return script
+
+    withdrawal = prefix("10.0.0.0/8", 24, 1, announce=0)
+    rows = [
+        (slow, "the cache is too slow"),
+        (flood(b"", notify(1)), "the cache is too slow"),
+        (flood(response(), withdrawal), "the answer has too many bytes"),
+        (flood(response(), key(1, b"x" * 65503)), "the answer has too many bytes"),
+    ]
+    for script, text in rows:
+        run = Run(script)
+        assert (run.status, run.lines, run.said) == (1, [], [text]), run.said
+        assert run.time < 5, text
+
+
+def test_following():
+    """Notifies, changes, a cache reset, a new session, and changes that are refused."""
+    first, second = PAYLOADS[0], PAYLOADS[1]
+    gone = prefix("10.0.0.0/8", 24, 65551, announce=0)
+
+    def script(run):
+        peer = run.asked(reset_query(2))
+        peer.sendall(sequence([first[0]], 1) + notify(2))
+        expect(peer, serial_query(2, 1))
+        peer.sendall(sequence([gone, second[0]], 2) + notify(3))
+        expect(peer, serial_query(2, 2))
+        peer.sendall(unit(2, 8, 0))
+        expect(peer, reset_query(2))
+        peer.sendall(sequence([first[0], second[0]], 3) + notify(4))
+        expect(peer, serial_query(2, 3))
+        peer.sendall(sequence([first[0]], 4))  # it is there already
+        assert received(peer)[1:4] == b"\x0a\0\7"
+        peer.close()
+        peer = run.asked(reset_query(2))
+        peer.sendall(sequence([second[0]], 5) + notify(6, session=7))
+        assert received(peer)[1:4] == b"\x0a\0\0"
+        peer.close()
+        peer = run.asked(reset_query(2))
+        peer.sendall(response(session=7) + first[0] + end(1, session=7) + notify(2, session=7))
+        expect(peer, serial_query(2, 1, 7))
+        run.process.kill()
+        peer.close()
+
+    run = Run(script, ("--version", "2"))
+    one, two = first[1], second[1]
+    wanted = ["+ " + one, "+ " + two, "- " + one, "+ " + one, "- " + one, "- " + two, "+ " + one]
+    assert run.lines == wanted, (run.lines, run.said)
+    refused_texts = [line for line in run.said if not line.startswith("session ")]
+    assert refused_texts == ["duplicate announcement, at byte 0", "unit of another session"]
+
+
+def test_arguments():
+    bad = [[], ["--once"], ["a"], ["a:1", "b:2"], ["a:1", "--version"], ["a:1", "--version", "3"],
+           ["--version", "a:1"], ["a:1", "--other"], ["--help"]]
+    for words in bad:
+        done = subprocess.run([PROGRAM, *words], capture_output=True, timeout=PATIENCE)
+        assert done.returncode == 2 and done.stderr.startswith(b"usage: client "), words
+    with socket.create_server(("127.0.0.1", 0)) as listener:
+        port = listener.getsockname()[1]
+    done = subprocess.run([PROGRAM, f"127.0.0.1:{port}", "--once"], capture_output=True,
+                          timeout=PATIENCE)
+    assert done.returncode == 1 and b"refused" in done.stderr
+
+
+def main():
+    tests = [test for name, test in sorted(globals().items()) if name.startswith("test_")]
+    for test in tests:
+        test()
+    print(f"client in C: {len(tests)} tests")
+
+
+main()
