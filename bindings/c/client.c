@@ -84,6 +84,7 @@ static enum outcome answer(struct client *c, int64_t deadline)
 {
     struct connection *with = &c->connection;
     const struct rtr_unit *last = &with->last;
+    with->last = (struct rtr_unit){0};
     enum outcome outcome = ask(c, deadline);
     do {
         outcome = outcome ? outcome : next(with, deadline);

@@ -72,8 +72,9 @@ pub(crate) struct Conversation<'f, 'c> {
     version: u8,
     /// Whether the cache has answered in this version.
     agreed: bool,
-    /// When it asked last.
+    /// When it asked last, and whether for changes.
     asked: Instant,
+    asked_for_changes: bool,
 }
 
 impl<'f, 'c> Conversation<'f, 'c> {
@@ -86,6 +87,7 @@ impl<'f, 'c> Conversation<'f, 'c> {
             version,
             agreed: false,
             asked: Instant::now(),
+            asked_for_changes: false,
         }
     }
 
@@ -110,7 +112,7 @@ impl<'f, 'c> Conversation<'f, 'c> {
 
     /// The version to ask in, if the cache has none as high as it was asked in (RFC 8210 section
     /// 7): it says so by a report, or by a report or an answer in a lower version, or closes the
-    /// connection without a word before there are any data.
+    /// connection without a word in answer to a reset query.
     fn lower(&self, stops: &Stops) -> Option<u8> {
         let next = self.version.checked_sub(1).filter(|_| !self.agreed)?;
         match stops {
@@ -123,7 +125,7 @@ impl<'f, 'c> Conversation<'f, 'c> {
                 }
             }
             Stops::Failed(ClientError::Closed | ClientError::Io(_)) => {
-                (self.units.offset() == 0 && self.follower.data.is_none()).then_some(next)
+                (self.units.offset() == 0 && !self.asked_for_changes).then_some(next)
             }
             Stops::Failed(_) => None,
         }
@@ -160,12 +162,16 @@ impl<'f, 'c> Conversation<'f, 'c> {
         }
     }
 
-    /// Asks for changes, or for all data, and takes the answer.
+    /// Asks for changes, or for all data, and takes the answer. A cache that answers a serial query
+    /// by a report, or by closing the connection, is asked for all data next: it may have begun
+    /// another session.
     fn fetch(&mut self) -> Result<(), Stops> {
         loop {
             let base = self.base();
             let deadline = self.ask(base.as_ref())?;
-            let came = self.answer(base.is_some(), deadline)?;
+            let came = self.answer(base.is_some(), deadline).inspect_err(|stops| {
+                self.follower.resync |= base.is_some() && is_rejection(stops);
+            })?;
             match came.kind {
                 Kind::CacheResponse => return self.receive(came.session, base, deadline),
                 Kind::CacheReset if base.is_some() => self.follower.resync = true,
@@ -193,6 +199,7 @@ impl<'f, 'c> Conversation<'f, 'c> {
             }),
         };
         self.asked = Instant::now();
+        self.asked_for_changes = base.is_some();
         let limit = after(self.asked, self.follower.options.response);
         let deadline = self.follower.soonest(limit);
         self.send(&query, deadline)
@@ -370,6 +377,16 @@ fn owned(report: ErrorReport<&[u8]>) -> ErrorReport<Vec<u8>> {
     match Unit::ErrorReport(report).into_owned() {
         Unit::ErrorReport(report) => report,
         _ => unreachable!("a unit keeps its type"),
+    }
+}
+
+/// Whether the cache, in place of an answer, reports something other than that it has no data, or
+/// closes the connection.
+fn is_rejection(stops: &Stops) -> bool {
+    match stops {
+        Stops::Failed(ClientError::Reported(report)) => report.code != ErrorCode::NO_DATA_AVAILABLE,
+        Stops::Failed(error) => matches!(error, ClientError::Closed | ClientError::Io(_)),
+        Stops::Lower(_) => false,
     }
 }
 

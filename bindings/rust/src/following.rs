@@ -123,11 +123,14 @@ impl<'c> Follower<'c> {
         }
     }
 
-    /// A connection to the first of the addresses that gives one.
+    /// A connection to the first of the addresses that gives one, each within the limit and before
+    /// the data expire.
     fn connect(&self) -> io::Result<TcpStream> {
         let mut last = io::ErrorKind::NotFound.into();
         for address in self.address.to_socket_addrs()? {
-            match TcpStream::connect_timeout(&address, self.options.dial.max(TICK)) {
+            let limit = self.soonest(after(Instant::now(), self.options.dial));
+            let left = limit.saturating_duration_since(Instant::now());
+            match TcpStream::connect_timeout(&address, left.max(TICK)) {
                 Ok(stream) => {
                     set_ticks(&stream)?;
                     return Ok(stream);

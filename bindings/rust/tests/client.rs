@@ -257,6 +257,7 @@ fn follows_a_server() {
     assert!(holds(|| threads("rtr ") == 0), "threads are left");
 }
 
+const RESET_QUERY_2: [u8; 8] = [2, 2, 0, 0, 0, 0, 0, 8];
 const UNSUPPORTED: ErrorCode = ErrorCode::UNSUPPORTED_PROTOCOL_VERSION;
 
 fn told_of(version: u8, serial: u32) -> Told {
@@ -296,8 +297,6 @@ fn answers_of_lower_versions() {
         let mut peer = cache.asked(&reset_query(2));
         peer.send(&all(1, 1));
         assert!(told_last(log, &told_of(1, 1)));
-        peer.send(&notify(1, SESSION, 2));
-        peer.expect(&serial_query(1, SESSION, 1));
         drop(peer);
         // The next one has no version 1 any more.
         let mut peer = cache.asked(&serial_query(1, SESSION, 1));
@@ -395,9 +394,11 @@ fn no_data_and_expired_data() {
         assert!(told_last(log, &Told::Data(data(1))));
         let came = Instant::now();
         drop(peer);
-        // It connects again, and keeps asking for changes while it has data.
-        while came.elapsed() < milliseconds(350) {
-            drop(cache.asked(&serial_query(2, SESSION, 1)));
+        // It connects again and again. After a serial query without an answer it asks for all data,
+        // and then in lower versions.
+        drop(cache.asked(&serial_query(2, SESSION, 1)));
+        for version in [2, 1, 0] {
+            drop(cache.asked(&reset_query(version)));
         }
         assert!(holds(|| log.lock().unwrap().told.contains(&Told::Dropped)));
         assert!(came.elapsed() >= milliseconds(400));
@@ -436,6 +437,7 @@ fn caches_that_stop() {
         });
     }
     for length in 0..=delta.len() {
+        let cache = Played::new();
         let told = follow(cache.address(), options(), |log| {
             let mut peer = cache.asked(&reset_query(2));
             peer.send(&[whole.clone(), notify(2, SESSION, 2)].concat());
@@ -443,7 +445,9 @@ fn caches_that_stop() {
             peer.send(&delta[..length]);
             drop(peer);
             let serial = if length == delta.len() { 2 } else { 1 };
-            cache.asked(&serial_query(2, SESSION, serial));
+            let query = serial_query(2, SESSION, serial);
+            // Without a word in answer it asks for all data.
+            drop(cache.asked(if length == 0 { &RESET_QUERY_2 } else { &query }));
             assert!(log.lock().unwrap().told.contains(&Told::Data(data(serial))));
         });
         let had = told.iter().filter(|told| !matches!(told, Told::Failed(_)));
@@ -569,6 +573,27 @@ fn bad_answers() {
         fetch_refused(&cache, &bytes),
         (text, Some(ErrorCode::CORRUPT_DATA))
     );
+}
+
+/// After a report in answer to a serial query all data are asked for: the cache may have begun
+/// another session. The data stay until they come.
+#[test]
+fn rejected_serial_queries() {
+    let _alone = alone();
+    let cache = Played::new();
+    let told = follow(cache.address(), options(), |log| {
+        let mut peer = cache.asked(&reset_query(2));
+        peer.send(&[all(2, 1), notify(2, SESSION, 2)].concat());
+        peer.expect(&serial_query(2, SESSION, 1));
+        peer.send(&report(2, ErrorCode::CORRUPT_DATA));
+        assert!(peer.is_closed());
+        let mut peer = cache.asked(&reset_query(2));
+        peer.send(&all(2, 3));
+        assert!(told_last(log, &Told::Data(data(3))));
+        peer
+    });
+    assert_eq!(told.len(), 3);
+    assert_eq!(told[0], Told::Data(data(1)));
 }
 
 /// Changes that are refused leave the data as they are, and all data are asked for next.
@@ -760,22 +785,35 @@ fn lines() {
         (
             common::IPV4,
             "+ IPv4 prefix 192.0.2.0/23-26 AS65551",
-            r#"{"kind":"ipv4_prefix","action":"announce","prefix":"192.0.2.0","prefix_length":23,"max_length":26,"asn":65551}"#,
+            concat!(
+                r#"{"kind":"ipv4_prefix","action":"announce","prefix":"192.0.2.0""#,
+                r#","prefix_length":23,"max_length":26,"asn":65551}"#,
+            ),
         ),
         (
             common::IPV6,
             "- IPv6 prefix 2001:db8::/32-48 AS65551",
-            r#"{"kind":"ipv6_prefix","action":"withdraw","prefix":"2001:db8::","prefix_length":32,"max_length":48,"asn":65551}"#,
+            concat!(
+                r#"{"kind":"ipv6_prefix","action":"withdraw","prefix":"2001:db8::""#,
+                r#","prefix_length":32,"max_length":48,"asn":65551}"#,
+            ),
         ),
         (
             common::KEY,
             "+ router key 0102030405060708090a0b0c0d0e0f1011121314 AS65551 yv4",
-            r#"{"kind":"router_key","action":"announce","subject_key_identifier":"0102030405060708090a0b0c0d0e0f1011121314","asn":65551,"subject_public_key_info":"yv4"}"#,
+            concat!(
+                r#"{"kind":"router_key","action":"announce""#,
+                r#","subject_key_identifier":"0102030405060708090a0b0c0d0e0f1011121314""#,
+                r#","asn":65551,"subject_public_key_info":"yv4"}"#,
+            ),
         ),
         (
             common::ASPA,
             "+ ASPA AS65000 providers AS65001 AS65551",
-            r#"{"kind":"aspa","action":"announce","customer_asn":65000,"provider_asns":[65001,65551]}"#,
+            concat!(
+                r#"{"kind":"aspa","action":"announce","customer_asn":65000"#,
+                r#","provider_asns":[65001,65551]}"#,
+            ),
         ),
         (
             common::WITHDRAWN,
