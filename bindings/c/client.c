@@ -230,7 +230,7 @@ static bool falls(struct client *c, uint8_t *version)
     if (reported ? !lower && last->code != NO_VERSION
                  : !c->connection.closed || c->connection.filled || c->serial)
         return false;
-    *version = reported && lower ? last->version : *version - 1;
+    --*version; /* a report may be of a lower version than the best that the cache has */
     return true;
 }
 

@@ -217,11 +217,11 @@ def test_versions():
             for version in (2, 1):
                 with run.asked(reset_query(version)) as peer:
                     if lower is not None:
-                        peer.sendall(report(version - lower, NO_VERSION))
+                        peer.sendall(report(max(version - lower, 0), NO_VERSION))
             answers(data, 0)(run)
         return script
 
-    for lower in (0, 1, None):
+    for lower in (0, 1, 2, None):
         run = Run(falls(lower))
         assert (run.status, len(run.lines)) == (0, 1), run.said
 

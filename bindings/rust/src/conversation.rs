@@ -110,19 +110,17 @@ impl<'f, 'c> Conversation<'f, 'c> {
         Ended::Failed(error)
     }
 
-    /// The version to ask in, if the cache has none as high as it was asked in (RFC 8210 section
-    /// 7): it says so by a report, or by a report or an answer in a lower version, or closes the
-    /// connection without a word in answer to a reset query.
+    /// The version to ask in next, if the cache has none as high as it was asked in (RFC 8210
+    /// section 7): it says so by a report, or by a report or an answer in a lower version, or closes
+    /// the connection without a word in answer to a reset query.
     fn lower(&self, stops: &Stops) -> Option<u8> {
         let next = self.version.checked_sub(1).filter(|_| !self.agreed)?;
         match stops {
             Stops::Lower(version) => Some(*version),
             Stops::Failed(ClientError::Reported(report)) => {
                 let unsupported = report.code == ErrorCode::UNSUPPORTED_PROTOCOL_VERSION;
-                match report.version < self.version {
-                    true => Some(report.version),
-                    false => unsupported.then_some(next),
-                }
+                // Some caches send it in a version that is lower than the best they have.
+                (unsupported || report.version < self.version).then_some(next)
             }
             Stops::Failed(ClientError::Closed | ClientError::Io(_)) => {
                 (self.units.offset() == 0 && !self.asked_for_changes).then_some(next)

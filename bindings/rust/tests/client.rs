@@ -265,18 +265,18 @@ fn told_of(version: u8, serial: u32) -> Told {
 }
 
 /// It falls to the version that the cache has (RFC 8210 section 7), by reports, by reports of a
-/// lower version, and where a cache closes without a word.
+/// lower version or the lowest one, and where a cache closes without a word.
 #[test]
 fn lower_versions() {
     let _alone = alone();
-    let ways: [Option<u8>; 3] = [Some(0), Some(1), None];
+    let ways: [Option<u8>; 4] = [Some(0), Some(1), Some(2), None];
     for lower in ways {
         let cache = Played::new();
         let told = follow(cache.address(), options(), |log| {
             for version in [2, 1] {
                 let mut peer = cache.asked(&reset_query(version));
                 if let Some(lower) = lower {
-                    peer.send(&report(version - lower, UNSUPPORTED));
+                    peer.send(&report(version.saturating_sub(lower), UNSUPPORTED));
                 }
             }
             let mut peer = cache.asked(&reset_query(0));
