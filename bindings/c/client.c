@@ -4,9 +4,10 @@
  *
  * The lines are those of rtr_diff, with --json those of rtr_diff --json. On standard error it says
  * what data it has at each end of data, and what fails. With --once it ends after all data have
- * come, with status 0, or with 1 where that fails. It ends with 1 where writing fails, and with 2
- * for other arguments. */
+ * come, with status 0, or with 1 where that fails. It ends with 0 at SIGINT or SIGTERM, with 1
+ * where writing fails, and with 2 for other arguments. */
 #define _POSIX_C_SOURCE 200809L
+#include <signal.h>
 #include "connection.h"
 
 #ifndef RESPONSE_LIMIT
@@ -255,17 +256,11 @@ static enum outcome attempt(struct client *c)
     }
 }
 
-/* Where the cache is: a host, or an IPv6 address in brackets, a colon and a port. */
-static bool names_cache(struct client *c, char *word)
+/* A signal ends a client that goes on. */
+static void end(int number)
 {
-    char *colon = strrchr(word, ':');
-    if (word[0] == '-' || c->host || !colon)
-        return false;
-    bool bracketed = word[0] == '[' && colon[-1] == ']';
-    c->host = word + bracketed;
-    c->port = colon + 1;
-    colon[bracketed ? -1 : 0] = 0;
-    return true;
+    (void)number;
+    _exit(0);
 }
 
 int main(int count, char **words)
@@ -281,20 +276,22 @@ int main(int count, char **words)
         else if (!version && !strcmp(words[i], "--json"))
             c.json = true;
         else
-            understood = understood && !version && names_cache(&c, words[i]);
+            understood = understood && !version && !c.host && split(words[i], &c.host, &c.port);
     }
     if (!understood || !c.host) {
         fprintf(stderr, "usage: client HOST:PORT [--version 0|1|2] [--once] [--json]\n");
         return 2;
     }
-    for (;;) {
-        if (attempt(&c) == GOOD && c.once) {
-            free(c.data.at);
-            return 0;
-        }
+    if (!c.once) {
+        signal(SIGINT, end);
+        signal(SIGTERM, end);
+    }
+    while (attempt(&c) != GOOD || !c.once) {
         fprintf(stderr, "%s:%s: %s\n", c.host, c.port, c.connection.text);
         if (c.once)
             return 1;
         wait_until(&c, now() + (c.answered ? PAUSE : retry_of(c.data, &c.end)));
     }
+    free(c.data.at);
+    return 0;
 }

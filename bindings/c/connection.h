@@ -48,6 +48,19 @@ static inline enum outcome fails(struct connection *c, const char *text)
     return FAILED;
 }
 
+/* Splits where a peer is: a host, or an IPv6 address in brackets, a colon and a port. */
+static inline bool split(char *word, char **host, char **port)
+{
+    char *colon = strrchr(word, ':');
+    if (word[0] == '-' || !colon)
+        return false;
+    bool bracketed = word[0] == '[' && colon[-1] == ']';
+    *host = word + bracketed;
+    *port = colon + 1;
+    colon[bracketed ? -1 : 0] = 0;
+    return true;
+}
+
 /* Waits until the socket is ready, which is asked again where it isn't yet. */
 static inline enum outcome ready(struct connection *c, short events, int64_t deadline)
 {

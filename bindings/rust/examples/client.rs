@@ -6,12 +6,14 @@
 //! it says what data it has at each end of data, and what fails. With `--once` it ends after all
 //! data have come.
 //!
-//! Ends with status 0 where data have come, 1 where that or writing fails, 2 for other arguments.
+//! Ends with status 0 where that succeeds, or without it at SIGINT or SIGTERM, 1 where it or
+//! writing fails, 2 for other arguments.
 
 use rtr_wire::{change_json, change_line, Client, ClientOptions, Data, Event, UnitRef};
 use std::io::{self, Write};
 use std::ops::ControlFlow;
 use std::process::ExitCode;
+use std::sync::OnceLock;
 
 struct Arguments {
     address: String,
@@ -60,6 +62,32 @@ fn say(data: &Data) {
     eprintln!("session {session} serial {serial} version {version}: {count} payloads");
 }
 
+/// The client that a signal stops.
+static CLIENT: OnceLock<Client> = OnceLock::new();
+
+mod signals {
+    use super::{Client, CLIENT};
+
+    const INTERRUPT: i32 = 2;
+    const TERMINATE: i32 = 15;
+
+    extern "C" {
+        /// Of the C library, on Linux and other systems with these numbers.
+        fn signal(number: i32, handler: extern "C" fn(i32)) -> usize;
+    }
+
+    extern "C" fn end(_: i32) {
+        CLIENT.get().map(Client::stop);
+    }
+
+    pub fn catch() {
+        for number in [INTERRUPT, TERMINATE] {
+            // SAFETY: the handler only loads and stores atomics, as a handler may.
+            unsafe { signal(number, end) };
+        }
+    }
+}
+
 /// What is printed of an event, and whether it is a failure.
 fn tell(event: &Event<'_>, arguments: &Arguments) -> io::Result<bool> {
     match event {
@@ -87,7 +115,10 @@ fn main() -> ExitCode {
         ..ClientOptions::default()
     };
     let mut status = ExitCode::SUCCESS;
-    let client = Client::new(arguments.address.as_str(), options);
+    let client = CLIENT.get_or_init(|| Client::new(arguments.address.as_str(), options));
+    if !arguments.once {
+        signals::catch();
+    }
     client.run(|event| {
         let told = tell(&event, &arguments);
         if let Err(error) = &told {

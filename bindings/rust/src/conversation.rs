@@ -111,8 +111,8 @@ impl<'f, 'c> Conversation<'f, 'c> {
     }
 
     /// The version to ask in next, if the cache has none as high as it was asked in (RFC 8210
-    /// section 7): it says so by a report, or by a report or an answer in a lower version, or closes
-    /// the connection without a word in answer to a reset query.
+    /// section 7): it says so by a report, or by a report or an answer in a lower version, or
+    /// closes the connection without a word in answer to a reset query.
     fn lower(&self, stops: &Stops) -> Option<u8> {
         let next = self.version.checked_sub(1).filter(|_| !self.agreed)?;
         match stops {

@@ -1,8 +1,11 @@
-//! What `docs/BINDINGS.md` shows of readers and writers.
+//! What `docs/BINDINGS.md` shows of readers and writers, data, and clients.
 #![cfg(feature = "std")]
 
+use rtr_wire::{change_line, order, Client, ClientOptions, Data, DataError, Event};
 use rtr_wire::{Error, Fault, Reader, ResetQuery, Unit, UnitRef, Writer};
+use rtr_wire::{Server, ServerOptions};
 use std::io::{BufReader, Read, Write};
+use std::ops::ControlFlow;
 
 /// Asks a cache for all of its data, and answers its prefixes and its serial number. If a unit is
 /// refused, the report that is owed goes to the cache. Both may be the same `&TcpStream`.
@@ -41,6 +44,32 @@ fn read(reader: &mut Reader<impl Read>) -> Result<(Vec<String>, u32), Error> {
     Ok((prefixes, serial))
 }
 
+/// What the data are after a cache has sent these bytes in answer to a serial query.
+fn after(data: &Data, sent: &[u8]) -> Result<Data, DataError> {
+    data.apply(&order(sent)?)
+}
+
+/// Follows a cache until it has this serial number, and prints what changes.
+fn watch(address: &str, serial: u32) -> Option<Data> {
+    let client = Client::new(address, ClientOptions::default());
+    client.run(|event| match event {
+        Event::Data { data, changes, .. } => {
+            for line in changes.units().filter_map(|unit| change_line(&unit)) {
+                println!("{line}");
+            }
+            match data.end().serial == serial {
+                true => ControlFlow::Break(()),
+                false => ControlFlow::Continue(()),
+            }
+        }
+        Event::Failed(error) => {
+            eprintln!("{address}: {error}");
+            ControlFlow::Continue(())
+        }
+        _ => ControlFlow::Continue(()),
+    })
+}
+
 /// What a cache sends: a cache response, a prefix and an end of data (RFC 8210 sections 5.5, 5.6 and
 /// 5.8).
 const SENT: [u8; 52] = [
@@ -74,4 +103,17 @@ fn refused() {
     let error = fetch(&SENT[..20], Vec::new()).unwrap_err();
     assert_eq!(error.fault(), Some(Fault::Short));
     assert!(matches!(fetch(&QUERY[..], Vec::new()), Err(Error::Io(_))));
+}
+
+#[test]
+fn data_and_client() {
+    let nothing = Data::new(1, 0x1234, 4, None).expect("there is this version");
+    let data = after(&nothing, &SENT[8..]).expect("the changes are allowed");
+    assert_eq!(data.as_bytes(), &SENT[8..]);
+    let error = after(&data, &SENT[8..]).unwrap_err();
+    assert_eq!(error.fault, Fault::Duplicate);
+    let server = Server::new(ServerOptions::default());
+    let address = server.listen("127.0.0.1:0").expect("a port is free");
+    assert_eq!(server.update(data.clone()), Ok(true));
+    assert_eq!(watch(&address.to_string(), 5), Some(data));
 }

@@ -10,7 +10,8 @@ use std::path::PathBuf;
 use std::process::{Child, Command, Output, Stdio};
 use std::sync::mpsc::{channel, Receiver};
 
-/// An example program, as `cargo test` leaves it beside this test.
+/// An example program, as `cargo test` leaves it beside this test (with `--test` it does not build
+/// it anew).
 fn program(name: &str) -> Command {
     let mut path: PathBuf = std::env::current_exe().unwrap();
     path.pop();
@@ -168,8 +169,10 @@ fn changes_as_they_come() {
     for unit in data(1).delta_to(&data(2)).unwrap().units() {
         assert_eq!(printed.next(), change_line(&unit).unwrap());
     }
-    running.kill().unwrap();
-    running.wait().unwrap();
+    let id = running.id().to_string();
+    let sent = Command::new("kill").args(["-s", "TERM", &id]).status();
+    assert!(sent.unwrap().success());
+    assert_eq!(running.wait().unwrap().code(), Some(0));
     assert_eq!(cache.end("INT"), Some(0));
 }
 
