@@ -19,3 +19,5 @@ pub mod Placed
 pub mod Answering
 pub mod Sent
 pub mod Reapplied
+pub mod There
+pub mod Netting

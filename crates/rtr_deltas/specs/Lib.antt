@@ -5,4 +5,5 @@ pub mod Delta
 pub mod Flaws
 pub mod Items
 pub mod PrivateChanges
+pub mod Net
 pub mod PrivateOrder

@@ -11,6 +11,7 @@ mod fault;
 mod item;
 pub mod laws;
 mod missing;
+pub mod order_laws;
 mod placing;
 mod refused;
 
