@@ -21,3 +21,11 @@ pub mod Sent
 pub mod Reapplied
 pub mod There
 pub mod Netting
+pub mod UnitsAt
+pub mod PlacesRead
+pub mod Going
+pub mod SortedPlaces
+pub mod NetOrdered
+pub mod Walking
+pub mod Refusals
+pub mod Pieces

@@ -6,4 +6,6 @@ pub mod Flaws
 pub mod Items
 pub mod PrivateChanges
 pub mod Net
+pub mod Order
 pub mod PrivateOrder
+pub mod PrivatePlaces

@@ -1,0 +1,27 @@
+//! Why changes can't be put in order.
+
+use crate::fault::Flaw;
+
+/// Why the changes of a sequence were not written in order, or not all of them.
+#[derive(Debug, Drop, thiserror::Error)]
+pub enum OrderFault {
+    /// The input isn't payload units and an end of data, all of one version.
+    #[error("the input holds no changes of one version")]
+    Flaw(Flaw),
+    /// The index has fewer places than there are payload units.
+    #[error("the index is too short")]
+    NoIndex,
+    /// The unit at this offset announces what the one of its name before it announced.
+    #[error("announced again at byte {offset}")]
+    Duplicate { offset: usize },
+    /// The unit at this offset withdraws what the one of its name before it withdrew.
+    #[error("withdrawn again at byte {offset}")]
+    Unknown { offset: usize },
+    /// The unit at this offset in the end withdraws an ASPA whose customer was first announced, so
+    /// that what comes of it depends on the data.
+    #[error("what the withdrawal at byte {offset} comes to depends on the data")]
+    Undecided { offset: usize },
+    /// The output has no room for all of the changes.
+    #[error("no room in the output")]
+    NoRoom,
+}
