@@ -155,11 +155,7 @@ func (f *follower) take(data Data) error {
 		}
 		old = empty
 	}
-	old, err := old.For(data.Version())
-	if err != nil {
-		return err
-	}
-	changes, err := Delta(old.inSession(data.Session()), data)
+	changes, err := changesBetween(old, data)
 	if err != nil {
 		return err
 	}
@@ -167,6 +163,23 @@ func (f *follower) take(data Data) error {
 	f.expires = time.Now().Add(f.expire())
 	f.tell(Update{data, changes})
 	return f.stopped
+}
+
+// changesBetween are the changes between data of any versions and sessions: in the higher version,
+// as the other one may lack some of the payloads.
+func changesBetween(old, new Data) ([]byte, error) {
+	version := old.Version()
+	if version < new.Version() {
+		version = new.Version()
+	}
+	old, err := old.For(version)
+	if err != nil {
+		return nil, err
+	}
+	if new, err = new.For(version); err != nil {
+		return nil, err
+	}
+	return Delta(old.inSession(new.Session()), new)
 }
 
 // drop drops the data, if there are any.

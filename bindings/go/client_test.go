@@ -393,6 +393,29 @@ func TestClientStates(t *testing.T) {
 	}
 }
 
+// From version 1 to version 0 a router key is withdrawn, and comes back.
+func TestChangesBetweenVersions(t *testing.T) {
+	noLeaks(t)
+	address := fakeCache(t, play(t, nil, scene{reset1, join(full(7, 1, key), report(1, 1))}),
+		play(t, nil, scene{asked(1, 7, 1), all0}), play(t, nil, scene{reset0, join(all0, report(0, 1))}),
+		play(t, nil, scene{asked(0, 7, 3), []byte{}}), play(t, nil, scene{reset1, full(7, 4, key)}))
+	client := quick(address)
+	client.Version, client.Expire = 1, time.Second
+	updates, failures := follow(t, client, func(update Update) bool {
+		return update.Data.Serial() == 4
+	})
+	withdrawnKey := changed(key, 2, 0)
+	expected := [][]byte{key, join(ipv4, withdrawnKey), changed(withdrawn4, 0, 0), key}
+	if len(updates) != len(expected) {
+		t.Fatal(len(updates), texts(failures))
+	}
+	for i, update := range updates {
+		if !bytes.Equal(changesOf(update), expected[i]) {
+			t.Fatalf("%d: %x, not %x", i, changesOf(update), expected[i])
+		}
+	}
+}
+
 // After a serial query that is refused a reset query follows soon, and then one each retry time.
 func TestRetry(t *testing.T) {
 	noLeaks(t)
