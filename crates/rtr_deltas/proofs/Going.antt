@@ -19,7 +19,7 @@ use Rattle.rtr_deltas.specs.Net.{settles}
 use Rattle.rtr_deltas.specs.PrivatePlaces.{FindsWrong, HaveSome, HaveUnits, PlacesNets}
 use Rattle.rtr_deltas.specs.PrivatePlaces.{Views, between, ended, first_after, is_action}
 use Rattle.rtr_deltas.specs.PrivatePlaces.{last_form, nets, nets_from, open_at, or_else, same_name}
-use Rattle.rtr_deltas.specs.PrivatePlaces.{settled, with_action, wrong, wrong_from}
+use Rattle.rtr_deltas.specs.PrivatePlaces.{settled, with_action, first_wrong, wrong_from}
 use Rattle.rtr_deltas.specs.declared.item.PayloadView.{PayloadView}
 use Rattle.rtr_deltas.specs.declared.order_fault.OrderFault.{OrderFault}
 use Rattle.rtr_deltas.proofs.Merging.{Written, full, more, rest_of}
@@ -76,7 +76,7 @@ pub record RefusalsLeft (places : List ℕ) (input : List ℕ) (place : ℕ) (vi
   pub ds : List Change
   pub is : change_of (meant view) ≡ c
   pub left : HaveUnits input v rest ds
-  pub whole : wrong places cs ≡ wrong_from first place c rest ds
+  pub whole : first_wrong places cs ≡ wrong_from first place c rest ds
 
 pub record Refusing (input places : List ℕ) (place : ℕ) (view : PayloadView) (rest : List ℕ)
     (first : Action) : Type 0 where
@@ -97,13 +97,13 @@ refusing input places o view os some (parts, w) = record {
         is = t.is;
         left = t.left;
         whole =
-            (λ i. wrong (parts i) (t.parts i))
+            (λ i. first_wrong (parts i) (t.parts i))
             ∙ ap (λ (x : Change). wrong_from x.action o t.c os t.ds) (sym t.is);
       };
 }
 
 pub nothing_wrong : (input places : List ℕ) → places ≡ [] → FindsWrong None input places
-nothing_wrong input places none v cs h = sym (ap (λ l. wrong l cs) none)
+nothing_wrong input places none v cs h = sym (ap (λ l. first_wrong l cs) none)
 
 module _ (input places : List ℕ) (place : ℕ) (view : PayloadView) (rest : List ℕ)
     (first : Action) (r : Refusing input places place view rest first) where
@@ -124,7 +124,7 @@ module _ (input places : List ℕ) (place : ℕ) (view : PayloadView) (rest : Li
     stepped : (v : ℕ) (cs : List Change) (h : HaveUnits input v places cs) →
         (s : RefusalsLeft places input place view rest first v cs) →
         (t : Taken input later left v s.ds) →
-        wrong places cs ≡
+        first_wrong places cs ≡
         or_else f (wrong_from (first_after same first t.c) next t.c left t.ds)
     stepped v cs h s t =
         let same_is : same_name s.c t.c ≡ same =

@@ -29,3 +29,4 @@ pub mod NetOrdered
 pub mod Walking
 pub mod Refusals
 pub mod Pieces
+pub mod Ordering

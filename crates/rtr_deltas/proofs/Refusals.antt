@@ -21,7 +21,7 @@ use Rattle.rtr_deltas.specs.Canonical.{PlacesFront}
 use Rattle.rtr_deltas.specs.Net.{AreLinked, of_name, undecided}
 use Rattle.rtr_deltas.specs.Order.{IsAgain, IsOpenEnd, IsRight, Orders, RefusesAt, RefusesOrder}
 use Rattle.rtr_deltas.specs.Order.{Sends, WritesOrder}
-use Rattle.rtr_deltas.specs.PrivatePlaces.{HasUnit, HaveUnits, SendsAt, UnitsAt, ordered, wrong}
+use Rattle.rtr_deltas.specs.PrivatePlaces.{HasUnit, HaveUnits, SendsAt, UnitsAt, ordered, first_wrong}
 use Rattle.rtr_deltas.specs.declared.order_fault.OrderFault.{OrderFault}
 use Rattle.rtr_deltas.specs.declared.order_fault.OrderFault.TheVariants as faults
 use Rattle.rtr_deltas.proofs.NetOrdered.{IsPlain, they_net}
@@ -372,12 +372,12 @@ module _ (input os : List ℕ) (cs : List Change) (e : EndMeaning) (s : SendsAt 
       (λ x y parts cs_is before later h. open_kept o.before o.c o.later x y parts cs_is later h)
   refused_as faults.NoRoom o = absurd o
 
-  pub orders_refused : (f : OrderFault) (before : List ℕ) → Some f ≡ wrong ps r.ds →
+  pub orders_refused : (f : OrderFault) (before : List ℕ) → Some f ≡ first_wrong ps r.ds →
       Orders (Err f) input places before before
   orders_refused f before found =
       by_fault f (subst (λ x. Outcome x r.ds ps) (sym found) all_found)
     where
-      all_found : Outcome (wrong ps r.ds) r.ds ps
+      all_found : Outcome (first_wrong ps r.ds) r.ds ps
       all_found = outcome ps r.ds (as_many input e.version ps r.ds r.units) r.ordered
 
       by_fault : (f : OrderFault) → Outcome (Some f) r.ds ps →
@@ -389,7 +389,7 @@ module _ (input os : List ℕ) (cs : List Change) (e : EndMeaning) (s : SendsAt 
       by_fault (faults.Undecided n) o = (refused_as (faults.Undecided n) o, refl)
       by_fault faults.NoRoom o = absurd o
 
-  pub writes : (before after : List ℕ) (n : Option ℕ) → None ≡ wrong ps r.ds →
+  pub writes : (before after : List ℕ) (n : Option ℕ) → None ≡ first_wrong ps r.ds →
       PlacesFront n (change_forms e.version (ordered r.ds) ++ end_list e) before after →
       WritesOrder n input places before after
   writes before after n found placed = record {
@@ -402,5 +402,5 @@ module _ (input os : List ℕ) (cs : List Change) (e : EndMeaning) (s : SendsAt 
         (outcome ps r.ds (as_many input e.version ps r.ds r.units) r.ordered) q);
     ns = ordered r.ds;
     nets = they_net cs r.ds r.ordered (all_plain input e.version ps r.ds r.units) r.same_of;
-    places_form = placed;
+    written_form = placed;
   }

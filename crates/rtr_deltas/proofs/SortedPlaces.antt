@@ -26,7 +26,7 @@ use Rattle.rtr_data.specs.Deltas.{unit_of}
 use Rattle.rtr_data.specs.Sequences.{change_of}
 use Rattle.rtr_data.proofs.Merge.{laws}
 use Rattle.rtr_deltas.specs.Net.{of_name}
-use Rattle.rtr_deltas.specs.PrivatePlaces.{HasUnit, HaveUnits, MeansAt, Reads, SortsPlaces}
+use Rattle.rtr_deltas.specs.PrivatePlaces.{HasUnit, HaveUnits, MeansAt, TellsPlaces, SortsPlaces}
 use Rattle.rtr_deltas.specs.PrivatePlaces.{UnitsAt, meaning_cmp, place_cmp}
 use Rattle.rtr_deltas.proofs.UnitsAt.{means_same, one_unit, places_ranked}
 
@@ -57,7 +57,7 @@ module _ (input : List ℕ) (bytes : IsBytes input) where
   pub reading : ℕ → Option Meaning
   reading o = meant_of (drop o input) (one_holds (drop o input) (IsBytes-drop o input bytes))
 
-  pub reads : Reads input reading
+  pub reads : TellsPlaces input reading
   unfolding reading
   reads o = meant_right input o (one_holds (drop o input) (IsBytes-drop o input bytes))
 
@@ -328,7 +328,7 @@ name_places_at input v o c os cs true false e h hs = absurd (true≢false e)
 name_places_at input v o c os cs false true e h hs = absurd (false≢true e)
 name_places_at input v o c os cs false false e h hs = hs
 
-pub name_places : (input : List ℕ) (at : ℕ → Option Meaning) → Reads input at → (p : Payload)
+pub name_places : (input : List ℕ) (at : ℕ → Option Meaning) → TellsPlaces input at → (p : Payload)
     (v : ℕ) (os : List ℕ) (cs : List Change) → HaveUnits input v os cs →
     HaveUnits input v (filter (λ o. names p (at o)) os) (of_name p cs)
 name_places input at r p v [] [] h = tt
@@ -352,7 +352,7 @@ then_less Less p h = h
 then_less Equal p h = refl
 then_less Greater p h = refl
 
-module _ (input : List ℕ) (at : ℕ → Option Meaning) (r : Reads input at) (v : ℕ) where
+module _ (input : List ℕ) (at : ℕ → Option Meaning) (r : TellsPlaces input at) (v : ℕ) where
   name_above : (o n : ℕ) (c d : Change) → HasUnit input o (unit_of v c) →
       HasUnit input n (unit_of v d) → is_lt (place_cmp at n o) ≡ false →
       is_lt (name_cmp d.payload c.payload) ≡ false
@@ -388,7 +388,7 @@ pub record InOrder (input os : List ℕ) (cs : List Change) (v : ℕ) (ps : List
   pub units : HaveUnits input v ps ds
   pub ordered : Ascending ds
   pub at : ℕ → Option Meaning
-  pub reads_at : Reads input at
+  pub reads_at : TellsPlaces input at
   pub same_places : (p : Payload) →
       filter (λ o. names p (at o)) ps ≡ filter (λ o. names p (at o)) os
   pub same_of : (p : Payload) → of_name p ds ≡ of_name p cs

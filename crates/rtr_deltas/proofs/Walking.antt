@@ -17,8 +17,8 @@ use Rattle.rtr_data.proofs.Merge.{laws}
 use Rattle.rtr_data.proofs.Names.{above, below, name_total}
 use Rattle.rtr_deltas.specs.Net.{AreLinked, Follow, is_open, last_of, may_follow, of_name, undecided}
 use Rattle.rtr_deltas.specs.Order.{IsAgain, IsOpenEnd, IsRight}
-use Rattle.rtr_deltas.specs.PrivatePlaces.{between, first_after, opened, or_else, repeated}
-use Rattle.rtr_deltas.specs.PrivatePlaces.{same_name, wrong, wrong_from}
+use Rattle.rtr_deltas.specs.PrivatePlaces.{between, first_after, opened, or_else, repeated_at}
+use Rattle.rtr_deltas.specs.PrivatePlaces.{same_name, first_wrong, wrong_from}
 use Rattle.rtr_deltas.specs.declared.order_fault.OrderFault.{OrderFault}
 use Rattle.rtr_deltas.specs.declared.order_fault.OrderFault.TheVariants as faults
 use Rattle.rtr_deltas.proofs.NetOrdered.{all_over, none_of, over, rises}
@@ -269,7 +269,7 @@ module _ (all bs : List Change) (f : Action) (c : Change) (ds : List Change)
       again_found : (places : List ℕ) (o n : ℕ) (xs ys : List ℕ) →
           places ≡ xs ++ o ∷ n ∷ ys → length xs ≡ length bs →
           may_follow c.action d.action d.payload ≡ false → (a : Action) → d.action ≡ a →
-          Outcome (Some (repeated n a)) all places
+          Outcome (Some (repeated_at n a)) all places
       again_found places o n xs ys split long m Announce e = record {
         before = bs ++ c ∷ [];
         c = d;
@@ -349,7 +349,7 @@ module _ (all : List Change) (places : List ℕ) where
     by_follow : ((f : Action) → Walk all (bs ++ c ∷ []) f d es →
         Outcome (wrong_from f n d os es) all places) → same_name c d ≡ true →
         (m : Bool) → may_follow c.action d.action d.payload ≡ m →
-        Outcome (or_else (cond m None (Some (repeated n d.action))) (wrong_from f n d os es)) all
+        Outcome (or_else (cond m None (Some (repeated_at n d.action))) (wrong_from f n d os es)) all
         places
     by_follow ih same true m =
         ih f (linked_next all bs f c (d ∷ es) w d es refl same m)
@@ -390,7 +390,7 @@ module _ (all : List Change) (places : List ℕ) where
       (same_name c d) refl
 
 pub outcome : (places : List ℕ) (cs : List Change) → length places ≡ length cs → Ascending cs →
-    Outcome (wrong places cs) cs places
+    Outcome (first_wrong places cs) cs places
 outcome [] [] e a = λ q. (tt, refl)
 outcome [] (c ∷ cs) e a = absurd (omega arith)
 outcome (o ∷ os) [] e a = absurd (omega arith)

@@ -11,7 +11,9 @@ use Rattle.rtr_views.specs.Faults.{IsFirstFault}
 use Rattle.rtr_wire.specs.Sequences.{Accepts, AreUnits}
 use Rattle.rtr_data.specs.Data.{Change, name_cmp}
 use Rattle.rtr_data.specs.Deltas.{change_forms, unit_of}
+use Rattle.rtr_data.specs.Changes.{after_all}
 use Rattle.rtr_deltas.specs.Canonical.{PlacesFront}
+use Rattle.rtr_deltas.specs.CanonicalChanges.{AreOrdered}
 use Rattle.rtr_deltas.specs.Net.{AreLinked, Nets, of_name, undecided}
 use Rattle.rtr_deltas.specs.declared.fault.Flaw.{Flaw}
 use Rattle.rtr_deltas.specs.declared.fault.Reason.{Reason}
@@ -122,7 +124,7 @@ pub record WritesOrder (n : Option ℕ) (input : List ℕ) (places : ℕ)
   pub right : (p : Payload) → IsRight cs p
   pub ns : List Change
   pub nets : Nets cs ns
-  pub places_form : PlacesFront n (change_forms e.version ns ++ end_list e) before after
+  pub written_form : PlacesFront n (change_forms e.version ns ++ end_list e) before after
 
 -- The whole promise of a call, for an index of so many places: what the changes come to was written
 -- in canonical form, and its length answered; or there is no room for all of it, and a front of it
@@ -132,3 +134,13 @@ abbrev pub Orders : Result ℕ OrderFault → (input : List ℕ) → (places : �
 Orders (Ok n) input places before after = WritesOrder (Some n) input places before after
 Orders (Err faults.NoRoom) input places before after = WritesOrder None input places before after
 Orders (Err f) input places before after = RefusesOrder f input places × (after ≡ before)
+
+-- ---- what follows for data
+
+-- Changes in canonical form were written, or a front of them, that make this of the data.
+pub record LeadsAlike (n : Option ℕ) (e : EndMeaning) (d made : List Payload)
+    (before after : List ℕ) : Type 0 where
+  pub ns : List Change
+  pub in_order : AreOrdered ns
+  pub leads : after_all ns (Ok d) ≡ Ok made
+  pub written_form : PlacesFront n (change_forms e.version ns ++ end_list e) before after

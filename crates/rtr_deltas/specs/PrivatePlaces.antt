@@ -76,8 +76,8 @@ MeansAt input o (Some m) = HasUnit input o m
 MeansAt input o None = BeginsUnit (drop o input) → ⊥
 
 -- this says of each place what begins there
-abbrev pub Reads : (input : List ℕ) → (ℕ → Option Meaning) → Type 0
-Reads input at = (o : ℕ) → MeansAt input o (at o)
+abbrev pub TellsPlaces : (input : List ℕ) → (ℕ → Option Meaning) → Type 0
+TellsPlaces input at = (o : ℕ) → MeansAt input o (at o)
 
 abbrev pub meaning_cmp : Meaning → Meaning → Ordering
 meaning_cmp m n = name_cmp m.payload n.payload
@@ -87,11 +87,11 @@ abbrev pub place_cmp : (ℕ → Option Meaning) → ℕ → ℕ → Ordering
 place_cmp at = then_cmp (on at (option_cmp meaning_cmp)) nat_cmp
 
 abbrev pub ComparesPlaces : (input : List ℕ) → (x y : ℕ) → Ordering → Type 0
-ComparesPlaces input x y r = (at : ℕ → Option Meaning) → Reads input at → r ≡ place_cmp at x y
+ComparesPlaces input x y r = (at : ℕ → Option Meaning) → TellsPlaces input at → r ≡ place_cmp at x y
 
 abbrev pub SortsPlaces : (input : List ℕ) → List ℕ → Type 0
 SortsPlaces input os =
-    (at : ℕ → Option Meaning) → Reads input at → IsSortedBy (λ x y. is_lt (place_cmp at x y)) os
+    (at : ℕ → Option Meaning) → TellsPlaces input at → IsSortedBy (λ x y. is_lt (place_cmp at x y)) os
 
 -- ---- reading
 
@@ -145,9 +145,9 @@ is_action Withdraw Withdraw = true
 abbrev pub with_action : Action → List Change → List Change
 with_action a cs = filter (λ c. is_action a c.action) cs
 
-abbrev pub repeated : ℕ → Action → OrderFault
-repeated o Announce = faults.Duplicate o
-repeated o Withdraw = faults.Unknown o
+abbrev pub repeated_at : ℕ → Action → OrderFault
+repeated_at o Announce = faults.Duplicate o
+repeated_at o Withdraw = faults.Unknown o
 
 abbrev pub opened : Bool → ℕ → Option OrderFault
 opened true o = Some (faults.Undecided o)
@@ -163,7 +163,7 @@ open_at first o c = opened (is_open first c.action c.payload) o
 -- a change that may not follow one of its name with this action
 abbrev pub unlinked_at : Action → ℕ → Change → Option OrderFault
 unlinked_at before n d = if may_follow before d.action d.payload then None
-    else Some (repeated n d.action)
+    else Some (repeated_at n d.action)
 
 -- what is refused of a change, and of the next
 abbrev pub between : Bool → Action → ℕ → Change → ℕ → Change → Option OrderFault
@@ -178,10 +178,10 @@ wrong_from first o c (n ∷ os) (d ∷ ds) =
     or_else (between (same_name c d) first o c n d)
     (wrong_from (first_after (same_name c d) first d) n d os ds)
 
-abbrev pub wrong : List ℕ → List Change → Option OrderFault
-wrong [] cs = None
-wrong (o ∷ os) [] = None
-wrong (o ∷ os) (c ∷ cs) = wrong_from c.action o c os cs
+abbrev pub first_wrong : List ℕ → List Change → Option OrderFault
+first_wrong [] cs = None
+first_wrong (o ∷ os) [] = None
+first_wrong (o ∷ os) (c ∷ cs) = wrong_from c.action o c os cs
 
 abbrev pub HaveSome : (input os : List ℕ) → Type 0
 HaveSome input os = (v : ℕ) × (cs : List Change) × HaveUnits input v os cs
@@ -193,7 +193,7 @@ TakesPlace None input os = os ≡ []
 
 abbrev pub FindsWrong : Option OrderFault → (input os : List ℕ) → Type 0
 FindsWrong r input os =
-    (v : ℕ) (cs : List Change) → HaveUnits input v os cs → r ≡ wrong os cs
+    (v : ℕ) (cs : List Change) → HaveUnits input v os cs → r ≡ first_wrong os cs
 
 -- the form of a unit that is the last of its name, if it is to be written
 abbrev pub last_form : (ends : Bool) → (a first : Action) → Meaning → List ℕ

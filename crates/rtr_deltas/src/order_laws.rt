@@ -1,18 +1,37 @@
 //! Laws of what changes come to.
 
-ghost use Rattle.std.specs.Prelude.{◌≡◌, List, Ok};
+ghost use Rattle.std.specs.Prelude.{◌≡◌, ℕ, List, Ok, Option};
+ghost use Rattle.rtr_units.specs.End.{EndMeaning};
 ghost use Rattle.rtr_payload.specs.Payloads.{Payload};
 ghost use Rattle.rtr_data.specs.Changes.{after_all};
 ghost use Rattle.rtr_data.specs.Data.{Change, IsData};
 ghost use Rattle.rtr_deltas.specs.Net.{AreDecided, AreLinked, Nets, of_name};
+ghost use Rattle.rtr_deltas.specs.Order.{LeadsAlike, RefusesOrder, Sends, WritesOrder};
+ghost use Rattle.rtr_deltas.specs.declared.order_fault.OrderFault.TheVariants.{Duplicate, Unknown};
 
 /// Where changes are all allowed over some data, one after the other, each may follow the one
 /// before it of its name; and unless it depends on the data what they come to, the changes that
-/// they come to make of it the same. There is one list of these.
+/// they come to make of it the same.
 pub fn what_changes_come_to()
     ensures linked { (cs : List Change) (d made : List Payload) → IsData d →
         after_all cs (Ok d) ≡ Ok made → (p : Payload) → AreLinked (of_name p cs) }
     ensures leads { (cs ns : List Change) (d made : List Payload) → IsData d →
         after_all cs (Ok d) ≡ Ok made → AreDecided cs → Nets cs ns →
         after_all ns (Ok d) ≡ Ok made }
+{}
+
+/// Where the changes of an input are all allowed over some data, one after the other, what
+/// `order_into` writes makes of it the same; and it never refuses one of them as announced or
+/// withdrawn twice.
+pub fn changes_in_order()
+    ensures leads { (n : Option ℕ) (input : List ℕ) (places : ℕ) (cs : List Change)
+        (e : EndMeaning) (d made : List Payload) (before after : List ℕ) →
+        WritesOrder n input places before after → Sends input cs e → IsData d →
+        after_all cs (Ok d) ≡ Ok made → LeadsAlike n e d made before after }
+    ensures not_duplicate { (input : List ℕ) (places o : ℕ) (cs : List Change) (e : EndMeaning)
+        (d made : List Payload) → RefusesOrder (Duplicate o) input places → Sends input cs e →
+        IsData d → after_all cs (Ok d) ≡ Ok made → ⊥ }
+    ensures not_unknown { (input : List ℕ) (places o : ℕ) (cs : List Change) (e : EndMeaning)
+        (d made : List Payload) → RefusesOrder (Unknown o) input places → Sends input cs e →
+        IsData d → after_all cs (Ok d) ≡ Ok made → ⊥ }
 {}
