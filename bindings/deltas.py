@@ -10,6 +10,9 @@ Each case is
 - eight bytes each, the lowest first: the offset of the answer, and the lengths of the first input,
   the second input and the output, which is empty unless the status is 0;
 - the first input, the second input and the output.
+
+A call that puts changes in order has one input, and where the second input would lie an index of so
+many places, which is one more than it needs unless the status is 17.
 """
 import random
 import struct
@@ -18,8 +21,8 @@ import sys
 import sessions
 from sessions import ASPA, END, IPV4, IPV6, KEY, OK, UNIT_TYPE, UNIT_VERSION
 
-CALLS = {"delta": 0, "apply": 1}
-NOT_CANONICAL, OTHER_SESSION, DUPLICATE, UNKNOWN = range(12, 16)
+CALLS = {"delta": 0, "apply": 1, "order": 2}
+NOT_CANONICAL, OTHER_SESSION, DUPLICATE, UNKNOWN, UNDECIDED, NO_INDEX = range(12, 18)
 ANNOUNCE, WITHDRAW = 1, 0
 WIDTHS = {IPV4: 4, IPV6: 16}
 
@@ -128,6 +131,24 @@ def applied(data, changes):
     return frozenset(held.values()), None
 
 
+def come_to(changes):
+    """What changes come to, made one after the other; or a status, and how many changes come before
+    the one that it is about. Of each name there are two states to begin with, with something of it
+    and without; what makes the same of all that are allowed is what they come to."""
+    kept = []
+    for of in sorted({name(payload) for _, payload in changes}):
+        places = [at for at, (_, payload) in enumerate(changes) if name(payload) == of]
+        actions = [changes[at][0] for at in places]
+        for at, before, action in zip(places[1:], actions, actions[1:]):
+            if action == before and (action == WITHDRAW or of[0] != ASPA):
+                return DUPLICATE if action == ANNOUNCE else UNKNOWN, at
+        if of[0] == ASPA and actions[0] == ANNOUNCE and actions[-1] == WITHDRAW:
+            return UNDECIDED, places[-1]
+        if of[0] == ASPA or actions[0] == actions[-1]:
+            kept.append(changes[places[-1]])
+    return kept, None
+
+
 # ---- what is wrong with an input
 
 def meant(unit):
@@ -153,7 +174,7 @@ def may_follow(last, unit, call, announced):
     """Whether a unit, or an end of data, may come after the last unit in what the call reads."""
     if last is not None and last[0] != unit[0]:
         return False
-    if unit[1] == END:
+    if unit[1] == END or call == "order":
         return True
     action, payload = change_of(unit)
     if action == WITHDRAW and (call == "data" or name(payload) in announced):
@@ -208,6 +229,23 @@ def of_two(call, first, second, output):
             return call, made, 2, 0, sum(map(len, units[:count])), first, second, b""
     assert output is not None
     return call, OK, 0, 0, 0, first, second, output
+
+
+def of_one(data, output, places=1):
+    """The case of an input whose changes are put in order, for which this is written where they
+    aren't refused, and an index with so many places more than it needs."""
+    wrong, units = read(data, "order")
+    index = bytes(max(0, len(units) - 1 + places))
+    if wrong:
+        status, offset, detail = wrong
+        return "order", status, 1, detail, offset, data, index, b""
+    if places < 0:
+        return "order", NO_INDEX, 0, 0, 0, data, index, b""
+    status, count = come_to([change_of(unit) for unit in units[:-1]])
+    if count is not None:
+        return "order", status, 1, 0, sum(map(len, units[:count])), data, index, b""
+    assert output is not None
+    return "order", OK, 0, 0, 0, data, index, output
 
 
 # ---- inputs
@@ -343,6 +381,36 @@ def apply_cases(rng):
         yield from spoiled_pairs(rng, "apply", units)
 
 
+def order_cases(rng):
+    """Changes in any order, some of them of one name, and such that are spoiled."""
+    for _ in range(900):
+        version, data = rng.choice([0, 1, 2]), any_data(rng, 10)
+        changes, held = [], {name(payload): payload for payload in data}
+        for _ in range(rng.choice([0, 3, 12])):
+            payload = rng.choice([any_payload(rng), *data])
+            there = name(payload) in held
+            action = rng.choice([ANNOUNCE, WITHDRAW]) if rng.random() < 0.1 else (
+                WITHDRAW if there else ANNOUNCE)
+            if payload[0] == ASPA and rng.random() < 0.4:
+                action = ANNOUNCE
+            held.pop(name(payload), None)
+            if action == ANNOUNCE:
+                held[name(payload)] = payload
+            changes.append((action, payload))
+        end = any_end(rng, version, rng.getrandbits(16))
+        units = units_of(rng, version, changes) + [end_form(end)]
+        kept, refused = come_to(changes)
+        output = None if refused is not None else written(kept, end)
+        if output is not None and applied(data, changes)[1] is None:
+            assert applied(data, in_order(kept)) == applied(data, changes)
+        after = rng.choice([b"", rng.randbytes(9)])
+        yield of_one(b"".join(units) + after, output, rng.choice([0, 1, 3]))
+        yield of_one(b"".join(units) + after, output, -1) if changes else of_one(b"", None)
+        bad = b"".join(spoiled(rng, units))
+        if read(bad, "order")[0]:
+            yield of_one(bad, None)
+
+
 def large_cases(rng):
     """Data with the longest units, and with thousands of them."""
     end = any_end(rng, 2, 1)
@@ -357,13 +425,15 @@ def large_cases(rng):
         bytes_of = b"".join(units_of(rng, 2, changes)) + end_form(end)
         yield of_two("delta", *sides, written(changes, end))
         yield of_two("apply", sides[0], bytes_of, written([(ANNOUNCE, one) for one in new], end))
+        mixed = rng.sample(changes, len(changes))
+        yield of_one(b"".join(units_of(rng, 2, mixed)) + end_form(end), written(changes, end))
 
 
 def main():
     if len(sys.argv) > 2:
         sys.exit(__doc__)
     rng = random.Random(sys.argv[1] if len(sys.argv) > 1 else "1")
-    for cases in (delta_cases, apply_cases, large_cases):
+    for cases in (delta_cases, apply_cases, order_cases, large_cases):
         for call, status, side, detail, offset, first, second, output in cases(rng):
             sys.stdout.buffer.write(
                 struct.pack("<4B4Q", CALLS[call], status, side, detail, offset, len(first),

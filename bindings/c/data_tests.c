@@ -4,7 +4,7 @@
  * usage: data_tests CASES */
 #include "testing.h"
 
-enum call { DELTA = 0, APPLY = 1 };
+enum call { DELTA = 0, APPLY = 1, ORDER = 2 };
 
 /* One case: a call, and what is expected of it. The numbers are little-endian. */
 struct data_case {
@@ -28,14 +28,24 @@ static struct data_case next_case(const uint8_t **at)
     return one;
 }
 
-static uint8_t called(const struct data_case *one, const uint8_t *first, const uint8_t *second,
-                      uint8_t *output, size_t room, struct rtr_data_answer *answer)
+static uint8_t called(const struct place *place, const struct data_case *one,
+                      const uint8_t *first, const uint8_t *second, uint8_t *output, size_t room,
+                      struct rtr_data_answer *answer)
 {
-    if (one->call == DELTA)
+    switch (one->call) {
+    case DELTA:
         return rtr_delta(first, one->first_length, second, one->second_length, output, room,
                          answer);
-    CHECK(one->call == APPLY);
-    return rtr_apply(first, one->first_length, second, one->second_length, output, room, answer);
+    case APPLY:
+        return rtr_apply(first, one->first_length, second, one->second_length, output, room,
+                         answer);
+    default:
+        CHECK(one->call == ORDER);
+        size_t *index = lie(place, place->index, one->second_length * sizeof *index);
+        memset(index, 0xa5, one->second_length * sizeof *index);
+        return rtr_order(first, one->first_length, index, one->second_length, output, room,
+                         answer);
+    }
 }
 
 /* With this much room the call answers this status, and writes that many bytes. Where it isn't for
@@ -47,7 +57,7 @@ static void check_room(const struct place *place, const struct data_case *one,
     struct rtr_data_answer *answer = FILLED(place->told, struct rtr_data_answer);
     bool as_expected = status == one->status;
     size_t written = status == RTR_OK ? one->output_length : 0;
-    CHECK(called(one, first, second, output, room, answer) == status);
+    CHECK(called(place, one, first, second, output, room, answer) == status);
     CHECK(answer->status == status && answer->written == written);
     CHECK(answer->side == (as_expected ? one->side : 0));
     CHECK(answer->offset == (as_expected ? one->offset : 0));
@@ -65,7 +75,7 @@ static void check_case(const struct place *place, const struct data_case *one)
 {
     const uint8_t *first = copied(place, place->input, one->first, one->first_length);
     const uint8_t *second = copied(place, place->other, one->second, one->second_length);
-    size_t enough = one->first_length + one->second_length;
+    size_t enough = one->first_length + (one->call == ORDER ? 0 : one->second_length);
     check_room(place, one, first, second, enough, one->status);
     check_room(place, one, first, second, one->output_length, one->status);
     size_t step = one->output_length < 300 ? 1 : 1 + one->output_length / 20;
@@ -87,6 +97,10 @@ static void check_null(const struct place *place)
     CHECK(answer->side == 0 && answer->offset == 0 && answer->written == 0);
     CHECK(rtr_apply(NULL, 0, data, sizeof end, NULL, 0, answer) == RTR_SHORT && answer->side == 1);
     CHECK(rtr_apply(data, sizeof end, NULL, 0, NULL, 0, answer) == RTR_SHORT && answer->side == 2);
+    CHECK(rtr_order(NULL, 0, NULL, 0, NULL, 0, answer) == RTR_SHORT && answer->side == 1);
+    uint8_t *output = lie(place, place->output, sizeof end);
+    CHECK(rtr_order(data, sizeof end, NULL, 0, output, sizeof end, answer) == RTR_OK);
+    CHECK(answer->written == sizeof end && memcmp(output, end, sizeof end) == 0);
 }
 
 int main(int count, char **words)

@@ -184,6 +184,9 @@ uint8_t rtr_delta_nonnull(const uint8_t *old_data, size_t old_length,
 uint8_t rtr_apply_nonnull(const uint8_t *data, size_t data_length,
                           const uint8_t *changes, size_t changes_length,
                           uint8_t *output, size_t output_length, struct rtr_data_answer *answer);
+uint8_t rtr_order_nonnull(const uint8_t *input, size_t input_length,
+                          size_t *index, size_t index_length,
+                          uint8_t *output, size_t output_length, struct rtr_data_answer *answer);
 
 /* The pointer of a slice to be read; in place of a null pointer, whose length is 0, another. */
 static inline const uint8_t *rtr_readable(const uint8_t *bytes)
@@ -396,6 +399,35 @@ static inline uint8_t rtr_apply(const uint8_t *data, size_t data_length,
 {
     return rtr_apply_nonnull(rtr_readable(data), data_length, rtr_readable(changes), changes_length,
                              rtr_writable(output), output_length, answer);
+}
+
+/* Writes the sequence that the input begins with in canonical form: what its changes come to, made
+ * one after the other. Caches send deltas in any order, and rtr_apply takes them in canonical form
+ * alone. Where all of the changes are allowed one after the other, rtr_apply makes of the data with
+ * those that are written what these make of it. An output as long as the input always suffices.
+ *
+ * The index is room that the call works in: as many places as there are payload units. What it
+ * holds afterwards is open.
+ *
+ * RTR_OK; or, in this order,
+ *   RTR_SHORT to RTR_PREFIX,          the first fault of the input (side 1)
+ *   RTR_NOT_CANONICAL                 or, of what isn't of the version of the units before it
+ *   RTR_NO_INDEX                      the index has fewer places than there are payload units
+ *   RTR_DUPLICATE, RTR_UNKNOWN        a payload is announced, or withdrawn, twice with nothing in
+ *                                     between, as the rules never allow (side 1, the second unit)
+ *   RTR_UNDECIDED                     of a customer the first change announces an ASPA, and the last
+ *                                     withdraws it (side 1, the last)
+ *   RTR_NO_ROOM                       the output is shorter than what is to be written
+ * Of the units that RTR_DUPLICATE, RTR_UNKNOWN and RTR_UNDECIDED refuse it is the first in the
+ * order of payloads. */
+static inline uint8_t rtr_order(const uint8_t *input, size_t input_length,
+                                size_t *index, size_t index_length,
+                                uint8_t *output, size_t output_length,
+                                struct rtr_data_answer *answer)
+{
+    static size_t nowhere;
+    return rtr_order_nonnull(rtr_readable(input), input_length, index ? index : &nowhere,
+                             index_length, rtr_writable(output), output_length, answer);
 }
 
 /* A text for a status, never null; any number may be passed. */

@@ -52,12 +52,13 @@ static inline struct fenced fence(size_t most)
 /* Where the inputs and outputs of a thread lie: all at the front of their pages, or at the end. */
 struct place {
     bool at_end;
-    struct fenced input, other, output, told, unit;
+    struct fenced input, other, output, index, told, unit;
 };
 
 static inline struct place new_place(void)
 {
-    return (struct place){false, fence(MOST), fence(MOST), fence(MOST), fence(1), fence(1)};
+    return (struct place){false,       fence(MOST), fence(MOST), fence(MOST),
+                          fence(MOST), fence(1),    fence(1)};
 }
 
 /* So many bytes, right after the first inaccessible page or right before the second. */

@@ -68,6 +68,12 @@ rtr_duplicate = 14
 abbrev pub rtr_unknown : ℕ
 rtr_unknown = 15
 
+abbrev pub rtr_undecided : ℕ
+rtr_undecided = 16
+
+abbrev pub rtr_no_index : ℕ
+rtr_no_index = 17
+
 -- a reader or a writer failed, as none does here
 abbrev pub rtr_failed : ℕ
 rtr_failed = 255

@@ -8,7 +8,9 @@ use Rattle.rtr_deltas.specs.declared.fault.DeltaFault.TheVariants.{NoRoom}
 use Rattle.rtr_deltas.specs.declared.fault.Flaw.{Flaw}
 use Rattle.rtr_deltas.specs.declared.fault.Reason.{Reason}
 use Rattle.rtr_deltas.specs.declared.fault.Reason.TheVariants.{Refused, NotCanonical}
-use Rattle.rtr_c.specs.Answers.{rtr_duplicate, rtr_unknown}
+use Rattle.rtr_deltas.specs.declared.order_fault.OrderFault.{OrderFault}
+use Rattle.rtr_deltas.specs.declared.order_fault.OrderFault.TheVariants as ordered
+use Rattle.rtr_c.specs.Answers.{rtr_duplicate, rtr_unknown, rtr_undecided, rtr_no_index}
 use Rattle.rtr_c.specs.Answers.{rtr_ok, rtr_unit_version, rtr_no_room, rtr_not_canonical}
 use Rattle.rtr_c.specs.Answers.{rtr_other_session, fault_status, fault_detail}
 use Rattle.rtr_c.specs.declared.data_answer.RtrDataAnswer.{RtrDataAnswer}
@@ -60,3 +62,12 @@ apply_told (Err (applied.Session s)) = refused_told rtr_other_session 0
 apply_told (Err (applied.Duplicate offset)) = side_told 2 offset rtr_duplicate 0
 apply_told (Err (applied.Unknown offset)) = side_told 2 offset rtr_unknown 0
 apply_told (Err applied.NoRoom) = refused_told rtr_no_room 0
+
+abbrev pub order_told : Result ℕ OrderFault → RtrDataAnswer
+order_told (Ok n) = written_told n
+order_told (Err (ordered.Flaw f)) = flaw_told 1 f
+order_told (Err ordered.NoIndex) = refused_told rtr_no_index 0
+order_told (Err (ordered.Duplicate offset)) = side_told 1 offset rtr_duplicate 0
+order_told (Err (ordered.Unknown offset)) = side_told 1 offset rtr_unknown 0
+order_told (Err (ordered.Undecided offset)) = side_told 1 offset rtr_undecided 0
+order_told (Err ordered.NoRoom) = refused_told rtr_no_room 0

@@ -37,6 +37,10 @@ pub(crate) const OTHER_SESSION: u8 = 13;
 pub(crate) const DUPLICATE: u8 = 14;
 /// A payload is withdrawn that isn't there.
 pub(crate) const UNKNOWN: u8 = 15;
+/// What the changes of an ASPA's customer come to depends on the data.
+pub(crate) const UNDECIDED: u8 = 16;
+/// The index has fewer places than there are payload units.
+pub(crate) const NO_INDEX: u8 = 17;
 /// A reader or a writer failed; none here does.
 pub(crate) const WRITER: u8 = 255;
 

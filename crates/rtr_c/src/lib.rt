@@ -12,6 +12,7 @@ mod delta;
 mod laws;
 mod next;
 mod numbers;
+mod order;
 mod providers;
 mod sequence;
 mod size;

@@ -1,0 +1,47 @@
+//! Changes put in canonical form.
+
+ghost use Rattle.std.specs.Prelude.{◌≡◌, ℕ, Result, length};
+ghost use Rattle.rtr_deltas.specs.Order.{Orders};
+ghost use Rattle.rtr_deltas.specs.declared.order_fault.OrderFault.{OrderFault};
+ghost use Rattle.rtr_c.specs.DataAnswers.{TellsData, order_told};
+
+use crate::answer::{DUPLICATE, NO_INDEX, NO_ROOM, UNDECIDED, UNKNOWN};
+use crate::data_answer::{FIRST, RtrDataAnswer};
+use rtr_deltas::OrderFault;
+
+/// As `rtr_deltas::order_into`.
+#[unsafe(no_mangle)]
+pub extern "C" fn rtr_order_nonnull(
+    input: &[u8],
+    index: &mut [usize],
+    output: &mut [u8],
+    answer: &mut RtrDataAnswer,
+) -> u8
+    ensures { (r : Result ℕ OrderFault)
+        × Orders r input.now (length index.old) output.old output.new
+        × TellsData (order_told r) answer.new result }
+{
+    *answer = match rtr_deltas::order_into(input, index, output) {
+        Ok(written) => RtrDataAnswer::wrote(written),
+        Err(fault) => answer_of(&fault),
+    };
+    answer.status
+}
+
+/// The answer if the changes aren't put in order.
+fn answer_of(fault: &OrderFault) -> RtrDataAnswer
+    ensures { result ≡ order_told (Err fault.now) }
+{
+    match fault {
+        OrderFault::Flaw(flaw) => RtrDataAnswer::of_flaw(FIRST, flaw),
+        OrderFault::NoIndex => RtrDataAnswer::refused(NO_INDEX, 0),
+        OrderFault::Duplicate { offset } => {
+            RtrDataAnswer::refused_at(FIRST, *offset, DUPLICATE, 0)
+        }
+        OrderFault::Unknown { offset } => RtrDataAnswer::refused_at(FIRST, *offset, UNKNOWN, 0),
+        OrderFault::Undecided { offset } => {
+            RtrDataAnswer::refused_at(FIRST, *offset, UNDECIDED, 0)
+        }
+        OrderFault::NoRoom => RtrDataAnswer::refused(NO_ROOM, 0),
+    }
+}
