@@ -18,8 +18,8 @@ SECONDS = 60
 # and the like name programs that are built already.
 ARCHIVE = os.environ.get("RTR_ARCHIVE", "prebuilt/x86_64/librtr_wire.a")
 BUILDS = {
-    "C": ("cc", "bindings/c/examples/{name}.c", "bindings/c",
-          ["cc", "-O2", "-I.", "-o", "{out}", "examples/{name}.c", os.path.join("{top}", ARCHIVE)]),
+    "C": ("cc", "bindings/c/{name}.c", "bindings/c",
+          ["cc", "-O2", "-o", "{out}", "{name}.c", os.path.join("{top}", ARCHIVE)]),
     "Go": ("go", "bindings/go/examples/{name}/main.go", "bindings/go",
            ["go", "build", "-o", "{out}", "./examples/{name}"]),
     "Rust": ("cargo", "bindings/rust/examples/{name}.rs", "bindings/rust",
