@@ -350,7 +350,7 @@ fn what_has_no_order() {
     let mut other = a.announce.clone();
     other[0] = 1;
     let mut rows = vec![
-        (vec![&other, &end], Fault::NotCanonical, 0),
+        (vec![&other, &end], Fault::NotCanonical, 20),
         (vec![&a.announce, &other, &end], Fault::NotCanonical, 20),
         (
             vec![&b.announce, &a.announce, &a.announce, &end],
