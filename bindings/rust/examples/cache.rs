@@ -107,7 +107,9 @@ fn read(file: &str, server: &Server) -> Result<(), Box<dyn Error>> {
 /// Serves until a signal comes.
 fn serve(arguments: &Arguments) -> Result<(), Box<dyn Error>> {
     let file = arguments.file.as_str();
-    let server = Server::new(ServerOptions::default());
+    let server = Server::telling(ServerOptions::default(), |client, error| {
+        eprintln!("{client}: {error}");
+    });
     signals::catch();
     for address in &arguments.listen {
         let bound = server.listen(address.as_str());

@@ -8,9 +8,7 @@ use crate::kind::Kind;
 use crate::owned_data::{order, Data};
 use crate::reader::Error;
 use crate::timed::{after, close, is_tick_of_reader, units, write_all, Units};
-use crate::unit::{
-    compare_serials, unit_size, ErrorReport, ResetQuery, SerialQuery, Unit, UnitRef,
-};
+use crate::unit::{compare_serials, unit_size, ResetQuery, SerialQuery, Unit, UnitRef};
 use std::cmp::Ordering;
 use std::io::{self, ErrorKind};
 use std::net::TcpStream;
@@ -231,7 +229,7 @@ impl<'f, 'c> Conversation<'f, 'c> {
         loop {
             let error = match self.units.next_unit() {
                 Ok(Some(Unit::ErrorReport(report))) => {
-                    return Err(ClientError::Reported(owned(report)));
+                    return Err(ClientError::Reported(report.into_owned()));
                 }
                 Ok(Some(unit)) => return Ok(Came::of(&unit)),
                 Ok(None) => return Err(ClientError::Closed),
@@ -368,13 +366,6 @@ impl<'f, 'c> Conversation<'f, 'c> {
             }
         }
         Ok(())
-    }
-}
-
-fn owned(report: ErrorReport<&[u8]>) -> ErrorReport<Vec<u8>> {
-    match Unit::ErrorReport(report).into_owned() {
-        Unit::ErrorReport(report) => report,
-        _ => unreachable!("a unit keeps its type"),
     }
 }
 

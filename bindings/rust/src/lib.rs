@@ -100,6 +100,8 @@ pub use sequence::{normalise, normalise_for, same_meaning, Progress, Stopped};
 #[cfg(feature = "std")]
 pub use server::{Server, ServerOptions};
 #[cfg(feature = "std")]
+pub use serving::ServerError;
+#[cfg(feature = "std")]
 pub use snapshot::UpdateError;
 #[cfg(feature = "std")]
 pub use unit::OwnedUnit;

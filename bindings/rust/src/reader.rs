@@ -3,7 +3,7 @@
 use crate::fault::Fault;
 use crate::kind::Kind;
 use crate::sys;
-use crate::unit::{ErrorReport, OwnedUnit, ReportParts, Unit, UnitRef, LONGEST};
+use crate::unit::{ErrorReport, OwnedUnit, Unit, UnitRef, LONGEST};
 use crate::units::refuse_outside_of_sequences;
 use std::fmt;
 use std::io::{self, Read};
@@ -44,14 +44,7 @@ impl Refusal {
     pub fn report(&self) -> Option<ErrorReport<Vec<u8>>> {
         let text = self.fault.to_string();
         let report = self.fault.report(&self.unit, &text)?;
-        Some(ErrorReport {
-            version: report.version,
-            code: report.code,
-            parts: report.parts.map(|parts| ReportParts {
-                unit: parts.unit.to_vec(),
-                text: parts.text.to_vec(),
-            }),
-        })
+        Some(report.into_owned())
     }
 }
 

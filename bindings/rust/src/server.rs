@@ -1,9 +1,10 @@
 //! A cache.
 
 use crate::owned_data::Data;
-use crate::serving::serve;
+use crate::serving::{serve, ServerError};
 use crate::snapshot::{Snapshot, UpdateError};
 use crate::timed::{set_ticks, Stop, TICK};
+use std::boxed::Box;
 use std::io;
 use std::net::{SocketAddr, TcpListener, TcpStream, ToSocketAddrs};
 use std::string::ToString;
@@ -60,6 +61,9 @@ impl Default for ServerOptions {
     }
 }
 
+/// What is told of each connection that the server ends.
+type Ended = dyn Fn(SocketAddr, &ServerError) + Send + Sync;
+
 /// What the threads of a server share.
 pub(crate) struct Shared {
     pub(crate) options: ServerOptions,
@@ -68,6 +72,7 @@ pub(crate) struct Shared {
     /// How many clients are served.
     clients: Mutex<usize>,
     client_gone: Condvar,
+    ended: Box<Ended>,
 }
 
 /// The mutex locked. What it holds is whole, even if a thread has panicked.
@@ -138,6 +143,15 @@ pub struct Server {
 impl Server {
     /// A server that has no data yet and listens nowhere.
     pub fn new(options: ServerOptions) -> Self {
+        Server::telling(options, |_, _| {})
+    }
+
+    /// The same, of a server that tells why it ended the connection of a client. Several threads
+    /// may call at once.
+    pub fn telling(
+        options: ServerOptions,
+        ended: impl Fn(SocketAddr, &ServerError) + Send + Sync + 'static,
+    ) -> Self {
         Server {
             shared: Arc::new(Shared {
                 options,
@@ -145,6 +159,7 @@ impl Server {
                 current: Mutex::new(None),
                 clients: Mutex::new(0),
                 client_gone: Condvar::new(),
+                ended: Box::new(ended),
             }),
             listeners: Mutex::default(),
         }
@@ -216,7 +231,7 @@ impl Drop for Server {
 fn accept(shared: &Arc<Shared>, listener: &TcpListener) {
     while !shared.stop.is_set() {
         match listener.accept() {
-            Ok((stream, _)) => start(shared, stream),
+            Ok((stream, from)) => start(shared, stream, from),
             // None has come, or there is no descriptor left.
             Err(_) => thread::sleep(TICK / 4),
         }
@@ -224,15 +239,18 @@ fn accept(shared: &Arc<Shared>, listener: &TcpListener) {
 }
 
 /// Serves a client in a thread, if there is room for one more. Else the stream is closed.
-fn start(shared: &Arc<Shared>, stream: TcpStream) {
+fn start(shared: &Arc<Shared>, stream: TcpStream, from: SocketAddr) {
     let Some(client) = Client::admit(shared) else {
-        return;
+        return (shared.ended)(from, &ServerError::TooManyClients);
     };
     let thread = thread::Builder::new().name("rtr client".to_string());
     // Without a thread the client is dropped, and its stream with it.
     let _ = thread.stack_size(STACK).spawn(move || {
-        if set_ticks(&stream).is_ok() {
-            serve(&client.0, &stream);
+        let shared = &client.0;
+        let served = set_ticks(&stream).map_err(ServerError::Io);
+        match served.and_then(|()| serve(shared, &stream)) {
+            Err(error) if !shared.stop.is_set() => (shared.ended)(from, &error),
+            _ => {}
         }
     });
 }

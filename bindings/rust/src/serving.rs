@@ -7,9 +7,10 @@ use crate::server::Shared;
 use crate::snapshot::Snapshot;
 use crate::timed::{after, close, is_tick_of_reader, report_on, units, write_all, Units};
 use crate::unit::{CacheReset, CacheResponse, ErrorReport, SerialNotify, Unit, UnitRef};
+use std::fmt;
 use std::io::{self, ErrorKind};
 use std::net::TcpStream;
-use std::string::ToString;
+use std::string::{String, ToString};
 use std::time::Instant;
 use std::vec::Vec;
 
@@ -22,21 +23,72 @@ enum Query {
     Serial { session: u16, serial: u32 },
 }
 
-/// Why a connection ends: the client or the server ends it, or it fails or is too slow; what the
-/// client is told of it stands in the report.
-enum End {
-    Silent,
-    Report(ErrorReport<Vec<u8>>),
+/// Why a [`Server`](crate::Server) ended a connection.
+#[derive(Debug)]
+#[non_exhaustive]
+pub enum ServerError {
+    /// The connection failed.
+    Io(io::Error),
+    /// The client let a limit of time pass.
+    TooSlow,
+    /// There are as many clients as are allowed.
+    TooManyClients,
+    /// The client has data of a session before the present one.
+    OtherSession,
+    /// A unit of the client is refused.
+    Refused {
+        /// The code that it is reported with, if a report is owed.
+        code: Option<ErrorCode>,
+        /// What is wrong.
+        text: String,
+    },
+    /// The client sent an error report.
+    Reported(ErrorReport<Vec<u8>>),
 }
 
-impl From<io::Error> for End {
-    fn from(_: io::Error) -> Self {
-        End::Silent
+impl fmt::Display for ServerError {
+    fn fmt(&self, f: &mut fmt::Formatter<'_>) -> fmt::Result {
+        match self {
+            ServerError::Io(error) => error.fmt(f),
+            ServerError::TooSlow => f.write_str("the client is too slow"),
+            ServerError::TooManyClients => f.write_str("too many clients"),
+            ServerError::OtherSession => f.write_str("the data are of a new session"),
+            ServerError::Refused { text, .. } => f.write_str(text),
+            ServerError::Reported(report) => write!(f, "the client reports: {}", report.code),
+        }
     }
 }
 
-/// Serves a client, until the connection ends.
-pub(crate) fn serve(shared: &Shared, stream: &TcpStream) {
+impl std::error::Error for ServerError {
+    fn source(&self) -> Option<&(dyn std::error::Error + 'static)> {
+        match self {
+            ServerError::Io(error) => Some(error),
+            _ => None,
+        }
+    }
+}
+
+/// Why a connection ends, with the report that the client is sent.
+struct End(ServerError, Option<ErrorReport<Vec<u8>>>);
+
+impl From<ServerError> for End {
+    fn from(error: ServerError) -> Self {
+        End(error, None)
+    }
+}
+
+impl From<io::Error> for End {
+    fn from(error: io::Error) -> Self {
+        End::from(match error.kind() {
+            ErrorKind::TimedOut => ServerError::TooSlow,
+            _ => ServerError::Io(error),
+        })
+    }
+}
+
+/// Serves a client, until the connection ends. Answers why, unless the client closed it between two
+/// units.
+pub(crate) fn serve(shared: &Shared, stream: &TcpStream) -> Result<(), ServerError> {
     let mut connection = Connection {
         shared,
         stream,
@@ -45,11 +97,12 @@ pub(crate) fn serve(shared: &Shared, stream: &TcpStream) {
         told: None,
         notified: None,
     };
-    if let Err(End::Report(report)) = connection.run() {
-        let report: Unit<Vec<u8>> = Unit::ErrorReport(report);
-        let _ = connection.send(&report);
+    let ended = connection.run();
+    if let Err(End(_, Some(report))) = &ended {
+        let _ = connection.send(&Unit::ErrorReport(report.clone()));
     }
     close(stream);
+    ended.map_err(|End(error, _)| error)
 }
 
 struct Connection<'s> {
@@ -87,9 +140,12 @@ impl Connection<'_> {
             .expect_until(after(Instant::now(), options.first_query));
         loop {
             match self.units.next_unit() {
+                Ok(Some(Unit::ErrorReport(report))) => {
+                    return Err(ServerError::Reported(report.into_owned()).into());
+                }
                 Ok(Some(unit)) => {
                     let (kind, version, query) = (unit.kind(), unit.version(), query_of(&unit));
-                    self.check(kind, version)?;
+                    self.check(version)?;
                     match query {
                         Some(query) => self.answer(version, query)?,
                         None => return Err(self.refuse_kind(kind)),
@@ -102,19 +158,18 @@ impl Connection<'_> {
                     self.tick()?;
                 }
                 Err(Error::Refused(refusal)) => return Err(self.refuse(&refusal)),
-                Err(_) => return Err(End::Silent),
+                Err(error) => return Err(io::Error::from(error).into()),
             }
         }
     }
 
-    /// The unit that came has to be of the version of the session (RFC 8210 section 7). A report
-    /// may be of any.
-    fn check(&mut self, kind: Kind, version: u8) -> Result<(), End> {
-        if kind == Kind::ErrorReport {
-            return Err(End::Silent);
-        }
+    /// The unit that came has to be of the version of the session (RFC 8210 section 7).
+    fn check(&mut self, version: u8) -> Result<(), End> {
         match wrong_version(self.version, version) {
-            Some(code) => Err(self.report(code, self.units.bytes(), "")),
+            Some(code) => {
+                let text = std::format!("{code}: version {version}");
+                Err(self.refused(code, self.units.bytes(), text))
+            }
             None => {
                 self.version = Some(version);
                 Ok(())
@@ -122,40 +177,43 @@ impl Connection<'_> {
         }
     }
 
-    /// The report about a unit of the wrong kind.
+    /// That a unit of the wrong kind came.
     fn refuse_kind(&self, kind: Kind) -> End {
         let text = std::format!("{kind} is not a query");
-        self.report(ErrorCode::INVALID_REQUEST, self.units.bytes(), &text)
+        self.refused(ErrorCode::INVALID_REQUEST, self.units.bytes(), text)
     }
 
-    /// The report that a unit which can't be read owes, if it owes one.
+    /// That a unit can't be read. It may owe a report.
     fn refuse(&self, refusal: &Refusal) -> End {
-        let unit = &refusal.unit;
+        let (unit, text) = (&refusal.unit, refusal.fault.to_string());
         let Some(code) = refusal.fault.code(unit) else {
-            return End::Silent;
+            return End::from(ServerError::Refused { code: None, text });
         };
         let version = unit.first().copied().unwrap_or(NEWEST);
         let code = wrong_version(self.version, version).unwrap_or(code);
-        self.report(code, unit, &refusal.fault.to_string())
+        self.refused(code, unit, text)
+    }
+
+    /// That a unit is refused, by a report about it.
+    fn refused(&self, code: ErrorCode, unit: &[u8], text: String) -> End {
+        let report = self.report(code, unit, &text);
+        let code = Some(code);
+        End(ServerError::Refused { code, text }, Some(report))
     }
 
     /// A report about a unit, in the version of the session.
-    fn report(&self, code: ErrorCode, unit: &[u8], text: &str) -> End {
-        let code_text = code.to_string();
-        let text = if text.is_empty() { &code_text } else { text };
+    fn report(&self, code: ErrorCode, unit: &[u8], text: &str) -> ErrorReport<Vec<u8>> {
         let version = unit.first().copied().unwrap_or(NEWEST);
         let version = self.version.unwrap_or(version.min(NEWEST));
-        End::Report(report_on(version, code, unit, text))
+        report_on(version, code, unit, text)
     }
 
     /// Answers a query (RFC 8210 section 8).
     fn answer(&mut self, version: u8, query: Query) -> Result<(), End> {
         let Some(snapshot) = self.shared.current() else {
             let code = ErrorCode::NO_DATA_AVAILABLE;
-            if let End::Report(report) = self.report(code, self.units.bytes(), "") {
-                self.send(&Unit::ErrorReport(report))?;
-            }
-            return Ok(());
+            let report = self.report(code, self.units.bytes(), &code.to_string());
+            return self.send(&Unit::ErrorReport(report));
         };
         match query {
             Query::Reset => self.respond(version, &snapshot, snapshot.data_for(version).as_bytes()),
@@ -190,7 +248,7 @@ impl Connection<'_> {
 
     fn send<B: AsRef<[u8]>>(&self, unit: &Unit<B>) -> Result<(), End> {
         let mut bytes = Vec::new();
-        unit.append(&mut bytes).map_err(|_| End::Silent)?;
+        unit.append(&mut bytes).map_err(io::Error::other)?;
         Ok(self.write(&bytes, None)?)
     }
 
@@ -220,14 +278,14 @@ impl Connection<'_> {
     /// section 5.2).
     fn tick(&mut self) -> Result<(), End> {
         if self.shared.stop.is_set() {
-            return Err(End::Silent);
+            return Err(io::Error::from(ErrorKind::TimedOut).into());
         }
         let (Some(version), Some(snapshot)) = (self.version, self.shared.current()) else {
             return Ok(());
         };
         let now = Told::of(&snapshot);
         if self.told.is_some_and(|told| told.session != now.session) {
-            return Err(End::Silent);
+            return Err(ServerError::OtherSession.into());
         }
         let waits = self
             .notified

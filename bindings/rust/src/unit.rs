@@ -450,6 +450,21 @@ fn broken(width: u8, length: u8, max_length: u8) -> PrefixRule {
     }
 }
 
+#[cfg(feature = "std")]
+impl ErrorReport<&[u8]> {
+    /// The report with a copy of its bytes.
+    pub(crate) fn into_owned(self) -> ErrorReport<Vec<u8>> {
+        ErrorReport {
+            version: self.version,
+            code: self.code,
+            parts: self.parts.map(|parts| ReportParts {
+                unit: parts.unit.to_vec(),
+                text: parts.text.to_vec(),
+            }),
+        }
+    }
+}
+
 impl<B: AsRef<[u8]>> ErrorReport<B> {
     /// The unit that the report is about, and its text.
     fn parts(&self) -> (&[u8], &[u8]) {

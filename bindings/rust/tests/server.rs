@@ -409,6 +409,58 @@ fn stops() {
     drop(cache);
 }
 
+/// The server says why it ended a connection, but of clients that just go.
+#[test]
+fn reasons() {
+    let _alone = alone();
+    let (sender, told) = std::sync::mpsc::channel();
+    let options = ServerOptions {
+        connections: 1,
+        ..options()
+    };
+    let server = Server::telling(options, move |_, error| {
+        sender.send(error.to_string()).unwrap();
+    });
+    let address = server.listen("127.0.0.1:0").unwrap();
+    server.update(data(1)).unwrap();
+    let mut going = Peer::connect(address);
+    going.send(&reset_query(2));
+    going.response();
+    drop(going);
+    assert!(holds(|| server.clients() == 0));
+    let long = [2, 9, 1, 0, 0xff, 0xff, 0xff, 0xff];
+    let rows: [(&[u8], &str); 7] = [
+        (&[], "the client is too slow"),
+        (&long, "unit is longer than 65535 bytes"),
+        (&reset_query(3), "Unsupported Protocol Version: version 3"),
+        (common::IPV4, "IPv4 prefix is not a query"),
+        (common::REPORT, "the client reports: No Data Available"),
+        (&[2, 10, 0, 0, 0, 0, 0, 0], "invalid unit length"),
+        (&[2, 2], "the client is too slow"),
+    ];
+    for (bytes, text) in rows {
+        let mut client = Peer::connect(address);
+        client.send(bytes);
+        assert_eq!(told.recv_timeout(PATIENCE).as_deref(), Ok(text));
+        drop(client);
+        assert!(holds(|| server.clients() == 0));
+    }
+    let mut one = Peer::connect(address);
+    one.send(&reset_query(2));
+    one.response();
+    assert!(Peer::connect(address).is_closed());
+    assert_eq!(
+        told.recv_timeout(PATIENCE).as_deref(),
+        Ok("too many clients")
+    );
+    server.update(data_of(7, 1, 20)).unwrap();
+    assert!(one.is_closed());
+    let text = "the data are of a new session";
+    assert_eq!(told.recv_timeout(PATIENCE).as_deref(), Ok(text));
+    drop(server);
+    assert!(told.recv_timeout(milliseconds(10)).is_err());
+}
+
 /// IPv6 too, and two addresses at once.
 #[test]
 fn addresses() {
