@@ -132,12 +132,12 @@ pub fn apply_into(data: &[u8], changes: &[u8], output: &mut [u8]) -> Result<usiz
 ///
 /// In this order:
 ///
-/// - `Short` to `Prefix`, the first fault of the input;
-/// - `NotCanonical` for a unit that isn't of the version of the end of data;
+/// - `Short` to `Prefix`, or `NotCanonical` for what isn't of the version of the units before it:
+///   the first fault of the input;
 /// - `NoIndex`;
 /// - `Duplicate` or `UnknownRecord` for the second unit that announces, or withdraws, a payload
-///   with nothing in between, and `Undecided` for the last withdrawal of an ASPA that is announced
-///   before: the first in the order of payloads;
+///   with nothing in between, and `Undecided` for the last change of a customer's ASPA
+///   where that withdraws and the first announces: the first in the order of payloads;
 /// - `NoRoom`.
 ///
 /// After `NoRoom` the bytes of the output are open, after any other they are as they were.
