@@ -1,3 +1,0 @@
-pub mod HeldData
-pub mod SoFar
-pub mod AskedFor

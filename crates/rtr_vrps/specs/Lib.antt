@@ -1,4 +1,0 @@
-pub mod Gathering
-pub mod Making
-pub mod MakeStatus
-pub mod PrivateAdding
