@@ -1,9 +1,9 @@
 pub mod Agreement
 pub mod Parts
 mod Placed
-mod Forms
+pub mod Forms
 mod Headers
-mod Held
+pub mod Held
 pub mod Lengths
 mod Plain
 mod Replies

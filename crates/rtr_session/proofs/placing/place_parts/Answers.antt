@@ -1,7 +1,20 @@
-use Rattle.std.proofs.Common.{◌∙◌, length, arith, length-append, ◌++◌}
+use Rattle.std.proofs.Common.{◌∙◌, refl, length, arith, length-append, ◌++◌}
 use Rattle.rtr_base.specs.Bytes.{be}
 use Rattle.rtr_session.proofs.Placed.{laid}
 use Rattle.rtr_session.proofs.placing.place_parts.Goals as goal
+
+pub returns-then-output-size : goal.returns-then-output-size
+returns-then-output-size c =
+    let p = c.args.pdu.now in
+    let t = c.args.text.now in (
+      omega (
+        arith,
+        length-append (p ++ be (length t) 4) t,
+        length-append p (be (length t) 4),
+        c.if-output-size.true,
+      ),
+      refl,
+    )
 
 pub returns : goal.returns
 returns c =
