@@ -1,6 +1,6 @@
 -- Changes that the rules allow, and the first that they refuse.
 use Rattle.std.proofs.Common.{◌≡◌, ℕ, ◌+◌, Bool, true, false, not, ◌&&◌, cond, List, [], ◌∷◌, ◌++◌}
-use Rattle.std.proofs.Common.{length, map, Result, Ok, Err, refl, sym, ap, subst, ◌∙◌, append_assoc}
+use Rattle.std.proofs.Common.{map, Ok, Err, refl, sym, ap, subst, ◌∙◌, append_assoc}
 use Rattle.std.proofs.Common.{arith}
 use Rattle.std.proofs.lemmas.List.{length-append, map-append}
 use Rattle.std.specs.BTreeMap.{is_at}
@@ -10,23 +10,19 @@ use Rattle.std.specs.List.Sorted.{IsStrictlySortedBy}
 use Rattle.std.specs.Ordering.{is_eq}
 use Rattle.std.specs.Set.{remove_key}
 use Rattle.std.specs.declared.cmp.Ordering.TheVariants.{Less}
-use Rattle.rtr_base.specs.declared.action.Action.TheVariants.{Announce, Withdraw}
+use Rattle.rtr_base.specs.declared.action.Action.TheVariants.{Withdraw}
 use Rattle.rtr_units.specs.End.{EndMeaning}
 use Rattle.rtr_payload.specs.Payloads.{Payload}
-use Rattle.rtr_payload.specs.Units.{IsUnit}
 use Rattle.rtr_data.specs.Changes.{after_all}
 use Rattle.rtr_data.specs.Data.{Change, IsData, after, announcement, has_name, name_cmp, name_of}
 use Rattle.rtr_data.specs.Data.{takes_place, withdrawal}
-use Rattle.rtr_data.specs.Deltas.{unit_of}
-use Rattle.rtr_data.specs.declared.change_error.ChangeError.{ChangeError}
 use Rattle.rtr_data.specs.declared.change_error.ChangeError.TheVariants as refusals
-use Rattle.rtr_data.proofs.Changes.{withdrawn_is}
 use Rattle.rtr_data.proofs.Names.{above}
 use Rattle.rtr_deltas.specs.Apply.{RefusedAt}
-use Rattle.rtr_deltas.specs.PrivateChanges.{Breaks, HoldsParts, IsBelow, IsWithin, MakesNew}
+use Rattle.rtr_deltas.specs.PrivateChanges.{Breaks, HoldsParts, IsBelow, IsWithin}
 use Rattle.rtr_deltas.specs.declared.refused.Rule.TheVariants.{Duplicate, Unknown}
 use Rattle.rtr_deltas.proofs.Applying.{IsApart}
-use Rattle.rtr_deltas.proofs.Making.{both, in_turn, named_there, names_after, not_refused}
+use Rattle.rtr_deltas.proofs.Making.{both, in_turn, named_there, names_after}
 use Rattle.rtr_deltas.proofs.Making.{or_parts, removed_name, replaced_name}
 use Rattle.rtr_deltas.proofs.Parting.{join}
 use Rattle.rtr_deltas.proofs.Units.{front_data, right_name}

@@ -31,8 +31,8 @@ module _ (old new before after : List ℕ) (d d' : List Payload) (e e' : EndMean
       Deltas r old new before after → IsPlaced r (delta_form d d' e') before after
   written (Ok n) v s w = same_delta (Some n) w
   written (Err NoRoom) v s w = same_delta None w
-  written (Err (Old f)) v s (flaw, kept) = absurd (flaw.no_data d e h)
-  written (Err (New f)) v s ((some, flaw), kept) = absurd (flaw.no_data d' e' j)
+  written (Err (Old f)) v s (flaw, kept) = absurd (flaw.none (d, e, h))
+  written (Err (New f)) v s ((some, flaw), kept) = absurd (flaw.none (d', e', j))
   written (Err (UnitVersion n)) v s ((x, c, x', c', k, l, (not, is)), kept) =
       let p = one_data old x d c e k h in
       let q = one_data new x' d' c' e' l j in

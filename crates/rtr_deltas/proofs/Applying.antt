@@ -6,26 +6,24 @@ use Rattle.std.proofs.lemmas.List.{length-append, length-drop, take-append-drop}
 use Rattle.std.specs.Prelude.{take}
 use Rattle.std.proofs.lemmas.Bool.{true≢false}
 use Rattle.std.specs.List.{AllByRecursion}
-use Rattle.std.specs.List.Sorted.{IsStrictlySortedBy}
-use Rattle.std.specs.declared.cmp.Ordering.TheVariants.{Less, Equal}
+use Rattle.std.specs.declared.cmp.Ordering.TheVariants.{Equal}
 use borrow.Rule.Slice.PartMut.{put_mid}
 use Rattle.rtr_base.specs.declared.action.Action.TheVariants.{Announce, Withdraw}
 use Rattle.rtr_payload.specs.Payloads.{Meaning, Payload}
 use Rattle.rtr_payload.specs.Units.{form_of}
 use Rattle.rtr_views.specs.Placing.{Places}
-use Rattle.rtr_views.specs.Views.{view_form}
 use Rattle.rtr_data.specs.Data.{IsData, announcement, has_name, name_cmp}
 use Rattle.rtr_data.specs.Deltas.{change_forms, unit_of}
-use Rattle.rtr_deltas.specs.Canonical.{PlacesFront, change}
-use Rattle.rtr_deltas.specs.Items.{meant, unit_view}
-use Rattle.rtr_deltas.specs.PrivateChanges.{HoldsUnits, IsAfterWithdrawal, IsFirst, IsNext}
+use Rattle.rtr_deltas.specs.Canonical.{PlacesFront}
+use Rattle.rtr_deltas.specs.Items.{meant}
+use Rattle.rtr_deltas.specs.PrivateChanges.{HoldsUnits, IsAfterWithdrawal, IsFirst}
 use Rattle.rtr_deltas.specs.PrivateChanges.{LeastOf, MakesNew, NothingLeft, PlacesApplied}
 use Rattle.rtr_deltas.specs.declared.item.PayloadView.{PayloadView}
 use Rattle.rtr_deltas.proofs.Making.{Follows, StartsElsewhere, or_parts, step_added, step_end}
 use Rattle.rtr_deltas.proofs.Making.{step_gone, step_kept}
 use Rattle.rtr_deltas.proofs.Merging.{Written, full, more, put_is, rest_is, rest_of}
 use Rattle.rtr_deltas.proofs.Sequences.{announced_form}
-use Rattle.rtr_deltas.proofs.Units.{Head, head, nothing, right_name}
+use Rattle.rtr_deltas.proofs.Units.{head, nothing, right_name}
 
 abbrev pub IsApart : (ps qs : List Payload) → Type 0
 IsApart ps qs = AllByRecursion (λ q. has_name ps q ≡ false) qs
@@ -194,19 +192,19 @@ module _ (v : ℕ) (made : List Payload) (old new gone before now : List ℕ) (w
         }
 
     module _ (next : Next) (part : List ℕ) where
-      form_is : view_form (unit_view view) ≡ form_of (unit_of v (announcement p))
+      form_is : form_of (meant view) ≡ form_of (unit_of v (announcement p))
       form_is =
           announced_form view (ap (λ (m : Meaning). m.action) next.means)
           ∙ ap (λ (m : Meaning). form_of (unit_of m.version (announcement p))) next.means
 
       forms_are : announced_forms v g.rest ≡
-          view_form (unit_view view) ++ announced_forms v next.follows.others
+          form_of (meant view) ++ announced_forms v next.follows.others
       forms_are =
           ap (announced_forms v) next.follows.first
           ∙ ap (λ l. l ++ announced_forms v next.follows.others) (sym form_is)
 
       pub goes_on : (n : ℕ) →
-          Places (Some n) (view_form (unit_view view)) (rest_of written now) part →
+          Places (Some n) (form_of (meant view)) (rest_of written now) part →
           Placing v made old' new' gone before
           (put_mid written (length now - written) now part) (written + n)
       goes_on n placed = record {
@@ -219,21 +217,21 @@ module _ (v : ℕ) (made : List Payload) (old new gone before now : List ℕ) (w
         gones = g.gones;
         apart = next.apart;
         makes = next.follows.makes;
-        piece = g.piece ++ view_form (unit_view view);
-        so_far = more g.piece before now written g.so_far (view_form (unit_view view)) part n placed;
+        piece = g.piece ++ form_of (meant view);
+        so_far = more g.piece before now written g.so_far (form_of (meant view)) part n placed;
         whole =
             g.whole ∙ ap (λ l. g.piece ++ l) forms_are
-            ∙ sym (append_assoc g.piece (view_form (unit_view view))
+            ∙ sym (append_assoc g.piece (form_of (meant view))
             (announced_forms v next.follows.others));
       }
 
-      pub no_room : Places None (view_form (unit_view view)) (rest_of written now) part →
+      pub no_room : Places None (form_of (meant view)) (rest_of written now) part →
           PlacesFront None (announced_forms v made) before
           (put_mid written (length now - written) now part)
       no_room placed =
           subst (λ l. PlacesFront None l before (put_mid written (length now - written) now part))
           (sym (g.whole ∙ ap (λ l. g.piece ++ l) forms_are))
-          (full g.piece before now written g.so_far (view_form (unit_view view)) part
+          (full g.piece before now written g.so_far (form_of (meant view)) part
           (announced_forms v next.follows.others) placed)
 
 -- ---- the loop
@@ -276,7 +274,7 @@ module _ (old announced withdrawn old_rest new_rest gone_rest before now : List 
               least e
 
       pub writes : (n : ℕ) →
-          Places (Some n) (view_form (unit_view view)) (rest_of written now) part →
+          Places (Some n) (form_of (meant view)) (rest_of written now) part →
           Along old announced withdrawn old' new' gone_rest before
           (put_mid written (length now - written) now part) (written + n)
       writes n (is, le, out) = record {
@@ -290,7 +288,7 @@ module _ (old announced withdrawn old_rest new_rest gone_rest before now : List 
               ap length (take-append-drop written now),
               length-append (take written now) (drop written now),
               ap length out,
-              length-append (view_form (unit_view view)) (drop n (rest_of written now)),
+              length-append (form_of (meant view)) (drop n (rest_of written now)),
               length-drop n (rest_of written now),
               ap length (rest_is written now),
               is,
@@ -303,7 +301,7 @@ module _ (old announced withdrawn old_rest new_rest gone_rest before now : List 
             least (next v d' g) part n (is, le, out);
       }
 
-      pub stops : Places None (view_form (unit_view view)) (rest_of written now) part →
+      pub stops : Places None (form_of (meant view)) (rest_of written now) part →
           PlacesApplied None old announced withdrawn before
           (put_mid written (length now - written) now part)
       stops placed v d ps qs d' h j k apart makes =

@@ -18,7 +18,7 @@ use Rattle.rtr_deltas.specs.PrivateOrder.{PlacesDelta, PlacesMissing, PlacesTail
 use Rattle.rtr_deltas.proofs.Merging.{Written, more, parts_forms, put_rest, rest_of}
 use Rattle.rtr_deltas.proofs.OneData.{one_data}
 
-forms_append : (v : ℕ) (cs ds : List Change) →
+pub forms_append : (v : ℕ) (cs ds : List Change) →
     change_forms v (cs ++ ds) ≡ change_forms v cs ++ change_forms v ds
 forms_append v [] ds = refl
 forms_append v (c ∷ cs) ds =

@@ -1,11 +1,8 @@
 -- Going over places in the order of names.
 use Rattle.std.proofs.Common.{◌≡◌, ◌≤◌, ℕ, ◌+◌, ◌-◌, Bool, true, false, not, ◌&&◌, cond, List, []}
-use Rattle.std.proofs.Common.{◌∷◌, ◌++◌, drop, length, map, filter, Option, Some, None, refl, sym, ap, subst}
+use Rattle.std.proofs.Common.{◌∷◌, ◌++◌, length, filter, Option, Some, None, refl, sym, ap, subst}
 use Rattle.std.proofs.Common.{◌∙◌, append_assoc, append-nil, arith}
-use Rattle.std.proofs.lemmas.Grind.{flat_map-append}
-use Rattle.std.proofs.lemmas.List.{length-append, length-drop, map-append}
 use Rattle.std.proofs.lemmas.List.Elements.{filter-append}
-use Rattle.std.specs.List.{flat_map}
 use borrow.Rule.Slice.PartMut.{put_mid}
 use Rattle.rtr_base.specs.declared.action.Action.{Action}
 use Rattle.rtr_payload.specs.Units.{form_of}
@@ -22,7 +19,8 @@ use Rattle.rtr_deltas.specs.PrivatePlaces.{last_form, nets, nets_from, open_at, 
 use Rattle.rtr_deltas.specs.PrivatePlaces.{settled, with_action, first_wrong, wrong_from}
 use Rattle.rtr_deltas.specs.declared.item.PayloadView.{PayloadView}
 use Rattle.rtr_deltas.specs.declared.order_fault.OrderFault.{OrderFault}
-use Rattle.rtr_deltas.proofs.Merging.{Written, full, more, rest_of}
+use Rattle.rtr_deltas.proofs.Deltas.{forms_append}
+use Rattle.rtr_deltas.proofs.Merging.{Written, all_of, full, more, rest_of}
 use Rattle.rtr_deltas.proofs.UnitsAt.{has_unit, one_unit}
 
 -- the first of the changes
@@ -194,33 +192,15 @@ last_is : (a first : Action) (v : ℕ) (c : Change) (ends : Bool) →
 last_is a first v c ends =
     form_kept a first v c ends (settles first c.action c.payload) true
 
-pub forms_join : (v : ℕ) (cs ds : List Change) →
-    change_forms v (cs ++ ds) ≡ change_forms v cs ++ change_forms v ds
-forms_join v cs ds =
-    ap (flat_map form_of) (map-append (unit_of v) cs ds)
-    ∙ flat_map-append form_of (map (unit_of v) cs) (map (unit_of v) ds)
-
 forms_step : (a first : Action) (v : ℕ) (c : Change) (same : Bool) (ns : List Change) →
     change_forms v (with_action a (ended same first c ++ ns)) ≡
     last_form (not same) a first (unit_of v c) ++ change_forms v (with_action a ns)
 forms_step a first v c same ns =
     ap (change_forms v) (filter-append (λ x. is_action a x.action) (ended same first c) ns)
-    ∙ forms_join v (with_action a (ended same first c)) (with_action a ns)
+    ∙ forms_append v (with_action a (ended same first c)) (with_action a ns)
     ∙ ap (λ l. change_forms v (with_action a l) ++ change_forms v (with_action a ns))
     (ended_as same first c)
     ∙ ap (λ l. l ++ change_forms v (with_action a ns)) (last_is a first v c (not same))
-
-all_room : (piece before now : List ℕ) (written : ℕ) → Written piece before now written →
-    length now ≡ length before
-all_room piece before now written w =
-    omega (
-      arith,
-      ap length w.output,
-      length-append piece (drop written before),
-      length-drop written before,
-      w.size,
-      w.fits,
-    )
 
 pub record NetsLeft (a : Action) (input : List ℕ) (view : PayloadView) (rest : List ℕ)
     (first : Action) (before now : List ℕ) (written : ℕ) (v : ℕ) (cs : List Change) : Type 0 where
@@ -375,7 +355,7 @@ module _ (a : Action) (input places : List ℕ) (view : PayloadView) (rest : Lis
           all = r.all;
           some = some_left input rest next later left takes.0 takes.1 r.some;
           fits = w.fits;
-          room = all_room (next_each n placed v cs h).piece before (put part) (written + n) w;
+          room = all_of (next_each n placed v cs h).piece before (put part) (written + n) w;
           each = next_each n placed;
         }
 

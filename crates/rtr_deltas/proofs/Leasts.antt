@@ -1,6 +1,5 @@
 -- The first of data and announcements.
 use Rattle.std.proofs.Common.{◌≡◌, ℕ, true, false, List, [], ◌∷◌, refl, sym, ap, subst, ◌∙◌, inl, inr}
-use Rattle.std.specs.List.{AllByRecursion}
 use Rattle.std.specs.declared.cmp.Ordering.TheVariants.{Less, Equal, Greater}
 use Rattle.rtr_base.specs.declared.action.Action.TheVariants.{Announce}
 use Rattle.rtr_payload.specs.Payloads.{Meaning, Payload}
@@ -8,7 +7,7 @@ use Rattle.rtr_data.specs.Data.{announcement, name_cmp}
 use Rattle.rtr_data.specs.Deltas.{unit_of}
 use Rattle.rtr_data.proofs.Names.{below, below_all}
 use Rattle.rtr_deltas.specs.Items.{meant}
-use Rattle.rtr_deltas.specs.PrivateChanges.{HoldsUnits, IsBelow, IsFirst, IsNext, LeastOf, NoUnit}
+use Rattle.rtr_deltas.specs.PrivateChanges.{HoldsUnits, IsBelow, IsNext, LeastOf, NoUnit}
 use Rattle.rtr_deltas.specs.declared.item.PayloadView.{PayloadView}
 use Rattle.rtr_deltas.proofs.Units.{Head, head, nothing}
 

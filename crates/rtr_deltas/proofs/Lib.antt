@@ -2,7 +2,9 @@ pub mod Differences
 pub mod Items
 pub mod Same
 pub mod Sequences
+pub mod FirstFlaws
 pub mod Checking
+pub mod OneFlaw
 pub mod Merging
 pub mod OneData
 pub mod Deltas
@@ -19,6 +21,9 @@ pub mod Placed
 pub mod Answering
 pub mod Sent
 pub mod Reapplied
+pub mod MadeData
+pub mod DeltaRoom
+pub mod ApplyRoom
 pub mod There
 pub mod Netting
 pub mod UnitsAt

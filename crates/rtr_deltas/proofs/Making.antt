@@ -18,11 +18,11 @@ use Rattle.rtr_data.specs.Data.{Change, IsData, after, announcement, has_name, n
 use Rattle.rtr_data.specs.Data.{takes_place, withdrawal}
 use Rattle.rtr_data.specs.declared.change_error.ChangeError.{ChangeError}
 use Rattle.rtr_data.specs.declared.change_error.ChangeError.TheVariants.{Duplicate, Unknown}
-use Rattle.rtr_data.proofs.Changes.{announced_is, withdrawn_is}
+use Rattle.rtr_data.proofs.Changes.{announced_is}
 use Rattle.rtr_data.proofs.Delta.{AllAbove, after_append, all_behind, announce_before}
 use Rattle.rtr_data.proofs.Delta.{announce_over, behind}
 use Rattle.rtr_data.proofs.Merge.{laws, refused_all}
-use Rattle.rtr_data.proofs.Names.{above, absent, as_first, below, below_all, name_alike, name_total}
+use Rattle.rtr_data.proofs.Names.{above, absent, below, below_all, name_alike, name_total}
 use Rattle.rtr_deltas.specs.PrivateChanges.{IsBelow, MakesNew}
 
 -- ---- names that are there

@@ -20,16 +20,15 @@ use Rattle.rtr_views.specs.Placing.{Places}
 use Rattle.rtr_data.specs.Data.{name_cmp, IsData}
 use Rattle.rtr_data.specs.Deltas.{change_forms, unit_of}
 use Rattle.rtr_data.proofs.Names.{below_all}
-use Rattle.rtr_deltas.specs.Canonical.{HoldsData, PlacesFront, change, data_units, missing}
+use Rattle.rtr_deltas.specs.Canonical.{HasData, HoldsData, PlacesFront, change, data_units, missing}
 use Rattle.rtr_deltas.specs.Items.{IsItem, meant}
-use Rattle.rtr_deltas.specs.PrivateOrder.{HasData, IsDataItem, PlacesMissing, is_same_for}
+use Rattle.rtr_deltas.specs.PrivateOrder.{IsDataItem, PlacesMissing, is_same_for}
 use Rattle.rtr_deltas.specs.PrivateOrder.{is_same_item, item_order, lacking_form, lacks}
 use Rattle.rtr_deltas.specs.declared.item.Item.{Item}
 use Rattle.rtr_deltas.specs.declared.item.Item.TheVariants as items
 use Rattle.rtr_deltas.specs.declared.item.PayloadView.{PayloadView}
-use Rattle.rtr_deltas.proofs.Checking.{First, first_unit}
 use Rattle.rtr_deltas.proofs.Differences.{at_less, at_equal, at_greater}
-use Rattle.rtr_deltas.proofs.Sequences.{splits, no_fault}
+use Rattle.rtr_deltas.proofs.Sequences.{First, first_unit, splits, no_fault}
 
 -- ---- pieces, one after the other
 
@@ -113,7 +112,7 @@ module _ (piece before now : List ℕ) (written : ℕ) (w : Written piece before
         ),
       )
 
-all_of : (piece before now : List ℕ) (written : ℕ) → Written piece before now written →
+pub all_of : (piece before now : List ℕ) (written : ℕ) → Written piece before now written →
     length now ≡ length before
 all_of piece before now written w =
     omega (

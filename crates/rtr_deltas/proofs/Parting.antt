@@ -1,57 +1,38 @@
 -- The parts of changes: announcements, withdrawals, and an end of data.
-use Rattle.std.proofs.Common.{◌≡◌, ℕ, ◌+◌, ◌-◌, ◌≤◌, Bool, true, false, List, [], ◌∷◌, ◌++◌, length}
+use Rattle.std.proofs.Common.{◌≡◌, ℕ, ◌+◌, ◌-◌, false, List, [], ◌∷◌, ◌++◌, length}
 use Rattle.std.proofs.Common.{map, Option, Some, None, refl, sym, ap, subst, ◌∙◌, append_assoc}
-use Rattle.std.proofs.Common.{append-nil, arith, inl, inr}
+use Rattle.std.proofs.Common.{arith}
 use Rattle.std.proofs.lemmas.Bool.{true≢false}
 use Rattle.std.proofs.lemmas.List.{drop-drop, length-append, map-append}
 use Rattle.std.proofs.Math.Seq.{drop-append_seam, take-append_seam}
-use Rattle.std.specs.Prelude.{◌⊎◌, drop, take}
-use Rattle.std.specs.List.{AllByRecursion}
-use Rattle.std.specs.List.Sorted.{IsStrictlySortedBy}
-use Rattle.rtr_base.specs.declared.action.Action.{Action}
+use Rattle.std.specs.Prelude.{drop, take}
 use Rattle.rtr_base.specs.declared.action.Action.TheVariants.{Announce, Withdraw}
 use Rattle.rtr_units.specs.End.{EndMeaning, IsEnd}
-use Rattle.rtr_units.proofs.Ends.{end_one}
-use Rattle.rtr_payload.specs.FirstFault.{first_fault}
 use Rattle.rtr_payload.specs.Payloads.{Meaning, Payload}
 use Rattle.rtr_payload.specs.Units.{IsUnit}
-use Rattle.rtr_payload.proofs.Apart.{unit_or_end}
 use Rattle.rtr_payload.proofs.Fields.{units_same}
-use Rattle.rtr_payload.proofs.Rests.{begins_end_none}
 use Rattle.rtr_views.specs.Faults.{IsFirstFault}
 use Rattle.rtr_views.specs.declared.fault.ViewFault.{ViewFault}
 use Rattle.rtr_wire.specs.Sequences.{AreUnits}
-use Rattle.rtr_wire.proofs.OneAnswer.{begins_end}
 use Rattle.rtr_wire.proofs.Runs.{after}
-use Rattle.rtr_data.specs.Data.{Change, IsData, announcement, has_name, name_of, withdrawal}
+use Rattle.rtr_data.specs.Data.{Change, IsData, announcement, has_name, withdrawal}
 use Rattle.rtr_data.specs.Deltas.{unit_of}
 use Rattle.rtr_data.specs.Sequences.{change_of}
 use Rattle.rtr_deltas.specs.Canonical.{change}
-use Rattle.rtr_deltas.specs.CanonicalChanges.{AreOrdered, HoldsChanges}
-use Rattle.rtr_deltas.specs.Flaws.{IsFirstFlaw, IsUnitOrEnd, IsWrongAfter}
+use Rattle.rtr_deltas.specs.CanonicalChanges.{AreOrdered, HasChanges, HoldsChanges}
+use Rattle.rtr_deltas.specs.Flaws.{AreUnitsOf, IsFlawOfChanges}
 use Rattle.rtr_deltas.specs.PrivateChanges.{BeginsAlso, Breaks, FindsAmong, FindsRefused}
-use Rattle.rtr_deltas.specs.PrivateChanges.{HoldsParts, HoldsUnits, InVersion, IsRun, NoUnitOf}
+use Rattle.rtr_deltas.specs.PrivateChanges.{HoldsParts, HoldsUnits, InVersion, IsRun, NoUnit, NoUnitOf}
 use Rattle.rtr_deltas.specs.PrivateChanges.{units_of}
 use Rattle.rtr_deltas.specs.declared.fault.Flaw.{Flaw}
 use Rattle.rtr_deltas.specs.declared.fault.Reason.TheVariants.{Refused, NotCanonical}
 use Rattle.rtr_deltas.specs.declared.refused.Rule.TheVariants.{Apart}
-use Rattle.rtr_deltas.proofs.Checking.{not_refused}
 use Rattle.rtr_deltas.proofs.Applying.{IsApart}
+use Rattle.rtr_deltas.proofs.FirstFlaws.{Begins, also_unit, at_end, at_fault, at_next_unit, at_unit}
+use Rattle.rtr_deltas.proofs.FirstFlaws.{changes_ended}
 use Rattle.rtr_deltas.proofs.Making.{both, named_there}
 use Rattle.rtr_deltas.proofs.Merging.{rest_is, rest_of}
 use Rattle.rtr_deltas.proofs.Units.{exactly, front_data, units_join}
-
--- ---- what begins alike
-
-also_itself : (x : List ℕ) → BeginsAlso x x
-also_itself x m b r u eq = (r, eq)
-
-also_unit : (c x l : List ℕ) (n : Meaning) → IsUnit c n → BeginsAlso (c ++ x) (c ++ l)
-also_unit c x l n unit m b r u eq =
-    let t = units_same c b x r n m unit u eq in (l, ap (λ z. z ++ l) t.0)
-
-also_end : (c x l : List ℕ) (e : EndMeaning) → IsEnd c e → BeginsAlso (c ++ x) l
-also_end c x l e end m b r u eq = absurd (unit_or_end b c r x m e u end (sym eq))
 
 also_after : (c x l : List ℕ) (ms : List Meaning) → AreUnits c ms → BeginsAlso x l →
     BeginsAlso (c ++ x) (c ++ l)
@@ -94,20 +75,15 @@ join a b v ps qs h j =
     (units_join a b (units_of Announce v ps) (units_of Withdraw v qs) h j)
 
 -- no announcement follows
-none_announced : (b last rest : List ℕ) (v : ℕ) (qs : List Payload) (e : EndMeaning) →
-    AreUnits b (units_of Withdraw v qs) → IsEnd last e → NoUnitOf Announce (b ++ (last ++ rest))
-none_announced b last rest v [] e units end m c r u eq is =
-    unit_or_end c last r rest m e u end
-    (sym eq ∙ ap (λ l. l ++ (last ++ rest)) units)
-none_announced b last rest v (q ∷ qs) e (first, more, at, unit, units) end m c r u eq is =
-    let t = units_same c first r (more ++ (last ++ rest)) m (unit_of v (withdrawal q)) u unit
-    (sym eq ∙ after b first more (last ++ rest) at) in
+none_announced : (b tail : List ℕ) (v : ℕ) (qs : List Payload) →
+    AreUnits b (units_of Withdraw v qs) → NoUnit tail → NoUnitOf Announce (b ++ tail)
+none_announced b tail v [] units none m c r u eq is =
+    none m c r u (ap (λ l. l ++ tail) (sym units) ∙ eq)
+none_announced b tail v (q ∷ qs) (first, more, at, unit, units) none m c r u eq is =
+    let t = units_same c first r (more ++ tail) m (unit_of v (withdrawal q)) u unit
+    (sym eq ∙ after b first more tail at) in
     let no : Announce ≡ Withdraw = sym is ∙ ap (λ (n : Meaning). n.action) t.1 in
     absurd cc
-
-none_withdrawn : (last rest : List ℕ) (e : EndMeaning) → IsEnd last e →
-    NoUnitOf Withdraw (last ++ rest)
-none_withdrawn last rest e end m c r u eq is = unit_or_end c last r rest m e u end (sym eq)
 
 -- ---- lists of changes, as payloads
 
@@ -140,25 +116,25 @@ apart_at v w ps (x ∷ qs) (p ∷ before) q others e (g, h) =
     units_of Withdraw w before ++ unit_of w (withdrawal q) ∷ others = cc in
     apart_at v w ps qs before q others rest h
 
--- units at the front of units before an end of data
-prefix_units : (f u x b last rest : List ℕ) (ms ns : List Meaning) (m : Meaning)
-    (e : EndMeaning) → AreUnits f ms → IsUnit u m → AreUnits b ns → IsEnd last e →
-    f ++ (u ++ x) ≡ b ++ (last ++ rest) → (others : List Meaning) × (ns ≡ ms ++ m ∷ others)
-prefix_units f u x b last rest [] [] m e h unit j end eq =
-    absurd (unit_or_end u last x rest m e unit end
-    (ap (λ z. z ++ (u ++ x)) (sym h) ∙ eq ∙ ap (λ z. z ++ (last ++ rest)) j))
-prefix_units f u x b last rest [] (n ∷ ns) m e h unit (first, more, at, v, j) end eq =
-    let t = units_same u first x (more ++ (last ++ rest)) m n unit v
-    (ap (λ z. z ++ (u ++ x)) (sym h) ∙ eq ∙ after b first more (last ++ rest) at) in
+-- units at the front of units that no unit follows
+prefix_units : (f u x b tail : List ℕ) (ms ns : List Meaning) (m : Meaning) → AreUnits f ms →
+    IsUnit u m → AreUnits b ns → NoUnit tail → f ++ (u ++ x) ≡ b ++ tail →
+    (others : List Meaning) × (ns ≡ ms ++ m ∷ others)
+prefix_units f u x b tail [] [] m h unit j none eq =
+    absurd (none m u x unit
+    (ap (λ z. z ++ tail) (sym j) ∙ sym eq ∙ ap (λ z. z ++ (u ++ x)) h))
+prefix_units f u x b tail [] (n ∷ ns) m h unit (first, more, at, v, j) none eq =
+    let t = units_same u first x (more ++ tail) m n unit v
+    (ap (λ z. z ++ (u ++ x)) (sym h) ∙ eq ∙ after b first more tail at) in
     (ns, ap (λ z. z ∷ ns) (sym t.1))
-prefix_units f u x b last rest (k ∷ ms) [] m e (first, more, at, v, h) unit j end eq =
-    absurd (unit_or_end first last (more ++ (u ++ x)) rest k e v end
-    (sym (after f first more (u ++ x) at) ∙ eq ∙ ap (λ z. z ++ (last ++ rest)) j))
-prefix_units f u x b last rest (k ∷ ms) (n ∷ ns) m e (first, more, at, v, h) unit
-    (first', more', at', v', j) end eq =
-    let t = units_same first first' (more ++ (u ++ x)) (more' ++ (last ++ rest)) k n v v'
-    (sym (after f first more (u ++ x) at) ∙ eq ∙ after b first' more' (last ++ rest) at') in
-    let (others, is) = prefix_units more u x more' last rest ms ns m e h unit j end t.2 in
+prefix_units f u x b tail (k ∷ ms) [] m (first, more, at, v, h) unit j none eq =
+    absurd (none k first (more ++ (u ++ x)) v
+    (ap (λ z. z ++ tail) (sym j) ∙ sym eq ∙ after f first more (u ++ x) at))
+prefix_units f u x b tail (k ∷ ms) (n ∷ ns) m (first, more, at, v, h) unit
+    (first', more', at', v', j) none eq =
+    let t = units_same first first' (more ++ (u ++ x)) (more' ++ tail) k n v v'
+    (sym (after f first more (u ++ x) at) ∙ eq ∙ after b first' more' tail at') in
+    let (others, is) = prefix_units more u x more' tail ms ns m h unit j none t.2 in
     (others, λ i. sym t.1 i ∷ is i)
 
 -- ---- two runs
@@ -192,68 +168,49 @@ module _ (input : List ℕ) (n k : ℕ) (mid late : Option ℕ) (a : IsRun Annou
   announced_units w is = a.units w (b.known w is)
 
   -- changes whose announcements are those of the first run
-  record Alike (x : List ℕ) (cs : List Change) (e : EndMeaning) : Type 0 where
+  record Alike (x : List ℕ) (w : ℕ) (tail : List ℕ) : Type 0 where
     withdrawn : List Payload
     apart : IsApart a.ps withdrawn
     in_order : IsData withdrawn
     bytes : List ℕ
-    last : List ℕ
-    rest : List ℕ
-    units : AreUnits bytes (units_of Withdraw e.version withdrawn)
-    end : IsEnd last e
-    parts : x ≡ bytes ++ (last ++ rest)
-    in_version : InVersion mid e.version
+    units : AreUnits bytes (units_of Withdraw w withdrawn)
+    parts : x ≡ bytes ++ tail
+    in_version : InVersion mid w
 
-  announces : (x : List ℕ) → BeginsAlso x a.left → (cs : List Change) (e : EndMeaning) →
-      HoldsChanges (a.front ++ x) cs e → Alike x cs e
-  announces x also cs e h =
-      let q = h.accepts.sequence in
-      let o = h.in_order in
-      let s = split q.front e.version o.announced o.withdrawn
-      (subst (λ l. AreUnits q.front (map (unit_of e.version) l)) o.parts q.units) in
-      let end = q.last ++ h.accepts.rest in
-      let t = a.longest x also e.version o.announced s.front (s.back ++ end) tt
-      o.announced_in_order s.announced
-      (h.accepts.parts ∙ after h.bytes q.front q.last h.accepts.rest q.parts
-      ∙ after q.front s.front s.back end s.parts)
-      (none_announced s.back q.last h.accepts.rest e.version o.withdrawn e s.withdrawn q.end) in
+  announces : (x : List ℕ) → BeginsAlso x a.left → (w : ℕ) (tail : List ℕ) →
+      Begins AreOrdered (a.front ++ x) w tail → Alike x w tail
+  announces x also w tail g =
+      let o = g.such in
+      let s = split g.bytes w o.announced o.withdrawn
+      (subst (λ l. AreUnits g.bytes (map (unit_of w) l)) o.parts g.units) in
+      let t = a.longest x also w o.announced s.front (s.back ++ tail) tt o.announced_in_order
+      s.announced (g.parts ∙ after g.bytes s.front s.back tail s.parts)
+      (none_announced s.back tail w o.withdrawn s.withdrawn g.ends) in
       record {
         withdrawn = o.withdrawn;
         apart =
             subst (λ l. IsApart l o.withdrawn) (announced_same o.announced a.ps t.0) o.apart;
         in_order = o.withdrawn_in_order;
         bytes = s.back;
-        last = q.last;
-        rest = h.accepts.rest;
         units = s.withdrawn;
-        end = q.end;
         parts = sym t.1;
         in_version = t.2;
       }
+
+  assoc : (x : List ℕ) → (a.front ++ b.front) ++ x ≡ a.front ++ (b.front ++ x)
+  assoc x = append_assoc a.front b.front x
 
   -- changes that go on as the second run end after it
-  record Ends (x : List ℕ) (e : EndMeaning) : Type 0 where
-    last : List ℕ
-    rest : List ℕ
-    parts : x ≡ last ++ rest
-    end : IsEnd last e
-    in_version : InVersion late e.version
-
-  ends : (x : List ℕ) → BeginsAlso x b.left → (cs : List Change) (e : EndMeaning) →
-      HoldsChanges (a.front ++ (b.front ++ x)) cs e → Ends x e
-  ends x also cs e h =
+  so_far : (x : List ℕ) → BeginsAlso x b.left → (w : ℕ) (tail : List ℕ) →
+      Begins AreOrdered ((a.front ++ b.front) ++ x) w tail → (tail ≡ x) × InVersion late w
+  so_far x also w tail g =
       let l = announces (b.front ++ x)
       (subst (BeginsAlso (b.front ++ x)) (sym b.parts)
-      (also_after b.front x b.left (units_of Withdraw v b.ps) (b.units v b.some.1) also)) cs e h in
-      let t = b.longest x also e.version l.withdrawn l.bytes (l.last ++ l.rest) l.in_version
-      l.in_order l.units l.parts (none_withdrawn l.last l.rest e l.end) in
-      record {
-        last = l.last;
-        rest = l.rest;
-        parts = sym t.1;
-        end = l.end;
-        in_version = t.2;
-      }
+      (also_after b.front x b.left (units_of Withdraw v b.ps) (b.units v b.some.1) also)) w tail
+      (subst (λ z. Begins AreOrdered z w tail) (assoc x) g) in
+      let t = b.longest x also w l.withdrawn l.bytes tail l.in_version l.in_order l.units l.parts
+      (λ m c r u eq is. g.ends m c r u eq) in
+      (t.1, t.2)
 
   -- ---- the slices
 
@@ -293,22 +250,14 @@ module _ (input : List ℕ) (n k : ℕ) (mid late : Option ℕ) (a : IsRun Annou
 
   -- ---- flaws
 
-  assoc : (x : List ℕ) → (a.front ++ b.front) ++ x ≡ a.front ++ (b.front ++ x)
-  assoc x = append_assoc a.front b.front x
-
   -- after both runs
   module _ (f : Flaw) (size : f.offset ≡ n + k) (apart : IsApart a.ps b.ps) where
-    at_stop : IsWrongAfter f.reason (a.front ++ b.front) b.left →
-        ((cs : List Change) (e : EndMeaning) → HoldsChanges input cs e → ⊥) → IsFirstFlaw input f
-    at_stop wrong none = record {
-      front = a.front ++ b.front;
-      left = b.left;
-      parts = whole ∙ sym (assoc b.left);
-      size = omega (arith, size, a.size_is, b.size_is, length-append a.front b.front);
+    before : AreUnitsOf AreOrdered (a.front ++ b.front)
+    before = record {
       version = v;
-      before = both a.ps b.ps;
+      changes = both a.ps b.ps;
       units = join a.front b.front v a.ps b.ps (announced_units v b.some.1) (b.units v b.some.1);
-      in_order = record {
+      such = record {
         announced = a.ps;
         withdrawn = b.ps;
         parts = refl;
@@ -316,56 +265,34 @@ module _ (input : List ℕ) (n k : ℕ) (mid late : Option ℕ) (a : IsRun Annou
         withdrawn_in_order = b.in_order;
         apart = apart;
       };
-      wrong = wrong;
-      no_changes = none;
     }
 
-    misplaced : f.reason ≡ NotCanonical → (c rest : List ℕ) → b.left ≡ c ++ rest →
-        IsUnitOrEnd c → ((more : List ℕ) (cs : List Change) (e : EndMeaning) →
-        HoldsChanges (a.front ++ (b.front ++ (c ++ more))) cs e → ⊥) → IsFirstFlaw input f
-    misplaced is c rest parts item never =
-        at_stop
-        (subst (λ r. IsWrongAfter r (a.front ++ b.front) b.left) (sym is) (
-          c,
-          rest,
-          parts,
-          item,
-          λ more cs e h.
-              never more cs e (subst (λ l. HoldsChanges l cs e) (assoc (c ++ more)) h),
-        ))
-        (λ cs e h.
-        never rest cs e (subst (λ l. HoldsChanges l cs e)
-        (whole ∙ ap (λ l. a.front ++ (b.front ++ l)) parts) h))
+    parts : input ≡ (a.front ++ b.front) ++ b.left
+    parts = whole ∙ sym (assoc b.left)
+
+    offset_is : f.offset ≡ length (a.front ++ b.front)
+    offset_is = omega (arith, size, a.size_is, b.size_is, length-append a.front b.front)
 
     -- a unit that may not stand there
     pub unit_misplaced : f.reason ≡ NotCanonical → (c rest : List ℕ) → b.left ≡ c ++ rest →
-        (m : Meaning) → IsUnit c m → IsFirstFlaw input f
-    unit_misplaced is c rest parts m u =
-        misplaced is c rest parts (inl (m, u)) (λ more cs e h.
-        let t = ends (c ++ more)
-        (subst (BeginsAlso (c ++ more)) (sym parts) (also_unit c more rest m u)) cs e h in
-        unit_or_end c t.last more t.rest m e u t.end t.parts)
+        (m : Meaning) → IsUnit c m → IsFlawOfChanges input f
+    unit_misplaced =
+        at_next_unit AreOrdered HasChanges changes_ended input (a.front ++ b.front) b.left parts
+        before f offset_is late so_far
 
     -- an end of data of another version
     pub end_misplaced : f.reason ≡ NotCanonical → (c rest : List ℕ) → b.left ≡ c ++ rest →
-        (e : EndMeaning) → IsEnd c e → (InVersion late e.version → ⊥) → IsFirstFlaw input f
-    end_misplaced is c rest parts e end not =
-        misplaced is c rest parts (inr (e, end)) (λ more cs e' h.
-        let t = ends (c ++ more) (also_end c more b.left e end) cs e' h in
-        not (subst (λ (d : EndMeaning). InVersion late d.version)
-        (sym (end_one c t.last more t.rest e e' end t.end t.parts).1) t.in_version))
+        (e : EndMeaning) → IsEnd c e → (InVersion late e.version → ⊥) → IsFlawOfChanges input f
+    end_misplaced =
+        at_end AreOrdered HasChanges changes_ended input (a.front ++ b.front) b.left parts
+        before f offset_is late so_far
 
     -- what is no unit
     pub refused : (fault : ViewFault) → f.reason ≡ Refused fault → IsFirstFault b.left fault →
-        IsFirstFlaw input f
-    refused fault is first =
-        at_stop (subst (λ r. IsWrongAfter r (a.front ++ b.front) b.left) (sym is) first)
-        (λ cs e h.
-        let t = ends b.left (also_itself b.left) cs e
-        (subst (λ l. HoldsChanges l cs e) whole h) in
-        not_refused fault b.left first
-        (ap first_fault t.parts ∙ begins_end_none (t.last ++ t.rest)
-        (begins_end t.last t.rest e t.end)))
+        IsFlawOfChanges input f
+    refused =
+        at_fault AreOrdered HasChanges changes_ended input (a.front ++ b.front) b.left parts
+        before f offset_is late so_far
 
   -- a withdrawal of what is announced
   module _ (f : Flaw) (reason : f.reason ≡ NotCanonical) (at : ℕ) (size : f.offset ≡ n + at)
@@ -383,33 +310,30 @@ module _ (input : List ℕ) (n k : ℕ) (mid late : Option ℕ) (a : IsRun Annou
         b.parts ∙ ap (λ l. l ++ b.left) w.parts ∙ append_assoc w.front (w.unit ++ w.left) b.left
         ∙ ap (λ l. w.front ++ l) (append_assoc w.unit w.left b.left)
 
-    no_more : (more : List ℕ) (cs : List Change) (e : EndMeaning) →
-        HoldsChanges ((a.front ++ w.front) ++ (w.unit ++ more)) cs e → ⊥
-    no_more more cs e h =
+    no_more : (more : List ℕ) (u : ℕ) (tail : List ℕ) →
+        Begins AreOrdered ((a.front ++ w.front) ++ (w.unit ++ more)) u tail → ⊥
+    no_more more u tail g =
         let x = w.front ++ (w.unit ++ more) in
         let also : BeginsAlso x a.left =
         subst (BeginsAlso x) (sym left_is)
         (also_after w.front (w.unit ++ more) (w.unit ++ (w.left ++ b.left))
         (units_of Withdraw v w.before) w.units
         (also_unit w.unit more (w.left ++ b.left) (unit_of v (withdrawal w.first)) w.is_unit)) in
-        let l = announces x also cs e
-        (subst (λ z. HoldsChanges z cs e) (append_assoc a.front w.front (w.unit ++ more)) h) in
-        let (others, is) = prefix_units w.front w.unit more l.bytes l.last l.rest
-        (units_of Withdraw v w.before) (units_of Withdraw e.version l.withdrawn)
-        (unit_of v (withdrawal w.first)) e w.units w.is_unit l.units l.end l.parts in
+        let l = announces x also u tail
+        (subst (λ z. Begins AreOrdered z u tail) (append_assoc a.front w.front (w.unit ++ more)) g)
+        in
+        let (others, is) = prefix_units w.front w.unit more l.bytes tail
+        (units_of Withdraw v w.before) (units_of Withdraw u l.withdrawn)
+        (unit_of v (withdrawal w.first)) w.units w.is_unit l.units g.ends l.parts in
         true≢false (sym w.against
-        ∙ apart_at e.version v a.ps l.withdrawn w.before w.first others is l.apart)
+        ∙ apart_at u v a.ps l.withdrawn w.before w.first others is l.apart)
 
-    pub not_apart : IsFirstFlaw input f
-    not_apart = record {
-      front = a.front ++ w.front;
-      left = w.unit ++ (w.left ++ b.left);
-      parts = whole ∙ front_is;
-      size = omega (arith, size, a.size_is, w.size, length-append a.front w.front);
+    before_it : AreUnitsOf AreOrdered (a.front ++ w.front)
+    before_it = record {
       version = v;
-      before = both a.ps w.before;
+      changes = both a.ps w.before;
       units = join a.front w.front v a.ps w.before (announced_units v b.some.1) w.units;
-      in_order = record {
+      such = record {
         announced = a.ps;
         withdrawn = w.before;
         parts = refl;
@@ -417,19 +341,14 @@ module _ (input : List ℕ) (n k : ℕ) (mid late : Option ℕ) (a : IsRun Annou
         withdrawn_in_order = front_data w.before (w.first ∷ w.others) (subst IsData w.all b.in_order);
         apart = w.within;
       };
-      wrong =
-          subst (λ r. IsWrongAfter r (a.front ++ w.front) (w.unit ++ (w.left ++ b.left)))
-          (sym reason) (
-            w.unit,
-            w.left ++ b.left,
-            refl,
-            inl (unit_of v (withdrawal w.first), w.is_unit),
-            no_more,
-          );
-      no_changes = λ cs e h.
-          no_more (w.left ++ b.left) cs e
-          (subst (λ l. HoldsChanges l cs e) (whole ∙ front_is) h);
     }
+
+    pub not_apart : IsFlawOfChanges input f
+    not_apart =
+        at_unit AreOrdered HasChanges changes_ended input (a.front ++ w.front)
+        (w.unit ++ (w.left ++ b.left)) (whole ∙ front_is) before_it f
+        (omega (arith, size, a.size_is, w.size, length-append a.front w.front)) reason w.unit
+        (w.left ++ b.left) refl (unit_of v (withdrawal w.first)) w.is_unit no_more
 
   -- ---- changes
 

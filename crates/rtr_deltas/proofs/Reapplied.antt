@@ -1,5 +1,5 @@
 -- What the changes of a slice are answered with.
-use Rattle.std.proofs.Common.{◌≡◌, ◌≤◌, ℕ, List, [], ◌∷◌, ◌++◌, length, map, Option, Some, None}
+use Rattle.std.proofs.Common.{◌≡◌, ◌≤◌, ℕ, List, ◌∷◌, ◌++◌, length, map, Option, Some, None}
 use Rattle.std.proofs.Common.{Result, Ok, Err, refl, sym, ap, subst, ◌∙◌, arith}
 use Rattle.std.specs.Prelude.{IsOk}
 use Rattle.rtr_units.specs.End.{EndMeaning}
@@ -32,16 +32,16 @@ one_changes r cs ds d e h j =
     (map (unit_of e.version) ds) d e h.accepts j.accepts in
     (sym (again d.version cs) ∙ ap (map change_of) t.1 ∙ again e.version ds, t.2)
 
-abbrev made : List Payload → Result (List Payload) ChangeError
+abbrev pub made : List Payload → Result (List Payload) ChangeError
 made d = Ok d
 
-same_made : (d x : List Payload) → made d ≡ made x → d ≡ x
+pub same_made : (d x : List Payload) → made d ≡ made x → d ≡ x
 same_made d x h = cc
 
 module _ (base input before after : List ℕ) (d d' : List Payload) (cs : List Change)
     (e e' : EndMeaning) (h : HoldsData base d e) (j : HoldsChanges input cs e')
     (all : after_all cs (Ok d) ≡ Ok d') where
-  same_form : (n : Option ℕ) → WritesApplied n base input before after →
+  pub same_form : (n : Option ℕ) → WritesApplied n base input before after →
       PlacesFront n (data_form d' e') before after
   same_form n (x, c, ds, c', k, l, (version, session, (y, is, placed))) =
       let s = one_data base x d c e k h in
@@ -64,8 +64,8 @@ module _ (base input before after : List ℕ) (d d' : List Payload) (cs : List C
       AppliesChanges r base input before after → IsApplied r (data_form d' e') before after
   applied (Ok n) v s w = same_form (Some n) w
   applied (Err NoRoom) v s w = same_form None w
-  applied (Err (Data f)) v s (flaw, kept) = absurd (flaw.no_data d e h)
-  applied (Err (Changes f)) v s ((some, flaw), kept) = absurd (flaw.no_changes cs e' j)
+  applied (Err (Data f)) v s (flaw, kept) = absurd (flaw.none (d, e, h))
+  applied (Err (Changes f)) v s ((some, flaw), kept) = absurd (flaw.none (cs, e', j))
   applied (Err (UnitVersion n)) v s ((x, c, ds, c', k, l, (not, is)), kept) =
       let p = one_data base x d c e k h in
       let q = one_changes input ds cs c' e' l j in

@@ -3,16 +3,14 @@ use Rattle.std.proofs.Common.{◌≡◌, ℕ, ◌-◌, ◌≤◌, List, [], ◌�
 use Rattle.std.proofs.Common.{refl, sym, ap, subst, ◌∙◌, append_assoc, append-nil, arith}
 use Rattle.std.proofs.lemmas.List.{length-append, map-append}
 use Rattle.std.specs.Prelude.{⊤}
-use Rattle.std.specs.List.{AllByRecursion}
 use Rattle.std.specs.List.Sorted.{IsStrictlySortedBy}
-use Rattle.std.specs.declared.cmp.Ordering.TheVariants.{Less}
 use Rattle.rtr_base.specs.declared.action.Action.{Action}
 use Rattle.rtr_payload.specs.Payloads.{Meaning, Payload}
 use Rattle.rtr_payload.specs.Units.{IsUnit}
 use Rattle.rtr_payload.proofs.Fields.{units_same}
 use Rattle.rtr_wire.specs.Sequences.{AreUnits}
 use Rattle.rtr_wire.proofs.Runs.{after}
-use Rattle.rtr_data.specs.Data.{IsData, name_cmp}
+use Rattle.rtr_data.specs.Data.{IsData}
 use Rattle.rtr_data.specs.Deltas.{unit_of}
 use Rattle.rtr_data.specs.Sequences.{change_of}
 use Rattle.rtr_data.proofs.Names.{below_all}
@@ -166,65 +164,76 @@ module _ (action : Action) (before : Option ℕ) (input rest : List ℕ) (last :
           (sym (append_assoc ran.front next.0 x) ∙ eq) none) none;
     }
 
-  -- where no unit goes on
-  pub stops : ((m : Meaning) (b r : List ℕ) → IsUnit b m → rest ≡ b ++ r →
-      RunsOn action version last m → ⊥) → (size : ℕ) → size ≡ length input - length rest →
-      IsRun action before input size version
-  unfolding IsStrictlySortedBy
-  stops ends size is = record {
-    front = ran.front;
-    left = rest;
-    parts = ran.parts;
-    size_is = omega (arith, is, ap length ran.parts, length-append ran.front rest);
-    ps = ran.ps;
-    in_order = subst IsData (append-nil ran.ps) (ran.forth [] tt (none_above last));
-    units = ran.units;
-    known = ran.known;
-    some = ran.some;
-    longest = λ x alike v qs b r same s units eq none.
-        by_rest x alike v qs r (ran.back x v qs b r same s units eq none);
-  }
-    where
-      none_above : (last : Option PayloadView) → AboveLast last []
-      none_above None = tt
-      none_above (Some last) = tt
+  -- no unit goes on
+  abbrev pub Stops : Type 0
+  Stops = (m : Meaning) (b r : List ℕ) → IsUnit b m → rest ≡ b ++ r →
+      RunsOn action version last m → ⊥
 
-      ascends : (last : Option PayloadView) (q : Payload) (qs : List Payload) →
-          AboveLast last (q ∷ qs) → Ascends last (change action q).payload
-      ascends None q qs h = tt
-      ascends (Some last) q qs h = right_name action q (meant last).payload ∙ h.0
-
-      by_others : (x : List ℕ) → BeginsAlso x rest → (v : ℕ) (r b : List ℕ) →
-          InVersion version v → (others : List Payload) → AboveLast last others →
-          AreUnits b (units_of action v others) → x ≡ b ++ r → (others ≡ []) × (r ≡ x)
-      by_others x alike v r b same [] above units eq =
-          (refl, sym (eq ∙ ap (λ l. l ++ r) units))
-      by_others x alike v r b same (q ∷ others) above (first, more, at, u, units) eq =
-          let (s, begins) = alike (unit_of v (change action q)) first (more ++ r) u
-          (eq ∙ after b first more r at) in
-          absurd (ends (unit_of v (change action q)) first s u begins
-          (action_is action q, same, ascends last q others above))
-
-      by_rest : (x : List ℕ) → BeginsAlso x rest → (v : ℕ) (qs : List Payload) (r : List ℕ) →
-          Rest action last version v ran.ps qs x r →
-          (map (change action) qs ≡ map (change action) ran.ps) × (r ≡ x) × InVersion version v
-      by_rest x alike v qs r t =
-          let (ended, same) = by_others x alike v r t.bytes t.in_version t.others t.above t.units
-          t.parts in (
-            t.all ∙ ap (λ l. map (change action) ran.ps ++ map (change action) l) ended
-                ∙ append-nil (map (change action) ran.ps),
-            same,
-            t.in_version,
-          )
-
-  pub stops_at_none : NoUnit rest → (size : ℕ) → size ≡ length input - length rest →
-      IsRun action before input size version
-  stops_at_none none size is = stops (λ m b r u eq on. none m b r u eq) size is
+  pub stops_at_none : NoUnit rest → Stops
+  stops_at_none none m b r u eq on = none m b r u eq
 
   pub stops_before : (view : PayloadView) (left : List ℕ) → IsNext view left rest →
-      (RunsOn action version last (meant view) → ⊥) → (size : ℕ) →
-      size ≡ length input - length rest → IsRun action before input size version
-  stops_before view left (b, item, parts) not size is =
-      stops (λ m c r u eq on.
+      (RunsOn action version last (meant view) → ⊥) → Stops
+  stops_before view left (b, item, parts) not m c r u eq on =
       let same = units_same b c left r (meant view) m item.0 u (sym parts ∙ eq) in
-      not (subst (RunsOn action version last) (sym same.1) on)) size is
+      not (subst (RunsOn action version last) (sym same.1) on)
+
+  module _ (ends : Stops) where
+    none_above : (last : Option PayloadView) → AboveLast last []
+    none_above None = tt
+    none_above (Some last) = tt
+
+    pub in_order : IsData ran.ps
+    unfolding IsStrictlySortedBy
+    in_order = subst IsData (append-nil ran.ps) (ran.forth [] tt (none_above last))
+
+    ascends : (last : Option PayloadView) (q : Payload) (qs : List Payload) →
+        AboveLast last (q ∷ qs) → Ascends last (change action q).payload
+    ascends None q qs h = tt
+    ascends (Some last) q qs h = right_name action q (meant last).payload ∙ h.0
+
+    by_others : (x : List ℕ) → BeginsAlso x rest → (v : ℕ) (r b : List ℕ) →
+        InVersion version v → (others : List Payload) → AboveLast last others →
+        AreUnits b (units_of action v others) → x ≡ b ++ r → (others ≡ []) × (r ≡ x)
+    by_others x alike v r b same [] above units eq =
+        (refl, sym (eq ∙ ap (λ l. l ++ r) units))
+    by_others x alike v r b same (q ∷ others) above (first, more, at, u, units) eq =
+        let (s, begins) = alike (unit_of v (change action q)) first (more ++ r) u
+        (eq ∙ after b first more r at) in
+        absurd (ends (unit_of v (change action q)) first s u begins
+        (action_is action q, same, ascends last q others above))
+
+    by_rest : (x : List ℕ) → BeginsAlso x rest → (v : ℕ) (qs : List Payload) (r : List ℕ) →
+        Rest action last version v ran.ps qs x r →
+        (map (change action) qs ≡ map (change action) ran.ps) × (r ≡ x) × InVersion version v
+    by_rest x alike v qs r t =
+        let (ended, same) = by_others x alike v r t.bytes t.in_version t.others t.above t.units
+        t.parts in (
+          t.all ∙ ap (λ l. map (change action) ran.ps ++ map (change action) l) ended
+              ∙ append-nil (map (change action) ran.ps),
+          same,
+          t.in_version,
+        )
+
+    -- any run that begins as this one is as long
+    pub longest : (x : List ℕ) → BeginsAlso x rest → (v : ℕ) (qs : List Payload) (b r : List ℕ) →
+        InVersion before v → IsData qs → AreUnits b (units_of action v qs) →
+        ran.front ++ x ≡ b ++ r → NoUnitOf action r →
+        (map (change action) qs ≡ map (change action) ran.ps) × (r ≡ x) × InVersion version v
+    longest x alike v qs b r same s units eq none =
+        by_rest x alike v qs r (ran.back x v qs b r same s units eq none)
+
+    pub stops : (size : ℕ) → size ≡ length input - length rest →
+        IsRun action before input size version
+    stops size is = record {
+      front = ran.front;
+      left = rest;
+      parts = ran.parts;
+      size_is = omega (arith, is, ap length ran.parts, length-append ran.front rest);
+      ps = ran.ps;
+      in_order = in_order;
+      units = ran.units;
+      known = ran.known;
+      some = ran.some;
+      longest = longest;
+    }

@@ -1,28 +1,25 @@
 -- Forms of data and of deltas, as units.
-use Rattle.std.proofs.Common.{◌≡◌, ℕ, ◌+◌, ◌<◌, Bool, true, false, not, ◌||◌, cond, List, [], ◌∷◌}
+use Rattle.std.proofs.Common.{◌≡◌, ℕ, Bool, true, false, not, ◌||◌, cond, List, [], ◌∷◌}
 use Rattle.std.proofs.Common.{◌++◌, drop, map, refl, sym, ap, subst, ◌∙◌, arith, take}
-use Rattle.std.proofs.lemmas.Bool.{true≢false}
 use Rattle.std.proofs.lemmas.List.Kept.{IsStrictlySortedBy-filter}
 use Rattle.std.specs.List.{AllByRecursion, filter}
 use Rattle.std.specs.Ordering.{is_eq}
-use Rattle.rtr_base.specs.Actions.{act}
 use Rattle.rtr_base.specs.Bytes.{IsBytes}
-use Rattle.rtr_base.specs.declared.action.Action.TheVariants.{Announce, Withdraw}
 use Rattle.rtr_base.proofs.Numbers.{IsBytes-append, IsBytes-cons, IsBytes-drop, IsBytes-take}
-use Rattle.rtr_units.specs.End.{EndMeaning, IsEnd, end_list}
+use Rattle.rtr_units.specs.End.{EndMeaning, end_list}
 use Rattle.rtr_units.specs.PrefixUnits.{prefix_list}
 use Rattle.rtr_units.proofs.Ends.{end_made}
 use Rattle.rtr_payload.specs.AspaUnits.{aspa_list}
 use Rattle.rtr_payload.specs.KeyUnits.{key_list}
 use Rattle.rtr_payload.specs.Payloads.{Meaning, Payload}
-use Rattle.rtr_payload.specs.UnitFields.{Fields, Fit, HasMeaning, LengthsAgree, WithinLimits}
+use Rattle.rtr_payload.specs.UnitFields.{Fields, Fit, LengthsAgree, WithinLimits}
 use Rattle.rtr_payload.specs.UnitFields.{aspa_unit, key_unit, meaning, prefix_unit, unit_list}
 use Rattle.rtr_payload.specs.Units.{IsUnit, form_of}
 use Rattle.rtr_payload.proofs.ByFields.{unit_fields_of, unit_of_fields}
 use Rattle.rtr_payload.proofs.Fields.{form_is_unit}
-use Rattle.rtr_wire.specs.Sequences.{Accepts, AreUnits}
-use Rattle.rtr_data.specs.Changes.{announcements, changes, withdrawals}
-use Rattle.rtr_data.specs.Data.{Change, announcement, has, has_name, name_cmp, name_of, withdrawal}
+use Rattle.rtr_wire.specs.Sequences.{AreUnits}
+use Rattle.rtr_data.specs.Changes.{changes, withdrawals}
+use Rattle.rtr_data.specs.Data.{Change, announcement, has, has_name, name_cmp, withdrawal}
 use Rattle.rtr_data.specs.Deltas.{change_forms, unit_of}
 use Rattle.rtr_deltas.specs.Canonical.{HoldsData, data_units}
 use Rattle.rtr_deltas.specs.CanonicalChanges.{AreOrdered, HoldsChanges}
@@ -106,7 +103,7 @@ sent_withdrawal b v p unit =
 abbrev pub AreSent : ℕ → (Payload → Change) → List Payload → Type 0
 AreSent v f ps = AllByRecursion (λ p. IsSent v (f p)) ps
 
-announced_sent : (v : ℕ) (b : List ℕ) (d : List Payload) → AreUnits b (data_units v d) →
+pub announced_sent : (v : ℕ) (b : List ℕ) (d : List Payload) → AreUnits b (data_units v d) →
     AreSent v announcement d
 announced_sent v b [] units = tt
 announced_sent v b (p ∷ d) (first, more, at, unit, units) =
@@ -134,6 +131,12 @@ sent_units : (v : ℕ) (f : Payload → Change) (ps : List Payload) (cs : List C
 sent_units v f [] cs h units = units
 sent_units v f (p ∷ ps) cs (g, h) units =
     (form_of (unit_of v (f p)), change_forms v (map f ps ++ cs), refl, g, sent_units v f ps cs h units)
+
+pub all_sent : (v : ℕ) (f : Payload → Change) (ps : List Payload) → AreSent v f ps →
+    AreUnits (change_forms v (map f ps)) (map (unit_of v) (map f ps))
+all_sent v f [] h = refl
+all_sent v f (p ∷ ps) (g, h) =
+    (form_of (unit_of v (f p)), change_forms v (map f ps), refl, g, all_sent v f ps h)
 
 -- ---- a delta is changes in canonical form
 
@@ -185,23 +188,11 @@ module _ (old new : List ℕ) (d d' : List Payload) (e e' : EndMeaning) (h : Hol
       sent_units e'.version announcement (filter (λ p. not (has d p)) d') (withdrawals d d')
       (filter_all (λ p. IsSent e'.version (announcement p)) (λ p. not (has d p)) d'
       (announced_sent e'.version j.accepts.sequence.front d' j.accepts.sequence.units))
-      (no_more (filter (λ p. not (has_name d' p)) d)
+      (all_sent e'.version withdrawal (filter (λ p. not (has_name d' p)) d)
       (filter_all (λ p. IsSent e'.version (withdrawal p)) (λ p. not (has_name d' p)) d
       (withdrawn_sent e'.version h.accepts.sequence.front d
       (subst (λ w. AreUnits h.accepts.sequence.front (data_units w d)) version
       h.accepts.sequence.units))))
-    where
-      no_more : (ps : List Payload) → AreSent e'.version withdrawal ps →
-          AreUnits (change_forms e'.version (map withdrawal ps))
-          (map (unit_of e'.version) (map withdrawal ps))
-      no_more [] s = refl
-      no_more (p ∷ ps) (g, s) = (
-        form_of (unit_of e'.version (withdrawal p)),
-        change_forms e'.version (map withdrawal ps),
-        refl,
-        g,
-        no_more ps s,
-      )
 
   pub holds_delta : (rest : List ℕ) → HoldsChanges (delta_form d d' e' ++ rest) (changes d d') e'
   holds_delta rest = record {

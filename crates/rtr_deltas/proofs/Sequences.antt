@@ -1,6 +1,9 @@
 -- Data at the front of a slice, item by item.
 use Rattle.std.proofs.Common.{◌≡◌, ℕ, List, [], ◌∷◌, ◌++◌, None, refl, sym, ap, subst, ◌∙◌}
 use Rattle.std.proofs.Common.{append_assoc, arith, length, length-append, ◌<◌, ◌≤◌}
+use Rattle.std.specs.List.{AllByRecursion}
+use Rattle.std.specs.List.Sorted.{IsStrictlySortedBy}
+use Rattle.std.specs.declared.cmp.Ordering.TheVariants.{Less}
 use Rattle.rtr_base.specs.declared.action.Action.TheVariants.{Announce}
 use Rattle.rtr_units.specs.AnyEnd.{end_meaning}
 use Rattle.rtr_units.specs.End.{EndMeaning, IsEnd}
@@ -8,27 +11,33 @@ use Rattle.rtr_units.proofs.Ends.{end_one}
 use Rattle.rtr_payload.specs.AspaUnits.{aspa_at}
 use Rattle.rtr_payload.specs.FirstFault.{first_fault}
 use Rattle.rtr_payload.specs.KeyUnits.{key_at}
-use Rattle.rtr_payload.specs.Payloads.{Meaning}
+use Rattle.rtr_payload.specs.Payloads.{Meaning, Payload}
 use Rattle.rtr_payload.specs.UnitFields.{HasFields, aspa_unit, meaning, key_unit}
 use Rattle.rtr_payload.specs.Units.{IsUnit, form_of}
 use Rattle.rtr_payload.proofs.Apart.{unit_or_end}
 use Rattle.rtr_payload.proofs.Fields.{units_same}
 use Rattle.rtr_payload.proofs.Rests.{begins_unit_none, begins_end_none}
+use Rattle.rtr_views.specs.Faults.{IsFirstFault}
 use Rattle.rtr_views.specs.Origins.{origin_meaning}
-use Rattle.rtr_views.specs.Views.{IsViewOf, view_form}
+use Rattle.rtr_views.specs.Views.{IsViewOf}
+use Rattle.rtr_views.specs.declared.fault.ViewFault.{ViewFault}
+use Rattle.rtr_views.specs.declared.fault.ViewFault.TheVariants.{Writer, Short, UnitType}
+use Rattle.rtr_views.specs.declared.fault.ViewFault.TheVariants.{UnitLength, TooLong}
+use Rattle.rtr_views.specs.declared.fault.ViewFault.TheVariants.{EmptyProviders, UnitVersion}
+use Rattle.rtr_views.specs.declared.fault.ViewFault.TheVariants.{Prefix, TooMany}
 use Rattle.rtr_views.specs.declared.view.UnitView.{UnitView}
 use Rattle.rtr_views.specs.declared.view.UnitView.TheVariants as units
 use Rattle.rtr_views.proofs.Agreement.{view_means}
 use Rattle.rtr_wire.specs.Sequences.{Accepts}
 use Rattle.rtr_wire.proofs.OneAnswer.{begins_end}
 use Rattle.rtr_wire.proofs.Runs.{after}
-use Rattle.rtr_data.specs.Data.{announcement}
+use Rattle.rtr_data.specs.Data.{announcement, name_cmp}
 use Rattle.rtr_data.specs.Deltas.{unit_of}
-use Rattle.rtr_deltas.specs.Items.{IsItem, item_view, meant, unit_view}
+use Rattle.rtr_deltas.specs.Canonical.{HoldsData, data_units}
+use Rattle.rtr_deltas.specs.Items.{IsItem, item_view, meant}
 use Rattle.rtr_deltas.specs.declared.item.Item.{Item}
 use Rattle.rtr_deltas.specs.declared.item.Item.TheVariants as items
 use Rattle.rtr_deltas.specs.declared.item.PayloadView.{PayloadView}
-use Rattle.rtr_deltas.specs.declared.item.PayloadView.TheVariants as views
 
 -- the item of a view
 pub item_of_view : (v : UnitView) (b : List ℕ) → IsViewOf v b → IsItem (item_view v) b
@@ -144,7 +153,7 @@ no_unit m u =
     (record { bytes = []; means = m; rest = []; unit = u; parts = refl }) in
     absurd cc
 
-no_end : (e : EndMeaning) → IsEnd [] e → ⊥
+pub no_end : (e : EndMeaning) → IsEnd [] e → ⊥
 no_end e h = let n = begins_end_none [] (begins_end [] [] e h) in absurd cc
 
 not_empty : (x : Item) (b : List ℕ) → IsItem x b → 0 < length b
@@ -167,6 +176,54 @@ item_none (items.End d) b r left is parts =
     ap first_fault parts
     ∙ begins_end_none (b ++ left) (begins_end b left (end_meaning d) is.1)
 
+-- what has a fault doesn't begin without one
+pub not_refused : (e : ViewFault) (r : List ℕ) → IsFirstFault r e → first_fault r ≡ None → ⊥
+not_refused (Writer x) r h n = h
+not_refused Short r h n = let s = sym n ∙ h in absurd cc
+not_refused (UnitType t) r h n = let s = sym n ∙ h in absurd cc
+not_refused UnitLength r h n = let s = sym n ∙ h in absurd cc
+not_refused TooLong r h n = let s = sym n ∙ h in absurd cc
+not_refused EmptyProviders r h n = let s = sym n ∙ h in absurd cc
+not_refused (UnitVersion v) r h n = let s = sym n ∙ h in absurd cc
+not_refused (Prefix rule) r h n = let s = sym n ∙ h in absurd cc
+not_refused TooMany r h n = h
+
+-- ---- the first unit of data
+
+pub record First (m : Meaning) (left : List ℕ) (ps : List Payload) (e : EndMeaning) : Type 0 where
+  pub others : List Payload
+  pub first : ps ≡ m.payload ∷ others
+  pub action : m.action ≡ Announce
+  pub version : m.version ≡ e.version
+  pub held : HoldsData left others e
+  pub above : AllByRecursion (λ p. name_cmp m.payload p ≡ Less) others
+
+pub first_unit : (v : PayloadView) (b r left : List ℕ) (ps : List Payload) (e : EndMeaning) →
+    IsItem (items.Unit v) b → r ≡ b ++ left → HoldsData r ps e → First (meant v) left ps e
+unfolding IsStrictlySortedBy
+first_unit v b r left [] e is parts h =
+    let (ns, y, eq, a) = splits (items.Unit v) b r left h.bytes [] e is parts h.accepts in
+    absurd cc
+first_unit v b r left (p ∷ ps) e is parts h =
+    let (ns, y, eq, a) =
+    splits (items.Unit v) b r left h.bytes (data_units e.version (p ∷ ps)) e is parts h.accepts in
+    let head : unit_of e.version (announcement p) ≡ meant v = cc in
+    let tail : data_units e.version ps ≡ ns = cc in
+    let same : p ≡ (meant v).payload = ap (λ (m : Meaning). m.payload) head in
+    record {
+      others = ps;
+      first = ap (λ x. x ∷ ps) same;
+      action = sym (ap (λ (m : Meaning). m.action) head);
+      version = sym (ap (λ (m : Meaning). m.version) head);
+      held = record {
+        bytes = y;
+        accepts = subst (λ ms. Accepts left y ms e) (sym tail) a;
+        in_order = h.in_order.1;
+      };
+      above =
+          subst (λ x. AllByRecursion (λ q. name_cmp x q ≡ Less) ps) same h.in_order.0;
+    }
+
 -- ---- the form of an announcement
 
 -- a meaning whose action is to announce, in this version
@@ -176,10 +233,5 @@ announced m v action version =
     λ i. record { version = version i; action = action i; payload = m.payload }
 
 pub announced_form : (v : PayloadView) → (meant v).action ≡ Announce →
-    view_form (unit_view v) ≡ form_of (unit_of (meant v).version (announcement (meant v).payload))
-announced_form (views.Origin v) h =
-    ap form_of (announced (meant (views.Origin v)) (meant (views.Origin v)).version h refl)
-announced_form (views.RouterKey v) h =
-    ap form_of (announced (meant (views.RouterKey v)) (meant (views.RouterKey v)).version h refl)
-announced_form (views.Aspa v) h =
-    ap form_of (announced (meant (views.Aspa v)) (meant (views.Aspa v)).version h refl)
+    form_of (meant v) ≡ form_of (unit_of (meant v).version (announcement (meant v).payload))
+announced_form v h = ap form_of (announced (meant v) (meant v).version h refl)

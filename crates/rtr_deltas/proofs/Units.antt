@@ -1,16 +1,14 @@
 -- Units that announce or withdraw, at the front of a slice.
-use Rattle.std.proofs.Common.{◌≡◌, ℕ, List, [], ◌∷◌, ◌++◌, map, refl, sym, ap, subst, ◌∙◌}
+use Rattle.std.proofs.Common.{◌≡◌, ℕ, List, [], ◌∷◌, ◌++◌, refl, sym, ap, subst, ◌∙◌}
 use Rattle.std.proofs.Common.{append-nil, append_assoc}
 use Rattle.std.specs.List.{AllByRecursion}
 use Rattle.std.specs.List.Sorted.{IsStrictlySortedBy}
-use Rattle.std.specs.declared.cmp.Ordering.{Ordering}
 use Rattle.std.specs.declared.cmp.Ordering.TheVariants.{Less}
 use Rattle.std.specs.Ordering.{ordering_reverse}
 use Rattle.rtr_base.specs.Actions.{act}
 use Rattle.rtr_base.specs.declared.action.Action.{Action}
 use Rattle.rtr_base.specs.declared.action.Action.TheVariants.{Announce, Withdraw}
 use Rattle.rtr_units.specs.End.{EndMeaning, IsEnd}
-use Rattle.rtr_payload.specs.FirstFault.{first_fault}
 use Rattle.rtr_payload.specs.AspaUnits.{meant_aspa}
 use Rattle.rtr_payload.specs.Payloads.{Meaning, Payload, origin, key, aspa}
 use Rattle.rtr_payload.specs.UnitFields.{Fields, aspa_unit, key_unit, meaning, prefix_unit, stripped}
@@ -28,12 +26,10 @@ use Rattle.rtr_data.specs.Data.{IsData, name_cmp}
 use Rattle.rtr_data.specs.Deltas.{unit_of}
 use Rattle.rtr_data.proofs.Names.{name_alike, name_total}
 use Rattle.rtr_deltas.specs.Canonical.{HoldsData, change}
-use Rattle.rtr_deltas.specs.Items.{IsItem, meant}
+use Rattle.rtr_deltas.specs.Items.{meant}
 use Rattle.rtr_deltas.specs.PrivateChanges.{HoldsUnits, IsNext, NoUnit, units_of}
-use Rattle.rtr_deltas.specs.declared.item.Item.TheVariants as items
 use Rattle.rtr_deltas.specs.declared.item.PayloadView.{PayloadView}
-use Rattle.rtr_deltas.proofs.Checking.{not_refused}
-use Rattle.rtr_deltas.proofs.Sequences.{no_unit}
+use Rattle.rtr_deltas.proofs.Sequences.{no_unit, not_refused}
 
 -- ---- where no unit begins
 

@@ -11,9 +11,9 @@ use Rattle.rtr_data.specs.Data.{Change, after, announcement}
 use Rattle.rtr_data.specs.Deltas.{change_forms, unit_of}
 use Rattle.rtr_data.specs.declared.change_error.ChangeError.{ChangeError}
 use Rattle.rtr_data.specs.declared.change_error.ChangeError.TheVariants as refusals
-use Rattle.rtr_deltas.specs.Canonical.{HoldsData, PlacesFront}
+use Rattle.rtr_deltas.specs.Canonical.{HasData, HoldsData, PlacesFront}
 use Rattle.rtr_deltas.specs.CanonicalChanges.{HoldsChanges}
-use Rattle.rtr_deltas.specs.Flaws.{HasFlaw, IsFirstFlaw}
+use Rattle.rtr_deltas.specs.Flaws.{IsFlawOfChanges, IsFlawOfData}
 use Rattle.rtr_deltas.specs.declared.fault.ApplyFault.{ApplyFault}
 use Rattle.rtr_deltas.specs.declared.fault.ApplyFault.TheVariants.{Data, Changes, UnitVersion}
 use Rattle.rtr_deltas.specs.declared.fault.ApplyFault.TheVariants.{Session, Duplicate, Unknown}
@@ -63,9 +63,8 @@ pub record RefusedAt (offset : ℕ) (why : ChangeError) (changes : List ℕ) (d 
 
 -- What is wrong with the inputs, the first of these.
 abbrev pub RefusesApply : ApplyFault → (base changes : List ℕ) → Type 0
-RefusesApply (Data f) base changes = HasFlaw base f
-RefusesApply (Changes f) base changes =
-    ((d : List Payload) × (end : EndMeaning) × HoldsData base d end) × IsFirstFlaw changes f
+RefusesApply (Data f) base changes = IsFlawOfData base f
+RefusesApply (Changes f) base changes = HasData base × IsFlawOfChanges changes f
 RefusesApply (UnitVersion v) base changes = DataAndChanges base changes (λ d end cs end'.
     (end.version ≢ end'.version) × (v ≡ end'.version))
 RefusesApply (Session s) base changes = DataAndChanges base changes (λ d end cs end'.

@@ -21,6 +21,10 @@ pub record HoldsData (input : List ℕ) (d : List Payload) (e : EndMeaning) : Ty
   pub accepts : Accepts input bytes (data_units e.version d) e
   pub in_order : IsData d
 
+-- the input begins with some data
+abbrev pub HasData : List ℕ → Type 0
+HasData input = (d : List Payload) × (e : EndMeaning) × HoldsData input d e
+
 -- ---- the parts of a delta
 
 -- whether the list has what a change of the payload would make: the payload itself, or for a

@@ -24,3 +24,7 @@ pub record HoldsChanges (input : List ℕ) (cs : List Change) (e : EndMeaning) :
   pub bytes : List ℕ
   pub accepts : Accepts input bytes (map (unit_of e.version) cs) e
   pub in_order : AreOrdered cs
+
+-- the input begins with some changes
+abbrev pub HasChanges : List ℕ → Type 0
+HasChanges input = (cs : List Change) × (e : EndMeaning) × HoldsChanges input cs e

@@ -5,8 +5,8 @@ use Rattle.rtr_units.specs.End.{EndMeaning, end_list}
 use Rattle.rtr_payload.specs.Payloads.{Payload}
 use Rattle.rtr_data.specs.Changes.{changes}
 use Rattle.rtr_data.specs.Deltas.{change_forms}
-use Rattle.rtr_deltas.specs.Canonical.{HoldsData, PlacesFront}
-use Rattle.rtr_deltas.specs.Flaws.{HasFlaw}
+use Rattle.rtr_deltas.specs.Canonical.{HasData, HoldsData, PlacesFront}
+use Rattle.rtr_deltas.specs.Flaws.{IsFlawOfData}
 use Rattle.rtr_deltas.specs.declared.fault.DeltaFault.{DeltaFault}
 use Rattle.rtr_deltas.specs.declared.fault.DeltaFault.TheVariants.{Old, New, UnitVersion, Session}
 use Rattle.rtr_deltas.specs.declared.fault.DeltaFault.TheVariants.{NoRoom}
@@ -30,9 +30,8 @@ WritesDelta n old new before after = Both old new (λ d end d' end'.
 
 -- What is wrong with the inputs, the first of these.
 abbrev pub RefusesDelta : DeltaFault → (old new : List ℕ) → Type 0
-RefusesDelta (Old f) old new = HasFlaw old f
-RefusesDelta (New f) old new =
-    ((d : List Payload) × (end : EndMeaning) × HoldsData old d end) × HasFlaw new f
+RefusesDelta (Old f) old new = IsFlawOfData old f
+RefusesDelta (New f) old new = HasData old × IsFlawOfData new f
 RefusesDelta (UnitVersion v) old new = Both old new (λ d end d' end'.
     (end.version ≢ end'.version) × (v ≡ end'.version))
 RefusesDelta (Session s) old new = Both old new (λ d end d' end'.

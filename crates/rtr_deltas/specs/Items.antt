@@ -44,9 +44,3 @@ item_view (units.Origin v) = items.Unit (views.Origin v)
 item_view (units.RouterKey v) = items.Unit (views.RouterKey v)
 item_view (units.Aspa v) = items.Unit (views.Aspa v)
 item_view (units.End e) = items.End e
-
--- the item's view, once more
-abbrev pub unit_view : PayloadView → UnitView
-unit_view (views.Origin v) = units.Origin v
-unit_view (views.RouterKey v) = units.RouterKey v
-unit_view (views.Aspa v) = units.Aspa v

@@ -1,5 +1,5 @@
 -- Units of changes, and what breaks the rules. Only contracts of private functions cite these.
-use Rattle.std.specs.Prelude.{◌≡◌, ◌≢◌, ◌⊎◌, ◌+◌, ℕ, Bool, true, false, not, ◌&&◌, List, [], ◌∷◌}
+use Rattle.std.specs.Prelude.{◌≡◌, ◌≢◌, ◌⊎◌, ◌+◌, ℕ, Bool, true, false, not, ◌&&◌, List, ◌∷◌}
 use Rattle.std.specs.Prelude.{◌++◌, map, length, Option, Some, None, ⊤, Ok}
 use Rattle.std.specs.List.{AllByRecursion}
 use Rattle.std.specs.declared.cmp.Ordering.{Ordering}
@@ -48,6 +48,11 @@ pub record HoldsUnits (action : Action) (v : ℕ) (input : List ℕ) (ps : List 
 abbrev pub InVersion : Option ℕ → ℕ → Type 0
 InVersion None v = ⊤
 InVersion (Some w) v = w ≡ v
+
+-- the version of the last unit, if there is one
+abbrev pub last_version : Option PayloadView → Option ℕ
+last_version None = None
+last_version (Some last) = Some (meant last).version
 
 abbrev pub Ascends : Option PayloadView → Payload → Type 0
 Ascends None p = ⊤

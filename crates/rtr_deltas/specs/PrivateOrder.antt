@@ -1,6 +1,6 @@
 -- How data goes on after a unit. Only contracts of private functions cite these.
 use Rattle.std.specs.Prelude.{◌≡◌, ℕ, Bool, true, false, not, List, [], ◌++◌, map}
-use Rattle.std.specs.Prelude.{Option, Some, None, ⊤}
+use Rattle.std.specs.Prelude.{Option, ⊤}
 use Rattle.std.specs.Ordering.{is_eq}
 use Rattle.std.specs.declared.cmp.Ordering.{Ordering}
 use Rattle.std.specs.declared.cmp.Ordering.TheVariants.{Less, Equal, Greater}
@@ -8,7 +8,7 @@ use Rattle.rtr_base.specs.declared.action.Action.{Action}
 use Rattle.rtr_base.specs.declared.action.Action.TheVariants.{Announce, Withdraw}
 use Rattle.rtr_units.specs.End.{EndMeaning, end_list}
 use Rattle.rtr_payload.specs.Orders.{payload_cmp}
-use Rattle.rtr_payload.specs.Payloads.{Meaning, Payload}
+use Rattle.rtr_payload.specs.Payloads.{Payload}
 use Rattle.rtr_payload.specs.Units.{form_of}
 use Rattle.rtr_data.specs.Data.{name_cmp}
 use Rattle.rtr_data.specs.Deltas.{change_forms, unit_of}
@@ -18,18 +18,6 @@ use Rattle.rtr_deltas.specs.Items.{IsShort, IsComplete, meant}
 use Rattle.rtr_deltas.specs.declared.item.Item.{Item}
 use Rattle.rtr_deltas.specs.declared.item.Item.TheVariants as items
 use Rattle.rtr_deltas.specs.declared.item.PayloadView.{PayloadView}
-
--- a unit with this meaning goes on with data: it announces, in the version of the last unit, and
--- its payload is above that
-abbrev pub GoesOn : Option PayloadView → Meaning → Type 0
-GoesOn None m = m.action ≡ Announce
-GoesOn (Some last) m =
-    (m.action ≡ Announce) × ((meant last).version ≡ m.version)
-    × (name_cmp (meant last).payload m.payload ≡ Less)
-
-abbrev pub EndsAfter : Option PayloadView → EndMeaning → Type 0
-EndsAfter None e = ⊤
-EndsAfter (Some last) e = (meant last).version ≡ e.version
 
 -- ---- two sequences, gone over at once
 
@@ -63,10 +51,6 @@ lacking_form action v false = []
 abbrev pub IsDataItem : Item → Type 0
 IsDataItem (items.Unit v) = ((meant v).action ≡ Announce) × IsComplete v × IsShort v
 IsDataItem (items.End e) = ⊤
-
--- the input begins with some data
-abbrev pub HasData : List ℕ → Type 0
-HasData input = (d : List Payload) × (e : EndMeaning) × HoldsData input d e
 
 -- What these data have and those lack was written, as units of the version of these, which
 -- announce or withdraw it.

@@ -7,7 +7,7 @@ ghost use Rattle.rtr_deltas.specs.PrivateChanges.{IsAfterWithdrawal, LeastOf, No
 ghost use Rattle.rtr_deltas.specs.PrivateChanges.{PlacesApplied};
 
 use crate::item::{PayloadView, next_unit};
-use crate::placing::place_announcement;
+use crate::placing::place_unit;
 use std::cmp::Ordering;
 
 /// The first of data and of announcements.
@@ -45,7 +45,7 @@ pub(crate) fn place_applied(
         new_rest = least.new;
         match after_withdrawal(&least.view, least.is_old, withdrawn_rest) {
             Some(left) => withdrawn_rest = left,
-            None => match place_announcement(&least.view, &mut output[written..]) {
+            None => match place_unit(&least.view, &mut output[written..]) {
                 Some(size) => written += size,
                 None => return None,
             },

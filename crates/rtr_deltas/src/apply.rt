@@ -20,10 +20,13 @@ use rtr_views::placing::place;
 /// The first slice begins with data in canonical form, as `check_data` says, the second with
 /// changes in canonical form, as `check_changes` says. What follows them doesn't count.
 ///
-/// Faults, in this order: `Data` or `Changes` for a slice that isn't such data or changes,
-/// `UnitVersion` and `Session` for data and changes of two versions or of two sessions, `Duplicate`
-/// or `Unknown` for the first of the changes that the rules refuse (RFC 8210 section 12), with
-/// nothing written; then `NoRoom`, with a front of the data written.
+/// Faults, in this order: `Data` for a slice that doesn't begin with data, then `Changes` for one
+/// that doesn't begin with changes, each with the flaw that `check_data` or `check_changes` finds
+/// first, its offset counted in that slice; then `UnitVersion` and `Session` for data and changes
+/// of two versions or of two sessions, and `Duplicate` or `Unknown` for the first of the changes
+/// that the rules refuse (RFC 8210 section 12), with the offset of its unit in the changes, all
+/// with nothing written; then `NoRoom`, with a front of the data written. An output as long as both
+/// slices together always suffices.
 pub fn apply_into(data: &[u8], changes: &[u8], output: &mut [u8]) -> Result<usize, ApplyFault>
     ensures { AppliesChanges result «data».now changes.now output.old output.new }
 {

@@ -5,7 +5,7 @@ ghost use Rattle.rtr_units.specs.AnyEnd.{end_bytes, end_meaning};
 ghost use Rattle.rtr_units.specs.End.{IsEnd};
 ghost use Rattle.rtr_data.specs.Data.{Change};
 ghost use Rattle.rtr_deltas.specs.CanonicalChanges.{HoldsChanges};
-ghost use Rattle.rtr_deltas.specs.Flaws.{IsFirstFlaw};
+ghost use Rattle.rtr_deltas.specs.Flaws.{IsFlawOfChanges};
 ghost use Rattle.rtr_deltas.specs.Items.{meant};
 ghost use Rattle.rtr_deltas.specs.PrivateChanges.{Ascends, HoldsParts, InVersion, IsRun, RunsOn};
 
@@ -22,13 +22,17 @@ use rtr_units::end::EndOfData;
 /// payloads, each in their order, no name twice (of ASPAs the customer), all of one version, and an
 /// end of data of that version. Data are changes that withdraw nothing.
 ///
-/// `Refused` names what isn't a unit, and `NotCanonical` the first unit, or the end of data, that
-/// may not stand where it does.
+/// A flaw is the first in the input: the bytes before its offset are units with which changes may
+/// begin. `Refused` names the fault of what isn't a unit or an end of data there (`Short` where the
+/// input ends before its end of data), and `NotCanonical` a unit, or the end of data, that may not
+/// follow: a unit that announces after one that withdraws, or isn't above the last one of its
+/// action, or withdraws what is announced, or is of another version. The offset is where that
+/// begins, in bytes from the front of the input.
 pub fn check_changes(input: &[u8]) -> Result<EndOfData, Flaw>
     ensures changes { IfOk result
         (λ end. (cs : List Change) × HoldsChanges input.now cs (end_meaning end)) }
     ensures end { IfOk result (λ end. IsEnd (end_bytes end) (end_meaning end)) }
-    ensures flaw { IfErr result (λ flaw. IsFirstFlaw input.now flaw) }
+    ensures flaw { IfErr result (λ flaw. IsFlawOfChanges input.now flaw) }
 {
     match check_parts(input) {
         Ok(parts) => Ok(parts.end),
@@ -53,7 +57,7 @@ pub(crate) fn check_parts(input: &[u8]) -> Result<Parts, Flaw>
     ensures order { IfOk result (λ p. p.middle ≤ p.stop) }
     ensures within { IfOk result (λ p. p.stop ≤ length input.now) }
     ensures end { IfOk result (λ p. IsEnd (end_bytes p.end) (end_meaning p.end)) }
-    ensures flaw { IfErr result (λ flaw. IsFirstFlaw input.now flaw) }
+    ensures flaw { IfErr result (λ flaw. IsFlawOfChanges input.now flaw) }
 {
     let announced = run_of(input, Action::Announce, None);
     let middle = announced.size;

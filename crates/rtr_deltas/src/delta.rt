@@ -4,9 +4,9 @@ ghost use Rattle.std.specs.Prelude.{◌≡◌, ◌≤◌, IfSome, List, length};
 ghost use Rattle.rtr_payload.specs.Payloads.{Payload};
 ghost use Rattle.rtr_units.specs.AnyEnd.{end_bytes, end_meaning};
 ghost use Rattle.rtr_units.specs.End.{EndMeaning, end_list};
-ghost use Rattle.rtr_deltas.specs.Canonical.{HoldsData};
+ghost use Rattle.rtr_deltas.specs.Canonical.{HasData, HoldsData};
 ghost use Rattle.rtr_deltas.specs.Delta.{Deltas};
-ghost use Rattle.rtr_deltas.specs.PrivateOrder.{HasData, PlacesDelta, PlacesTail};
+ghost use Rattle.rtr_deltas.specs.PrivateOrder.{PlacesDelta, PlacesTail};
 
 use crate::check::check_data;
 use crate::fault::DeltaFault;
@@ -23,9 +23,11 @@ use rtr_views::placing::place;
 /// Both slices begin with data in canonical form: units that announce payloads in their order, all
 /// of one version, and an end of data of that version. What follows it doesn't count.
 ///
-/// Faults, in this order: `Old` or `New` for a slice that isn't such data, `UnitVersion` and
-/// `Session` for data of two versions or of two sessions, with nothing written; then `NoRoom`, with
-/// a front of the delta written.
+/// Faults, in this order: `Old` for old bytes that don't begin with data, then `New` for new ones,
+/// each with the flaw that `check_data` finds first, its offset counted in that slice; then
+/// `UnitVersion` and `Session` for data of two versions or of two sessions, all with nothing
+/// written; then `NoRoom`, with a front of the delta written. An output as long as both slices
+/// together always suffices.
 pub fn delta_into(old: &[u8], new: &[u8], output: &mut [u8]) -> Result<usize, DeltaFault>
     ensures { Deltas result old.now new.now output.old output.new }
 {

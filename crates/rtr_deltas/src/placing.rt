@@ -12,9 +12,8 @@ ghost use Rattle.rtr_payload.specs.Units.{form, form_of};
 ghost use Rattle.rtr_data.specs.Data.{withdrawal};
 ghost use Rattle.rtr_data.specs.Deltas.{unit_of};
 ghost use Rattle.rtr_views.specs.Placing.{Places};
-ghost use Rattle.rtr_views.specs.Views.{view_form};
 ghost use Rattle.rtr_deltas.specs.Canonical.{change};
-ghost use Rattle.rtr_deltas.specs.Items.{IsShort, meant, unit_view};
+ghost use Rattle.rtr_deltas.specs.Items.{IsShort, meant};
 
 use crate::item::PayloadView;
 use rtr_base::action::Action;
@@ -92,10 +91,10 @@ fn place_withdrawal(view: &PayloadView<'_>, output: &mut [u8]) -> Option<usize>
     }
 }
 
-/// Writes the viewed unit, which announces.
+/// Writes the unit as it is.
 #[inline(always)]
-pub(crate) fn place_announcement(view: &PayloadView<'_>, output: &mut [u8]) -> Option<usize>
-    ensures { Places result (view_form (unit_view view.now)) output.old output.new }
+pub(crate) fn place_unit(view: &PayloadView<'_>, output: &mut [u8]) -> Option<usize>
+    ensures { Places result (form_of (meant view.now)) output.old output.new }
 {
     match view {
         PayloadView::Origin(view) => UnitView::Origin(*view).place_form(output),
@@ -119,7 +118,7 @@ pub(crate) fn place_change(
         output.old output.new }
 {
     match action {
-        Action::Announce => place_announcement(view, output),
+        Action::Announce => place_unit(view, output),
         Action::Withdraw => place_withdrawal(view, output),
     }
 }

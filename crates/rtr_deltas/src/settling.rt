@@ -2,9 +2,8 @@
 
 ghost use Rattle.std.specs.Prelude.{◌≡◌, ◌≤◌, IfSome, length};
 ghost use Rattle.std.specs.Ordering.{is_eq};
-ghost use Rattle.rtr_data.specs.Data.{name_cmp, takes_place as has_place};
+ghost use Rattle.rtr_data.specs.Data.{name_cmp};
 ghost use Rattle.rtr_data.specs.Sequences.{change_of};
-ghost use Rattle.rtr_payload.specs.Units.{form_of};
 ghost use Rattle.rtr_views.specs.Placing.{Places};
 ghost use Rattle.rtr_deltas.specs.Items.{meant};
 ghost use Rattle.rtr_deltas.specs.Net.{settles as is_settling};
@@ -16,8 +15,8 @@ ghost use Rattle.rtr_deltas.specs.PrivatePlaces.{same_name as have_name};
 use crate::item::PayloadView;
 use crate::order_fault::OrderFault;
 use crate::places::unit_at;
+use crate::placing::place_unit;
 use rtr_base::action::Action;
-use rtr_views::view::UnitView;
 
 /// The first refusal, of the names in order.
 pub(crate) fn first_refused(input: &[u8], places: &[usize]) -> Option<OrderFault>
@@ -117,19 +116,6 @@ fn first_action(same: bool, first: Action, view: &PayloadView<'_>) -> Action
     if same { first } else { view.action() }
 }
 
-/// Whether an announcement takes the place of another of its name: that of an ASPA.
-#[inline(always)]
-#[tactic(auto, unfolding(rtr_data::specs::Data::takes_place))]
-fn takes_place(view: &PayloadView<'_>) -> bool
-    ensures { result ≡ has_place (meant view.now).payload }
-{
-    match view {
-        PayloadView::Origin(_) => false,
-        PayloadView::RouterKey(_) => false,
-        PayloadView::Aspa(_) => true,
-    }
-}
-
 /// What is refused of the unit, and of the next.
 #[inline(always)]
 fn between(
@@ -157,7 +143,7 @@ fn unlinked(before: Action, place: usize, view: &PayloadView<'_>) -> Option<Orde
 {
     match (before, view.action()) {
         (Action::Announce, Action::Announce) => {
-            if takes_place(view) {
+            if view.takes_place() {
                 None
             } else {
                 Some(OrderFault::Duplicate { offset: place })
@@ -176,7 +162,7 @@ fn open_end(first: Action, place: usize, view: &PayloadView<'_>) -> Option<Order
 {
     match (first, view.action()) {
         (Action::Announce, Action::Withdraw) => {
-            if takes_place(view) {
+            if view.takes_place() {
                 Some(OrderFault::Undecided { offset: place })
             } else {
                 None
@@ -196,7 +182,7 @@ fn settles(first: Action, view: &PayloadView<'_>) -> bool
     match (first, view.action()) {
         (Action::Announce, Action::Announce) => true,
         (Action::Withdraw, Action::Withdraw) => true,
-        (Action::Withdraw, Action::Announce) => takes_place(view),
+        (Action::Withdraw, Action::Announce) => view.takes_place(),
         (Action::Announce, Action::Withdraw) => false,
     }
 }
@@ -229,16 +215,4 @@ fn place_last(
         return Some(0);
     }
     place_unit(view, output)
-}
-
-/// Writes the unit as it is.
-#[inline(always)]
-fn place_unit(view: &PayloadView<'_>, output: &mut [u8]) -> Option<usize>
-    ensures { Places result (form_of (meant view.now)) output.old output.new }
-{
-    match view {
-        PayloadView::Origin(view) => UnitView::Origin(*view).place_form(output),
-        PayloadView::RouterKey(view) => UnitView::RouterKey(*view).place_form(output),
-        PayloadView::Aspa(view) => UnitView::Aspa(*view).place_form(output),
-    }
 }

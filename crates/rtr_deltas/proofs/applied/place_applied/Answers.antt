@@ -29,15 +29,15 @@ units-preserved c =
     writes c.args.old.now c.args.announced.now c.args.withdrawn.now u.old_rest.now u.new_rest.now
     u.withdrawn_rest.now c.args.output.now u.output u.written u.invariant l.view l.is_old
     l.old.now l.new.now c.in-Some.ensures.least c.in-None-after_withdrawal.ensures
-    c.place_announcement.new.output c.in-Some-place_announcement.size
-    c.in-Some-place_announcement.ensures
+    c.place_unit.new.output c.in-Some-place_unit.size
+    c.in-Some-place_unit.ensures
 
-pub returns-in-None-place_announcement-clause-bytes :
-    goal.returns-in-None-place_announcement-clause-bytes
-returns-in-None-place_announcement-clause-bytes c =
+pub returns-in-None-place_unit-clause-bytes :
+    goal.returns-in-None-place_unit-clause-bytes
+returns-in-None-place_unit-clause-bytes c =
     let u = c.units in
     let l = c.in-Some.least in
     stops c.args.old.now c.args.announced.now c.args.withdrawn.now u.old_rest.now u.new_rest.now
     u.withdrawn_rest.now c.args.output.now u.output u.written u.invariant l.view l.is_old
     l.old.now l.new.now c.in-Some.ensures.least c.in-None-after_withdrawal.ensures
-    c.place_announcement.new.output c.in-None-place_announcement.ensures
+    c.place_unit.new.output c.in-None-place_unit.ensures

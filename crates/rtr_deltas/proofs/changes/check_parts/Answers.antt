@@ -1,7 +1,6 @@
 use Rattle.std.proofs.Common.{sym, subst, ◌∙◌}
 use Rattle.std.proofs.lemmas.Bool.{true≢false}
 use Rattle.rtr_units.specs.AnyEnd.{end_meaning}
-use Rattle.rtr_units.specs.End.{IsEnd}
 use Rattle.rtr_views.specs.Faults.{IsFirstFault}
 use Rattle.rtr_deltas.specs.Items.{meant}
 use Rattle.rtr_deltas.specs.PrivateChanges.{InVersion}

@@ -7,7 +7,7 @@ pub returns-in-Announce : goal.returns-in-Announce
 returns-in-Announce c =
     rw c.in-Announce.is
     (subst
-    (λ l. Places c.place_announcement.result l c.args.output.now
-    c.place_announcement.new.output)
+    (λ l. Places c.place_unit.result l c.args.output.now
+    c.place_unit.new.output)
     (announced_form c.args.view.now c.requires.announces)
-    c.place_announcement.ensures)
+    c.place_unit.ensures)
