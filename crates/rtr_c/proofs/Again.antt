@@ -43,13 +43,13 @@ module _ (v c : ℕ) (p t rest : List ℕ) where
   after_twelve =
       ap (λ l. l ++ rest) (append_assoc p count t) ∙ append_assoc p (count ++ t) rest
 
-  size : length (report v c p t) ≡ 16 + length p + length t
+  pub size : length (report v c p t) ≡ 16 + length p + length t
   size = omega (arith, length-append (p ++ count) t, length-append p count)
 
   long : 16 + length p + length t ≤ length all
   long = omega (arith, size, length-append (report v c p t) rest)
 
-  part_back : piece_said 12 (length p) all ≡ Some p
+  pub part_back : piece_said 12 (length p) all ≡ Some p
   part_back =
       piece_steps (12 + length p) (length all) _ _ (omega (arith, long))
       ∙ ap (λ l. Some (take (length p) l)) after_twelve
@@ -64,7 +64,7 @@ module _ (v c : ℕ) (p t rest : List ℕ) where
       ∙ sym (drop-drop 4 (length p) (p ++ ((count ++ t) ++ rest)))
       ∙ ap (drop 4) (drop_at p ((count ++ t) ++ rest) (length p) refl)
 
-  text_back : piece_said (16 + length p) (length t) all ≡ Some t
+  pub text_back : piece_said (16 + length p) (length t) all ≡ Some t
   text_back =
       piece_steps (16 + length p + length t) (length all) _ _ (omega (arith, long))
       ∙ ap (λ l. Some (take (length t) l)) after_part

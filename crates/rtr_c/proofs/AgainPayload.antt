@@ -50,7 +50,7 @@ in_order w l m h k = grind (arith, nat_tests)
 act_steps : {A : Type 0} (a : ℕ) (p x : A) → a ≤ 1 → cond (ltb 1 a || false) p x ≡ x
 act_steps a p x h = grind (arith, nat_tests)
 
-cleared_once : (w l a : ℕ) → a % 2 ^ (w - l) ≡ 0 → cleared w l a ≡ a
+pub cleared_once : (w l a : ℕ) → a % 2 ^ (w - l) ≡ 0 → cleared w l a ≡ a
 cleared_once w l a h = omega arith
 
 module _ (n v g l m asn a : ℕ) (input : List ℕ) where
@@ -132,7 +132,7 @@ module _ (k : KeyFields) (is : IsKey k.key) (few : length k.key.info ≤ 65503) 
         length-append (front ++ k.key.info) rest,
       )
 
-  info_back : piece_said 32 (length k.key.info) all ≡ Some k.key.info
+  pub info_back : piece_said 32 (length k.key.info) all ≡ Some k.key.info
   info_back =
       piece_steps (32 + length k.key.info) (length all) _ _ long
       ∙ ap (λ l. Some (take (length k.key.info) l)) after
@@ -171,7 +171,7 @@ module _ (u : AspaFields) (is : IsAspa u.aspa) (rest : List ℕ) where
   providers_long : 12 + 4 * length u.aspa.providers ≤ length unit
   providers_long = omega (arith, size, length-append bytes rest)
 
-  providers_back : piece_said 12 (4 * length u.aspa.providers) unit ≡ Some bytes
+  pub providers_back : piece_said 12 (4 * length u.aspa.providers) unit ≡ Some bytes
   providers_back =
       piece_steps (12 + 4 * length u.aspa.providers) (length unit) _ _ providers_long
       ∙ ap Some (take_at bytes rest (4 * length u.aspa.providers) size)

@@ -67,7 +67,7 @@ report_steps : {A : Type 0} (a n : ℕ) (p q x : A) → a ≤ 0 → n ≤ 65519 
 report_steps a n p q x h k = grind (arith, nat_tests)
 
 -- nothing is cut of parts that fit
-held_whole : (v c : ℕ) (p t : List ℕ) → length p + length t ≤ 65519 →
+pub held_whole : (v c : ℕ) (p t : List ℕ) → length p + length t ≤ 65519 →
     held_report v c p t ≡ report v c p t
 held_whole v c p t few =
     let part : take 65519 p ≡ p = take_all 65519 p (omega (arith, few)) in

@@ -7,3 +7,11 @@ mod AgainPayload
 mod DeltaRoom
 mod Wanted
 mod ApplyRoom
+mod OneList
+mod Made
+mod MadePlain
+mod MadeEnd
+mod MadePayload
+mod MadeReport
+mod Kept
+mod Sides

@@ -6,3 +6,5 @@ pub mod Compared
 pub mod Sizes
 pub mod Numbers
 pub mod DataAnswers
+pub mod Kept
+pub mod PrivateRanges

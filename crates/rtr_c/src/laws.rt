@@ -1,6 +1,8 @@
 //! Laws of the calls: what follows from their contracts.
 
-ghost use Rattle.std.specs.Prelude.{◌≡◌, ◌≢◌, ◌+◌, ◌++◌, ℕ, List, take, drop, Result, Ok};
+ghost use Rattle.std.specs.Prelude.{◌≡◌, ◌≢◌, ◌<◌, ◌^◌, ◌+◌, ◌++◌, ℕ, Bool, List, take, drop};
+ghost use Rattle.std.specs.Prelude.{Result, Ok};
+ghost use Rattle.rtr_base.specs.Bytes.{IsBytes};
 ghost use Rattle.rtr_units.specs.Codes.{code_of};
 ghost use Rattle.rtr_units.specs.Header.{type_field};
 ghost use Rattle.rtr_views.specs.Owed.{owed, read_fault};
@@ -9,14 +11,20 @@ ghost use Rattle.rtr_data.specs.ChangeCodes.{change_code};
 ghost use Rattle.rtr_data.specs.declared.change_error.ChangeError.TheVariants as refusals;
 ghost use Rattle.rtr_session.specs.AnyFields.{AnyFields, HasAnyFields};
 ghost use Rattle.rtr_session.specs.SessionForms.{session_form};
-ghost use Rattle.rtr_wire.specs.Sequences.{Output};
+ghost use Rattle.rtr_wire.specs.Comparison.{ComparesSlices};
+ghost use Rattle.rtr_wire.specs.Sequences.{Output, everything};
 ghost use Rattle.rtr_c.specs.Answers.{CallNormalises, IsWanted, fault_status, joined_answer};
-ghost use Rattle.rtr_c.specs.Answers.{rtr_duplicate, rtr_short, rtr_unknown};
+ghost use Rattle.rtr_c.specs.Answers.{rtr_duplicate, rtr_no_room, rtr_ok, rtr_short, rtr_unknown};
+ghost use Rattle.rtr_c.specs.Compared.{TellsSame};
+ghost use Rattle.rtr_c.specs.Kept.{IsShownAgain};
 ghost use Rattle.rtr_c.specs.Numbers.{code_owed, status_code};
+ghost use Rattle.rtr_c.specs.PrivateRanges.{IsRanged};
 ghost use Rattle.rtr_c.specs.Said.{said};
 ghost use Rattle.rtr_c.specs.Shown.{CallShows, IsWrittenAgain, ShowsFirst};
 ghost use Rattle.rtr_c.specs.declared.answer.RtrAnswer.{RtrAnswer};
 ghost use Rattle.rtr_c.specs.declared.unit.RtrUnit.{RtrUnit};
+
+use crate::unit::RtrUnit;
 
 /// A call that normalises and goes on where another stopped, over the rest of the input and of the
 /// output and with its own limit, is one call with it.
@@ -38,6 +46,67 @@ pub fn shown_and_written()
     ensures { (input b rest : List ℕ) (f : AnyFields) (u : RtrUnit) →
         input ≡ b ++ rest → HasAnyFields b f → IsWrittenAgain b f → CallShows b f u →
         said u input ≡ Ok (session_form f) }
+{}
+
+/// What is written of a unit is one unit of at most 65535 bytes, with the fields of its kind as
+/// they were given (RFC 8210 sections 5.2 to 5.11): just these are shown of it, whatever follows
+/// it, and its key info, its providers, or the unit and the text of a report are the bytes that
+/// were given.
+///
+/// Not kept are what its kind doesn't have, the bits of an address after the prefix length, the
+/// providers of a withdrawn ASPA, the timings of an end of data in version 0, and the places of the
+/// key info, the providers and the parts of a report, which are now those in the unit itself.
+pub fn written_and_shown(unit: &RtrUnit, input: &[u8])
+    ensures { (b : List ℕ) → said unit.now input.now ≡ Ok b → IsShownAgain unit.now input.now b }
+{
+    ranged(unit);
+    are_bytes(input);
+}
+
+/// The numbers of a unit are those of their types.
+fn ranged(unit: &RtrUnit)
+    ensures { IsRanged unit.now }
+{
+    let _version = unit.version;
+    let _session = unit.session;
+    let _code = unit.code;
+    let _serial = unit.serial;
+    let _refresh = unit.refresh;
+    let _retry = unit.retry;
+    let _expire = unit.expire;
+    systems(unit);
+    are_bytes(&unit.address);
+    are_bytes(&unit.key_identifier);
+}
+
+/// The numbers of autonomous systems are those of their type.
+fn systems(unit: &RtrUnit)
+    ensures asn { unit.now.asn < 2 ^ 32 }
+    ensures customer { unit.now.customer < 2 ^ 32 }
+{
+    let _asn = unit.asn;
+    let _customer = unit.customer;
+}
+
+/// Bytes are below 256.
+fn are_bytes(bytes: &[u8])
+    ensures { IsBytes bytes.now }
+{}
+
+/// The status of `rtr_same_meaning` is that of `rtr_normalise_slice` over the left input if that is
+/// refused, and else over the right one, with the same limit and enough room. So that call tells of
+/// a fault on which side it is, its detail and its offset.
+pub fn faults_of_two()
+    ensures left { (limit : ℕ) (r : Result Bool ViewFault) (left right before after : List ℕ)
+        (x y : Bool) (a : RtrAnswer) (status code : ℕ) → ComparesSlices limit r left right →
+        TellsSame r x y status → CallNormalises everything limit left before after a code →
+        code ≢ rtr_ok → code ≢ rtr_no_room → status ≡ code }
+    ensures right { (limit : ℕ) (r : Result Bool ViewFault)
+        (left right before after room filled : List ℕ) (x y : Bool) (a b : RtrAnswer)
+        (status code : ℕ) → ComparesSlices limit r left right → TellsSame r x y status →
+        CallNormalises everything limit left before after a rtr_ok →
+        CallNormalises everything limit right room filled b code →
+        code ≢ rtr_no_room → status ≡ code }
 {}
 
 /// If an input is too short, as many bytes are wanted from where the call stopped on as a header
