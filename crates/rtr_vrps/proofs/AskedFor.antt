@@ -1,0 +1,52 @@
+-- The sequence that is asked for.
+use Rattle.std.proofs.Common.{◌≡◌, ◌<◌, ◌^◌, ℕ, refl, inl, inr, arith}
+use Rattle.std.proofs.Common.{List, ◌++◌, Result, subst, ap, ◌∙◌}
+use Rattle.rtr_base.specs.declared.timing.Timing.{Timing}
+use Rattle.rtr_units.specs.End.{IsEndMeaning, HasTimingOf, end_list}
+use Rattle.rtr_units.specs.Stream.{PutsForm}
+use Rattle.rtr_units.specs.StopCauses.{WriterState}
+use Rattle.rtr_units.specs.declared.fault.Fault.{Fault}
+use Rattle.rtr_payload.specs.Payloads.{Payload}
+use Rattle.rtr_data.specs.Deltas.{all_for, change_forms}
+use Rattle.rtr_data.proofs.Accepted.{all_sequence}
+use Rattle.rtr_vrps.specs.Gathering.{GathersAll, NamesFirst}
+use Rattle.rtr_vrps.specs.Making.{IsSequenceOf, asked_end, sequence_of, timing_for, version_number}
+use Rattle.rtr_vrps.specs.declared.item.Item.{Item}
+use Rattle.rtr_vrps.specs.declared.item.Refusal.{Refusal}
+use Rattle.rtr_vrps.specs.declared.words.Request.{Request}
+use Rattle.rtr_vrps.specs.declared.words.Version.{Version}
+use Rattle.rtr_vrps.specs.declared.words.Version.TheVariants.{V0, V1, V2}
+
+pub has_timing : (v : Version) (t : Timing) → t.refresh < 2 ^ 32 → t.retry < 2 ^ 32 →
+    t.expire < 2 ^ 32 → HasTimingOf (version_number v) (timing_for v t)
+has_timing V0 t a b c = refl
+has_timing V1 t a b c = (inl refl, a, b, c)
+has_timing V2 t a b c = (inr refl, a, b, c)
+
+pub version_is_byte : (v : Version) → version_number v < 256
+version_is_byte V0 = omega arith
+version_is_byte V1 = omega arith
+version_is_byte V2 = omega arith
+
+module _ (a : Request) (items : List Item) (d : List Payload) (v : ℕ)
+    (is : v ≡ version_number a.version) where
+  pub made : (n : ℕ) → GathersAll v a.leaves_out items d n → IsEndMeaning (asked_end a) →
+      IsSequenceOf a items d n
+  made n g fits = record {
+    gathered = subst (λ w. GathersAll w a.leaves_out items d n) is g;
+    accepted = all_sequence (version_number a.version) (version_is_byte a.version) d
+        (asked_end a) g.sendable fits;
+  }
+
+  pub written : (r : Result (Unit {0}) Fault) (old new : WriterState) (end : List ℕ) →
+      end ≡ end_list (asked_end a) →
+      PutsForm r old new (change_forms v (all_for v d) ++ end) →
+      PutsForm r old new (sequence_of a d)
+  written r old new end e h =
+      subst (λ l. PutsForm r old new l)
+      (ap (λ l. change_forms v (all_for v d) ++ l) e
+      ∙ ap (λ w. change_forms w (all_for w d) ++ end_list (asked_end a)) is) h
+
+  pub named : (r : Refusal) → NamesFirst v a.leaves_out items r r.reason →
+      NamesFirst (version_number a.version) a.leaves_out items r r.reason
+  named r h = subst (λ w. NamesFirst w a.leaves_out items r r.reason) is h

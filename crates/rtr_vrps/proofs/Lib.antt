@@ -1,0 +1,4 @@
+pub mod HeldData
+pub mod SoFar
+pub mod AskedFor
+pub mod Origins

@@ -1,0 +1,24 @@
+use Rattle.std.proofs.Common.{Ok, Err}
+use Rattle.rtr_vrps.proofs.AskedFor.{made, written}
+use Rattle.rtr_vrps.proofs.sequence.write_sequence.Goals as goal
+
+pub returns-in-Ok-put_sequence : goal.returns-in-Ok-put_sequence
+returns-in-Ok-put_sequence g c =
+    let a = c.args.asked.now in
+    let v = c.number-version.ensures in (
+      c.in-Ok.gathered.payloads,
+      made a c.args.items.now _ _ v _ c.in-Ok.ensures c.end_of-end.ensures.fits,
+      written a c.args.items.now c.in-Ok.gathered.payloads _ v (Ok _) _ _ _
+          c.end_of-end.ensures.bytes c.in-Ok-put_sequence.ensures,
+    )
+
+pub returns : goal.returns
+returns g c =
+    let a = c.args.asked.now in
+    let v = c.number-version.ensures in (
+      c.in-Ok.gathered.payloads,
+      c.in-Ok.gathered.left_out,
+      made a c.args.items.now _ _ v _ c.in-Ok.ensures c.end_of-end.ensures.fits,
+      written a c.args.items.now c.in-Ok.gathered.payloads _ v (Err c.in-Err-put_sequence.fault)
+          _ _ _ c.end_of-end.ensures.bytes c.in-Err-put_sequence.ensures,
+    )

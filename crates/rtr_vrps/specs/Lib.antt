@@ -1,0 +1,4 @@
+pub mod Gathering
+pub mod Making
+pub mod MakeStatus
+pub mod PrivateAdding

@@ -1,0 +1,199 @@
+//! One run of the program, over any reader and writers.
+
+ghost use Rattle.std.specs.Prelude.{◌≡◌};
+ghost use Rattle.std.specs.Process.{exit_status};
+ghost use Rattle.rtr_vrps.specs.MakeStatus.{EndsMaking, MakesOf, RunsMaking, refusal_status};
+
+use crate::csv_items::read_csv;
+use crate::item::{Item, Reason, Refusal};
+use crate::json_items::read_json;
+use crate::sequence::{Trouble, write_sequence};
+use crate::words::{Format, Request, asked};
+use json::Scratch;
+use rtr_units::source::Sink;
+use std::alloc::Global;
+use std::io::{ErrorKind, Read, Write};
+use std::process::ExitCode;
+
+/// The status if the input was refused.
+const REFUSED: u8 = 1;
+
+/// The status if the arguments are wrong.
+const USAGE: u8 = 2;
+
+/// The status if reading, writing, flushing or memory failed.
+const FAILED: u8 = 3;
+
+/// RunsMaking the program with the words that it was started with, its name first, and answers the code
+/// to end with, which is the status of `run`. If there are no words, since they can't be had as
+/// texts, it prints the usage.
+pub fn program<R: Read, W: Sink, F: Write>(
+    alloc: Global,
+    words: Option<Vec<String>>,
+    input: &mut R,
+    output: &mut W,
+    faults: &mut F,
+) -> ExitCode
+    ensures ends { EndsMaking (exit_status result) (W.state output.old) (W.state output.new) }
+{
+    let Some(words) = words else {
+        return ExitCode::from(usage(&[], faults));
+    };
+    let status = run_asked(alloc, words.get(1..).unwrap_or(&[]), input, output, faults);
+    ExitCode::from(status)
+}
+
+/// RunsMaking what the words after the program's name ask for, or prints the usage.
+fn run_asked<R: Read, W: Sink, F: Write>(
+    alloc: Global,
+    words: &[String],
+    input: &mut R,
+    output: &mut W,
+    faults: &mut F,
+) -> u8
+    ensures ends { EndsMaking result (W.state output.old) (W.state output.new) }
+{
+    match asked(words) {
+        Some(asked) => run(alloc, &asked, input, output, faults),
+        None => usage(words, faults),
+    }
+}
+
+/// Reads all of the input, writes the sequence of its payloads, flushes the output once, and
+/// answers the exit status:
+/// - 0 if that succeeded, with a line on `faults` if payloads were left out;
+/// - 1 if the input was refused;
+/// - 3 if reading, writing, flushing or memory failed.
+///
+/// Statuses other than 0 come with a line on `faults`. If that can't be written, nothing else
+/// changes.
+pub fn run<R: Read, W: Sink, F: Write>(
+    alloc: Global,
+    asked: &Request,
+    input: &mut R,
+    output: &mut W,
+    faults: &mut F,
+) -> u8
+    ensures { RunsMaking asked.now result (W.state output.old) (W.state output.new) }
+{
+    let mut text: Vec<u8> = Vec::new(alloc);
+    if let Err(error) = input.read_to_end(&mut text) {
+        let line = if error.kind() == ErrorKind::OutOfMemory {
+            "out of memory"
+        } else {
+            "read failed"
+        };
+        let _ = writeln!(faults, "{line}");
+        return FAILED;
+    }
+    match asked.format {
+        Format::Csv => make_of_csv(alloc, asked, &text, output, faults),
+        Format::Json => make_of_json(alloc, asked, &text, output, faults),
+    }
+}
+
+/// Writes the sequence of what stands in CSV.
+fn make_of_csv<W: Sink, F: Write>(
+    alloc: Global,
+    asked: &Request,
+    text: &[u8],
+    output: &mut W,
+    faults: &mut F,
+) -> u8
+    ensures { RunsMaking asked.now result (W.state output.old) (W.state output.new) }
+{
+    match read_csv(alloc, text) {
+        Ok(items) => write(alloc, asked, &items, output, faults),
+        Err(refusal) => tell_refusal(&refusal, faults),
+    }
+}
+
+/// Writes the sequence of what stands in JSON.
+fn make_of_json<W: Sink, F: Write>(
+    alloc: Global,
+    asked: &Request,
+    text: &[u8],
+    output: &mut W,
+    faults: &mut F,
+) -> u8
+    ensures { RunsMaking asked.now result (W.state output.old) (W.state output.new) }
+{
+    let mut scratch = Scratch::new(alloc);
+    match read_json(alloc, text, &mut scratch) {
+        Ok(items) => write(alloc, asked, &items, output, faults),
+        Err(refusal) => tell_refusal(&refusal, faults),
+    }
+}
+
+/// Writes the sequence of the items, and flushes it.
+fn write<W: Sink, F: Write>(
+    alloc: Global,
+    asked: &Request,
+    items: &[Item<'_>],
+    output: &mut W,
+    faults: &mut F,
+) -> u8
+    ensures { MakesOf asked.now items.now result (W.state output.old) (W.state output.new) }
+{
+    let answer = write_sequence(alloc, asked, items, output);
+    let flushed = output.flush().is_ok();
+    match answer {
+        Ok(left_out) if flushed => {
+            if left_out > 0 {
+                let version = asked.version.number();
+                let _ = writeln!(faults, "left out {left_out} that version {version} hasn't");
+            }
+            0
+        }
+        Ok(_) => {
+            let _ = writeln!(faults, "write failed");
+            FAILED
+        }
+        Err(Trouble::Input(refusal)) => tell_refusal(&refusal, faults),
+        Err(Trouble::Output(fault)) => {
+            let _ = writeln!(faults, "{fault}");
+            FAILED
+        }
+    }
+}
+
+/// Prints why the input is refused, and answers the status.
+fn tell_refusal<F: Write>(refusal: &Refusal<'_>, faults: &mut F) -> u8
+    ensures { result ≡ refusal_status refusal.now.reason }
+{
+    let reason = &refusal.reason;
+    if let Reason::Memory = reason {
+        let _ = writeln!(faults, "{reason}");
+        return FAILED;
+    }
+    let place = refusal.place;
+    let _ = writeln!(faults, "{place}: {reason}");
+    REFUSED
+}
+
+/// Prints how the program is called, before that for help what it does, as its man page begins, and
+/// answers status 2.
+fn usage<F: Write>(words: &[String], faults: &mut F) -> u8
+    ensures { result ≡ 2 }
+{
+    if asks_for_help(words) {
+        let _ = writeln!(
+            faults,
+            "rtr_make - write the RTR sequence of validated payloads"
+        );
+    }
+    let _ = writeln!(
+        faults,
+        "usage: rtr_make --csv | --json [--version 0|1|2] [--session N] [--serial N] [--refresh N] \
+         [--retry N] [--expire N] [--drop]"
+    );
+    USAGE
+}
+
+/// Whether the one word is that for help.
+fn asks_for_help(words: &[String]) -> bool {
+    match words {
+        [word] => word.as_str() == "--help",
+        _ => false,
+    }
+}

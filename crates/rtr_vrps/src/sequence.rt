@@ -1,0 +1,91 @@
+//! The sequence that is made of items.
+
+ghost use Rattle.std.specs.Prelude.{◌≡◌, ◌≤◌, ◌<◌, ◌^◌, ◌++◌};
+ghost use Rattle.rtr_units.specs.AnyEnd.{end_bytes};
+ghost use Rattle.rtr_units.specs.End.{IsEndMeaning, end_list};
+ghost use Rattle.rtr_units.specs.Stream.{PutsForm};
+ghost use Rattle.rtr_data.specs.Deltas.{all_for, change_forms};
+ghost use Rattle.rtr_vrps.specs.Making.{MakesSequence, asked_end};
+
+use crate::gathering::gather;
+use crate::item::{Item, Refusal};
+use crate::words::Request;
+use rtr_base::timing::Timing;
+use rtr_data::Data;
+use rtr_units::end::EndOfData;
+use rtr_units::fault::Fault;
+use rtr_units::source::Sink;
+use std::alloc::Global;
+
+/// Why no sequence was written, or not all of it.
+#[derive(Debug, Drop)]
+pub enum Trouble<'a> {
+    /// The input is refused, or memory ran out.
+    Input(Refusal<'a>),
+    /// The writer failed.
+    Output(Fault),
+}
+
+/// Writes the units that announce the payloads of the items, each once and in order, and an end of
+/// data, as the request has them. Answers how many items were left out. On a refusal nothing is
+/// written.
+pub fn write_sequence<'a, W: Sink>(
+    alloc: Global,
+    asked: &Request,
+    items: &[Item<'a>],
+    output: &mut W,
+) -> Result<usize, Trouble<'a>>
+    ensures { MakesSequence asked.now items.now result (W.state output.old) (W.state output.new) }
+{
+    let version = asked.version.number();
+    let gathered = match gather(alloc, version, asked.leaves_out, items) {
+        Ok(gathered) => gathered,
+        Err(refusal) => return Err(Trouble::Input(refusal)),
+    };
+    let end = end_of(asked);
+    match put_sequence(version, &gathered.payloads, &end, output) {
+        Ok(()) => Ok(gathered.left_out),
+        Err(fault) => Err(Trouble::Output(fault)),
+    }
+}
+
+/// The end of data that is asked for.
+fn end_of(asked: &Request) -> EndOfData
+    ensures bytes { end_bytes result ≡ end_list (asked_end asked.now) }
+    ensures fits { IsEndMeaning (asked_end asked.now) }
+{
+    let _session = asked.state.session();
+    let _serial = asked.state.serial();
+    in_range(asked.timing);
+    EndOfData::new(asked.version.number(), asked.state, asked.timing)
+}
+
+/// The timings are in their ranges. It has no effect.
+fn in_range(timing: Timing)
+    ensures refresh { timing.refresh < 2 ^ 32 }
+    ensures retry { timing.retry < 2 ^ 32 }
+    ensures expire { timing.expire < 2 ^ 32 }
+{
+    is_small(timing.refresh);
+    is_small(timing.retry);
+    is_small(timing.expire);
+}
+
+fn is_small(number: u32)
+    ensures { number < 2 ^ 32 }
+{}
+
+/// Writes the units of this version that announce the payloads, and the end of data.
+fn put_sequence<W: Sink>(
+    version: u8,
+    payloads: &Data,
+    end: &EndOfData,
+    output: &mut W,
+) -> Result<(), Fault>
+    requires { version ≤ 2 }
+    ensures { PutsForm result (W.state output.old) (W.state output.new)
+        (change_forms version (all_for version payloads.now) ++ end_bytes end.now) }
+{
+    payloads.write_all(version, output)?;
+    end.write(output)
+}
