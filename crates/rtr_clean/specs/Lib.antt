@@ -1,0 +1,5 @@
+pub mod CleanForms
+pub mod Cleaning
+pub mod CleanStatus
+pub mod CleanWords
+pub mod PrivateClean

@@ -1,0 +1,201 @@
+//! A session's units, read and written one after the other.
+
+ghost use Rattle.std.specs.Prelude.{◌≡◌, ◌∷◌, [], IfOk, IfErr};
+ghost use Rattle.rtr_units.specs.AnyEnd.{end_bytes, end_meaning};
+ghost use Rattle.rtr_units.specs.End.{end_list, IsEnd};
+ghost use Rattle.rtr_units.specs.StopCauses.{by_cause, cause_of, reader_count, writer_count};
+ghost use Rattle.rtr_units.specs.Stream.{PutsForm};
+ghost use Rattle.rtr_payload.specs.Meanings.{payload_of};
+ghost use Rattle.rtr_payload.specs.Payloads.{smallest_version as smallest};
+ghost use Rattle.rtr_payload.specs.UnitBytes.{HasNoPayload, unit_fields};
+ghost use Rattle.rtr_payload.specs.UnitFields.{LengthsAgree, meaning};
+ghost use Rattle.rtr_session.specs.AnyFields.{HasAnyFields};
+ghost use Rattle.rtr_session.specs.AnyUnits.{any_bytes, any_fields};
+ghost use Rattle.rtr_wire.specs.Sequences.{forms, written_units};
+ghost use Rattle.rtr_clean.specs.CleanForms.{KeepsRule, clean_form, ends_answer as ends};
+ghost use Rattle.rtr_clean.specs.Cleaning.{Cleans};
+ghost use Rattle.rtr_clean.specs.PrivateClean.{HasNoForm, PassesUnit, bytes_to_write};
+ghost use Rattle.rtr_clean.specs.PrivateClean.{form_held};
+
+use crate::flushing::{Flushed, flush};
+use crate::wanted::Wanted;
+use rtr_payload::payload;
+use rtr_payload::pdu::Payload;
+use rtr_session::AnyUnit;
+use rtr_units::end::EndOfData;
+use rtr_units::fault::Fault;
+use rtr_units::queries::{CacheReset, ResetQuery};
+use rtr_units::source::{Sink, Source};
+use rtr_units::unit::Unit;
+use std::alloc::Global;
+
+/// Reads units up to the end of the input, and writes what is wanted of each before it reads on.
+/// Memory is asked for one unit at a time.
+///
+/// The output is flushed after each unit that ends an answer: all do but a cache response and
+/// payload units, after which an end of data comes. So what a peer waits for never waits here.
+///
+/// Faults are those of `AnyUnit::read` and `pdu::Payload::into_payload`, with nothing written of
+/// the unit, `Writer`, and `TooMany` after 2^64 - 1 units.
+pub fn clean<R: Source, W: Sink>(
+    alloc: Global,
+    wanted: Wanted,
+    input: &mut R,
+    output: &mut W,
+) -> Result<(), Fault>
+    ensures { Cleans (form_held wanted) result
+        (R.state input.old) (R.state input.new) (W.state output.old) (W.state output.new) }
+{
+    for count in 0..u64::MAX {
+        match pass(alloc, wanted, input, output) {
+            Ok(Some(_)) => {}
+            Ok(None) => return Ok(()),
+            Err(fault) => return Err(fault),
+        }
+    }
+    Err(Fault::TooMany)
+}
+
+/// A unit that was passed on.
+#[derive(Drop)]
+pub enum Passed {
+    /// One after which more of the same answer comes.
+    Part,
+    /// One that ends an answer, after which the output was flushed.
+    Answer(Flushed),
+}
+
+/// Reads a unit and writes what is wanted of it. Answers none where the input has ended.
+fn pass<R: Source, W: Sink>(
+    alloc: Global,
+    wanted: Wanted,
+    input: &mut R,
+    output: &mut W,
+) -> Result<Option<Passed>, Fault>
+    ensures bytes { PassesUnit (form_held wanted) result
+        (R.state input.old).left (R.state input.new).left
+        (W.state output.old).held (W.state output.new).held }
+    ensures reads { (R.state input.new).failed ≡
+        reader_count (by_cause result) (R.state input.old).failed }
+    ensures writes { (W.state output.new).failed ≡
+        writer_count (by_cause result) (W.state output.old).failed }
+{
+    let unit = match AnyUnit::read(alloc, input) {
+        Ok(Some(unit)) => unit,
+        Ok(None) => return Ok(None),
+        Err(fault) => return Err(fault),
+    };
+    let is_last = ends_answer(&unit);
+    let clean = match form(alloc, wanted, unit) {
+        Ok(clean) => clean,
+        Err(fault) => return Err(fault),
+    };
+    match write(clean, output) {
+        Ok(()) => {}
+        Err(fault) => return Err(fault),
+    }
+    if !is_last {
+        return Ok(Some(Passed::Part));
+    }
+    match flush(output) {
+        Ok(flushed) => Ok(Some(Passed::Answer(flushed))),
+        Err(fault) => Err(fault),
+    }
+}
+
+/// Writes the unit, if there is one.
+fn write<W: Sink>(unit: Option<AnyUnit>, output: &mut W) -> Result<(), Fault>
+    ensures { PutsForm result (W.state output.old) (W.state output.new) (bytes_to_write unit) }
+{
+    match unit {
+        Some(unit) => unit.write(output),
+        None => Ok(()),
+    }
+}
+
+/// Whether the unit ends what a peer says.
+fn ends_answer(unit: &AnyUnit) -> bool
+    ensures { result ≡ ends (any_fields unit.now) }
+{
+    match unit {
+        AnyUnit::CacheResponse(_) | AnyUnit::Payload(_) => false,
+        AnyUnit::SerialNotify(_)
+        | AnyUnit::SerialQuery(_)
+        | AnyUnit::ResetQuery(_)
+        | AnyUnit::EndOfData(_)
+        | AnyUnit::CacheReset(_)
+        | AnyUnit::Error(_) => true,
+    }
+}
+
+/// The unit that is written for this one, or none.
+fn form(alloc: Global, wanted: Wanted, unit: AnyUnit) -> Result<Option<AnyUnit>, Fault>
+    requires { HasAnyFields (any_bytes unit) (any_fields unit) }
+    ensures written { IfOk result (λ o. KeepsRule (any_fields unit) ×
+        (bytes_to_write o ≡ clean_form (form_held wanted) (any_fields unit))) }
+    ensures fault { IfErr result (λ e. HasNoForm unit (cause_of e)) }
+{
+    match unit {
+        AnyUnit::Payload(unit) => payload_form(alloc, wanted, unit),
+        AnyUnit::EndOfData(unit) => Ok(Some(AnyUnit::EndOfData(end_form(wanted, unit)))),
+        AnyUnit::ResetQuery(unit) => {
+            Ok(Some(AnyUnit::ResetQuery(ResetQuery::new(unit.version()))))
+        }
+        AnyUnit::CacheReset(unit) => {
+            Ok(Some(AnyUnit::CacheReset(CacheReset::new(unit.version()))))
+        }
+        AnyUnit::SerialNotify(unit) => Ok(Some(AnyUnit::SerialNotify(unit))),
+        AnyUnit::SerialQuery(unit) => Ok(Some(AnyUnit::SerialQuery(unit))),
+        AnyUnit::CacheResponse(unit) => Ok(Some(AnyUnit::CacheResponse(unit))),
+        AnyUnit::Error(report) => Ok(Some(AnyUnit::Error(report))),
+    }
+}
+
+/// The end of data that is written for this one.
+fn end_form(wanted: Wanted, end: EndOfData) -> EndOfData
+    requires { IsEnd (end_bytes end) (end_meaning end) }
+    ensures { end_bytes result ≡ end_list ((form_held wanted).end (end_meaning end)) }
+{
+    match wanted {
+        Wanted::Everything => end,
+        Wanted::Version(version) => {
+            EndOfData::new(version, end.state(), end.timing().unwrap_or_default())
+        }
+    }
+}
+
+/// The payload unit that is written for this one, or none where the wanted version doesn't have its
+/// payload.
+fn payload_form(alloc: Global, wanted: Wanted, unit: Payload) -> Result<Option<AnyUnit>, Fault>
+    ensures written { IfOk result (λ o. LengthsAgree (unit_fields unit) × (bytes_to_write o ≡
+        forms (written_units (form_held wanted) (meaning (unit_fields unit) ∷ [])))) }
+    ensures fault { IfErr result (λ e. HasNoPayload unit (cause_of e)) }
+{
+    let came_in = unit.version();
+    let (action, payload) = match unit.into_payload(alloc) {
+        Ok(meaning) => meaning,
+        Err(fault) => return Err(fault),
+    };
+    let version = match wanted {
+        Wanted::Everything => came_in,
+        Wanted::Version(version) => {
+            if version < smallest_version(&payload) {
+                return Ok(None);
+            }
+            version
+        }
+    };
+    let unit = Payload::from_payload(version, action.into_flags(), payload);
+    Ok(Some(AnyUnit::Payload(unit)))
+}
+
+/// The smallest version of the protocol that has the payload.
+fn smallest_version(payload: &payload::Payload) -> u8
+    ensures { result ≡ smallest (payload_of payload.now) }
+{
+    match payload {
+        payload::Payload::Origin(_) => 0,
+        payload::Payload::RouterKey(_) => 1,
+        payload::Payload::Aspa(_) => 2,
+    }
+}
