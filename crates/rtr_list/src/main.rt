@@ -1,7 +1,8 @@
-//! Lists the units of a recorded session, one on a line, or what breaks the protocol's rules in it.
+//! Lists the units of a recorded session, one on a line, or what breaks the protocol's rules in it,
+//! or prints the payloads that it leaves.
 #![tactic(auto)]
 
-use rtr_listing::program;
+use rtr_tables::program;
 use rtr_units::source::Counted;
 use std::env;
 use std::io::{BufReader, BufWriter, Stderr, Stdin, Stdout};

@@ -160,7 +160,10 @@ fn usage<F: Write>(help: bool, faults: &mut F) -> u8
             "rtr_list - list the units of a recorded RTR session"
         );
     }
-    let _ = writeln!(faults, "usage: rtr_list [--json | --check]");
+    let _ = writeln!(
+        faults,
+        "usage: rtr_list [--json | --check | --csv | --vrps]"
+    );
     USAGE
 }
 

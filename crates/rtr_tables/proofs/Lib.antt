@@ -1,0 +1,5 @@
+mod Counts
+mod RecordingSoFar
+mod RecordingStops
+mod Rows
+mod Said

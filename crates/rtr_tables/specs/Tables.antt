@@ -1,0 +1,99 @@
+-- The tables of payloads, in the columns and under the names that validators give them: this
+-- program's own. Numbers are in decimal, addresses as std writes them (IPv6 as RFC 5952), key
+-- identifiers in hex, and key info in base64 with padding (RFC 4648 section 4).
+use Rattle.std.specs.Prelude.{ℕ, Bool, true, false, List, [], ◌++◌, codes, decimal, drop}
+use Rattle.std.specs.List.{flat_map}
+use Rattle.base64.specs.Engines.{standard}
+use Rattle.base64.specs.GeneralPurpose.{encode_of}
+use Rattle.hex.specs.Hex.{encode_lower}
+use Rattle.rtr_base.specs.PlainTexts.{address_text, asn_text}
+use Rattle.rtr_units.specs.PrefixUnits.{OriginParts}
+use Rattle.rtr_payload.specs.Payloads.{Payload, origin, key, aspa, KeyParts, AspaParts}
+use Rattle.rtr_tables.specs.declared.words.Table.{Table}
+use Rattle.rtr_tables.specs.declared.words.Table.TheVariants.{Csv, Json}
+
+-- 192.0.2.0/23
+abbrev pub origin_prefix : OriginParts → List ℕ
+origin_prefix o = address_text o.family o.address ++ codes "/" ++ decimal o.prefix_len
+
+-- ---- comma-separated values
+
+-- AS65551,192.0.2.0/23,26 is the row of an origin. Other payloads have none.
+abbrev pub csv_row : Payload → List ℕ
+csv_row (origin o) =
+    asn_text o.asn ++ codes "," ++ origin_prefix o ++ codes "," ++ decimal o.max_len ++ codes "\n"
+csv_row (key k) = []
+csv_row (aspa a) = []
+
+-- the names of the columns, and the rows in the order of payloads
+unfoldable pub csv_text : List Payload → List ℕ
+csv_text d = codes "ASN,IP Prefix,Max Length\n" ++ flat_map csv_row d
+
+-- what has no row
+abbrev pub is_key : Payload → Bool
+is_key (key k) = true
+is_key (origin o) = false
+is_key (aspa a) = false
+
+abbrev pub is_aspa : Payload → Bool
+is_aspa (aspa a) = true
+is_aspa (origin o) = false
+is_aspa (key k) = false
+
+-- ---- JSON
+
+-- {"prefix":"192.0.2.0/23","maxLength":26,"asn":65551}
+abbrev pub origin_object : OriginParts → List ℕ
+origin_object o =
+    codes "{\"prefix\":\"" ++ origin_prefix o ++ codes "\",\"maxLength\":" ++ decimal o.max_len
+    ++ codes ",\"asn\":" ++ decimal o.asn ++ codes "}"
+
+-- {"asn":65551,"ski":"0102030405060708090a0b0c0d0e0f1011121314","pubkey":"FRYXGA=="}
+abbrev pub key_object : KeyParts → List ℕ
+key_object k =
+    codes "{\"asn\":" ++ decimal k.asn ++ codes ",\"ski\":\"" ++ encode_lower k.identifier
+    ++ codes "\",\"pubkey\":\"" ++ encode_of standard k.info ++ codes "\"}"
+
+-- a number of an array, which the first has no comma before
+abbrev pub after_comma : ℕ → List ℕ
+after_comma n = codes "," ++ decimal n
+
+-- {"customer_asid":65551,"providers":[65549,65550]}
+abbrev pub aspa_object : AspaParts → List ℕ
+aspa_object a =
+    codes "{\"customer_asid\":" ++ decimal a.customer ++ codes ",\"providers\":["
+    ++ drop 1 (flat_map after_comma a.providers) ++ codes "]}"
+
+-- what a payload adds to each of three arrays: after a comma an object on a line of its own, or
+-- nothing
+abbrev pub origin_item : Payload → List ℕ
+origin_item (origin o) = codes ",\n" ++ origin_object o
+origin_item (key k) = []
+origin_item (aspa a) = []
+
+abbrev pub key_item : Payload → List ℕ
+key_item (origin o) = []
+key_item (key k) = codes ",\n" ++ key_object k
+key_item (aspa a) = []
+
+abbrev pub aspa_item : Payload → List ℕ
+aspa_item (origin o) = []
+aspa_item (key k) = []
+aspa_item (aspa a) = codes ",\n" ++ aspa_object a
+
+-- the items of an array, the first without its comma
+abbrev pub items_of : (Payload → List ℕ) → List Payload → List ℕ
+items_of item d = drop 1 (flat_map item d)
+
+-- an object with the origins, the router keys and the ASPAs, each in the order of payloads
+unfoldable pub json_text : List Payload → List ℕ
+json_text d =
+    codes "{\"roas\":[" ++ items_of origin_item d
+    ++ codes "\n],\n\"bgpsec_keys\":[" ++ items_of key_item d
+    ++ codes "\n],\n\"aspas\":[" ++ items_of aspa_item d ++ codes "\n]}\n"
+
+-- ---- a table
+
+abbrev pub table_text : Table → List Payload → List ℕ
+table_text Csv d = csv_text d
+table_text Json d = json_text d

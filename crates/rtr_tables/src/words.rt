@@ -1,0 +1,34 @@
+//! Which table is asked for.
+
+ghost use Rattle.std.specs.Prelude.{◌≡◌};
+ghost use Rattle.rtr_tables.specs.TableWords.{table_by_word, table_by_words};
+
+/// In which form a table is printed.
+#[derive(Clone, Copy)]
+pub enum Table {
+    /// Comma-separated values of origins.
+    Csv,
+    /// JSON of all payloads.
+    Json,
+}
+
+/// The table that the words after the program's name ask for, if they ask for one.
+pub fn table_wanted(words: &[String]) -> Option<Table>
+    ensures { result ≡ table_by_words words.now }
+{
+    match words {
+        [word] => table_named(word.as_str()),
+        _ => None,
+    }
+}
+
+/// The table that the word asks for.
+fn table_named(word: &str) -> Option<Table>
+    ensures { result ≡ table_by_word word.now }
+{
+    match word {
+        "--csv" => Some(Table::Csv),
+        "--vrps" => Some(Table::Json),
+        _ => None,
+    }
+}
