@@ -2,257 +2,266 @@
  *
  * usage: client HOST:PORT [--version 0|1|2] [--once] [--json]
  *
- * The lines are those of rtr_diff, with --json those of rtr_diff --json. On standard error it says
- * what data it has at each end of data, and what fails. With --once it ends after all data have
- * come, with status 0, or with 1 where that fails. It ends with 0 at SIGINT or SIGTERM, with 1
- * where writing fails, and with 2 for other arguments. */
+ * The lines are those of rtr_diff, with --json those of rtr_diff --json. On standard error is what
+ * data there are at each end of data, and what fails. It ends with status 0 after a signal, or with
+ * --once after all data came; with 1 where they don't, or writing fails; else with 2. */
 #define _POSIX_C_SOURCE 200809L
+#include <errno.h>
+#include <inttypes.h>
+#include <netdb.h>
+#include <poll.h>
 #include <signal.h>
-#include "connection.h"
+#include <stdio.h>
+#include <string.h>
+#include <sys/socket.h>
+#include <time.h>
+#include <unistd.h>
+#include "rtr_client.h"
 
-#ifndef RESPONSE_LIMIT
-#define RESPONSE_LIMIT 120000 /* milliseconds from a query to the end of data */
-#endif
-#ifndef MOST_BYTES
-#define MOST_BYTES ((size_t)1 << 27) /* of an answer */
-#endif
-enum { DIAL_LIMIT = 30000, PAUSE = 1000 }; /* milliseconds */
-
-struct client {
-    bool once, json;
-    char *host, *port;
-    uint8_t highest;          /* the version that it asks in without data */
-    bool agreed, answered;    /* the cache answered in this version; this connection gave data */
-    bool serial, resync;      /* the last query was a serial query; the next is a reset query */
-    struct bytes data;        /* in canonical form; of no bytes where there are none */
-    struct rtr_unit end;      /* their end of data */
-    int64_t asked, expires;   /* when it asked last; when the data are dropped */
-    struct connection connection;
-};
-
-/* Takes new data, of no bytes for none, and prints what leads there from those before. */
-static void take(struct client *c, struct bytes data, struct rtr_unit end)
+/* The time in milliseconds. */
+static int64_t now(void)
 {
-    struct bytes none = nothing(&end), old = c->data.length ? c->data : none;
-    uint8_t old_version = c->data.length ? c->end.version : end.version;
-    print_difference(old, old_version, data.length ? data : none, &end, c->json);
-    free(none.at);
-    free(c->data.at);
-    c->data = data;
-    c->end = end;
-    c->resync = false;
+    struct timespec time;
+    clock_gettime(CLOCK_MONOTONIC, &time);
+    return (int64_t)time.tv_sec * 1000 + time.tv_nsec / 1000000;
 }
 
-/* This time, or when the data expire if that is sooner. */
-static int64_t soonest(const struct client *c, int64_t time)
+static void print_ipv6(const uint8_t *a) /* RFC 5952 */
 {
-    return c->data.length && c->expires < time ? c->expires : time;
+    unsigned best = 8, longest = 1, words[8];
+    for (unsigned i = 0; i < 8; i++)
+        words[i] = a[2 * i] * 256u + a[2 * i + 1];
+    for (unsigned i = 0, run; i < 8; i += run + 1) {
+        for (run = 0; i + run < 8 && !words[i + run]; run++) {}
+        if (run > longest) {
+            best = i;
+            longest = run;
+        }
+    }
+    if (best == 0 && longest == 5 && words[5] == 0xffff) {
+        printf("::ffff:%u.%u.%u.%u", a[12], a[13], a[14], a[15]);
+        return;
+    }
+    for (unsigned i = 0; i < 8; i++) {
+        if (i == best)
+            fputs("::", stdout);
+        if (i < best || i >= best + longest)
+            printf("%s%x", i && i != best + longest ? ":" : "", words[i]);
+    }
 }
 
-/* Whether the data have expired, which are then dropped. */
-static bool expired(struct client *c)
+static void print_prefix(const struct rtr_unit *unit, bool json)
 {
-    bool late = c->data.length && now() >= c->expires;
-    if (late)
-        take(c, (struct bytes){NULL, 0}, c->end);
-    return late;
+    const uint8_t *a = unit->address;
+    fputs(json ? "\"prefix\":\"" : "", stdout);
+    if (unit->family == 4)
+        printf("%u.%u.%u.%u", a[0], a[1], a[2], a[3]);
+    else
+        print_ipv6(a);
+    printf(json ? "\",\"prefix_length\":%u,\"max_length\":%u,\"asn\":%" PRIu32 "}\n"
+                : "/%u-%u AS%" PRIu32 "\n",
+           unit->prefix_length, unit->max_length, unit->asn);
 }
 
-static enum outcome other_session(struct client *c) /* RFC 8210 section 5.1 */
+static void print_base64(const uint8_t *bytes, size_t length) /* RFC 4648 section 5 */
 {
-    breach(&c->connection, CORRUPT_DATA, "unit of another session");
-    if (c->data.length)
-        take(c, (struct bytes){NULL, 0}, c->end);
-    return FAILED;
+    static const char digits[] = "ABCDEFGHIJKLMNOPQRSTUVWXYZabcdefghijklmnopqrstuvwxyz0123456789-_";
+    for (size_t i = 0; i < length; i += 3) {
+        uint32_t three = (uint32_t)bytes[i] << 16;
+        three |= i + 1 < length ? (uint32_t)bytes[i + 1] << 8 : 0;
+        three |= i + 2 < length ? bytes[i + 2] : 0;
+        for (size_t place = 0; place <= 3 && place <= length - i; place++)
+            putchar(digits[three >> (18 - 6 * place) & 63]);
+    }
 }
 
-/* Sends a serial query if there are data of the version of the session, or else a reset query. */
-static enum outcome ask(struct client *c, int64_t deadline)
+static void print_key(const struct rtr_unit *unit, const uint8_t *bytes, bool json)
 {
-    uint8_t query[SHORTEST_UNIT];
-    size_t written;
-    struct rtr_unit unit = c->end;
-    unit.version = c->connection.version;
-    c->serial = c->data.length && !c->resync && c->end.version == unit.version;
-    unit.kind = c->serial ? RTR_SERIAL_QUERY : RTR_RESET_QUERY;
-    rtr_write_unit(&unit, NULL, 0, query, sizeof query, &written);
-    return send_until(&c->connection, query, written, deadline);
+    fputs(json ? "\"subject_key_identifier\":\"" : "", stdout);
+    for (size_t i = 0; i < sizeof unit->key_identifier; i++)
+        printf("%02x", unit->key_identifier[i]);
+    printf(json ? "\",\"asn\":%" PRIu32 ",\"subject_public_key_info\":\"" : " AS%" PRIu32 " ",
+           unit->asn);
+    print_base64(bytes + unit->part_start, unit->part_length);
+    puts(json ? "\"}" : "");
 }
 
-/* Asks, and reads the first unit of the answer, which says what version the session has (RFC 8210
- * section 7). A report, or a close, in answer to a serial query has all data asked for next. */
-static enum outcome answer(struct client *c, int64_t deadline)
+static void print_aspa(const struct rtr_unit *unit, const uint8_t *bytes, bool json)
 {
-    struct connection *with = &c->connection;
-    const struct rtr_unit *last = &with->last;
-    with->last = (struct rtr_unit){0};
-    enum outcome outcome = ask(c, deadline);
+    uint32_t provider;
+    printf(json ? "\"customer_asn\":%" PRIu32 ",\"provider_asns\":[" : "AS%" PRIu32 " providers",
+           unit->customer);
+    for (size_t i = 0; rtr_provider(unit, bytes, unit->size, i, &provider); i++)
+        printf("%s%" PRIu32, !json ? " AS" : i ? "," : "", provider);
+    puts(json ? "]}" : "");
+}
+
+static void print_change(const struct rtr_unit *unit, const uint8_t *bytes, bool json)
+{
+    static const char *const kinds[][2] = {
+        [RTR_IPV4_PREFIX] = {"IPv4 prefix", "ipv4_prefix"},
+        [RTR_IPV6_PREFIX] = {"IPv6 prefix", "ipv6_prefix"},
+        [RTR_ROUTER_KEY] = {"router key", "router_key"},
+        [RTR_ASPA] = {"ASPA", "aspa"},
+    };
+    const char *action = unit->action ? "announce" : "withdraw", *kind = kinds[unit->kind][json];
+    if (json)
+        printf("{\"kind\":\"%s\",\"action\":\"%s\",", kind, action);
+    else
+        printf("%c %s ", unit->action ? '+' : '-', kind);
+    if (unit->kind == RTR_ROUTER_KEY)
+        print_key(unit, bytes, json);
+    else if (unit->kind == RTR_ASPA)
+        print_aspa(unit, bytes, json);
+    else
+        print_prefix(unit, json);
+}
+
+/* Prints the changes that the client has. The program ends where that fails. */
+static void print_changes(const struct rtr_client *c, bool json)
+{
+    struct rtr_unit unit;
+    for (size_t at = 0; at < c->changes_length; at += unit.size) {
+        const uint8_t *bytes = c->changes + at;
+        if (rtr_next(bytes, c->changes_length - at, &unit) || unit.kind == RTR_END_OF_DATA)
+            break;
+        print_change(&unit, bytes, json);
+    }
+    if (fflush(stdout) || ferror(stdout)) {
+        perror("standard output");
+        _exit(1);
+    }
+}
+
+/* The milliseconds until then, as poll takes them. */
+static int left(int64_t until)
+{
+    int64_t time = until - now();
+    return time < 0 ? 0 : time < 60000 ? (int)time : 60000;
+}
+
+/* Connects a socket; 0, or the error. */
+static int connect_until(int one, const struct addrinfo *to, int64_t until)
+{
+    int error = 0;
+    socklen_t size = sizeof error;
+    struct pollfd writable = {.fd = one, .events = POLLOUT};
+    if (connect(one, to->ai_addr, to->ai_addrlen) == 0)
+        return 0;
+    if (errno != EINPROGRESS)
+        return errno;
+    if (poll(&writable, 1, left(until)) != 1)
+        return ETIMEDOUT;
+    return getsockopt(one, SOL_SOCKET, SO_ERROR, &error, &size) < 0 ? errno : error;
+}
+
+/* Connects to the first of the addresses that answers; -1 if none does. */
+static int dial(struct rtr_client *c, const char *host, const char *port)
+{
+    struct addrinfo hints = {.ai_socktype = SOCK_STREAM}, *all = NULL, *each;
+    int one = -1, error = 0, unknown = getaddrinfo(host, port, &hints, &all);
+    for (each = all; each && one < 0; each = each->ai_next) {
+        one = socket(each->ai_family, SOCK_STREAM | SOCK_CLOEXEC | SOCK_NONBLOCK, 0);
+        error = one < 0 ? errno : connect_until(one, each, c->wakes);
+        if (one >= 0 && error) {
+            close(one);
+            one = -1;
+        }
+    }
+    if (one >= 0)
+        rtr_client_connected(c);
+    else
+        rtr_client_lost(c, unknown ? gai_strerror(unknown) : strerror(error));
+    if (all)
+        freeaddrinfo(all);
+    return one;
+}
+
+/* Sends some of what there is to send; false where the connection broke. */
+static bool send_some(struct rtr_client *c, int one)
+{
+    size_t length;
+    const uint8_t *output = rtr_client_output(c, &length);
+    ssize_t count = send(one, output, length, MSG_NOSIGNAL);
+    if (count >= 0)
+        rtr_client_sent(c, (size_t)count);
+    else if (errno != EAGAIN && errno != EINTR)
+        rtr_client_lost(c, strerror(errno));
+    return count >= 0 || errno == EAGAIN || errno == EINTR;
+}
+
+/* Sends, or reads, what can be, when it can; or waits until the client wakes. */
+static void wait_for(struct rtr_client *c, int one)
+{
+    size_t length;
+    rtr_client_output(c, &length);
+    struct pollfd ready = {.fd = one, .events = length ? POLLIN | POLLOUT : POLLIN};
+    if (poll(&ready, 1, left(c->wakes)) != 1)
+        return;
+    if (ready.revents & POLLOUT && !send_some(c, one))
+        return;
+    uint8_t *room = rtr_client_room(c, &length);
+    ssize_t count = recv(one, room, length, 0);
+    if (count > 0)
+        rtr_client_received(c, (size_t)count);
+    else if (count == 0 || (errno != EAGAIN && errno != EINTR))
+        rtr_client_lost(c, count < 0 ? strerror(errno) : NULL);
+}
+
+/* Closes the connection so that what is sent still arrives: bytes of the peer that weren't read
+ * would have it reset. They are read for a fifth of a second. */
+static void hang_up(struct rtr_client *c, int one)
+{
+    size_t length;
+    uint8_t read[4096];
+    struct pollfd ready = {.fd = one, .events = POLLOUT};
     do {
-        outcome = outcome ? outcome : next(with, deadline);
-    } while (!outcome && last->kind == RTR_SERIAL_NOTIFY);
-    bool no_data = last->kind == RTR_ERROR_REPORT && last->code == NO_DATA;
-    c->resync |= c->serial && outcome == FAILED && !no_data;
-    if (outcome)
-        return outcome;
-    if (c->agreed && last->version != with->version)
-        return breach(with, OTHER_VERSION, "unit of another version than the session");
-    if (last->version > with->version)
-        return breach(with, NO_VERSION, "answer of a higher version than the query");
-    bool lower = last->version < with->version && c->serial;
-    with->version = last->version;
-    c->agreed = !lower;
-    return lower ? LOWER : GOOD;
+        rtr_client_output(c, &length);
+    } while (length && poll(&ready, 1, left(c->wakes)) == 1 && send_some(c, one));
+    shutdown(one, SHUT_WR);
+    ready.events = POLLIN;
+    for (int64_t until = now() + 200; now() < until;)
+        if (poll(&ready, 1, left(until)) != 1 || recv(one, read, sizeof read, 0) <= 0)
+            break;
+    close(one);
 }
 
-/* Makes all of the changes of a sequence, or none. Where they are refused all data are asked for
- * next. */
-static enum outcome apply(struct client *c, struct bytes read, size_t count)
+/* Splits where a cache is: a host, or an IPv6 address in brackets, a colon and a port. */
+static bool split(char *word, char **host, char **port)
 {
-    struct connection *to = &c->connection;
-    struct rtr_data_answer why;
-    struct bytes none = nothing(&to->last), input;
-    struct bytes data = changed(c->serial ? c->data : none, read, count, &input, &why);
-    const uint8_t *unit = input.at + why.offset;
-    size_t size, left = input.length - why.offset;
-    uint16_t code;
-    uint8_t detail;
-    if (!why.status) {
-        take(c, data, to->last);
-    } else {
-        c->resync |= c->serial;
-        snprintf(to->text, sizeof to->text, "%s, at byte %zu", rtr_status_text(why.status),
-                 why.offset);
-        if (!rtr_unit_size(unit, left, &size, &detail)
-            && rtr_error_code(why.status, unit, left, &code))
-            report(to, code, unit, size);
-        free(data.at);
-    }
-    free(none.at);
-    free(input.at);
-    return why.status ? FAILED : GOOD;
-}
-
-/* Asks for changes, or for all data, and takes the answer. */
-static enum outcome fetch(struct client *c)
-{
-    struct connection *with = &c->connection;
-    c->asked = now();
-    int64_t deadline = soonest(c, c->asked + RESPONSE_LIMIT);
-    enum outcome outcome = answer(c, deadline);
-    if (!outcome && with->last.kind == RTR_CACHE_RESET && c->serial) { /* RFC 8210 section 8.3 */
-        c->resync = true;
-        outcome = answer(c, deadline);
-    }
-    uint16_t session = with->last.session;
-    struct bytes read = {NULL, 0};
-    size_t count = 0;
-    if (!outcome && with->last.kind != RTR_CACHE_RESPONSE)
-        outcome = breach(with, NO_TYPE, "unit is not allowed here");
-    else if (!outcome && c->serial && session != c->end.session)
-        outcome = other_session(c);
-    outcome = outcome ? outcome : collect(with, deadline, MOST_BYTES, &read, &count);
-    if (!outcome && with->last.session != session) {
-        outcome = other_session(c);
-    } else if (!outcome && c->serial
-               && rtr_serial_order(with->last.serial, c->end.serial) == RTR_SERIAL_LESS) {
-        outcome = breach(with, CORRUPT_DATA, "serial number before that of the query");
-        c->resync = true;
-    }
-    outcome = outcome ? outcome : apply(c, read, count);
-    free(read.at);
-    if (!outcome) {
-        c->answered = true;
-        c->expires = now() + expire_of(c->data, &c->end);
-        fprintf(stderr, "session %u serial %" PRIu32 " version %u: %zu payloads\n", c->end.session,
-                c->end.serial, c->end.version, payloads(c->data));
-    }
-    return outcome;
-}
-
-/* Waits until then. Data that expire meanwhile are dropped. */
-static void wait_until(struct client *c, int64_t time)
-{
-    for (int64_t left; (left = soonest(c, time) - now()) > 0 || now() < time;) {
-        poll(NULL, 0, left <= 0 ? 0 : left < 1000 ? (int)left : 1000);
-        if (expired(c))
-            fprintf(stderr, "the data have expired\n");
-    }
-}
-
-/* Waits for a notify of new data, or until it is time for the next query. */
-static enum outcome idle(struct client *c, int64_t until)
-{
-    const struct rtr_unit *unit = &c->connection.last;
-    enum outcome outcome;
-    while (!(outcome = next(&c->connection, soonest(c, until)))) {
-        if (unit->kind != RTR_SERIAL_NOTIFY)
-            return breach(&c->connection, NO_TYPE, "unit is not allowed here");
-        if (unit->version != c->connection.version)
-            return breach(&c->connection, OTHER_VERSION, "unit of another version");
-        if (c->data.length && unit->session != c->end.session)
-            return other_session(c);
-        if (!c->data.length || unit->serial != c->end.serial) {
-            wait_until(c, c->asked + PAUSE);
-            return GOOD;
-        }
-    }
-    return outcome == LATE && now() >= until ? GOOD : outcome;
-}
-
-/* Asks, and asks again, until something ends the connection. */
-static enum outcome converse(struct client *c)
-{
-    struct connection *with = &c->connection;
-    for (;;) {
-        enum outcome outcome = fetch(c);
-        int64_t wait = refresh_of(c->data, &c->end);
-        bool no_data = with->last.kind == RTR_ERROR_REPORT && with->last.code == NO_DATA
-                       && with->last.version == with->version;
-        if (outcome == FAILED && no_data && !c->once) {
-            fprintf(stderr, "%s:%s: %s\n", c->host, c->port, with->text);
-            wait = retry_of(c->data, &c->end);
-        } else if (outcome || c->once) {
-            return outcome;
-        }
-        outcome = idle(c, now() + wait);
-        if (outcome)
-            return outcome;
-    }
-}
-
-/* Whether the cache wants to be asked in a lower version, which is then set (RFC 8210 section 7):
- * it says so by a report, or closes the connection without a word. */
-static bool falls(struct client *c, uint8_t *version)
-{
-    const struct rtr_unit *last = &c->connection.last;
-    if (c->agreed || *version == 0)
+    char *colon = strrchr(word, ':');
+    if (word[0] == '-' || !colon)
         return false;
-    bool reported = last->kind == RTR_ERROR_REPORT, lower = last->version < *version;
-    if (reported ? !lower && last->code != NO_VERSION
-                 : !c->connection.closed || c->connection.filled || c->serial)
-        return false;
-    --*version; /* a report may be of a lower version than the best that the cache has */
+    bool bracketed = word[0] == '[' && colon[-1] == ']';
+    *host = word + bracketed;
+    *port = colon + 1;
+    colon[bracketed ? -1 : 0] = 0;
     return true;
 }
 
-/* Connects, and follows the cache until the connection ends. */
-static enum outcome attempt(struct client *c)
+/* Follows the cache, or asks once; then the status to end with. */
+static int follow(struct rtr_client *c, const char *host, const char *port, bool once, bool json)
 {
-    uint8_t version = c->data.length ? c->end.version : c->highest;
-    for (;;) {
-        c->agreed = c->answered = false;
-        if (dial(&c->connection, c->host, c->port, soonest(c, now() + DIAL_LIMIT)))
-            return FAILED;
-        c->connection.version = version;
-        enum outcome outcome = converse(c);
-        hang_up(&c->connection);
-        if (outcome == LATE)
-            fails(&c->connection, expired(c) ? "the data have expired" : "the cache is too slow");
-        if (outcome == LOWER)
-            version = c->connection.version;
-        else if (outcome != FAILED || !falls(c, &version))
-            return outcome;
-        c->resync = true;
+    for (int one = -1;;) {
+        enum rtr_client_event event = rtr_client_next(c, now());
+        bool last = once && event >= RTR_CLIENT_DATA;
+        if (event == RTR_CLIENT_WAIT)
+            wait_for(c, one);
+        if (event == RTR_CLIENT_CONNECT)
+            one = dial(c, host, port);
+        if (event == RTR_CLIENT_DATA || event == RTR_CLIENT_DROPPED)
+            print_changes(c, json);
+        if (event == RTR_CLIENT_DATA)
+            fprintf(stderr, "session %u serial %" PRIu32 " version %u: %zu payloads\n",
+                    c->end.session, c->end.serial, c->end.version, c->payloads);
+        if (event == RTR_CLIENT_NO_DATA || event == RTR_CLIENT_FAILED)
+            fprintf(stderr, "%s:%s: %s\n", host, port, c->text);
+        if (one >= 0 && (last || event == RTR_CLIENT_CLOSE)) {
+            hang_up(c, one);
+            one = -1;
+        }
+        if (last)
+            return event != RTR_CLIENT_DATA;
     }
 }
 
@@ -265,33 +274,27 @@ static void end(int number)
 
 int main(int count, char **words)
 {
-    static struct client c = {.highest = 1};
-    bool understood = true;
+    static struct rtr_client c;
+    char *host = NULL, *port = NULL, *version = "1";
+    bool understood = true, once = false, json = false;
     for (int i = 1; i < count; i++) {
-        bool version = !strcmp(words[i], "--version");
-        if (version && ++i < count && strlen(words[i]) == 1 && strchr("012", words[i][0]))
-            c.highest = (uint8_t)(words[i][0] - '0');
-        else if (!version && !strcmp(words[i], "--once"))
-            c.once = true;
-        else if (!version && !strcmp(words[i], "--json"))
-            c.json = true;
+        if (!strcmp(words[i], "--version") && i + 1 < count)
+            version = words[++i];
+        else if (!strcmp(words[i], "--once"))
+            once = true;
+        else if (!strcmp(words[i], "--json"))
+            json = true;
         else
-            understood = understood && !version && !c.host && split(words[i], &c.host, &c.port);
+            understood = understood && !host && split(words[i], &host, &port);
     }
-    if (!understood || !c.host) {
+    if (!understood || !host || strlen(version) != 1 || !strchr("012", version[0])) {
         fprintf(stderr, "usage: client HOST:PORT [--version 0|1|2] [--once] [--json]\n");
         return 2;
     }
-    if (!c.once) {
-        signal(SIGINT, end);
-        signal(SIGTERM, end);
-    }
-    while (attempt(&c) != GOOD || !c.once) {
-        fprintf(stderr, "%s:%s: %s\n", c.host, c.port, c.connection.text);
-        if (c.once)
-            return 1;
-        wait_until(&c, now() + (c.answered ? PAUSE : retry_of(c.data, &c.end)));
-    }
-    free(c.data.at);
-    return 0;
+    rtr_client_init(&c, (uint8_t)(version[0] - '0'));
+    signal(SIGINT, once ? SIG_DFL : end);
+    signal(SIGTERM, once ? SIG_DFL : end);
+    int status = follow(&c, host, port, once, json);
+    rtr_client_free(&c);
+    return status;
 }

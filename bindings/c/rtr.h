@@ -415,8 +415,8 @@ static inline uint8_t rtr_apply(const uint8_t *data, size_t data_length,
  *   RTR_NO_INDEX                      the index has fewer places than there are payload units
  *   RTR_DUPLICATE, RTR_UNKNOWN        a payload is announced, or withdrawn, twice with nothing in
  *                                     between, as the rules never allow (side 1, the second unit)
- *   RTR_UNDECIDED                     of a customer the first change announces an ASPA, and the last
- *                                     withdraws it (side 1, the last)
+ *   RTR_UNDECIDED                     of a customer the first change announces an ASPA, and the
+ *                                     last withdraws it (side 1, the last)
  *   RTR_NO_ROOM                       the output is shorter than what is to be written
  * Of the units that RTR_DUPLICATE, RTR_UNKNOWN and RTR_UNDECIDED refuse it is the first in the
  * order of payloads. */
