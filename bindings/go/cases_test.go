@@ -25,8 +25,8 @@ var (
 	readsCases sync.Once
 )
 
-// The cases of the file that RTR_CASES names, or else those that ../cases.py makes. Where there is no python3, the
-// tests that need cases are skipped.
+// The cases of the file that RTR_CASES names, or else those that ../cases.py makes. Where there is
+// no python3, the tests that need cases are skipped.
 func cases(t *testing.T) []testCase {
 	readsCases.Do(func() {
 		if path := os.Getenv("RTR_CASES"); path != "" {
@@ -258,7 +258,8 @@ func TestMeanings(t *testing.T) {
 	}
 }
 
-// The limit of SameMeaning is that of both sequences, and its fault has the place where it ended them.
+// The limit of SameMeaning is that of both sequences, and its fault has the place where it ended
+// them.
 func TestSameMeaningLimit(t *testing.T) {
 	short, long := join(ipv4, end), join(ipv4, ipv4, end)
 	for limit := uint64(0); limit < 4; limit++ {
@@ -302,8 +303,8 @@ type answer struct {
 	form                []byte
 }
 
-// sessions are those of the file that RTR_SESSIONS names, or else those that ../sessions.py makes, with the answer
-// for each of their units.
+// sessions are those of the file that RTR_SESSIONS names, or else those that ../sessions.py makes,
+// with the answer for each of their units.
 func sessions(t *testing.T) (inputs [][]byte, answers [][]answer) {
 	var rest []byte
 	var err error
@@ -344,8 +345,10 @@ func sessions(t *testing.T) (inputs [][]byte, answers [][]answer) {
 func shown(unit *Unit, size int) [22]uint64 {
 	numbers := [22]uint64{
 		1: uint64(size), 7: uint64(unit.ASN), 8: uint64(unit.Customer), 9: uint64(unit.Serial),
-		10: uint64(unit.Refresh), 11: uint64(unit.Retry), 12: uint64(unit.Expire), 13: uint64(unit.Session),
-		14: uint64(unit.Code), 15: uint64(unit.Kind), 16: uint64(unit.Version), 20: uint64(unit.MaxLength),
+		10: uint64(unit.Refresh), 11: uint64(unit.Retry), 12: uint64(unit.Expire),
+		13: uint64(unit.Session),
+		14: uint64(unit.Code), 15: uint64(unit.Kind), 16: uint64(unit.Version),
+		20: uint64(unit.MaxLength),
 	}
 	part := unit.part()
 	switch {

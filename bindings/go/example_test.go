@@ -11,7 +11,8 @@ import (
 	"fishreef/rtr"
 )
 
-// What a cache sends: a cache response, two prefixes and an end of data (RFC 8210 sections 5.5, 5.6 and 5.8).
+// What a cache sends: a cache response, two prefixes and an end of data (RFC 8210 sections 5.5, 5.6
+// and 5.8).
 var sent = []byte{
 	1, 3, 0x12, 0x34, 0, 0, 0, 8,
 	1, 4, 0, 0, 0, 0, 0, 20, 1, 23, 26, 0, 192, 0, 2, 0, 0, 1, 0, 15,
@@ -19,8 +20,8 @@ var sent = []byte{
 	1, 7, 0x12, 0x34, 0, 0, 0, 24, 0, 0, 0, 5, 0, 0, 0x0e, 0x10, 0, 0, 2, 0x58, 0, 0, 0x1c, 0x20,
 }
 
-// fetch asks a cache for all of its data, and prints it. If a unit is refused, the report that is owed goes to the
-// cache.
+// fetch asks a cache for all of its data, and prints it. If a unit is refused, the report that is
+// owed goes to the cache.
 func fetch(connection io.ReadWriter) error {
 	writer := rtr.NewWriter(connection)
 	if err := writer.Write(&rtr.Unit{Kind: rtr.ResetQuery, Version: 1}); err != nil {
@@ -176,7 +177,8 @@ func ExampleCompareSerials() {
 
 func ExampleNewProviders() {
 	unit := rtr.Unit{
-		Kind: rtr.ASPA, Version: 2, Announce: true, Customer: 65000, Providers: rtr.NewProviders(65001, 65551),
+		Kind: rtr.ASPA, Version: 2, Announce: true, Customer: 65000,
+		Providers: rtr.NewProviders(65001, 65551),
 	}
 	for i := 0; i < unit.Providers.Len(); i++ {
 		fmt.Println(unit.Providers.At(i))

@@ -5,8 +5,8 @@ import (
 	"io"
 )
 
-// Status says how a call ended. Each but OK is an error, for errors.Is; calls return it in a Fault. Those of a
-// unit are Short to PrefixRule, and are checked in the order of docs/PROTOCOL.md.
+// Status says how a call ended. Each but OK is an error, for errors.Is; calls return it in a Fault.
+// Those of a unit are Short to PrefixRule, and are checked in the order of docs/PROTOCOL.md.
 type Status uint8
 
 // The numbers are those of rtr.h.
@@ -18,16 +18,20 @@ const (
 	TooLong               // a router key, an error report or an ASPA has more than 65535 bytes
 	UnitLength            // a length doesn't suit the type
 	EmptyProviders        // an ASPA is announced without providers
-	PrefixRule            // a prefix breaks its rule: its length (1) or its max length (2) is above that of an address, or the max length below the length (3)
-	TooMany               // as many units as were allowed were taken
-	NoRoom                // the output is too short for what comes next
-	NoForm                // no unit has these fields
-	_                     // 11 was "out of memory", which no call answers any more
-	NotCanonical          // a unit or an end of data may not stand there in data or changes in canonical form
-	OtherSession          // changes or data are of another session than the data
-	Duplicate             // a payload is announced that is there already
-	Unknown               // a payload is withdrawn that isn't there
-	Undecided             // an ASPA is announced and then withdrawn, so that what the changes come to depends on the data
+	// A prefix breaks its rule: its length (1) or its max length (2) is above that of an address, or
+	// the max length is below the length (3).
+	PrefixRule
+	TooMany // as many units as were allowed were taken
+	NoRoom  // the output is too short for what comes next
+	NoForm  // no unit has these fields
+	_       // 11 was "out of memory", which no call answers any more
+	// A unit or an end of data may not stand there in data or changes in canonical form.
+	NotCanonical
+	OtherSession // changes or data are of another session than the data
+	Duplicate    // a payload is announced that is there already
+	Unknown      // a payload is withdrawn that isn't there
+	// An ASPA is announced and then withdrawn, so that what the changes come to depends on the data.
+	Undecided
 )
 
 var statusTexts = [...]string{
@@ -69,16 +73,17 @@ var ruleTexts = [...]string{
 	3: "max-length smaller than prefix length",
 }
 
-// Fault is what is wrong with a unit, or with a call. errors.Is finds its Status in it, and io.ErrUnexpectedEOF
-// if that is Short.
+// Fault is what is wrong with a unit, or with a call. errors.Is finds its Status in it, and
+// io.ErrUnexpectedEOF if that is Short.
 type Fault struct {
 	Status Status
 	Detail uint8 // a type, a version or a rule on prefix lengths, as the Status says, else 0
-	// Where the unit begins that is refused: in bytes from the first one that the Reader read, or from the
-	// front of the input. -1 where no unit was read.
+	// Where the unit begins that is refused: in bytes from the first one that the Reader read, or
+	// from the front of the input. -1 where no unit was read.
 	Offset int64
-	// The bytes of that unit, as far as they are there and its header can be believed. They lie in the input of
-	// Next, UnitSize, Normalise, NormaliseFor, SameMeaning and the calls on changes; those of a Reader are a copy.
+	// The bytes of that unit, as far as they are there and its header can be believed. They lie in
+	// the input of Next, UnitSize, Normalise, NormaliseFor, SameMeaning and the calls on changes;
+	// those of a Reader are a copy.
 	Unit []byte
 }
 
@@ -116,8 +121,8 @@ func (f *Fault) Is(target error) bool {
 	return f.Status == Short && target == io.ErrUnexpectedEOF
 }
 
-// Code is the error code that the fault is reported with, and whether the peer is owed a report: not where no
-// unit was refused, and not about an error report (RFC 8210 section 5.11).
+// Code is the error code that the fault is reported with, and whether the peer is owed a report:
+// not where no unit was refused, and not about an error report (RFC 8210 section 5.11).
 func (f *Fault) Code() (code ErrorCode, owed bool) {
 	if f.Offset < 0 {
 		return 0, false
@@ -125,10 +130,10 @@ func (f *Fault) Code() (code ErrorCode, owed bool) {
 	return errorCode(f.Status, f.Unit)
 }
 
-// Report is the error report that the fault owes to the peer (RFC 8210 section 5.11), and whether it owes one,
-// as Code says. It encloses Unit, has a text that says what is wrong, and the version of that unit: set another
-// Version where the session has another. Of a unit of more than 65519 bytes it encloses the first 65519, and of
-// the text as much as is then left.
+// Report is the error report that the fault owes to the peer (RFC 8210 section 5.11), and whether
+// it owes one, as Code says. It encloses Unit, has a text that says what is wrong, and the version
+// of that unit: set another Version where the session has another. Of a unit of more than 65519
+// bytes it encloses the first 65519, and of the text as much as is then left.
 func (f *Fault) Report() (report *Unit, owed bool) {
 	code, owed := f.Code()
 	if !owed {
@@ -172,8 +177,8 @@ func refusal(status Status, detail uint8, input []byte, offset int64) *Fault {
 	return &Fault{Status: status, Detail: detail, Offset: offset, Unit: input[:size:size]}
 }
 
-// ErrorCode says in an error report what was wrong (RFC 8210 section 12). Those above 8 are as in the Rust crate
-// rpki.
+// ErrorCode says in an error report what was wrong (RFC 8210 section 12). Those above 8 are as in
+// the Rust crate rpki.
 type ErrorCode uint16
 
 // The error codes.

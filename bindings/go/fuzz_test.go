@@ -8,8 +8,8 @@ import (
 	"testing/iotest"
 )
 
-// What a Reader gives of any bytes is what Next gives of them, however they come; and what is written of a unit means
-// the same.
+// What a Reader gives of any bytes is what Next gives of them, however they come; and what is
+// written of a unit means the same.
 func FuzzReader(f *testing.F) {
 	f.Add(session())
 	for _, one := range shownUnits {

@@ -10,7 +10,7 @@ import (
 )
 
 // Longer than any step takes that these tests wait for, on a machine that is busy.
-const patience = 20 * time.Second
+const patience = 60 * time.Second
 
 // noLeaks says at the end of a test that no goroutine is left of it.
 func noLeaks(t *testing.T) {
@@ -94,7 +94,8 @@ func expect(t testing.TB, connection net.Conn, expected []byte) {
 	got := make([]byte, len(expected))
 	n, err := io.ReadFull(connection, got)
 	if err != nil || !bytes.Equal(got, expected) {
-		t.Fatalf("%x, but expected is %x: %v", got[:n], expected, err)
+		t.Fatalf("%d bytes %.100x, but expected are %d, %.100x: %v",
+			n, got[:n], len(expected), expected, err)
 	}
 }
 
@@ -103,6 +104,7 @@ func expectEnd(t testing.TB, connection net.Conn, expected []byte) {
 	t.Helper()
 	got, err := io.ReadAll(connection)
 	if err != nil || !bytes.Equal(got, expected) {
-		t.Fatalf("%x, but expected is %x: %v", got, expected, err)
+		t.Fatalf("%d bytes %.100x, but expected are %d, %.100x: %v",
+			len(got), got, len(expected), expected, err)
 	}
 }

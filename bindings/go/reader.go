@@ -5,12 +5,12 @@ import (
 	"io"
 )
 
-// Reader reads units of all kinds from an io.Reader, and keeps one at a time. It takes a unit's header, and then
-// exactly the unit's bytes: it never reads ahead. So give it a bufio.Reader where reads are dear, as on a socket or
-// a file.
+// Reader reads units of all kinds from an io.Reader, and keeps one at a time. It takes a unit's
+// header, and then exactly the unit's bytes: it never reads ahead. So give it a bufio.Reader where
+// reads are dear, as on a socket or a file.
 //
-// A length is checked before it is believed: the buffer never grows for a length that no unit has, and never above
-// 65535 bytes.
+// A length is checked before it is believed: the buffer never grows for a length that no unit has,
+// and never above 65535 bytes.
 type Reader struct {
 	reader io.Reader
 	buffer []byte
@@ -33,17 +33,18 @@ func NewReader(reader io.Reader) *Reader {
 	return &Reader{reader: reader, buffer: make([]byte, firstBuffer)}
 }
 
-// Next reads a unit. It, and the bytes that it shows, are valid until the next call; Clone keeps them. Nothing is
-// allocated, unless the buffer has to grow or there is an error.
+// Next reads a unit. It, and the bytes that it shows, are valid until the next call; Clone keeps
+// them. Nothing is allocated, unless the buffer has to grow or there is an error.
 //
 // Errors:
 //   - io.EOF if the input ends after a whole unit, or has none;
 //   - a Fault with Short, for which errors.Is knows io.ErrUnexpectedEOF, if it ends inside a unit;
-//   - a Fault with one of UnitType to EmptyProviders if a header is refused. What follows it isn't read, and each
-//     call answers the same;
-//   - a Fault with PrefixRule if the lengths of a prefix break their rule. The next call goes on after that unit;
-//   - that of the io.Reader, as it is. What was read is kept, so that the next call goes on where this one stopped,
-//     after a deadline for instance.
+//   - a Fault with one of UnitType to EmptyProviders if a header is refused. What follows it isn't
+//     read, and each call answers the same;
+//   - a Fault with PrefixRule if the lengths of a prefix break their rule. The next call goes on
+//     after that unit;
+//   - that of the io.Reader, as it is. What was read is kept, so that the next call goes on where
+//     this one stopped, after a deadline for instance.
 func (r *Reader) Next() (*Unit, error) {
 	return r.next(false)
 }
@@ -131,14 +132,14 @@ func (r *Reader) Offset() int64 {
 	return r.offset + int64(r.size)
 }
 
-// Bytes are the bytes of the unit that Next gave, as they were read, or of a prefix that it refused, and none after
-// another error. They are valid until the next call.
+// Bytes are the bytes of the unit that Next gave, as they were read, or of a prefix that it
+// refused, and none after another error. They are valid until the next call.
 func (r *Reader) Bytes() []byte {
 	return r.buffer[:r.size:r.size]
 }
 
-// Sequence is a loop over the units of a sequence: payload units up to an end of data, as a cache sends them after
-// its cache response.
+// Sequence is a loop over the units of a sequence: payload units up to an end of data, as a cache
+// sends them after its cache response.
 //
 //	sequence := reader.Sequence(1 << 24)
 //	for sequence.Scan() {
@@ -155,12 +156,14 @@ type Sequence struct {
 	ended  bool
 }
 
-// Sequence begins a sequence where the Reader stands. At most limit units are taken, the end of data included.
+// Sequence begins a sequence where the Reader stands. At most limit units are taken, the end of
+// data included.
 func (r *Reader) Sequence(limit uint64) *Sequence {
 	return &Sequence{reader: r, limit: limit}
 }
 
-// Scan reads the next unit, which Unit then gives. It answers false after the end of data, and if there is an error.
+// Scan reads the next unit, which Unit then gives. It answers false after the end of data, and if
+// there is an error.
 func (s *Sequence) Scan() bool {
 	if s.ended {
 		return false
@@ -187,25 +190,27 @@ func (s *Sequence) next() (*Unit, error) {
 	return unit, err
 }
 
-// Unit is the unit that Scan read last: a payload unit, or as the last one the end of data. It is valid until the
-// next call; Clone keeps it. After an error it is nil.
+// Unit is the unit that Scan read last: a payload unit, or as the last one the end of data. It is
+// valid until the next call; Clone keeps it. After an error it is nil.
 func (s *Sequence) Unit() *Unit {
 	return s.unit
 }
 
-// Err is the error that ended the loop, and nil if the end of data did. After one of the io.Reader another Sequence
-// goes on.
+// Err is the error that ended the loop, and nil if the end of data did. After one of the io.Reader
+// another Sequence goes on.
 //
-// Errors: a Fault with TooMany, before a unit is read; those of Reader.Next, but in the place of io.EOF one with
-// Short, and UnitType before any other fault for a header of a type that no sequence has.
+// Errors: a Fault with TooMany, before a unit is read; those of Reader.Next, but in the place of
+// io.EOF one with Short, and UnitType before any other fault for a header of a type that no
+// sequence has.
 func (s *Sequence) Err() error {
 	return s.err
 }
 
-// Collect takes what is left of the sequence, and gives the bytes of its units as they were read: changes, which
-// Order puts into canonical form for Apply. At most so many bytes are kept.
+// Collect takes what is left of the sequence, and gives the bytes of its units as they were read:
+// changes, which Order puts into canonical form for Apply. At most so many bytes are kept.
 //
-// Errors: those of Err, and a Fault with NoRoom at the unit that doesn't fit. Units that were taken before are lost.
+// Errors: those of Err, and a Fault with NoRoom at the unit that doesn't fit. Units that were taken
+// before are lost.
 func (s *Sequence) Collect(most int) ([]byte, error) {
 	return s.collect(most, func(*Unit) error { return nil })
 }

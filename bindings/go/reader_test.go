@@ -73,8 +73,8 @@ func TestReader(t *testing.T) {
 	}
 }
 
-// A session that is cut at each of its bytes: whole units come, and then io.EOF between two units, or else a fault
-// that is an io.ErrUnexpectedEOF, and has the place and the bytes of the unit.
+// A session that is cut at each of its bytes: whole units come, and then io.EOF between two units,
+// or else a fault that is an io.ErrUnexpectedEOF, and has the place and the bytes of the unit.
 func TestCut(t *testing.T) {
 	all := session()
 	for cut := range all {
@@ -104,7 +104,8 @@ func TestCut(t *testing.T) {
 	}
 }
 
-// A sequence that ends without an end of data ends with an io.ErrUnexpectedEOF, between two units too.
+// A sequence that ends without an end of data ends with an io.ErrUnexpectedEOF, between two units
+// too.
 func TestCutSequence(t *testing.T) {
 	all := join(ipv4, key, end)
 	for cut := 0; cut <= len(all); cut++ {
@@ -119,7 +120,8 @@ func TestCutSequence(t *testing.T) {
 			}
 		}
 		err := sequence.Err()
-		if count != expected || (err == nil) != (cut == len(all)) || errors.Is(err, io.ErrUnexpectedEOF) != (err != nil) {
+		if count != expected || (err == nil) != (cut == len(all)) ||
+			errors.Is(err, io.ErrUnexpectedEOF) != (err != nil) {
 			t.Fatalf("%d: %d units, %v", cut, count, err)
 		}
 	}
@@ -201,12 +203,14 @@ func TestFailing(t *testing.T) {
 
 // io.Readers that read nothing for ever, or answer what can't be.
 func TestOddReaders(t *testing.T) {
-	if _, err := NewReader(readerFunc(func([]byte) (int, error) { return 0, nil })).Next(); err != io.ErrNoProgress {
+	stuck := readerFunc(func([]byte) (int, error) { return 0, nil })
+	if _, err := NewReader(stuck).Next(); err != io.ErrNoProgress {
 		t.Fatal(err)
 	}
 	for _, n := range []int{-1, 9, 1 << 40} {
 		n := n
-		if _, err := NewReader(readerFunc(func([]byte) (int, error) { return n, nil })).Next(); err != errCount {
+		wrong := readerFunc(func([]byte) (int, error) { return n, nil })
+		if _, err := NewReader(wrong).Next(); err != errCount {
 			t.Fatal(err)
 		}
 	}
@@ -223,7 +227,9 @@ type hostile struct {
 func hostileLengths() []hostile {
 	var rows []hostile
 	for kind, size := range map[byte]uint32{0: 12, 1: 12, 2: 8, 3: 8, 4: 20, 6: 32, 8: 8} {
-		for _, length := range []uint32{0, 1, 7, size - 1, size + 1, size + 256, 65535, 65536, 1 << 31, 1<<32 - 1} {
+		for _, length := range []uint32{
+			0, 1, 7, size - 1, size + 1, size + 256, 65535, 65536, 1 << 31, 1<<32 - 1,
+		} {
 			rows = append(rows, hostile{1, kind, 0, length, UnitLength})
 		}
 	}
@@ -247,7 +253,8 @@ func hostileLengths() []hostile {
 	for _, kind := range []byte{5, 12, 255} {
 		rows = append(rows, hostile{1, kind, 0, 1<<32 - 1, UnitType})
 	}
-	return append(rows, hostile{2, 11, 1, 12, EmptyProviders}, hostile{2, 11, 0xff, 12, EmptyProviders})
+	return append(rows, hostile{2, 11, 1, 12, EmptyProviders},
+		hostile{2, 11, 0xff, 12, EmptyProviders})
 }
 
 // A hostile length is refused before anything but the header is read, and before the buffer grows.
@@ -264,7 +271,8 @@ func TestHostileLengths(t *testing.T) {
 			if unit != nil || !errors.As(err, &fault) || fault.Status != one.status || fault.Offset != 0 {
 				t.Fatalf("%+v: %v %v", one, unit, err)
 			}
-			if !bytes.Equal(fault.Unit, input[:8]) || rest.Len() != 100 || len(reader.buffer) != firstBuffer {
+			if !bytes.Equal(fault.Unit, input[:8]) || rest.Len() != 100 ||
+				len(reader.buffer) != firstBuffer {
 				t.Fatalf("%+v: %+v, %d bytes left", one, fault, rest.Len())
 			}
 		}
@@ -344,7 +352,8 @@ func TestGoingOn(t *testing.T) {
 // An io.Writer that fails, and one that writes less than it should.
 func TestWriterFails(t *testing.T) {
 	unit := shownUnits[4].unit
-	if err := NewWriter(writerFunc(func([]byte) (int, error) { return 3, errFailed })).Write(&unit); err != errFailed {
+	failing := writerFunc(func([]byte) (int, error) { return 3, errFailed })
+	if err := NewWriter(failing).Write(&unit); err != errFailed {
 		t.Fatal(err)
 	}
 	short := writerFunc(func(b []byte) (int, error) { return len(b) - 1, nil })

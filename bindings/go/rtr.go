@@ -1,9 +1,11 @@
-// Package rtr reads and writes the units of the RPKI to Router protocol (RFC 6810, RFC 8210), of all eleven
-// types, over the proved library rtr_c. What the library's functions promise is proved; this package is tested.
+// Package rtr reads and writes the units of the RPKI to Router protocol (RFC 6810, RFC 8210), of
+// all eleven types, over the proved library rtr_c. What the library's functions promise is proved;
+// this package is tested.
 //
 // # A connection
 //
-// NewReader reads units from an io.Reader, one at a time, and NewWriter writes them to an io.Writer:
+// NewReader reads units from an io.Reader, one at a time, and NewWriter writes them to an
+// io.Writer:
 //
 //	reader := rtr.NewReader(bufio.NewReader(connection))
 //	for {
@@ -17,39 +19,41 @@
 //		fmt.Println(unit.Kind, unit.Serial)
 //	}
 //
-// Reader.Sequence loops over what a cache sends in answer to a query: payload units up to an end of data.
+// Reader.Sequence loops over what a cache sends in answer to a query: payload units up to an end of
+// data.
 //
 // # Bytes in memory
 //
-// Next shows the unit that bytes begin with, and Unit.AppendBinary appends one. Normalise, NormaliseFor and
-// SameMeaning take whole sequences.
+// Next shows the unit that bytes begin with, and Unit.AppendBinary appends one. Normalise,
+// NormaliseFor and SameMeaning take whole sequences.
 //
 // # Data and deltas
 //
-// Data is what a cache has, or a router has of it. Delta leads from old data to new, and Apply makes all changes of
-// a delta, or none; Order puts changes that came in any order into the form that Apply takes, and Sequence.Collect
-// reads them from a connection.
+// Data is what a cache has, or a router has of it. Delta leads from old data to new, and Apply
+// makes all changes of a delta, or none; Order puts changes that came in any order into the form
+// that Apply takes, and Sequence.Collect reads them from a connection.
 //
 // # Clients and caches
 //
-// A Client follows the data of a cache over TCP, and a Server is a cache. docs/SESSIONS.md says what they do in each
-// state, by the sections of RFC 8210.
+// A Client follows the data of a cache over TCP, and a Server is a cache. docs/SESSIONS.md says
+// what they do in each state, by the sections of RFC 8210.
 //
 // # Errors
 //
-// What is wrong with a unit is a *Fault, for errors.As, with the place and the bytes of the unit, and the error
-// report that is owed to the peer. Each Status is an error, for errors.Is. Errors of an io.Reader and an
-// io.Writer are returned as they are.
+// What is wrong with a unit is a *Fault, for errors.As, with the place and the bytes of the unit,
+// and the error report that is owed to the peer. Each Status is an error, for errors.Is. Errors of
+// an io.Reader and an io.Writer are returned as they are.
 //
 // # Goroutines and memory
 //
-// Several goroutines may call at once, but one at a time for each Reader, Sequence, Units and Writer. Slices may be nil
-// or empty. What is written must not overlap what is read, and until a call returns no other goroutine may write
-// to its arguments or read its output. No unit allocates memory, when it is read or written, once the buffers
-// are as long as the longest unit; an error does.
+// Several goroutines may call at once, but one at a time for each Reader, Sequence, Units and
+// Writer. Slices may be nil or empty. What is written must not overlap what is read, and until a
+// call returns no other goroutine may write to its arguments or read its output. No unit allocates
+// memory, when it is read or written, once the buffers are as long as the longest unit; an error
+// does.
 //
-// Copyright (c) 2026, the authors of Fishreef; copyright (c) 2018, NLnet Labs. BSD 3-Clause License: see the
-// file LICENSE at the top of the repository.
+// Copyright (c) 2026, the authors of Fishreef; copyright (c) 2018, NLnet Labs. BSD 3-Clause
+// License: see the file LICENSE at the top of the repository.
 package rtr
 
 /*
@@ -156,8 +160,8 @@ func unitSize(input []byte) (size int, status Status, detail uint8) {
 	return int(sized.size), Status(sized.status), uint8(sized.detail)
 }
 
-// parse makes the unit the one that input begins with, and answers its size. If it is refused, the unit is as it
-// was; then the size is that of the unit if the status is PrefixRule, and else 0.
+// parse makes the unit the one that input begins with, and answers its size. If it is refused, the
+// unit is as it was; then the size is that of the unit if the status is PrefixRule, and else 0.
 func (unit *Unit) parse(input []byte) (size int, status Status, detail uint8) {
 	in, n := place(input)
 	shown := C.next(in, n)
@@ -235,8 +239,8 @@ func (unit *Unit) inC(partLength C.size_t) C.struct_rtr_unit {
 	return u
 }
 
-// errorCode is the error code that is owed to the peer for this status of the unit that input begins with, and
-// whether one is.
+// errorCode is the error code that is owed to the peer for this status of the unit that input
+// begins with, and whether one is.
 func errorCode(status Status, input []byte) (ErrorCode, bool) {
 	in, n := place(input)
 	owed := C.error_code(C.uint8_t(status), in, n)

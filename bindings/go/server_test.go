@@ -248,8 +248,8 @@ func TestServerLimits(t *testing.T) {
 	}
 	data := parsed(t, join(join(large...), ending(1, 7, 1)))
 	server, address := started(t, func(limits *ServerLimits) {
-		limits.First, limits.Unit = 200*time.Millisecond, 100*time.Millisecond
-		limits.Idle, limits.Write = 300*time.Millisecond, 400*time.Millisecond
+		limits.First, limits.Unit = 500*time.Millisecond, 300*time.Millisecond
+		limits.Idle, limits.Write = 700*time.Millisecond, 2*time.Second
 	})
 	errs := why(server)
 	if err := server.Update(data); err != nil {

@@ -55,8 +55,8 @@ func (k Kind) String() string {
 	return fmt.Sprintf("type %d", uint8(k))
 }
 
-// In says whether a version of the protocol has units of this kind: version 0 doesn't have router keys, versions
-// 0 and 1 don't have ASPAs, and there is no version above 2.
+// In says whether a version of the protocol has units of this kind: version 0 doesn't have router
+// keys, versions 0 and 1 don't have ASPAs, and there is no version above 2.
 func (k Kind) In(version uint8) bool {
 	return versionHas(version, k)
 }
@@ -70,7 +70,8 @@ func (k Kind) inSequence() bool {
 	return false
 }
 
-// Providers are the providers of an ASPA, four bytes each in network order, as they stand in a unit.
+// Providers are the providers of an ASPA, four bytes each in network order, as they stand in a
+// unit.
 type Providers []byte
 
 // NewProviders are the providers with these numbers.
@@ -111,10 +112,11 @@ type Unit struct {
 	Providers     Providers // on a withdrawal too, where it has some
 	Code          ErrorCode // of an error report, as what follows
 	Enclosed      []byte    // the unit that the report is about, or its front
-	Text          []byte    // in UTF-8; nil, as Enclosed, if the lengths inside of the report don't fit
+	Text          []byte    // in UTF-8; nil, as Enclosed, if lengths inside the report don't fit
 }
 
-// Clone is a copy of the unit that shares no bytes with it: it stays as it is when the Reader goes on.
+// Clone is a copy of the unit that shares no bytes with it: it stays as it is when the Reader goes
+// on.
 func (unit *Unit) Clone() *Unit {
 	copied := *unit
 	copied.KeyInfo = clone(unit.KeyInfo)
@@ -132,11 +134,12 @@ func clone(b []byte) []byte {
 	return append([]byte{}, b...)
 }
 
-// Next gives the unit that input begins with, and what follows it. Key info, providers and the parts of a report
-// lie in input, and appending to them leaves it as it is. Nothing is allocated, unless there is an error.
+// Next gives the unit that input begins with, and what follows it. Key info, providers and the
+// parts of a report lie in input, and appending to them leaves it as it is. Nothing is allocated,
+// unless there is an error.
 //
-// Errors: a Fault with one of Short to PrefixRule, and the whole input. UnitSize says then how many bytes are
-// wanted (Short), or by how many to go on (PrefixRule).
+// Errors: a Fault with one of Short to PrefixRule, and the whole input. UnitSize says then how many
+// bytes are wanted (Short), or by how many to go on (PrefixRule).
 func Next(input []byte) (Unit, []byte, error) {
 	var unit Unit
 	size, status, detail := unit.parse(input)
@@ -146,11 +149,11 @@ func Next(input []byte) (Unit, []byte, error) {
 	return unit, input[size:], nil
 }
 
-// UnitSize says by a header alone how many bytes the unit has that input begins with: at most 65535. What follows
-// the header isn't read, and may be missing.
+// UnitSize says by a header alone how many bytes the unit has that input begins with: at most
+// 65535. What follows the header isn't read, and may be missing.
 //
-// Errors: a Fault with Short if there are fewer than the eight bytes of a header, and then the size is 8; UnitType
-// to EmptyProviders, and then it is 0.
+// Errors: a Fault with Short if there are fewer than the eight bytes of a header, and then the size
+// is 8; UnitType to EmptyProviders, and then it is 0.
 func UnitSize(input []byte) (int, error) {
 	size, status, detail := unitSize(input)
 	if status != OK {
@@ -164,16 +167,17 @@ func (unit *Unit) MarshalBinary() ([]byte, error) {
 	return unit.AppendBinary(nil)
 }
 
-// AppendBinary appends the written form of the unit to b, at most 65535 bytes. The bits of an address after the
-// prefix length are cleared, a withdrawn ASPA is written without providers, and an end of data of version 0
-// without timings. Nothing is allocated where b has room for 32 bytes and the key info, the providers or the
-// parts of a report.
+// AppendBinary appends the written form of the unit to b, at most 65535 bytes. The bits of an
+// address after the prefix length are cleared, a withdrawn ASPA is written without providers, and
+// an end of data of version 0 without timings. Nothing is allocated where b has room for 32 bytes
+// and the key info, the providers or the parts of a report.
 //
-// Errors, in this order, each a Fault, and nothing is appended: UnitType; NoForm if a unit is announced that has no
-// payload, and for a prefix that isn't valid or isn't of the kind's family; PrefixRule for the max length; TooLong
-// for more than 65503 bytes of key info, or 65519 of the parts of a report or, announced, 65520 of providers;
-// UnitLength for announced providers that aren't 4 bytes each; EmptyProviders if there are none; UnitVersion for
-// an end of data of a version above 2.
+// Errors, in this order, each a Fault, and nothing is appended: UnitType; NoForm if a unit is
+// announced that has no payload, and for a prefix that isn't valid or isn't of the kind's family;
+// PrefixRule for the max length; TooLong for more than 65503 bytes of key info, or 65519 of the
+// parts of a report or, announced, 65520 of providers; UnitLength for announced providers that
+// aren't 4 bytes each; EmptyProviders if there are none; UnitVersion for an end of data of a
+// version above 2.
 func (unit *Unit) AppendBinary(b []byte) ([]byte, error) {
 	part := unit.part()
 	if unit.Kind == ErrorReport && !unit.Announce && len(part)+len(unit.Text) > mostInReport {
@@ -204,8 +208,8 @@ func grown(b []byte, room int) []byte {
 	return b
 }
 
-// appendText gives the report without a text that begins at start a text, which the library takes only where it
-// lies in the same bytes as the enclosed unit.
+// appendText gives the report without a text that begins at start a text, which the library takes
+// only where it lies in the same bytes as the enclosed unit.
 func appendText(b []byte, start int, text []byte) []byte {
 	binary.BigEndian.PutUint32(b[len(b)-4:], uint32(len(text)))
 	b = append(b, text...)
@@ -231,7 +235,8 @@ func (unit *Unit) refused(status Status) error {
 	return fault
 }
 
-// part is the key info of a router key, the providers of an ASPA, or the unit that a report encloses.
+// part is the key info of a router key, the providers of an ASPA, or the unit that a report
+// encloses.
 func (unit *Unit) part() []byte {
 	switch unit.Kind {
 	case RouterKey:
@@ -244,9 +249,9 @@ func (unit *Unit) part() []byte {
 	return nil
 }
 
-// CompareSerials compares serial numbers (RFC 1982): the order is below 0 if left comes before right, 0 if they are
-// equal, and above 0 if it comes after. If they lie half the circle of 2^32 numbers apart, neither comes first, and
-// ok is false.
+// CompareSerials compares serial numbers (RFC 1982): the order is below 0 if left comes before
+// right, 0 if they are equal, and above 0 if it comes after. If they lie half the circle of 2^32
+// numbers apart, neither comes first, and ok is false.
 func CompareSerials(left, right uint32) (order int, ok bool) {
 	switch serialOrder(left, right) {
 	case 0:

@@ -12,7 +12,8 @@ import (
 	"testing"
 )
 
-// Units of each kind by RFC 8210 sections 5.2 to 5.11, of an ASPA as docs/PROTOCOL.md has it, by hand.
+// Units of each kind by RFC 8210 sections 5.2 to 5.11, of an ASPA as docs/PROTOCOL.md has it, by
+// hand.
 var (
 	serialNotify  = []byte{1, 0, 0x12, 0x34, 0, 0, 0, 12, 0xde, 0xad, 0xbe, 0xef}
 	serialQuery   = []byte{0, 1, 0x12, 0x34, 0, 0, 0, 12, 0xde, 0xad, 0xbe, 0xef}
@@ -122,13 +123,14 @@ func TestFields(t *testing.T) {
 		}
 	}
 	unit, _, err := Next(aspa)
-	if err != nil || unit.Providers.Len() != 2 || unit.Providers.At(0) != 65001 || unit.Providers.At(1) != 65551 {
+	if err != nil || unit.Providers.Len() != 2 || unit.Providers.At(0) != 65001 ||
+		unit.Providers.At(1) != 65551 {
 		t.Fatalf("%v %v", unit.Providers, err)
 	}
 }
 
-// What is free is written as zero: host bits, sessions that mean nothing, flags but the lowest, and the providers
-// of a withdrawal.
+// What is free is written as zero: host bits, sessions that mean nothing, flags but the lowest, and
+// the providers of a withdrawal.
 func TestForms(t *testing.T) {
 	for _, one := range []struct{ bytes, form []byte }{
 		{[]byte{2, 2, 3, 4, 0, 0, 0, 8}, resetQuery},
@@ -156,7 +158,9 @@ func TestForms(t *testing.T) {
 
 // A report whose inner lengths don't fit shows no parts.
 func TestReportsThatDontFit(t *testing.T) {
-	for _, lengths := range [][2]uint32{{9, 2}, {7, 2}, {8, 3}, {8, 1}, {0xffffffff, 2}, {8, 0xffffffff}, {11, 0}} {
+	for _, lengths := range [][2]uint32{
+		{9, 2}, {7, 2}, {8, 3}, {8, 1}, {0xffffffff, 2}, {8, 0xffffffff}, {11, 0},
+	} {
 		report := append([]byte{}, errorReport...)
 		binary.BigEndian.PutUint32(report[8:], lengths[0])
 		binary.BigEndian.PutUint32(report[20:], lengths[1])
@@ -179,7 +183,8 @@ func TestVersions(t *testing.T) {
 		}
 		unit := Unit{Kind: EndOfData, Version: uint8(version)}
 		form, err := unit.MarshalBinary()
-		if status, detail = numbers(err); len(form) != 0 || Status(status) != UnitVersion || int(detail) != version {
+		status, detail = numbers(err)
+		if len(form) != 0 || Status(status) != UnitVersion || int(detail) != version {
 			t.Fatalf("%d: %x %v", version, form, err)
 		}
 		read := join([]byte{uint8(version)}, end[1:])
@@ -478,7 +483,8 @@ func TestStatus(t *testing.T) {
 				t.Fatalf("%v: %v", fault, other)
 			}
 		}
-		if errors.Is(fault, io.ErrUnexpectedEOF) != (Status(status) == Short) || errors.Is(fault, io.EOF) {
+		if errors.Is(fault, io.ErrUnexpectedEOF) != (Status(status) == Short) ||
+			errors.Is(fault, io.EOF) {
 			t.Fatalf("%v", fault)
 		}
 	}

@@ -2,8 +2,8 @@ package rtr
 
 import "io"
 
-// Writer writes units to an io.Writer, each with one call of its Write. It keeps nothing back: give it a
-// bufio.Writer where writes are dear, and flush that.
+// Writer writes units to an io.Writer, each with one call of its Write. It keeps nothing back: give
+// it a bufio.Writer where writes are dear, and flush that.
 type Writer struct {
 	writer io.Writer
 	buffer []byte
@@ -14,10 +14,11 @@ func NewWriter(writer io.Writer) *Writer {
 	return &Writer{writer: writer, buffer: make([]byte, 0, firstBuffer)}
 }
 
-// Write writes the written form of a unit, as Unit.AppendBinary makes it. Nothing is allocated, unless the buffer
-// has to grow or there is an error.
+// Write writes the written form of a unit, as Unit.AppendBinary makes it. Nothing is allocated,
+// unless the buffer has to grow or there is an error.
 //
-// Errors: those of AppendBinary, and then nothing is written; that of the io.Writer, as it is, or io.ErrShortWrite.
+// Errors: those of AppendBinary, and then nothing is written; that of the io.Writer, as it is, or
+// io.ErrShortWrite.
 func (w *Writer) Write(unit *Unit) error {
 	form, err := unit.AppendBinary(w.buffer[:0])
 	w.buffer = form[:0]

@@ -16,7 +16,8 @@
 //! let connection: &[u8] = &[
 //!     1, 3, 0x12, 0x34, 0, 0, 0, 8, //
 //!     1, 4, 0, 0, 0, 0, 0, 20, 1, 23, 26, 0, 192, 0, 2, 0, 0, 1, 0, 15, //
-//!     1, 7, 0x12, 0x34, 0, 0, 0, 24, 0, 0, 0, 5, 0, 0, 0x0e, 0x10, 0, 0, 2, 0x58, 0, 0, 0x1c, 0x20,
+//!     1, 7, 0x12, 0x34, 0, 0, 0, 24, 0, 0, 0, 5,
+//!     0, 0, 0x0e, 0x10, 0, 0, 2, 0x58, 0, 0, 0x1c, 0x20,
 //! ];
 //! let mut reader = Reader::new(connection);
 //! let mut prefixes = Vec::new();
@@ -29,8 +30,8 @@
 //! # Ok::<(), rtr_wire::Error>(())
 //! ```
 //!
-//! A [`Reader`] is also an iterator over units that own their bytes, and [`Reader::sequence`] is one
-//! over what a cache sends in answer to a query: payload units up to an end of data.
+//! A [`Reader`] is also an iterator over units that own their bytes, and [`Reader::sequence`] is
+//! one over what a cache sends in answer to a query: payload units up to an end of data.
 //!
 //! # Bytes in memory
 //!

@@ -206,8 +206,8 @@ impl<R: Read> Reader<R> {
     /// # Errors
     ///
     /// - `Refused` with `Short` if the input ends inside a unit;
-    /// - `Refused` with `UnitType` to `EmptyProviders` if a header is refused. What follows it isn't
-    ///   read, and each call answers the same;
+    /// - `Refused` with `UnitType` to `EmptyProviders` if a header is refused. What follows it
+    ///   isn't read, and each call answers the same;
     /// - `Refused` with `Prefix` if the lengths of a prefix break their rule. The next call goes on
     ///   after that unit;
     /// - `Io` if the reader fails, but not for `Interrupted`. What was read is kept, so that the

@@ -208,6 +208,14 @@ impl Connection<'_> {
         report_on(version, code, unit, text)
     }
 
+    /// Within a connection all data are of one session (RFC 8210 section 5.1).
+    fn check_session(&self, session: u16) -> Result<(), End> {
+        match self.told {
+            Some(told) if told.session != session => Err(ServerError::OtherSession.into()),
+            _ => Ok(()),
+        }
+    }
+
     /// Answers a query (RFC 8210 section 8).
     fn answer(&mut self, version: u8, query: Query) -> Result<(), End> {
         let Some(snapshot) = self.shared.current() else {
@@ -215,6 +223,7 @@ impl Connection<'_> {
             let report = self.report(code, self.units.bytes(), &code.to_string());
             return self.send(&Unit::ErrorReport(report));
         };
+        self.check_session(snapshot.session())?;
         match query {
             Query::Reset => self.respond(version, &snapshot, snapshot.data_for(version).as_bytes()),
             Query::Serial { session, serial } => {
@@ -284,9 +293,7 @@ impl Connection<'_> {
             return Ok(());
         };
         let now = Told::of(&snapshot);
-        if self.told.is_some_and(|told| told.session != now.session) {
-            return Err(ServerError::OtherSession.into());
-        }
+        self.check_session(now.session)?;
         let waits = self
             .notified
             .is_some_and(|time| time.elapsed() < self.shared.options.notify);

@@ -239,9 +239,9 @@ pub type UnitRef<'a> = Unit<&'a [u8]>;
 #[cfg(feature = "std")]
 pub type OwnedUnit = Unit<Vec<u8>>;
 
-/// How many bytes the unit has that the input begins with, by its header alone: at most 65535. It is
-/// none if fewer than the eight bytes of a header are there. What follows the header isn't read, and
-/// may be missing.
+/// How many bytes the unit has that the input begins with, by its header alone: at most 65535. It
+/// is none if fewer than the eight bytes of a header are there. What follows the header isn't read,
+/// and may be missing.
 ///
 /// # Errors
 ///

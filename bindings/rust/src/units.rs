@@ -4,15 +4,16 @@ use crate::fault::Fault;
 use crate::kind::Kind;
 use crate::unit::{Unit, UnitRef};
 
-/// The units of a slice, one after the other, up to its end or the first fault. Each is parsed once,
-/// and nothing is allocated.
+/// The units of a slice, one after the other, up to its end or the first fault. Each is parsed
+/// once, and nothing is allocated.
 ///
 /// ```
 /// use rtr_wire::{Kind, Units};
 ///
 /// // A reset query and a cache reset (RFC 8210 sections 5.4 and 5.9).
 /// let session = [1, 2, 0, 0, 0, 0, 0, 8, 1, 8, 0, 0, 0, 0, 0, 8];
-/// let kinds: Vec<Kind> = Units::new(&session).map(|unit| Ok(unit?.kind())).collect::<Result<_, _>>()?;
+/// let units = Units::new(&session);
+/// let kinds: Vec<Kind> = units.map(|unit| Ok(unit?.kind())).collect::<Result<_, _>>()?;
 /// assert_eq!(kinds, [Kind::ResetQuery, Kind::CacheReset]);
 /// # Ok::<(), rtr_wire::Fault>(())
 /// ```

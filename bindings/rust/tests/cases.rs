@@ -1,5 +1,5 @@
-//! The cases that `bindings/cases.py` writes: read from the file that `RTR_CASES` names, or else made
-//! by python3. Where there is no python3, nothing is tested here.
+//! The cases that `bindings/cases.py` writes: read from the file that `RTR_CASES` names, or else
+//! made by python3. Where there is no python3, nothing is tested here.
 
 use rtr_wire::{
     normalise, normalise_for, same_meaning, Fault, PrefixRule, Progress, Stopped, Units,

@@ -159,10 +159,7 @@ fn follow<T>(
         }
         let began = Instant::now();
         running.join().expect("the client doesn't panic");
-        assert!(
-            began.elapsed() < Duration::from_secs(1),
-            "the client ends late"
-        );
+        assert!(began.elapsed() < LATE, "the client ends late");
     });
     log.into_inner().unwrap().told
 }
@@ -410,6 +407,28 @@ fn no_data_and_expired_data() {
     assert_eq!(told.get(place + 1), Some(&expired));
 }
 
+/// Ends an answer to a reset query after so many bytes: closes the connection, or resets it by
+/// leaving the query unread.
+fn stops_after(cache: &Played, answer: &[u8], resets: bool) -> ClientError {
+    let client = Client::new(cache.address().to_string(), options());
+    std::thread::scope(|scope| {
+        let fetched = scope.spawn(|| client.fetch());
+        let mut peer = cache.accept();
+        if resets {
+            peer.is_sent_to();
+        } else {
+            peer.expect(&reset_query(2));
+        }
+        peer.try_send(answer);
+        drop(peer);
+        // Without a word a client asks in lower versions.
+        while !fetched.is_finished() {
+            drop(cache.within(milliseconds(1)));
+        }
+        fetched.join().unwrap().unwrap_err()
+    })
+}
+
 /// An answer to a reset query that ends after each of its bytes gives no data, and what has changed
 /// is applied whole or not at all.
 #[test]
@@ -417,24 +436,13 @@ fn caches_that_stop() {
     let _alone = alone();
     let cache = Played::new();
     let (whole, delta) = (all(2, 1), changed(1, 2));
-    for length in 0..whole.len() {
-        let client = Client::new(cache.address().to_string(), options());
-        std::thread::scope(|scope| {
-            let fetched = scope.spawn(|| client.fetch());
-            let mut peer = cache.accept();
-            peer.expect(&reset_query(2));
-            peer.send(&whole[..length]);
-            drop(peer);
-            // Without a word a client asks in lower versions.
-            while let Some(peer) = cache.within(milliseconds(if length == 0 { 50 } else { 0 })) {
-                drop(peer);
-            }
-            let error = fetched.join().unwrap().unwrap_err();
-            assert!(matches!(
-                error,
-                ClientError::Closed | ClientError::Io(_) | ClientError::Refused(_)
-            ));
-        });
+    for length in 0..2 * whole.len() {
+        let answer = &whole[..length / 2];
+        let error = stops_after(&cache, answer, length % 2 == 1);
+        assert!(matches!(
+            error,
+            ClientError::Closed | ClientError::Io(_) | ClientError::Refused(_)
+        ));
     }
     for length in 0..=delta.len() {
         let cache = Played::new();
@@ -565,14 +573,17 @@ fn bad_answers() {
             (format!("{fault}, at byte 8"), code)
         );
     }
-    let mut prefix = prefix(1, 1);
-    prefix[9] = 33;
-    let bytes = [response(2, SESSION), prefix].concat();
-    let text = "prefix length too large, at byte 8".to_string();
-    assert_eq!(
-        fetch_refused(&cache, &bytes),
-        (text, Some(ErrorCode::CORRUPT_DATA))
-    );
+    for (length, most, text) in [
+        (33, 33, "prefix length too large, at byte 8"),
+        (24, 33, "max-length too large, at byte 8"),
+        (24, 23, "max-length smaller than prefix length, at byte 8"),
+    ] {
+        let mut prefix = prefix(1, 1);
+        (prefix[9], prefix[10]) = (length, most);
+        let bytes = [response(2, SESSION), prefix].concat();
+        let refused = (text.to_string(), Some(ErrorCode::CORRUPT_DATA));
+        assert_eq!(fetch_refused(&cache, &bytes), refused);
+    }
 }
 
 /// After a report in answer to a serial query all data are asked for: the cache may have begun
@@ -685,14 +696,16 @@ fn hostile_caches() {
         ),
     ];
     for (plays, text) in rows {
-        let options = ClientOptions {
-            response: milliseconds(300),
+        let mut options = ClientOptions {
             bytes: 100_000,
             ..options()
         };
+        if text == too_slow {
+            options.response = milliseconds(300);
+        }
         let (error, time) = fetch_played(plays, options);
         assert_eq!(error.to_string(), text);
-        assert!(time < Duration::from_secs(2), "{text} comes late");
+        assert!(time < LATE, "{text} comes late");
     }
     // The count of units is a limit too.
     let options = ClientOptions {

@@ -70,8 +70,8 @@ fn watch(address: &str, serial: u32) -> Option<Data> {
     })
 }
 
-/// What a cache sends: a cache response, a prefix and an end of data (RFC 8210 sections 5.5, 5.6 and
-/// 5.8).
+/// What a cache sends: a cache response, a prefix and an end of data (RFC 8210 sections 5.5, 5.6
+/// and 5.8).
 const SENT: [u8; 52] = [
     1, 3, 0x12, 0x34, 0, 0, 0, 8, //
     1, 4, 0, 0, 0, 0, 0, 20, 1, 23, 26, 0, 192, 0, 2, 0, 0, 1, 0, 15, //

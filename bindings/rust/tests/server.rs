@@ -7,7 +7,7 @@ mod peers;
 use peers::*;
 use rtr_wire::*;
 use std::net::SocketAddr;
-use std::time::{Duration, Instant};
+use std::time::Instant;
 
 /// A server on a port of the loopback interface, whose threads are gone after it.
 struct Cache {
@@ -60,10 +60,7 @@ impl Drop for Cache {
     fn drop(&mut self) {
         let began = Instant::now();
         self.server.stop();
-        assert!(
-            began.elapsed() < Duration::from_secs(2),
-            "the server stops late"
-        );
+        assert!(began.elapsed() < LATE, "the server stops late");
         assert_eq!(self.server.clients(), 0);
         assert!(holds(|| threads("rtr ") == 0), "threads are left");
     }
@@ -173,6 +170,22 @@ fn updates() {
     assert!(matches!(client.unit(), Some(Unit::CacheReset(_))));
 }
 
+/// A client that has data of a session which has ended gets nothing of the next one, however soon
+/// it asks (RFC 8210 section 5.1).
+#[test]
+fn sessions_that_end() {
+    let _alone = alone();
+    for _ in 0..5 {
+        let cache = Cache::with_data(1);
+        let mut client = cache.client();
+        client.send(&reset_query(2));
+        client.response();
+        assert_eq!(cache.server.update(data_of(7, 1, 20)), Ok(true));
+        client.try_send(&serial_query(2, SESSION, 1));
+        assert!(client.is_closed());
+    }
+}
+
 /// What a client sends that isn't a query, and the code of the report that it gets, if any.
 fn refused_units() -> Vec<(Vec<u8>, Option<ErrorCode>)> {
     let mut rows = Vec::new();
@@ -268,6 +281,32 @@ fn clients_that_stop() {
     assert!(holds(|| cache.server.clients() == 0));
 }
 
+/// A session that stalls after each of its bytes, or whose connection is reset there.
+#[test]
+fn clients_that_stall_or_reset() {
+    let _alone = alone();
+    let cache = Cache::new(ServerOptions {
+        idle: milliseconds(500),
+        ..options()
+    });
+    assert_eq!(cache.server.update(data(4)), Ok(true));
+    let session = [reset_query(2), serial_query(2, SESSION, 2), reset_query(2)].concat();
+    let mut stalled = Vec::new();
+    for length in 0..=session.len() {
+        let mut client = cache.client();
+        client.send(&session[..length]);
+        if length >= 8 {
+            client.is_sent_to();
+        }
+        drop(client);
+        let mut client = cache.client();
+        client.send(&session[..length]);
+        stalled.push(client);
+    }
+    cache.serves(4);
+    assert!(holds(|| cache.server.clients() == 0));
+}
+
 /// A client that is too slow is disconnected, and no other notices.
 #[test]
 fn slow_clients() {
@@ -287,7 +326,7 @@ fn slow_clients() {
         std::thread::sleep(milliseconds(100));
     }
     assert!(bytes.is_closed() && idle.is_closed() && nothing.is_closed());
-    assert!(began.elapsed() < Duration::from_secs(3));
+    assert!(began.elapsed() < LATE);
     cache.serves(1);
     // Long units come without an end.
     let mut flood = cache.client();

@@ -1,5 +1,5 @@
-//! The sessions that `bindings/sessions.py` computes: read from the file that `RTR_SESSIONS` names, or
-//! else made by python3. Where there is no python3, nothing is tested here.
+//! The sessions that `bindings/sessions.py` computes: read from the file that `RTR_SESSIONS` names,
+//! or else made by python3. Where there is no python3, nothing is tested here.
 #![cfg(feature = "std")]
 
 use rtr_wire::*;

@@ -105,8 +105,8 @@ fn iterated() {
     assert_eq!(bytes, session);
 }
 
-/// A session that is cut at each of its bytes: whole units come, and then none between two units, or
-/// else `Short`, with the place and the bytes of the unit.
+/// A session that is cut at each of its bytes: whole units come, and then none between two units,
+/// or else `Short`, with the place and the bytes of the unit.
 #[test]
 fn cut() {
     let session = session();
@@ -231,8 +231,8 @@ fn buffer_grows() {
     assert!(matches!(reader.next_unit(), Ok(None)));
 }
 
-/// A prefix that breaks its rule is refused with its bytes and its report, and the next call goes on
-/// after it.
+/// A prefix that breaks its rule is refused with its bytes and its report, and the next call goes
+/// on after it.
 #[test]
 fn going_on() {
     let mut refused = IPV4.to_vec();

@@ -51,8 +51,8 @@ fn cut() {
     }
 }
 
-/// What is free is written as zero: host bits, sessions that mean nothing, flags but the lowest, and
-/// the providers of a withdrawal.
+/// What is free is written as zero: host bits, sessions that mean nothing, flags but the lowest,
+/// and the providers of a withdrawal.
 #[test]
 fn forms() {
     let prefix = [

@@ -56,7 +56,8 @@ func fields(unit *rtr.Unit) string {
 	case rtr.RouterKey:
 		return fmt.Sprintf(" %s %x AS%d key info %x", action, unit.KeyIdentifier, unit.ASN, unit.KeyInfo)
 	case rtr.ErrorReport:
-		return fmt.Sprintf(" code %d (%v) about %x: %q", uint16(unit.Code), unit.Code, unit.Enclosed, unit.Text)
+		return fmt.Sprintf(" code %d (%v) about %x: %q",
+			uint16(unit.Code), unit.Code, unit.Enclosed, unit.Text)
 	case rtr.ASPA:
 		line := fmt.Sprintf(" %s AS%d providers", action, unit.Customer)
 		for i := 0; i < unit.Providers.Len(); i++ {

@@ -9,7 +9,10 @@ use std::time::{Duration, Instant};
 
 pub const SESSION: u16 = 4660;
 /// How long a test waits for something that has to come.
-pub const PATIENCE: Duration = Duration::from_secs(10);
+pub const PATIENCE: Duration = Duration::from_secs(30);
+/// How late something may come that ends by a limit of well under a second: others use the machine
+/// too.
+pub const LATE: Duration = Duration::from_secs(10);
 
 pub fn milliseconds(count: u64) -> Duration {
     Duration::from_millis(count)
@@ -101,6 +104,12 @@ impl Peer {
     /// Sends as much as the peer takes.
     pub fn try_send(&mut self, bytes: &[u8]) {
         let _ = self.stream.write_all(bytes);
+    }
+
+    /// Waits until something has come, which isn't read: a connection that is dropped then is
+    /// reset.
+    pub fn is_sent_to(&self) {
+        let _ = self.stream.peek(&mut [0]);
     }
 
     pub fn finish(&self) {

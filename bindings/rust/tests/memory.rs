@@ -1,0 +1,96 @@
+//! What hostile peers cost a client and a server in memory. This is the only test of its program,
+//! so that no other allocates.
+#![cfg(feature = "std")]
+
+mod peers;
+
+use peers::*;
+use rtr_wire::*;
+use std::alloc::{GlobalAlloc, Layout, System};
+use std::net::TcpListener;
+use std::sync::atomic::{AtomicUsize, Ordering};
+use std::time::Duration;
+
+/// The system's allocator, whose bytes are counted.
+struct Counted;
+
+static HELD: AtomicUsize = AtomicUsize::new(0);
+static MOST: AtomicUsize = AtomicUsize::new(0);
+
+// SAFETY: all is done by the system's allocator.
+unsafe impl GlobalAlloc for Counted {
+    unsafe fn alloc(&self, layout: Layout) -> *mut u8 {
+        let held = HELD.fetch_add(layout.size(), Ordering::Relaxed) + layout.size();
+        MOST.fetch_max(held, Ordering::Relaxed);
+        // SAFETY: as the caller promises.
+        unsafe { System.alloc(layout) }
+    }
+
+    unsafe fn dealloc(&self, pointer: *mut u8, layout: Layout) {
+        HELD.fetch_sub(layout.size(), Ordering::Relaxed);
+        // SAFETY: as the caller promises.
+        unsafe { System.dealloc(pointer, layout) }
+    }
+}
+
+#[global_allocator]
+static ALLOCATOR: Counted = Counted;
+
+/// How many bytes are held at most while this is done, beside those that are held before.
+fn most(done: impl FnOnce()) -> usize {
+    let before = HELD.load(Ordering::Relaxed);
+    MOST.store(before, Ordering::Relaxed);
+    done();
+    MOST.load(Ordering::Relaxed) - before
+}
+
+/// A cache that sends the same bytes over and over after a cache response.
+fn flood(bytes: &[u8], options: ClientOptions) {
+    let listener = TcpListener::bind("127.0.0.1:0").expect("a port is free");
+    let client = Client::new(listener.local_addr().unwrap().to_string(), options);
+    std::thread::scope(|scope| {
+        scope.spawn(|| {
+            let mut peer = Peer::of(listener.accept().unwrap().0);
+            // A connection that is dropped with a query unread is reset.
+            assert!(peer.unit().is_some());
+            peer.send(&[2, 3, 0, 1, 0, 0, 0, 8]);
+            (0..100_000).for_each(|_| peer.try_send(bytes));
+            peer.is_closed();
+        });
+        client.fetch().expect_err("it has no end");
+    });
+}
+
+#[test]
+fn memory() {
+    // A client: an answer of as many bytes as are allowed.
+    const BYTES: usize = 1 << 20;
+    let options = ClientOptions {
+        version: 2,
+        bytes: BYTES,
+        ..ClientOptions::default()
+    };
+    let held = most(|| flood(&prefix(1, 1), options.clone()));
+    assert!(BYTES / 2 < held && held < 5 * BYTES, "{held} bytes");
+    // A length that no unit has isn't believed.
+    let held = most(|| flood(&[2, 9, 1, 0, 0xff, 0xff, 0xff, 0xff], options.clone()));
+    assert!(held < BYTES / 2, "{held} bytes");
+    // A server: clients that ask over and over and don't read share the data.
+    let data = data_of(SESSION, 1, u16::MAX);
+    let (count, length) = (64, data.as_bytes().len());
+    let server = Server::new(ServerOptions::default());
+    let address = server.listen("127.0.0.1:0").expect("a port is free");
+    assert_eq!(server.update(data), Ok(true));
+    let held = most(|| {
+        let mut clients: Vec<Peer> = (0..count).map(|_| Peer::connect(address)).collect();
+        for client in &mut clients {
+            (0..40).for_each(|_| client.try_send(&reset_query(2)));
+        }
+        clients.iter().for_each(Peer::is_sent_to);
+        assert!(holds(|| server.clients() == count));
+        std::thread::sleep(Duration::from_millis(200));
+    });
+    let bound = 4 * length + count * (128 << 10);
+    assert!(held < bound && bound < count * length, "{held} bytes");
+    server.stop();
+}
