@@ -28,7 +28,7 @@ class Cache:
     # After how many seconds a router that lost it asks again, where that can be set.
     retry = 600
     # How long it may take until it tells its clients of a change.
-    change_seconds = 15
+    change_seconds = 60
 
     def __init__(self, folder, version):
         self.folder = folder
@@ -164,7 +164,7 @@ class Fort(Cache):
 
     name, package = "fort-validator", "fort-validator"
     # It looks for changes once a minute at most.
-    change_seconds = 90
+    change_seconds = 180
     highest = 1
 
     def serve(self, listed):
@@ -194,7 +194,7 @@ class Ours(Cache):
 
     # The first query fixes the version; it tells a client of a change once a minute at most.
     versions = (0, 1, 2)
-    change_seconds = 75
+    change_seconds = 120
     highest = 2
     example = None
     session, serial = 4660, 0

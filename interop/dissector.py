@@ -1,4 +1,5 @@
 """Others read us: tshark's dissector of RTR lists recordings as `rtr_list --json` does."""
+import contextlib
 import os
 import struct
 import subprocess
@@ -8,11 +9,12 @@ import payloads
 import programs
 import recorder
 from payloads import ASPA, END, IPV4, IPV6, REPORT, RESET, RESET_QUERY, ROUTER_KEY
-from processes import package_version, program
+from processes import Missing, package_version, program
 from results import Pair
 
 PART = "dissector"
 PORT = 323
+SESSIONS, FORMS = (".answers", ".queries"), ".sequence"
 
 # How many bytes a packet carries, so that units are cut at all places.
 PIECE = 1201
@@ -58,7 +60,7 @@ def capture(streams, path):
 def dissected(path):
     """The units that tshark shows of a capture: the values of each, by the name of its field."""
     words = [program("tshark"), "-n", "-r", path, "-d", f"tcp.port=={PORT},rpkirtr", "-T", "pdml"]
-    done = subprocess.run(words, capture_output=True, timeout=120, check=True)
+    done = subprocess.run(words, capture_output=True, timeout=180, check=True)
     for proto in tree.fromstring(done.stdout).iter("proto"):
         if proto.get("name") == "rpkirtr":
             fields = {}
@@ -135,22 +137,40 @@ def read(path):
         return file.read()
 
 
-def compare(results, folder):
-    """Compares both over the sample of all types, and each recording that the run left."""
-    captures = os.path.join(folder, "captures")
-    os.makedirs(captures, exist_ok=True)
-    with Pair(results, PART, "tshark", "", package_version("tshark")) as pair:
+def names(results):
+    """The pair of all comparisons."""
+    return Pair(results, PART, "tshark", "", package_version("tshark"))
+
+
+def compare_sample(results, captures):
+    """Compares both over the sample of all types."""
+    with names(results) as pair:
         program("tshark")
         sample = read(os.path.join(programs.TOP, "crates/rtr_list/stdin"))
-        compare_streams(pair, "the sample of types 0 to 10", [sample],
-                        os.path.join(captures, "sample.pcap"))
-        for place, _, files in sorted(os.walk(folder)):
-            whole = [read(os.path.join(place, name)) for name in sorted(files)
-                     if name.endswith((".answers", ".queries"))]
-            forms = [programs.normalised(read(os.path.join(place, name)))
-                     for name in sorted(files) if name.endswith(".sequence")]
-            name = os.path.basename(place)
-            for what, streams in (("the sessions", whole), ("the forms", forms)):
-                if streams:
-                    path = os.path.join(captures, f"{name}.{what.split()[-1]}.pcap")
-                    compare_streams(pair, f"{what} of {name}", streams, path)
+        path = os.path.join(captures, "sample.pcap")
+        compare_streams(pair, "the sample of types 0 to 10", [sample], path)
+
+
+def files_below(place, endings):
+    """The paths of the files with these endings, in a folder and those below it."""
+    return [os.path.join(folder, name) for folder, _, names in sorted(os.walk(place))
+            for name in sorted(names) if name.endswith(endings)]
+
+
+def recorded(folder):
+    """The folders in which pairs of a run left recordings."""
+    places = [os.path.join(folder, name) for name in sorted(os.listdir(folder))]
+    return [place for place in places if files_below(place, (*SESSIONS, FORMS))]
+
+
+def compare(results, place, captures):
+    """Compares both over the recordings in a folder and those below it."""
+    with names(results) as pair, contextlib.suppress(Missing):
+        program("tshark")
+        whole = [read(path) for path in files_below(place, SESSIONS)]
+        forms = [programs.normalised(read(path)) for path in files_below(place, FORMS)]
+        name = os.path.basename(place)
+        for what, streams in (("the sessions", whole), ("the forms", forms)):
+            if streams:
+                path = os.path.join(captures, f"{name}.{what.split()[-1]}.pcap")
+                compare_streams(pair, f"{what} of {name}", streams, path)

@@ -1,4 +1,6 @@
 """Our clients and caches: the examples in C, Go and Rust, where they are."""
+import collections
+import contextlib
 import json
 import os
 import shutil
@@ -11,18 +13,19 @@ from processes import Missing
 from results import Pair
 
 TOP = os.path.join(os.path.dirname(os.path.abspath(__file__)), "..")
-SECONDS = 60
+SECONDS = 180
 
 # What the examples need to be built, their sources, and how: {out} is the program. CGO_LDFLAGS and
 # RTR_LIB_DIR pick other archives than the prebuilt ones, and RTR_ARCHIVE that for C; RTR_CACHE_GO
 # and the like name programs that are built already.
 ARCHIVE = os.environ.get("RTR_ARCHIVE", "prebuilt/x86_64/librtr_wire.a")
 BUILDS = {
-    "C": ("cc", "bindings/c/{name}.c", "bindings/c",
-          ["cc", "-O2", "-o", "{out}", "{name}.c", os.path.join("{top}", ARCHIVE)]),
-    "Go": ("go", "bindings/go/examples/{name}/main.go", "bindings/go",
-           ["go", "build", "-o", "{out}", "./examples/{name}"]),
-    "Rust": ("cargo", "bindings/rust/examples/{name}.rs", "bindings/rust",
+    "C": (["cc"], "bindings/c/{name}.c", "bindings/c",
+          ["cc", "-O2", "-o", "{out}", "{name}.c", "rtr_client.c",
+           os.path.join("{top}", ARCHIVE)]),
+    "Go": (["go", "cc"], "bindings/go/examples/{name}/main.go", "bindings/go",
+           ["go", "build", "-buildvcs=false", "-o", "{out}", "./examples/{name}"]),
+    "Rust": (["cargo", "cc"], "bindings/rust/examples/{name}.rs", "bindings/rust",
              ["cargo", "build", "--offline", "--quiet", "--release", "--example", "{name}"]),
 }
 
@@ -30,7 +33,8 @@ BUILDS = {
 class Example:
     """An example of ours in one language."""
 
-    lock = threading.Lock()
+    # A lock for each program: others are built at the same time.
+    locks = collections.defaultdict(threading.Lock)
 
     def __init__(self, language, name, folder):
         self.name = language
@@ -45,13 +49,12 @@ class Example:
         """Why it can't be built here, or None."""
         if self.named():
             return None
-        tool, source, _, _ = BUILDS[self.name]
+        tools, source, _, _ = BUILDS[self.name]
         path = source.format(name=self.example)
         if not os.path.exists(os.path.join(TOP, path)):
             return f"{path} isn't here"
-        if shutil.which(tool) is None:
-            return f"{tool} isn't installed"
-        return None
+        missing = [tool for tool in tools if shutil.which(tool) is None]
+        return f"{missing[0]} isn't installed" if missing else None
 
     def built(self):
         """The path of its program, which is built where it isn't yet."""
@@ -62,7 +65,7 @@ class Example:
         _, _, where, words = BUILDS[self.name]
         out = os.path.join(self.folder, f"{self.example}_{self.name.lower()}")
         names = {"name": self.example, "out": out, "top": os.path.abspath(TOP)}
-        with Example.lock:
+        with Example.locks[out]:
             if not os.path.exists(out):
                 self.build([word.format(**names) for word in words], os.path.join(TOP, where), out)
         return out
@@ -72,7 +75,7 @@ class Example:
         target = os.path.join(self.folder, "cargo")
         setting = dict(os.environ, CARGO_TARGET_DIR=target)
         done = subprocess.run(words, cwd=where, env=setting, capture_output=True, text=True,
-                              timeout=240, check=False)
+                              timeout=480, check=False)
         if done.returncode:
             raise OSError(f"{' '.join(words)}: {done.stderr[-500:]}")
         if self.name == "Rust":
@@ -98,6 +101,15 @@ def caches(folder):
     """Our caches that can be built here."""
     examples = [Example(language, "cache", folder) for language in ("Go", "Rust")]
     return [example for example in examples if not example.lacks()]
+
+
+def build_all(folder):
+    """Starts to build all of them; one that can't be built fails where it is used."""
+    def build(example):
+        with contextlib.suppress(OSError, subprocess.SubprocessError):
+            example.built()
+    for example in (*clients(folder), *caches(folder)):
+        threading.Thread(target=build, args=(example,), daemon=True).start()
 
 
 def say_absent(results, folder):

@@ -1,5 +1,6 @@
 """Servers of a run: each in a process group of its own, ended by its id whatever happens."""
 import contextlib
+import functools
 import itertools
 import os
 import shutil
@@ -9,8 +10,8 @@ import subprocess
 import threading
 import time
 
-# How long a server has to come up, and to end after it was asked to.
-READY_SECONDS = 20
+# How long a server has to come up, also on a machine under load, and to end after it was asked to.
+READY_SECONDS = 60
 END_SECONDS = 5
 
 
@@ -27,36 +28,52 @@ def program(*names):
     raise Missing(f"{names[0]} isn't installed")
 
 
+@functools.cache
 def package_version(package):
     """The version of a package as Debian has it, or a word that it is unknown."""
     try:
         words = ["dpkg-query", "-W", "-f", "${Version}", package]
-        found = subprocess.run(words, capture_output=True, text=True, timeout=20, check=False)
+        found = subprocess.run(words, capture_output=True, text=True, timeout=60, check=False)
         return found.stdout.strip() or "of no package"
     except FileNotFoundError:
         return "of no package"
 
 
 class Ports:
-    """Ports of the loopback interface, each given once: below those that clients get."""
+    """Ports of the loopback interface, each given once: below those that clients get. A run holds a
+    name for each port that it gave, so that one beside it gives others."""
 
     lock = threading.Lock()
     given = itertools.cycle(range(20000, 32000))
     place = os.getpid() * 97 % 12000
+    names = []
 
     @classmethod
     def free(cls):
-        """A port that nothing listens on now."""
+        """A port that nothing uses now."""
         with cls.lock:
             for port in itertools.islice(cls.given, cls.place, cls.place + 1000):
                 cls.place = 0
-                with contextlib.suppress(OSError), socket.create_server(("127.0.0.1", port)):
+                with contextlib.suppress(OSError), socket.socket() as probe:
+                    probe.bind(("127.0.0.1", port))
+                    cls.hold(port)
                     return port
         raise OSError("no port is free")
 
+    @classmethod
+    def hold(cls, port):
+        """Takes the name of a port: a local socket's, which ends with this process."""
+        name = socket.socket(socket.AF_UNIX)
+        try:
+            name.bind(f"\0interop.{port}")
+        except OSError:
+            name.close()
+            raise
+        cls.names.append(name)
+
 
 def free_port():
-    """A port of the loopback interface that nothing listens on now."""
+    """A port of the loopback interface that nothing uses now."""
     return Ports.free()
 
 

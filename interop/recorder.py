@@ -8,7 +8,7 @@ from payloads import END, NOTIFY, REPORT, RESET, RESET_QUERY, RESPONSE, SERIAL_Q
 
 # How many bytes an answer may have, and how long it may take.
 BYTES = 1 << 24
-SECONDS = 15
+SECONDS = 30
 
 
 def reset_query(version):

@@ -39,7 +39,8 @@ class Row(NamedTuple):
         units = "" if self.units is None else f", {self.units} units"
         said = f": {self.said}" if self.said else ""
         peer = f"{self.names.peer} {self.names.version}".strip()
-        return f"{self.outcome}  {peer}, {self.what}{units}{said}"
+        loud = "!!! " if self.outcome == SKIPPED else ""
+        return f"{loud}{self.outcome}  {peer}, {self.what}{units}{said}"
 
 
 class Results:

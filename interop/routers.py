@@ -1,5 +1,6 @@
 """Routers and clients of others: how each is started, and what it holds."""
 import contextlib
+import glob
 import ipaddress
 import json
 import os
@@ -13,13 +14,24 @@ import speaker
 from payloads import Origin, RouterKey
 from processes import Missing, Server, free_port, package_version, program, until
 
-SECONDS = 20
+SECONDS = 60
 
 
 def asked(words):
-    """What a command prints that asks a daemon."""
-    done = subprocess.run(words, capture_output=True, text=True, timeout=SECONDS, check=False)
+    """What a command prints that asks a daemon; nothing, if that doesn't answer in time."""
+    try:
+        done = subprocess.run(words, capture_output=True, text=True, timeout=SECONDS, check=False)
+    except subprocess.TimeoutExpired:
+        return ""
     return done.stdout
+
+
+def asked_json(words):
+    """The object of JSON that it prints, or None."""
+    try:
+        return json.loads(asked(words))
+    except json.JSONDecodeError:
+        return None
 
 
 def origin(address, length, max_length, asn):
@@ -140,12 +152,15 @@ class FRR(Router):
     """bgpd of FRR with its module rpki, which is rtrlib."""
 
     name, package = "FRR", "frr"
+    MODULES = "/usr/lib/*/frr/modules/bgpd_rpki.so"
 
     def start(self):
         """Starts it, without zebra."""
         daemon = "/usr/lib/frr/bgpd"
-        if not os.path.exists(daemon):
+        if not os.access(daemon, os.X_OK):
             raise Missing("frr isn't installed")
+        if not glob.glob(self.MODULES):
+            raise Missing("frr-rpki-rtrlib isn't installed")
         program("vtysh")
         path = self.keep("conf", "rpki\n rpki polling_period 3600\n rpki retry_interval 2\n"
                                  f" rpki cache 127.0.0.1 {self.cache} preference 1\n exit\n")
@@ -156,12 +171,10 @@ class FRR(Router):
     def table(self):
         """What it holds."""
         words = ["--vty_socket", self.folder, "-d", "bgpd", "-c", "show rpki prefix-table json"]
-        text = asked([program("vtysh"), *words])
-        if not text.startswith("{"):
-            return set()
+        shown = asked_json([program("vtysh"), *words]) or {"prefixes": []}
         return {
             origin(o["prefix"], o["prefixLenMin"], o["prefixLenMax"], o["asn"])
-            for o in json.loads(text)["prefixes"]
+            for o in shown["prefixes"]
         }
 
 
@@ -227,14 +240,14 @@ class OpenBGPD(Router):
     def table(self):
         """How many prefixes it holds, and the state of each route."""
         ask = [program("bgpctl"), "-j", "-s", self.path("control"), "show"]
-        sets, rib = asked([*ask, "sets"]), asked([*ask, "rib", "in"])
-        if not sets.startswith("{") or not rib.startswith("{"):
+        sets, rib = asked_json([*ask, "sets"]), asked_json([*ask, "rib", "in"])
+        if sets is None or rib is None:
             return set()
         held = {
             (f"IPv{family}", each[f"num_IPv{family}"])
-            for each in json.loads(sets)["sets"] if each["type"] == "ROA" for family in (4, 6)
+            for each in sets["sets"] if each["type"] == "ROA" for family in (4, 6)
         }
-        for route in json.loads(rib).get("rib", []):
+        for route in rib.get("rib", []):
             held.add((route["prefix"], int(route["aspath"].split()[-1]), route["ovs"]))
         return held
 

@@ -67,9 +67,9 @@ class Recorded:
                 yield name, file.read()
 
 
-def own(answer, cache):
-    """The sequence of an answer without the units whose layout isn't ours."""
-    units = recorder.units(answer.sequence())
+def own(content, cache):
+    """These units without those whose layout isn't ours."""
+    units = recorder.units(content)
     return b"".join(unit for unit in units if not (cache.other_aspas and unit[1] == ASPA))
 
 
@@ -89,7 +89,7 @@ def compare_lists(pair, recorded):
         ("serial query with nothing new", recorded.nothing, set()),
         ("reset query after the change", recorded.second, announced(new)),
     ]:
-        lines = payload_lines(own(answer, cache))
+        lines = payload_lines(own(answer.sequence(), cache))
         each_once = len(set(lines)) == len(lines)
         pair.equal(f"rtr_list of a {what}", set(lines) if each_once else lines, wanted)
     pair.holds("serial notify after the change", recorded.notify.last == payloads.NOTIFY,
@@ -98,7 +98,7 @@ def compare_lists(pair, recorded):
     second = os.path.join(cache.folder, "second.sequence")
     for path, answer in ((first, recorded.first), (second, recorded.second)):
         with open(path, "wb") as file:
-            file.write(own(answer, cache))
+            file.write(own(answer.sequence(), cache))
     pair.equal("rtr_diff of both reset queries", programs.differing(first, second), changed)
     units = set(payload_lines(programs.units_of_change(first, second)))
     pair.equal("rtr_diff --units of both", units, changed)
@@ -107,12 +107,13 @@ def compare_lists(pair, recorded):
 def compare_forms(pair, recorded):
     """Our forms of what was recorded: a cache that sets no free bit sends them already."""
     for what, answer in (("reset query", recorded.first), ("serial query", recorded.delta)):
-        content = own(answer, recorded.cache)
+        content = own(answer.sequence(), recorded.cache)
         units = len(recorder.units(content))
         pair.equal(f"rtr_normalise of a {what}", programs.normalised(content), content, units)
-    if not programs.there("rtr_clean") or recorded.cache.other_aspas:
+    if not programs.there("rtr_clean"):
         return
     for name, content in recorded.files():
+        content = own(content, recorded.cache)
         units = len(recorder.units(content))
         pair.equal(f"rtr_clean of {name}", programs.cleaned(content), content, units)
 

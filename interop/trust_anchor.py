@@ -88,7 +88,7 @@ class Workshop:
     def openssl(self, *words):
         """Runs openssl in the folder."""
         subprocess.run(["openssl", *words], cwd=self.folder, check=True, capture_output=True,
-                       timeout=60)
+                       timeout=180)
 
     def keep(self, name, content):
         """Writes a file."""
