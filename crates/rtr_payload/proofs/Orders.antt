@@ -7,28 +7,14 @@ use Rattle.std.specs.FinMap.{IsAntisymmetric, nat_cmp-IsAntisymmetric, slice_cmp
 use Rattle.std.specs.declared.cmp.Ordering.{Ordering}
 use Rattle.std.specs.declared.cmp.Ordering.TheVariants.{Less, Equal, Greater}
 use Rattle.std.specs.Ordering.{eq_by_cmp, nat_cmp, ordering_then}
-use Rattle.rtr_base.specs.Addresses.{ip_version}
 use Rattle.rtr_base.proofs.Prefixes.{same_version}
-use Rattle.rtr_units.specs.PrefixUnits.{OriginParts}
-use Rattle.rtr_payload.specs.Payloads.{AspaParts, KeyParts, Payload, origin, key, aspa}
+use Rattle.rtr_payload.specs.Payloads.{AspaParts, Payload, origin, key, aspa}
 use Rattle.rtr_payload.specs.Orders.{list_cmp, parts, payload_cmp}
 
 then_equal : (o : Ordering) → ordering_then o Equal ≡ o
 then_equal Less = refl
 then_equal Equal = refl
 then_equal Greater = refl
-
-pub origin_chain : (o p : OriginParts) → payload_cmp (origin o) (origin p) ≡
-    ordering_then (nat_cmp (ip_version o.family) (ip_version p.family))
-    (ordering_then (nat_cmp o.address p.address)
-    (ordering_then (nat_cmp o.prefix_len p.prefix_len)
-    (ordering_then (nat_cmp o.max_len p.max_len) (nat_cmp o.asn p.asn))))
-origin_chain o p = simp then_equal
-
-pub key_chain : (k j : KeyParts) → payload_cmp (key k) (key j) ≡
-    ordering_then (list_cmp k.identifier j.identifier)
-    (ordering_then (nat_cmp k.asn j.asn) (list_cmp k.info j.info))
-key_chain k j = simp then_equal
 
 pub aspa_chain : (a b : AspaParts) →
     payload_cmp (aspa a) (aspa b) ≡

@@ -54,10 +54,14 @@ impl Ord for RouterKey {
     ghost matches_eq = { λ _ _. refl };
 
     fn cmp(&self, other: &Self) -> Ordering {
-        self.key_identifier
+        let by_number = self
+            .key_identifier
             .cmp(&other.key_identifier)
-            .then(self.asn.cmp(&other.asn))
-            .then(self.key_info.cmp(&other.key_info))
+            .then(self.asn.cmp(&other.asn));
+        if by_number.is_ne() {
+            return by_number;
+        }
+        self.key_info.cmp(&other.key_info)
     }
 }
 
@@ -115,9 +119,11 @@ impl Ord for Aspa {
     ghost matches_eq = { λ _ _. refl };
 
     fn cmp(&self, other: &Self) -> Ordering {
-        self.customer
-            .cmp(&other.customer)
-            .then(self.providers.cmp(&other.providers))
+        let by_customer = self.customer.cmp(&other.customer);
+        if by_customer.is_ne() {
+            return by_customer;
+        }
+        self.providers.cmp(&other.providers)
     }
 }
 

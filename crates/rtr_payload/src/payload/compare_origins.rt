@@ -56,9 +56,12 @@ impl Ord for RouteOrigin {
 
     fn cmp(&self, other: &Self) -> Ordering {
         let (left, right) = (self.prefix, other.prefix);
-        left.prefix()
-            .cmp(&right.prefix())
-            .then(left.resolved_max_len().cmp(&right.resolved_max_len()))
+        let by_prefix = left.prefix().cmp(&right.prefix());
+        if by_prefix.is_ne() {
+            return by_prefix;
+        }
+        left.resolved_max_len()
+            .cmp(&right.resolved_max_len())
             .then(self.asn.cmp(&other.asn))
     }
 }
