@@ -1,0 +1,316 @@
+/* Compares the calls on data from C with sorted arrays of plain structs, in data_by_hand.c; and
+ * does with such an array what rtr_bench_data does with a `Data`.
+ *
+ * usage: data_calls --count FILE..          does each job once over each file, to be counted by
+ *                                           callgrind
+ *        data_calls units < SEQUENCES       reads the units of the first sequence to structs
+ *        data_calls announce < SEQUENCES    also appends each to an array, and sorts that
+ *        data_calls both < SEQUENCES        does so with the second sequence, too
+ *        data_calls delta < SEQUENCES       also writes the delta to standard output
+ *
+ * Each file has an old and a new data, one after the other, as generate_data.py writes them. With
+ * --count callgrind dumps what each job took, and says of it `JOB FILE`: bench/data reads that. The
+ * calls and the code by hand have to write the same, or the status is 1. Without --count the others
+ * print how many origins there were. */
+#include <stdio.h>
+#include <stdlib.h>
+#include "counting.h"
+#include "data_by_hand.h"
+
+enum job {
+    NORMALISE_BOTH, DELTA, DELTA_BYTES, DELTA_ARRAYS,
+    NORMALISE_CHANGES, APPLY, APPLY_BYTES, APPLY_ARRAYS, JOBS
+};
+
+static const char *const names[JOBS] = {
+    "normalise_both", "rtr_delta", "delta_bytes", "delta_arrays",
+    "normalise_changes", "rtr_apply", "apply_bytes", "apply_arrays",
+};
+
+/* A sequence. */
+struct bytes {
+    const uint8_t *at;
+    size_t length;
+};
+
+/* An old and a new data, what leads from one to the other, and arrays to work in: the old, the new,
+ * what is announced, what is withdrawn, and what is made of the old. */
+struct sample {
+    struct bytes old, new, changes;
+    struct origins in_old, in_new, announced, withdrawn, made;
+};
+
+/* Normalises both, and answers how many bytes that made. */
+static size_t normalise(struct bytes first, struct bytes second, uint8_t *out)
+{
+    struct rtr_answer answer[2];
+    if (rtr_normalise_slice(first.at, first.length, out, first.length, UINT64_MAX, &answer[0])
+            != RTR_OK
+        || rtr_normalise_slice(second.at, second.length, out + first.length, second.length,
+                               UINT64_MAX, &answer[1]) != RTR_OK)
+        return 0;
+    return answer[0].written + answer[1].written;
+}
+
+/* Writes what is announced and what is withdrawn, and the end of data. */
+static size_t put_changes(const struct sample *sample, const uint8_t *end, uint8_t *out)
+{
+    size_t made = put_origins(&sample->announced, 1, out);
+    made += put_origins(&sample->withdrawn, 0, out + made);
+    memcpy(out + made, end, END_SIZE);
+    return made + END_SIZE;
+}
+
+/* As rtr_delta, and as rtr_apply, over arrays; 0 if it was refused. */
+static size_t delta_by_hand(struct sample *sample, uint8_t *out)
+{
+    size_t end = read_changes(sample->new.at, sample->new.length, &sample->in_new, NULL);
+    if (read_changes(sample->old.at, sample->old.length, &sample->in_old, NULL) == SIZE_MAX
+        || end == SIZE_MAX)
+        return 0;
+    merge_delta(&sample->in_old, &sample->in_new, &sample->announced, &sample->withdrawn);
+    return put_changes(sample, sample->new.at + end, out);
+}
+
+static size_t apply_by_hand(struct sample *sample, uint8_t *out)
+{
+    size_t end = read_changes(sample->changes.at, sample->changes.length, &sample->announced,
+                              &sample->withdrawn);
+    if (read_changes(sample->old.at, sample->old.length, &sample->in_old, NULL) == SIZE_MAX
+        || end == SIZE_MAX
+        || !merge_applied(&sample->in_old, &sample->announced, &sample->withdrawn, &sample->made))
+        return 0;
+    size_t made = put_origins(&sample->made, 1, out);
+    memcpy(out + made, sample->changes.at + end, END_SIZE);
+    return made + END_SIZE;
+}
+
+/* Does a job, and answers how much it made: bytes, or of arrays origins and 1; 0 if it was
+ * refused. */
+static __attribute__((noinline)) size_t done(enum job job, struct sample *sample, uint8_t *out)
+{
+    struct rtr_data_answer answer;
+    struct bytes old = sample->old, new = sample->new, changes = sample->changes;
+    switch (job) {
+    case NORMALISE_BOTH:
+        return normalise(old, new, out);
+    case DELTA:
+        rtr_delta(old.at, old.length, new.at, new.length, out, old.length + new.length, &answer);
+        return answer.written;
+    case DELTA_BYTES:
+        return delta_by_hand(sample, out);
+    case DELTA_ARRAYS:
+        merge_delta(&sample->in_old, &sample->in_new, &sample->announced, &sample->withdrawn);
+        return sample->announced.count + sample->withdrawn.count + 1;
+    case NORMALISE_CHANGES:
+        return normalise(old, changes, out);
+    case APPLY:
+        rtr_apply(old.at, old.length, changes.at, changes.length, out,
+                  old.length + changes.length, &answer);
+        return answer.written;
+    case APPLY_BYTES:
+        return apply_by_hand(sample, out);
+    default:
+        return merge_applied(&sample->in_old, &sample->announced, &sample->withdrawn,
+                             &sample->made) ? sample->made.count + 1 : 0;
+    }
+}
+
+/* Reads a file to its end, and answers whether there was memory for it. */
+static bool read_all(FILE *from, uint8_t **input, size_t *length)
+{
+    size_t room = 1 << 16;
+    *length = 0;
+    *input = malloc(room);
+    for (size_t n; *input && (n = fread(*input + *length, 1, room - *length, from)) > 0;) {
+        *length += n;
+        if (*length == room)
+            *input = realloc(*input, room *= 2);
+    }
+    return *input != NULL;
+}
+
+/* The length of the sequence at the front, or 0 if none is there. */
+static size_t sequence_length(const uint8_t *in, size_t left)
+{
+    struct rtr_unit unit;
+    for (size_t at = 0; rtr_next(in + at, left - at, &unit) == RTR_OK;) {
+        at += unit.size;
+        if (unit.kind == RTR_END_OF_DATA)
+            return at;
+    }
+    return 0;
+}
+
+/* Makes an array for as many origins as a sequence of this length may have. */
+static bool make_room(struct origins *origins, size_t length)
+{
+    origins->count = 0;
+    origins->room = length / 20;
+    origins->at = malloc(length + 1 + origins->room * sizeof *origins->at);
+    return origins->at != NULL;
+}
+
+/* Splits the input, and makes the delta and the arrays. */
+static bool take_sample(const uint8_t *input, size_t length, struct sample *sample, uint8_t *delta)
+{
+    sample->old = (struct bytes){input, sequence_length(input, length)};
+    input += sample->old.length;
+    length -= sample->old.length;
+    sample->new = (struct bytes){input, sequence_length(input, length)};
+    size_t both = sample->old.length + sample->new.length;
+    if (!make_room(&sample->in_old, both) || !make_room(&sample->in_new, both)
+        || !make_room(&sample->announced, both) || !make_room(&sample->withdrawn, both)
+        || !make_room(&sample->made, both))
+        return false;
+    sample->changes = (struct bytes){delta, done(DELTA, sample, delta)};
+    return sample->old.length && sample->new.length && sample->changes.length;
+}
+
+static void drop_sample(struct sample *sample)
+{
+    free(sample->in_old.at);
+    free(sample->in_new.at);
+    free(sample->announced.at);
+    free(sample->withdrawn.at);
+    free(sample->made.at);
+}
+
+/* Whether the calls and the code by hand write the same, and what is applied makes the new data. */
+static bool agree(struct sample *sample, uint8_t *out)
+{
+    size_t delta = sample->changes.length;
+    return done(DELTA_BYTES, sample, out) == delta
+        && memcmp(out, sample->changes.at, delta) == 0
+        && done(APPLY, sample, out) == sample->new.length
+        && memcmp(out, sample->new.at, sample->new.length) == 0
+        && done(APPLY_BYTES, sample, out) == sample->new.length
+        && memcmp(out, sample->new.at, sample->new.length) == 0;
+}
+
+/* Does each job, and has callgrind dump what it took. The arrays hold what the job before left. */
+static bool count(const char *file, struct sample *sample, uint8_t *out)
+{
+    char said[4096];
+    for (enum job job = 0; job < JOBS; job++) {
+        snprintf(said, sizeof said, "%s %s", names[job], file);
+        CALLGRIND_ZERO_STATS;
+        size_t made = done(job, sample, out);
+        CALLGRIND_DUMP_STATS_AT(said);
+        if (made == 0)
+            return false;
+    }
+    return true;
+}
+
+static bool measure(FILE *from, const char *file)
+{
+    struct sample sample = {0};
+    uint8_t *input = NULL, *delta = NULL, *out = NULL;
+    size_t length;
+    bool good = from && read_all(from, &input, &length) && (delta = malloc(length))
+        && (out = malloc(length)) && take_sample(input, length, &sample, delta)
+        && agree(&sample, out) && count(file, &sample, out);
+    drop_sample(&sample);
+    free(input);
+    free(delta);
+    free(out);
+    return good;
+}
+
+static int by_order(const void *left, const void *right)
+{
+    return compare_origins(left, right);
+}
+
+/* Reads the units of a sequence, and appends the origins to the array if there is one. Answers the
+ * bytes of the sequence, or 0. */
+static size_t take_units(const uint8_t *in, size_t left, struct origins *origins, size_t *units)
+{
+    struct origin origin;
+    bool announces;
+    size_t at = 0, size;
+    for (; (size = take_origin(in + at, left - at, 2, &origin, &announces)) > 0; at += size) {
+        if (!announces)
+            return 0;
+        ++*units;
+        __asm__ volatile("" : : "m"(origin));
+        if (!origins)
+            continue;
+        if (origins->count == origins->room) {
+            origins->room = origins->room ? 2 * origins->room : 64;
+            origins->at = realloc(origins->at, origins->room * sizeof *origins->at);
+            if (!origins->at)
+                return 0;
+        }
+        origins->at[origins->count++] = origin;
+    }
+    return left - at < END_SIZE || in[at + 1] != RTR_END_OF_DATA ? 0 : at + END_SIZE;
+}
+
+/* The same, with the array sorted, and refused where an origin is there twice. */
+static size_t take_array(const uint8_t *in, size_t left, struct origins *origins, size_t *units)
+{
+    size_t taken = take_units(in, left, origins, units);
+    if (taken && origins->count)
+        qsort(origins->at, origins->count, sizeof *origins->at, by_order);
+    for (size_t i = 1; i < origins->count; i++)
+        if (compare_origins(&origins->at[i - 1], &origins->at[i]) == 0)
+            return 0;
+    return taken;
+}
+
+/* Writes the delta between two arrays to standard output. */
+static bool print_delta(struct sample *sample)
+{
+    static const uint8_t end[END_SIZE];
+    size_t most = sample->in_old.count + sample->in_new.count;
+    uint8_t *out = malloc(32 * most + END_SIZE);
+    if (!out || !make_room(&sample->announced, 20 * most)
+        || !make_room(&sample->withdrawn, 20 * most))
+        return false;
+    merge_delta(&sample->in_old, &sample->in_new, &sample->announced, &sample->withdrawn);
+    size_t length = put_changes(sample, end, out) - END_SIZE;
+    return fwrite(out, 1, length, stdout) == length;
+}
+
+/* Does what the word says with standard input. */
+static int run(const char *word)
+{
+    struct sample sample = {0};
+    uint8_t *input;
+    size_t length, units = 0, taken;
+    bool delta = strcmp(word, "delta") == 0, both = delta || strcmp(word, "both") == 0;
+    if (!both && strcmp(word, "announce") != 0 && strcmp(word, "units") != 0)
+        return 2;
+    if (!read_all(stdin, &input, &length))
+        return 3;
+    taken = strcmp(word, "units") == 0 ? take_units(input, length, NULL, &units)
+        : take_array(input, length, &sample.in_old, &units);
+    if (!taken
+        || (both && !take_array(input + taken, length - taken, &sample.in_new, &units)))
+        return 1;
+    if (delta)
+        return print_delta(&sample) ? 0 : 3;
+    printf("%zu\n", units);
+    return 0;
+}
+
+int main(int words, char **word)
+{
+    if (words == 2)
+        return run(word[1]);
+    if (words < 3 || strcmp(word[1], "--count") != 0) {
+        fprintf(stderr, "usage: data_calls --count FILE.., or data_calls WORD < SEQUENCES\n");
+        return 2;
+    }
+    for (int i = 2; i < words; i++) {
+        FILE *from = fopen(word[i], "rb");
+        if (!measure(from, word[i])) {
+            fprintf(stderr, "%s: refused, or the calls and those by hand differ\n", word[i]);
+            return 1;
+        }
+        fclose(from);
+    }
+    return 0;
+}
