@@ -7,6 +7,7 @@
  *        data_calls announce < SEQUENCES    also appends each to an array, and sorts that
  *        data_calls both < SEQUENCES        does so with the second sequence, too
  *        data_calls delta < SEQUENCES       also writes the delta to standard output
+ *        data_calls deltas < SEQUENCES      the same 20 times
  *
  * Each file has an old and a new data, one after the other, as generate_data.py writes them. With
  * --count callgrind dumps what each job took, and says of it `JOB FILE`: bench/data reads that. The
@@ -176,19 +177,25 @@ static void drop_sample(struct sample *sample)
     free(sample->made.at);
 }
 
-/* Whether the calls and the code by hand write the same, and what is applied makes the new data. */
-static bool agree(struct sample *sample, uint8_t *out)
+/* Whether what a job wrote is what it should be: the delta, or the new data. */
+static bool is_right(enum job job, const struct sample *sample, const uint8_t *out, size_t made)
 {
-    size_t delta = sample->changes.length;
-    return done(DELTA_BYTES, sample, out) == delta
-        && memcmp(out, sample->changes.at, delta) == 0
-        && done(APPLY, sample, out) == sample->new.length
-        && memcmp(out, sample->new.at, sample->new.length) == 0
-        && done(APPLY_BYTES, sample, out) == sample->new.length
-        && memcmp(out, sample->new.at, sample->new.length) == 0;
+    struct bytes wanted;
+    switch (job) {
+    case DELTA: case DELTA_BYTES:
+        wanted = sample->changes;
+        break;
+    case APPLY: case APPLY_BYTES:
+        wanted = sample->new;
+        break;
+    default:
+        return made > 0;
+    }
+    return made == wanted.length && memcmp(out, wanted.at, made) == 0;
 }
 
-/* Does each job, and has callgrind dump what it took. The arrays hold what the job before left. */
+/* Does each job, has callgrind dump what it took, and tests what it wrote. The jobs over arrays have
+ * those that the job before read. */
 static bool count(const char *file, struct sample *sample, uint8_t *out)
 {
     char said[4096];
@@ -197,12 +204,13 @@ static bool count(const char *file, struct sample *sample, uint8_t *out)
         CALLGRIND_ZERO_STATS;
         size_t made = done(job, sample, out);
         CALLGRIND_DUMP_STATS_AT(said);
-        if (made == 0)
+        if (!is_right(job, sample, out, made))
             return false;
     }
     return true;
 }
 
+/* Takes a file, and counts the jobs. */
 static bool measure(FILE *from, const char *file)
 {
     struct sample sample = {0};
@@ -210,7 +218,7 @@ static bool measure(FILE *from, const char *file)
     size_t length;
     bool good = from && read_all(from, &input, &length) && (delta = malloc(length))
         && (out = malloc(length)) && take_sample(input, length, &sample, delta)
-        && agree(&sample, out) && count(file, &sample, out);
+        && count(file, &sample, out);
     drop_sample(&sample);
     free(input);
     free(delta);
@@ -260,38 +268,46 @@ static size_t take_array(const uint8_t *in, size_t left, struct origins *origins
     return taken;
 }
 
-/* Writes the delta between two arrays to standard output. */
-static bool print_delta(struct sample *sample)
+/* Writes the delta between two arrays to standard output, so many times. */
+static bool print_deltas(struct sample *sample, int times)
 {
     static const uint8_t end[END_SIZE];
     size_t most = sample->in_old.count + sample->in_new.count;
     uint8_t *out = malloc(32 * most + END_SIZE);
-    if (!out || !make_room(&sample->announced, 20 * most)
-        || !make_room(&sample->withdrawn, 20 * most))
-        return false;
-    merge_delta(&sample->in_old, &sample->in_new, &sample->announced, &sample->withdrawn);
-    size_t length = put_changes(sample, end, out) - END_SIZE;
-    return fwrite(out, 1, length, stdout) == length;
+    bool good = out && make_room(&sample->announced, 20 * most)
+        && make_room(&sample->withdrawn, 20 * most);
+    for (int i = 0; good && i < times; i++) {
+        merge_delta(&sample->in_old, &sample->in_new, &sample->announced, &sample->withdrawn);
+        size_t length = put_changes(sample, end, out) - END_SIZE;
+        good = fwrite(out, 1, length, stdout) == length;
+    }
+    return good;
 }
 
-/* Does what the word says with standard input. */
-static int run(const char *word)
+/* What is done with standard input, each with what comes before it. */
+enum word { UNITS, ANNOUNCE, BOTH, ONE_DELTA, DELTAS, WORDS };
+
+static const char *const words_said[WORDS] = {"units", "announce", "both", "delta", "deltas"};
+
+static int run(const char *said)
 {
     struct sample sample = {0};
     uint8_t *input;
     size_t length, units = 0, taken;
-    bool delta = strcmp(word, "delta") == 0, both = delta || strcmp(word, "both") == 0;
-    if (!both && strcmp(word, "announce") != 0 && strcmp(word, "units") != 0)
+    enum word word = 0;
+    while (word < WORDS && strcmp(said, words_said[word]) != 0)
+        word++;
+    if (word == WORDS)
         return 2;
     if (!read_all(stdin, &input, &length))
         return 3;
-    taken = strcmp(word, "units") == 0 ? take_units(input, length, NULL, &units)
+    taken = word == UNITS ? take_units(input, length, NULL, &units)
         : take_array(input, length, &sample.in_old, &units);
-    if (!taken
-        || (both && !take_array(input + taken, length - taken, &sample.in_new, &units)))
+    if (!taken || (word >= BOTH && !take_array(input + taken, length - taken, &sample.in_new,
+                                               &units)))
         return 1;
-    if (delta)
-        return print_delta(&sample) ? 0 : 3;
+    if (word >= ONE_DELTA)
+        return print_deltas(&sample, word == DELTAS ? 20 : 1) ? 0 : 3;
     printf("%zu\n", units);
     return 0;
 }

@@ -4,10 +4,10 @@
 usage: generate_data.py [--units N] [--differ N] [--mix KIND=SHARE,..] [--shuffled] [--seed N]
 
 Each has so many units of version 2 that announce origins, no two of them the same, and an end of
-data. Of so many units, 1000 if not said otherwise, one isn't in the other sequence. KIND is ipv4 or
-ipv6, SHARE a whole number; without --mix three origins in four are of IPv4. They stand in the order
-of payloads, as the C calls want them, or with --shuffled in no order. The same arguments give the
-same bytes.
+data. Of so many units, 1000 if not said otherwise, one isn't in the other sequence; these are
+spread evenly. KIND is ipv4 or ipv6, SHARE a whole number; without --mix three origins in four are
+of IPv4. They stand in the order of payloads, as the C calls want them, or with --shuffled in no
+order. The same arguments give the same bytes.
 """
 import argparse
 import random
@@ -67,10 +67,9 @@ def main():
     rng = random.Random(asked.seed)
     differing = asked.units // asked.differ
     made = origins(rng, shares, asked.units + differing)
-    left_out = rng.sample(range(len(made)), 2 * differing)
-    for serial, places in enumerate((left_out[:differing], left_out[differing:])):
-        places = set(places)
-        data = [each for place, each in enumerate(made) if place not in places]
+    apart = [(2 * place + 1) * len(made) // (4 * differing) for place in range(2 * differing)]
+    for serial, left_out in enumerate((set(apart[::2]), set(apart[1::2]))):
+        data = [each for place, each in enumerate(made) if place not in left_out]
         if asked.shuffled:
             rng.shuffle(data)
         sys.stdout.buffer.write(b"".join(unit(*each) for each in data) + end(serial + 1))

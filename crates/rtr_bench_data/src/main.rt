@@ -1,10 +1,10 @@
 //! What `bench/data` measures of `Data`. It reads sequences of units from standard input, and does
 //! what its argument says: `units` makes a payload of each unit of the first sequence, `announce`
 //! also announces it to a `Data`, `both` does so with the second sequence and another `Data`, too,
-//! and `delta` also writes the delta from the first to the second, without an end of data. The
-//! delta goes to standard output; the others print how many payloads they announced or made. It
-//! ends with status 0; 1 for another argument, for what isn't a sequence, and for what `Data`
-//! refuses or has no memory for; 3 if reading or printing failed.
+//! and `delta` also writes the delta from the first to the second, without an end of data, and
+//! `deltas` that 20 times. Deltas go to standard output; the others print how many payloads they
+//! made. It ends with status 0; 1 for another argument, for what isn't a sequence, and for what
+//! `Data` refuses or has no memory for; 3 if reading or printing failed.
 #![tactic(auto)]
 
 use rtr_data::Data;
@@ -25,6 +25,7 @@ enum Goal {
     Announce,
     Both,
     Delta,
+    Deltas,
 }
 
 /// The goal that this word names.
@@ -34,7 +35,17 @@ fn goal_of(word: &str) -> Option<Goal> {
         "announce" => Some(Goal::Announce),
         "both" => Some(Goal::Both),
         "delta" => Some(Goal::Delta),
+        "deltas" => Some(Goal::Deltas),
         _ => None,
+    }
+}
+
+/// How many times the delta is written.
+fn times(goal: Goal) -> u32 {
+    match goal {
+        Goal::Units | Goal::Announce | Goal::Both => 0,
+        Goal::Delta => 1,
+        Goal::Deltas => 20,
     }
 }
 
@@ -68,15 +79,15 @@ fn made(alloc: Global, goal: Goal, input: &[u8]) -> Option<Vec<u8>> {
     let mut new = Data::new(alloc);
     let announces = !matches!(goal, Goal::Units);
     let mut count = read(alloc, &mut reader, announces, &mut old)?;
-    if matches!(goal, Goal::Both | Goal::Delta) {
+    if !matches!(goal, Goal::Units | Goal::Announce) {
         count = count.saturating_add(read(alloc, &mut reader, announces, &mut new)?);
     }
-    let mut output = Counted::new(Vec::new(alloc));
-    if matches!(goal, Goal::Delta) {
+    let mut output: Counted<Vec<u8>> = Counted::new(Vec::new(alloc));
+    for _ in 0..times(goal) {
         old.write_delta(&new, VERSION, &mut output).ok()?;
     }
-    let mut output: Vec<u8> = output.into_inner();
-    if !matches!(goal, Goal::Delta) {
+    let mut output = output.into_inner();
+    if times(goal) == 0 {
         writeln!(output, "{count}").ok()?;
     }
     Some(output)
