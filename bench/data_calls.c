@@ -194,8 +194,8 @@ static bool is_right(enum job job, const struct sample *sample, const uint8_t *o
     return made == wanted.length && memcmp(out, wanted.at, made) == 0;
 }
 
-/* Does each job, has callgrind dump what it took, and tests what it wrote. The jobs over arrays have
- * those that the job before read. */
+/* Does each job, has callgrind dump what it took, and tests what it wrote. The jobs over arrays
+ * have those that the job before read. */
 static bool count(const char *file, struct sample *sample, uint8_t *out)
 {
     char said[4096];
