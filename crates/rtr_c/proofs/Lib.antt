@@ -15,3 +15,4 @@ mod MadePayload
 mod MadeReport
 mod Kept
 mod Sides
+mod OrderRoom

@@ -1,8 +1,9 @@
 //! Changes put in canonical form.
 
-ghost use Rattle.std.specs.Prelude.{◌≡◌, ℕ, Result, length};
+ghost use Rattle.std.specs.Prelude.{◌≡◌, ◌≢◌, ◌≤◌, ℕ, Result, length};
 ghost use Rattle.rtr_deltas.specs.Order.{Orders};
 ghost use Rattle.rtr_deltas.specs.declared.order_fault.OrderFault.{OrderFault};
+ghost use Rattle.rtr_c.specs.Answers.{rtr_no_room};
 ghost use Rattle.rtr_c.specs.DataAnswers.{TellsData, order_told};
 
 use crate::answer::{DUPLICATE, NO_INDEX, NO_ROOM, UNDECIDED, UNKNOWN};
@@ -17,9 +18,10 @@ pub extern "C" fn rtr_order_nonnull(
     output: &mut [u8],
     answer: &mut RtrDataAnswer,
 ) -> u8
-    ensures { (r : Result ℕ OrderFault)
+    ensures told { (r : Result ℕ OrderFault)
         × Orders r input.now (length index.old) output.old output.new
         × TellsData (order_told r) answer.new result }
+    ensures room { length input.now ≤ length output.old → result ≢ rtr_no_room }
 {
     *answer = match rtr_deltas::order_into(input, index, output) {
         Ok(written) => RtrDataAnswer::wrote(written),

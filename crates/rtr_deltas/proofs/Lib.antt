@@ -35,3 +35,4 @@ pub mod Walking
 pub mod Refusals
 pub mod Pieces
 pub mod Ordering
+pub mod OrderRoom

@@ -1,13 +1,15 @@
 //! Laws of what changes come to.
 
-ghost use Rattle.std.specs.Prelude.{◌≡◌, ℕ, List, Ok, Option};
+ghost use Rattle.std.specs.Prelude.{◌≡◌, ◌≢◌, ◌≤◌, ℕ, List, Option, Result, Ok, Err, length};
 ghost use Rattle.rtr_units.specs.End.{EndMeaning};
 ghost use Rattle.rtr_payload.specs.Payloads.{Payload};
 ghost use Rattle.rtr_data.specs.Changes.{after_all};
 ghost use Rattle.rtr_data.specs.Data.{Change, IsData};
 ghost use Rattle.rtr_deltas.specs.Net.{AreDecided, AreLinked, Nets, of_name};
-ghost use Rattle.rtr_deltas.specs.Order.{LeadsAlike, RefusesOrder, Sends, WritesOrder};
+ghost use Rattle.rtr_deltas.specs.Order.{LeadsAlike, Orders, RefusesOrder, Sends, WritesOrder};
+ghost use Rattle.rtr_deltas.specs.declared.order_fault.OrderFault.{OrderFault};
 ghost use Rattle.rtr_deltas.specs.declared.order_fault.OrderFault.TheVariants.{Duplicate, Unknown};
+ghost use Rattle.rtr_deltas.specs.declared.order_fault.OrderFault.TheVariants.{NoRoom};
 
 /// Where changes are all allowed over some data, one after the other, each may follow the one
 /// before it of its name; and unless it depends on the data what they come to, the changes that
@@ -22,7 +24,7 @@ pub fn what_changes_come_to()
 
 /// Where the changes of an input are all allowed over some data, one after the other, what
 /// `order_into` writes makes of it the same; and it never refuses one of them as announced or
-/// withdrawn twice.
+/// withdrawn twice. It never lacks room where the output is as long as the input.
 pub fn changes_in_order()
     ensures leads { (n : Option ℕ) (input : List ℕ) (places : ℕ) (cs : List Change)
         (e : EndMeaning) (d made : List Payload) (before after : List ℕ) →
@@ -34,4 +36,7 @@ pub fn changes_in_order()
     ensures not_unknown { (input : List ℕ) (places o : ℕ) (cs : List Change) (e : EndMeaning)
         (d made : List Payload) → RefusesOrder (Unknown o) input places → Sends input cs e →
         IsData d → after_all cs (Ok d) ≡ Ok made → ⊥ }
+    ensures fits { (r : Result ℕ OrderFault) (input : List ℕ) (places : ℕ)
+        (before after : List ℕ) → Orders r input places before after →
+        length input ≤ length before → r ≢ Err NoRoom }
 {}
