@@ -2,13 +2,13 @@
 -- terms of the bytes that were taken and written. Only contracts of private functions cite these,
 -- and the law `plain_way`, which compares the plain calls with a step.
 use Rattle.std.specs.Prelude.{◌≡◌, ℕ, ◌≤◌, Bool, true, false, List, [], ◌++◌, length, drop}
-use Rattle.std.specs.Prelude.{Option, Some, None, Result, Ok, Err, IfSome, IsTrue, ◌↔◌}
+use Rattle.std.specs.Prelude.{Option, Some, None, Result, Ok, Err, IfSome}
 use Rattle.std.specs.Io.KnownBytes.{Consumes, Appends}
 use Rattle.rtr_units.specs.declared.fault.Fault.{Fault}
 use Rattle.rtr_units.specs.StopCauses.{Refusal, Cause, by_writer, no_memory, too_many, wrong}
 use Rattle.rtr_units.specs.StopCauses.{by_cause}
 use Rattle.rtr_units.specs.AnyEnd.{end_bytes}
-use Rattle.rtr_units.specs.End.{EndMeaning}
+use Rattle.rtr_units.specs.End.{EndMeaning, IsEnd}
 use Rattle.rtr_units.specs.HeaderBytes.{AreBytes}
 use Rattle.rtr_payload.specs.Payloads.{Meaning}
 use Rattle.rtr_payload.specs.Units.{IsUnit, form_of}
@@ -157,22 +157,17 @@ viewed (views.RouterKey v) = unit (meaning (key_unit (key_at v.unit.now)))
 viewed (views.Aspa v) = unit (meaning (aspa_unit (aspa_at v.unit.now)))
 viewed (views.End e) = end (end_bytes e)
 
--- so many units and an end of data are at the front of the input
-pub record HasUnits (input : List ℕ) (count : ℕ) : Type 0 where
-  pub bytes : List ℕ
-  pub meanings : List Meaning
-  pub end : EndMeaning
-  pub accepts : Accepts input bytes meanings end
-  pub counted : length meanings ≡ count
+-- what is at the front of both means the same, and this is left of them: a payload unit or an end
+-- of data
+abbrev pub SameFront : Bool → (left right left_rest right_rest : List ℕ) → Type 0
+SameFront true left right left_rest right_rest =
+    (x y : List ℕ) × (m : Meaning) × (left ≡ x ++ left_rest) × (right ≡ y ++ right_rest)
+    × IsUnit x m × IsUnit y m
+SameFront false left right left_rest right_rest =
+    (x y : List ℕ) × (e : EndMeaning) × (left ≡ x ++ left_rest) × (right ≡ y ++ right_rest)
+    × IsEnd x e × IsEnd y e
 
--- two inputs begin with sequences, and this says whether they mean the same
-pub record TellsEqual (same : Bool) (left right : List ℕ) : Type 0 where
-  pub a : List ℕ
-  pub b : List ℕ
-  pub ms : List Meaning
-  pub ns : List Meaning
-  pub d : EndMeaning
-  pub e : EndMeaning
-  pub accepts : Accepts left a ms d
-  pub accepts_other : Accepts right b ns e
-  pub equal : IsTrue same ↔ ((ms ≡ ns) × (d ≡ e))
+-- if both begin with sequences, these don't mean the same
+abbrev pub AreDifferent : (left right : List ℕ) → Type 0
+AreDifferent left right = (a b : List ℕ) (ms ns : List Meaning) (d e : EndMeaning) →
+    Accepts left a ms d → Accepts right b ns e → ms ≡ ns → d ≡ e → ⊥

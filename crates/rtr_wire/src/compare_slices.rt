@@ -1,88 +1,155 @@
 //! Comparison of what two sequences in slices mean, without memory.
 
-ghost use Rattle.std.specs.Prelude.{◌≡◌, ◌++◌, ◌↔◌, IsTrue, List, ℕ, IfOk, IfErr, None};
+ghost use Rattle.std.specs.Prelude.{◌≡◌, ◌≤◌, ◌+◌, ◌-◌, ◌++◌, ◌↔◌, IsTrue, List, length, ℕ};
+ghost use Rattle.std.specs.Prelude.{IfOk, IfErr, IfSome, None};
 ghost use Rattle.rtr_payload.specs.AspaUnits.{aspa_at};
-ghost use Rattle.rtr_payload.specs.FirstFault.{first_fault};
 ghost use Rattle.rtr_payload.specs.KeyUnits.{key_at};
 ghost use Rattle.rtr_payload.specs.UnitFields.{HasFields, aspa_unit, key_unit, meaning};
-ghost use Rattle.rtr_units.specs.AnyEnd.{end_bytes};
 ghost use Rattle.rtr_views.specs.Origins.{origin_meaning};
 ghost use Rattle.rtr_views.specs.Views.{IsViewOf};
-ghost use Rattle.rtr_wire.specs.Comparison.{ComparesSlices, IsViewFaultOf, Accepted};
-ghost use Rattle.rtr_wire.specs.PrivateSteps.{HasUnits, TellsEqual, viewed};
+ghost use Rattle.rtr_wire.specs.Comparison.{ComparesMeanings, ComparesSlices};
+ghost use Rattle.rtr_wire.specs.Comparison.{IsAccepted, IsViewFaultAt};
+ghost use Rattle.rtr_wire.specs.PrivateSteps.{AreDifferent, SameFront, viewed};
 
-use crate::slice::normalise_slice;
+use crate::slice::is_unit;
 use rtr_base::action::Action;
-use rtr_units::source::Sink;
 use rtr_views::aspa::AspaView;
 use rtr_views::fault::ViewFault;
 use rtr_views::origin::OriginView;
 use rtr_views::router_key::RouterKeyView;
 use rtr_views::view::UnitView;
-use std::io;
+
+/// One of two inputs that are compared.
+#[derive(Clone, Copy, Debug, PartialEq, Eq)]
+pub enum Side {
+    /// The first one.
+    Left,
+    /// The second one.
+    Right,
+}
+
+/// Why two inputs can't be compared: the first fault of the left one, or else of the right one. The
+/// text is that of the fault.
+#[derive(Debug, Drop, thiserror::Error)]
+#[error("{fault}")]
+pub struct ComparisonFault {
+    /// Whose fault it is.
+    pub side: Side,
+    /// Where in that input the unit begins that is refused, or is one too many, or is missing: how
+    /// many bytes the whole units before it have.
+    pub offset: usize,
+    /// What is wrong there.
+    pub fault: ViewFault,
+}
 
 /// As `same_meaning`, without any memory.
 ///
 /// Both are read to their ends of data. The fault of `left` comes first, else that of `right`:
-/// those of `normalise_slice`, but never `Writer`. Two sequences of the same number of units are
-/// read once more, up to their first difference.
+/// those of `normalise_slice`, but never `Writer`.
 pub fn same_meaning_slice(left: &[u8], right: &[u8], limit: u64) -> Result<bool, ViewFault>
     ensures { ComparesSlices limit result left.now right.now }
 {
-    let units = count_units(left, limit)?;
-    if count_units(right, limit)? != units {
-        return Ok(false);
-    }
-    Ok(same_units(left, right, units))
-}
-
-/// The number of payload units of the sequence that the input begins with. All of it is checked.
-fn count_units(input: &[u8], limit: u64) -> Result<u64, ViewFault>
-    ensures units { IfOk result (λ n. (u : HasUnits input.now n) ×
-        Accepted limit input.now u.meanings u.end) }
-    ensures fault { IfErr result (λ e. (last : List ℕ) × IsViewFaultOf limit input.now last e) }
-{
-    match normalise_slice(input, &mut Nowhere, limit) {
-        Ok((units, _)) => Ok(units),
-        Err(e) => Err(e),
+    match compare_meanings(left, right, limit) {
+        Ok(same) => Ok(same),
+        Err(ComparisonFault { fault, .. }) => Err(fault),
     }
 }
 
-/// Whether sequences of as many units mean the same.
-fn same_units(left: &[u8], right: &[u8], units: u64) -> bool
-    requires left { HasUnits left.now units }
-    requires right { HasUnits right.now units }
-    ensures { TellsEqual result left.now right.now }
+/// As `same_meaning_slice`. It says whose fault it is that there is no answer, and where.
+///
+/// Both are read at once, a unit of each after the other. From the first difference on the rest of
+/// each is only checked, the left one first.
+pub fn compare_meanings(left: &[u8], right: &[u8], limit: u64) -> Result<bool, ComparisonFault>
+    ensures { ComparesMeanings limit result left.now right.now }
 {
     let mut left_rest = left;
     let mut right_rest = right;
-    for _ in 0..units {
-        let (first, after_first) = next(left_rest);
-        let (second, after_second) = next(right_rest);
-        if !same_view(&first, &second) {
-            return false;
+    for count in 0..limit {
+        match pass_same(left_rest, right_rest) {
+            Some((is_unit, after_left, after_right)) => {
+                if !is_unit {
+                    return Ok(true);
+                }
+                left_rest = after_left;
+                right_rest = after_right;
+            }
+            None => {
+                check_side(Side::Left, left, left_rest, limit - count)?;
+                check_side(Side::Right, right, right_rest, limit - count)?;
+                return Ok(false);
+            }
         }
-        left_rest = after_first;
-        right_rest = after_second;
     }
-    let (first, _) = next(left_rest);
-    let (second, _) = next(right_rest);
-    same_view(&first, &second)
+    Err(ComparisonFault {
+        side: Side::Left,
+        offset: left.len() - left_rest.len(),
+        fault: ViewFault::TooMany,
+    })
 }
 
-/// The view of the unit at the front of a sequence, and what follows the unit.
-#[inline(always)]
-fn next<'a>(rest: &'a [u8]) -> (UnitView<'a>, &'a [u8])
-    requires { first_fault rest.now ≡ None }
-    ensures { (unit : List ℕ) × IsViewOf result.0 unit × (rest.now ≡ unit ++ result.1.now) }
+/// Checks what is left of an input, at most `limit` units of it.
+fn check_side(side: Side, input: &[u8], rest: &[u8], limit: u64) -> Result<(), ComparisonFault>
+    requires { length rest.now ≤ length input.now }
+    ensures accepted { IfOk result (λ _. IsAccepted limit rest.now) }
+    ensures side { IfErr result (λ f. f.side ≡ side) }
+    ensures refused { IfErr result (λ f. (offset : ℕ) × (last : List ℕ)
+        × (f.offset ≡ length input.now - length rest.now + offset)
+        × IsViewFaultAt limit rest.now offset last f.fault) }
 {
-    match UnitView::first(rest) {
-        Ok((view, size)) => {
-            let (_, left) = rest.split_at(size);
-            (view, left)
-        }
-        Err(_) => unreachable!(),
+    match check(rest, limit) {
+        Ok(()) => Ok(()),
+        Err((offset, fault)) => Err(ComparisonFault {
+            side,
+            offset: input.len() - rest.len() + offset,
+            fault,
+        }),
     }
+}
+
+/// Checks the sequence that the input begins with, of less than `limit` units. Answers where the
+/// unit begins that is refused, and why.
+fn check(input: &[u8], limit: u64) -> Result<(), (usize, ViewFault)>
+    ensures accepted { IfOk result (λ _. IsAccepted limit input.now) }
+    ensures refused { IfErr result (λ f. (last : List ℕ)
+        × IsViewFaultAt limit input.now f.0 last f.1) }
+{
+    let mut rest = input;
+    for _ in 0..limit {
+        match UnitView::first(rest) {
+            Ok((view, size)) => {
+                let (_, left) = rest.split_at(size);
+                if !is_unit(&view) {
+                    return Ok(());
+                }
+                rest = left;
+            }
+            Err(fault) => return Err((input.len() - rest.len(), fault)),
+        }
+    }
+    Err((input.len() - rest.len(), ViewFault::TooMany))
+}
+
+/// What follows the units, or the ends of data, at the front of both, if these mean the same; and
+/// whether they are payload units. None also where one of both is refused.
+#[inline(always)]
+fn pass_same<'a, 'b>(left: &'a [u8], right: &'b [u8]) -> Option<(bool, &'a [u8], &'b [u8])>
+    ensures same { IfSome result (λ p. SameFront p.0 left.now right.now p.1.now p.2.now) }
+    ensures different { result ≡ None → AreDifferent left.now right.now }
+{
+    let (first, size) = match UnitView::first(left) {
+        Ok(first) => first,
+        Err(_) => return None,
+    };
+    let (second, other_size) = match UnitView::first(right) {
+        Ok(second) => second,
+        Err(_) => return None,
+    };
+    if !same_view(&first, &second) {
+        return None;
+    }
+    let (_, after_left) = left.split_at(size);
+    let (_, after_right) = right.split_at(other_size);
+    Some((is_unit(&first), after_left, after_right))
 }
 
 /// Whether two views mean the same; of ends of data, whether their bytes are equal.
@@ -137,29 +204,4 @@ fn same_aspa(left: &AspaView<'_>, right: &AspaView<'_>) -> bool
         && action == Action::from_flags(right.flags())
         && left.customer() == right.customer()
         && (action.is_withdraw() || left.providers() == right.providers())
-}
-
-/// A writer that takes all that it is given, and keeps nothing of it.
-#[derive(Drop)]
-struct Nowhere;
-
-impl Sink for Nowhere {
-    ghost state = { λ _. record { held = None; failed = 0 } };
-
-    ghost fails = { λ _ _. ⊥ };
-
-    ghost stalls = { λ _. ⊥ };
-
-    #[inline(always)]
-    fn write(&mut self, piece: &[u8]) -> io::Result<usize> {
-        Ok(piece.len())
-    }
-
-    fn flush(&mut self) -> io::Result<()> {
-        Ok(())
-    }
-
-    fn failures(&self) -> u64 {
-        0
-    }
 }

@@ -105,7 +105,7 @@ fn view_step<'a, const TYPE: u8, W: Sink>(
 
 /// Whether the view is one of a payload unit.
 #[inline(always)]
-fn is_unit(view: &UnitView<'_>) -> bool
+pub fn is_unit(view: &UnitView<'_>) -> bool
     ensures { result ≡ is_payload_unit view.now }
 {
     match view {
