@@ -4,7 +4,10 @@ use crate::answer::Answer;
 use crate::row::{Row, Way};
 use rtr_tests::support::{Pieces, Recorder};
 use rtr_wire::pdu::{CacheResponse, Counted, Fault, PrefixRule, Unit, ViewFault};
-use rtr_wire::{normalise, normalise_for, normalise_slice, same_meaning, same_meaning_slice};
+use rtr_wire::{
+    Side, compare_meanings, normalise, normalise_for, normalise_slice, same_meaning,
+    same_meaning_slice,
+};
 
 /// More units than any row has.
 const LIMIT: u64 = 4294967295;
@@ -19,6 +22,7 @@ pub fn answer(row: &Row<'_>, way: Way) -> Option<Answer> {
         "response" => Some(after_a_response(row, way)),
         "same_meaning" => Some(compared(row)),
         "same_meaning_slice" => Some(compared_slices(row)),
+        "compare_meanings" => Some(compared_by_side(row)),
         _ => None,
     }
 }
@@ -232,4 +236,23 @@ fn tell_compared(seen: &mut Answer, answer: &Result<bool, ViewFault>) {
         Ok(is_same) => seen.word(*is_same),
         Err(fault) => seen.view_fault(fault),
     }
+}
+
+/// `compare_meanings`: whether both mean the same, or the side at fault, the offset and the fault.
+fn compared_by_side(row: &Row<'_>) -> Answer {
+    row.ready();
+    let answer = compare_meanings(&row.left, &row.right, row.number("limit", LIMIT));
+    let mut seen = row.answer();
+    match &answer {
+        Ok(is_same) => seen.word(*is_same),
+        Err(refused) => {
+            seen.word(match refused.side {
+                Side::Left => "left",
+                Side::Right => "right",
+            });
+            seen.word(refused.offset);
+            seen.view_fault(&refused.fault);
+        }
+    }
+    seen
 }

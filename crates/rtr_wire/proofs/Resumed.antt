@@ -18,7 +18,7 @@ use Rattle.rtr_wire.proofs.OneAnswer.{refused_at}
 use Rattle.rtr_wire.proofs.Push.{forms_append}
 use Rattle.rtr_wire.proofs.Runs.{after as joined_after}
 
-units_append : (a b : List ℕ) (ms ns : List Meaning) → AreUnits a ms → AreUnits b ns →
+pub units_append : (a b : List ℕ) (ms ns : List Meaning) → AreUnits a ms → AreUnits b ns →
     AreUnits (a ++ b) (ms ++ ns)
 units_append a b [] ns h j = subst (λ (x : List ℕ). AreUnits (x ++ b) ns) (sym h) j
 units_append a b (m ∷ ms) ns h j = (
@@ -48,7 +48,7 @@ none_written what limit (Refused e) input before after p f =
     (subst (λ c. Ends what (Err c) f.run.last f.left f.run.last_written) is f.run.ends)).2
 
 -- as many units more before it as are allowed more
-counts_more : (what : Output) (n limit : ℕ) (c : Cause) (ms ns : List Meaning) → n ≡ length ms →
+pub counts_more : (what : Output) (n limit : ℕ) (c : Cause) (ms ns : List Meaning) → n ≡ length ms →
     Counts what limit (Err c) ns → Counts what (n + limit) (Err c) (ms ++ ns)
 counts_more what n limit too_many ms ns e h = omega (arith, e, h, length-append ms ns)
 counts_more what n limit by_reader ms ns e h = omega (arith, e, h, length-append ms ns)

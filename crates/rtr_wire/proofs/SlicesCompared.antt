@@ -1,408 +1,56 @@
--- Comparing two inputs in slices, view by view.
-use Rattle.std.proofs.Common.{◌≡◌, ◌≢◌, ℕ, ◌+◌, Bool, false, List, [], ◌∷◌, ◌++◌, length}
-use Rattle.std.proofs.Common.{None, Result, Ok, Err, refl, sym, ap, ◌∙◌, ◌↔◌}
-use Rattle.std.proofs.Common.{◌⊎◌, inl, inr, arith, append_assoc}
-use Rattle.std.specs.Prelude.{IsTrue}
+-- Comparing two inputs in slices, a unit of each after the other.
+use Rattle.std.proofs.Common.{◌≡◌, ◌≢◌, ℕ, ◌+◌, ◌-◌, ◌<◌, Bool, true, false, List, [], ◌∷◌, ◌++◌}
+use Rattle.std.proofs.Common.{length, Result, Ok, Err, refl, sym, ap, subst, ◌∙◌, ◌↔◌}
+use Rattle.std.proofs.Common.{◌⊎◌, inl, inr, arith}
+use Rattle.std.specs.Prelude.{IsTrue, IsOk}
 use Rattle.std.proofs.lemmas.Bool.Decides.{same_from_decides}
+use Rattle.std.proofs.lemmas.List.{append_cancel_left}
 use Rattle.rtr_units.specs.StopCauses.{Cause, by_reader, by_writer, too_many, no_memory, wrong}
-use Rattle.rtr_units.specs.StopCauses.{WriterState, by_cause, cause_of}
+use Rattle.rtr_units.specs.StopCauses.{by_cause, cause_of}
 use Rattle.rtr_units.specs.declared.fault.Fault.{Fault}
-use Rattle.rtr_units.specs.AnyEnd.{end_meaning}
-use Rattle.rtr_units.specs.End.{EndMeaning, IsEnd, end_list}
-use Rattle.rtr_units.proofs.Ends.{end_one}
-use Rattle.rtr_payload.specs.AspaUnits.{aspa_at}
-use Rattle.rtr_payload.specs.FirstFault.{first_fault}
-use Rattle.rtr_payload.specs.KeyUnits.{key_at}
 use Rattle.rtr_payload.specs.Payloads.{Meaning}
-use Rattle.rtr_payload.specs.UnitFields.{meaning, key_unit, aspa_unit}
-use Rattle.rtr_payload.specs.Units.{IsUnit}
-use Rattle.rtr_payload.proofs.Apart.{unit_or_end}
-use Rattle.rtr_payload.proofs.Fields.{units_same}
-use Rattle.rtr_payload.proofs.Rests.{begins_unit_none, begins_end_none}
-use Rattle.rtr_views.specs.Faults.{IsWriterFault, HoldsViewWriteError}
-use Rattle.rtr_views.specs.Origins.{origin_meaning}
-use Rattle.rtr_views.specs.Views.{IsViewOf}
+use Rattle.rtr_views.specs.Faults.{IsWriterFault}
 use Rattle.rtr_views.specs.declared.fault.ViewFault.{ViewFault}
 use Rattle.rtr_views.specs.declared.fault.ViewFault.TheVariants.{Writer, Short, UnitType}
 use Rattle.rtr_views.specs.declared.fault.ViewFault.TheVariants.{UnitLength, TooLong}
 use Rattle.rtr_views.specs.declared.fault.ViewFault.TheVariants.{EmptyProviders, UnitVersion}
 use Rattle.rtr_views.specs.declared.fault.ViewFault.TheVariants.{Prefix, TooMany}
-use Rattle.rtr_views.specs.declared.view.UnitView.{UnitView}
-use Rattle.rtr_views.specs.declared.view.UnitView.TheVariants as views
-use Rattle.rtr_views.proofs.Agreement.{view_means}
-use Rattle.rtr_wire.specs.Comparison.{Accepted, IsAccepted, IsFaultOf, IsViewFaultOf, SaysWhetherSame}
-use Rattle.rtr_wire.specs.Comparison.{Compares, ComparesSlices, by_view_cause}
-use Rattle.rtr_wire.specs.PrivateSteps.{HasUnits, TellsEqual, unit, end, viewed}
-use Rattle.rtr_wire.specs.Run.{Run, HasRun, BlamesNobody}
-use Rattle.rtr_wire.specs.Sequences.{Accepts, everything, written_units}
-use Rattle.rtr_wire.specs.SliceRun.{NormalisesSlice, view_cause}
+use Rattle.rtr_wire.specs.Comparison.{IsAccepted, IsFaultOf, SaysWhetherSame}
+use Rattle.rtr_wire.specs.Comparison.{IsViewFaultAt, IsViewFaultOf, IsFaultOn}
+use Rattle.rtr_wire.specs.Comparison.{Compares, ComparesMeanings, ComparesSlices, by_view_cause}
+use Rattle.rtr_wire.specs.PrivateSteps.{AreDifferent, SameFront}
+use Rattle.rtr_wire.specs.Run.{HasRun, BlamesNobody}
+use Rattle.rtr_wire.specs.Sequences.{everything, written_units}
+use Rattle.rtr_wire.specs.SliceRun.{view_cause}
+use Rattle.rtr_wire.specs.declared.compare_slices.ComparisonFault.{ComparisonFault}
+use Rattle.rtr_wire.specs.declared.compare_slices.Side.{Side}
+use Rattle.rtr_wire.specs.declared.compare_slices.Side.TheVariants.{Left, Right}
 use Rattle.rtr_wire.proofs.Comparing.{no_fault}
-use Rattle.rtr_wire.proofs.OneAnswer.{one_has, only_accepted, accepted_run, begins_end}
-use Rattle.rtr_wire.proofs.Runs.{after, accepted_same}
-use Rattle.rtr_wire.proofs.Written.{all_written}
-
--- ---- a view at the front of a unit or an end of data
-
--- it shows what the unit means
-unit_viewed : (v : UnitView) (b r left x s : List ℕ) (m : Meaning) → IsViewOf v b →
-    r ≡ b ++ left → IsUnit x m → r ≡ x ++ s → (viewed v ≡ unit m) × (left ≡ s)
-unit_viewed (views.Origin v) b r left x s m is parts u e =
-    let n = origin_meaning v in
-    let t = units_same b x left s n m (view_means (views.Origin v) b n is refl) u
-    (sym parts ∙ e) in
-    (ap unit t.1, t.2)
-unit_viewed (views.RouterKey v) b r left x s m is parts u e =
-    let n = meaning (key_unit (key_at v.unit.now)) in
-    let t = units_same b x left s n m (view_means (views.RouterKey v) b n is refl) u
-    (sym parts ∙ e) in
-    (ap unit t.1, t.2)
-unit_viewed (views.Aspa v) b r left x s m is parts u e =
-    let n = meaning (aspa_unit (aspa_at v.unit.now)) in
-    let t = units_same b x left s n m (view_means (views.Aspa v) b n is refl) u
-    (sym parts ∙ e) in
-    (ap unit t.1, t.2)
-unit_viewed (views.End d) b r left x s m (is, h) parts u e =
-    absurd (unit_or_end x b s left m (end_meaning d) u h (sym e ∙ parts))
-
--- it shows the end of data
-end_viewed : (v : UnitView) (b r left x s : List ℕ) (e : EndMeaning) → IsViewOf v b →
-    r ≡ b ++ left → IsEnd x e → r ≡ x ++ s → viewed v ≡ end x
-end_viewed (views.Origin v) b r left x s e is parts h eq =
-    absurd (unit_or_end b x left s (origin_meaning v) e
-    (view_means (views.Origin v) b (origin_meaning v) is refl) h (sym parts ∙ eq))
-end_viewed (views.RouterKey v) b r left x s e is parts h eq =
-    absurd (unit_or_end b x left s (meaning (key_unit (key_at v.unit.now))) e
-    (view_means (views.RouterKey v) b (meaning (key_unit (key_at v.unit.now))) is refl) h
-    (sym parts ∙ eq))
-end_viewed (views.Aspa v) b r left x s e is parts h eq =
-    absurd (unit_or_end b x left s (meaning (aspa_unit (aspa_at v.unit.now))) e
-    (view_means (views.Aspa v) b (meaning (aspa_unit (aspa_at v.unit.now))) is refl) h
-    (sym parts ∙ eq))
-end_viewed (views.End d) b r left x s e (is, j) parts h eq =
-    ap end (is ∙ (end_one b x left s (end_meaning d) e j h (sym parts ∙ eq)).0)
-
--- ---- the front of a sequence
-
--- the first of so many units, and what follows it
-record First (l : List ℕ) (k : ℕ) (ms : List Meaning) (d : EndMeaning) : Type 0 where
-  m : Meaning
-  x : List ℕ
-  s : List ℕ
-  is_unit : IsUnit x m
-  parts : l ≡ x ++ s
-  others : HasUnits s k
-  meanings : ms ≡ m ∷ others.meanings
-  same_end : d ≡ others.end
-
-first_of : (l b : List ℕ) (k : ℕ) (ms : List Meaning) (d : EndMeaning) → Accepts l b ms d →
-    length ms ≡ k + 1 → First l k ms d
-first_of l b k [] d a e = absurd (omega (arith, e))
-first_of l b k (m ∷ ms) d a e =
-    let q = a.sequence in
-    let (x, rest, is, u, more) = q.units in
-    record {
-      m = m;
-      x = x;
-      s = rest ++ (q.last ++ a.rest);
-      is_unit = u;
-      parts =
-          a.parts ∙ after b q.front q.last a.rest q.parts ∙ after q.front x rest (q.last ++ a.rest) is;
-      others = record {
-        bytes = rest ++ q.last;
-        meanings = ms;
-        end = d;
-        accepts = record {
-          rest = a.rest;
-          parts = sym (append_assoc rest q.last a.rest);
-          sequence =
-              record { front = rest; last = q.last; parts = refl; units = more; end = q.end };
-        };
-        counted = omega (arith, e);
-      };
-      meanings = refl;
-      same_end = refl;
-    }
-
--- after no unit comes the end of data
-record Last (l : List ℕ) (ms : List Meaning) (d : EndMeaning) : Type 0 where
-  x : List ℕ
-  s : List ℕ
-  is_end : IsEnd x d
-  parts : l ≡ x ++ s
-  none : ms ≡ []
-
-last_of : (l b : List ℕ) (ms : List Meaning) (d : EndMeaning) → Accepts l b ms d →
-    length ms ≡ 0 → Last l ms d
-last_of l b [] d a e =
-    let q = a.sequence in
-    let empty : q.front ≡ [] = q.units in
-    record {
-      x = q.last;
-      s = a.rest;
-      is_end = q.end;
-      parts =
-          a.parts ∙ after b q.front q.last a.rest q.parts
-          ∙ ap (λ f. f ++ (q.last ++ a.rest)) empty;
-      none = refl;
-    }
-last_of l b (m ∷ ms) d a e = absurd (omega (arith, e))
-
--- a sequence begins with no fault
-no_first_fault : (l b : List ℕ) (ms : List Meaning) (d : EndMeaning) → Accepts l b ms d →
-    first_fault l ≡ None
-no_first_fault l b [] d a =
-    let t = last_of l b [] d a refl in
-    ap first_fault t.parts ∙ begins_end_none (t.x ++ t.s) (begins_end t.x t.s d t.is_end)
-no_first_fault l b (m ∷ ms) d a =
-    let t = first_of l b (length ms) (m ∷ ms) d a (omega arith) in
-    begins_unit_none l
-    (record { bytes = t.x; means = t.m; rest = t.s; unit = t.is_unit; parts = t.parts })
-
-pub well : (l : List ℕ) (n : ℕ) → HasUnits l n → first_fault l ≡ None
-well l n h = no_first_fault l h.bytes h.meanings h.end h.accepts
-
--- ---- the loop
-
--- what is left of both, where the units before mean the same
-pub record Both (left right l r : List ℕ) (count : ℕ) : Type 0 where
-  pub a : List ℕ
-  pub b : List ℕ
-  pub ms : List Meaning
-  pub ns : List Meaning
-  pub d : EndMeaning
-  pub e : EndMeaning
-  pub accepts : Accepts left a ms d
-  pub accepts_other : Accepts right b ns e
-  pub rest : HasUnits l count
-  pub other : HasUnits r count
-  pub same : ((ms ≡ ns) × (d ≡ e))
-      ↔ ((rest.meanings ≡ other.meanings) × (rest.end ≡ other.end))
-
-pub starts : (left right : List ℕ) (n : ℕ) → HasUnits left n → HasUnits right n →
-    Both left right left right n
-starts left right n h j = record {
-  a = h.bytes;
-  b = j.bytes;
-  ms = h.meanings;
-  ns = j.meanings;
-  d = h.end;
-  e = j.end;
-  accepts = h.accepts;
-  accepts_other = j.accepts;
-  rest = h;
-  other = j;
-  same = (λ p. p, λ p. p);
-}
-
-same_front : (m n : Meaning) (ms ns : List Meaning) → m ∷ ms ≡ n ∷ ns → (m ≡ n) × (ms ≡ ns)
-same_front m n ms ns e = (cc, cc)
-
--- a view at the front of so many units shows what the first one means, and the others follow it
-record Next (v : UnitView) (left : List ℕ) (k : ℕ) (ms : List Meaning)
-    (d : EndMeaning) : Type 0 where
-  m : Meaning
-  shows : viewed v ≡ unit m
-  others : HasUnits left k
-  meanings : ms ≡ m ∷ others.meanings
-  same_end : d ≡ others.end
-
-next_of : (v : UnitView) (x l left : List ℕ) (n k : ℕ) → IsViewOf v x → l ≡ x ++ left →
-    (h : HasUnits l n) → n ≡ k + 1 → Next v left k h.meanings h.end
-next_of v x l left n k is parts h less =
-    let p = first_of l h.bytes k h.meanings h.end h.accepts (h.counted ∙ less) in
-    let t = unit_viewed v x l left p.x p.s p.m is parts p.is_unit p.parts in
-    let o = p.others in
-    record {
-      m = p.m;
-      shows = t.0;
-      others = record {
-        bytes = o.bytes;
-        meanings = o.meanings;
-        end = o.end;
-        accepts = record {
-          rest = o.accepts.rest;
-          parts = t.1 ∙ o.accepts.parts;
-          sequence = o.accepts.sequence;
-        };
-        counted = o.counted;
-      };
-      meanings = p.meanings;
-      same_end = p.same_end;
-    }
-
-module _ (left right l r : List ℕ) (count : ℕ) (both : Both left right l r count)
-    (v w : UnitView) (x y l' r' : List ℕ) (is : IsViewOf v x) (parts : l ≡ x ++ l')
-    (is' : IsViewOf w y) (parts' : r ≡ y ++ r') where
-  -- the first units mean the same
-  pub goes_on : (k : ℕ) → count ≡ k + 1 → viewed v ≡ viewed w → Both left right l' r' k
-  goes_on k less eq =
-      let p = next_of v x l l' count k is parts both.rest less in
-      let q = next_of w y r r' count k is' parts' both.other less in
-      let units : unit p.m ≡ unit q.m = sym p.shows ∙ eq ∙ q.shows in
-      let heads : p.m ≡ q.m = cc in
-      record {
-        a = both.a;
-        b = both.b;
-        ms = both.ms;
-        ns = both.ns;
-        d = both.d;
-        e = both.e;
-        accepts = both.accepts;
-        accepts_other = both.accepts_other;
-        rest = p.others;
-        other = q.others;
-        same = (
-          λ equal.
-              let f = both.same.0 equal in (
-                (same_front p.m q.m p.others.meanings q.others.meanings
-                    (sym p.meanings ∙ f.0 ∙ q.meanings)).1,
-                sym p.same_end ∙ f.1 ∙ q.same_end,
-              ),
-          λ equal. both.same.1 (
-            p.meanings ∙ (λ i. heads i ∷ equal.0 i) ∙ sym q.meanings,
-            p.same_end ∙ equal.1 ∙ sym q.same_end,
-          ),
-        );
-      }
-
-  -- they don't
-  pub differs : (k : ℕ) → count ≡ k + 1 → viewed v ≢ viewed w → TellsEqual false left right
-  differs k less not =
-      let p = next_of v x l l' count k is parts both.rest less in
-      let q = next_of w y r r' count k is' parts' both.other less in
-      record {
-        a = both.a;
-        b = both.b;
-        ms = both.ms;
-        ns = both.ns;
-        d = both.d;
-        e = both.e;
-        accepts = both.accepts;
-        accepts_other = both.accepts_other;
-        equal = (
-          λ yes. absurd cc,
-          λ equal.
-              let f = both.same.0 equal in
-              absurd (not (p.shows
-              ∙ ap unit (same_front p.m q.m p.others.meanings q.others.meanings
-              (sym p.meanings ∙ f.0 ∙ q.meanings)).0 ∙ sym q.shows)),
-        );
-      }
-
-  -- at the ends of data
-  pub ends : (same : Bool) → count ≡ 0 → (IsTrue same ↔ (viewed v ≡ viewed w)) →
-      TellsEqual same left right
-  ends same none decides =
-      let h = both.rest in
-      let j = both.other in
-      let p = last_of l h.bytes h.meanings h.end h.accepts (h.counted ∙ none) in
-      let q = last_of r j.bytes j.meanings j.end j.accepts (j.counted ∙ none) in
-      let t = end_viewed v x l l' p.x p.s h.end is parts p.is_end p.parts in
-      let u = end_viewed w y r r' q.x q.s j.end is' parts' q.is_end q.parts in
-      record {
-        a = both.a;
-        b = both.b;
-        ms = both.ms;
-        ns = both.ns;
-        d = both.d;
-        e = both.e;
-        accepts = both.accepts;
-        accepts_other = both.accepts_other;
-        equal = (
-          λ yes.
-              let lists : end p.x ≡ end q.x = sym t ∙ decides.0 yes ∙ u in
-              let bytes : p.x ≡ q.x = cc in
-              both.same.1 (
-                p.none ∙ sym q.none,
-                (end_one p.x q.x [] [] h.end j.end p.is_end q.is_end
-                    (ap (λ z. z ++ []) bytes)).1,
-              ),
-          λ equal.
-              let f = both.same.0 equal in
-              decides.1 (t
-              ∙ ap end (p.is_end.bytes ∙ ap end_list f.1 ∙ sym q.is_end.bytes) ∙ sym u),
-        );
-      }
-
--- ---- the number of units, and why there is none
-
-pub counted : (limit n k : ℕ) (input : List ℕ) (old new : WriterState) →
-    NormalisesSlice limit (Ok (n, k)) input old new →
-    (u : HasUnits input n) × Accepted limit input u.meanings u.end
-counted limit n k input old new p =
-    let (ms, e, sequence, number, below, wrote) =
-    only_accepted everything limit n p.taken p.left p.written p.run in
-    let accepts : Accepts input p.taken ms e =
-    record { rest = p.left; parts = p.parts; sequence = sequence } in (
-      record {
-        bytes = p.taken;
-        meanings = ms;
-        end = e;
-        accepts = accepts;
-        counted = ap length (sym (all_written ms)) ∙ number;
-      },
-      record { b = p.taken; accepts = accepts; below = below },
-    )
-
-some_run : (limit : ℕ) (c : Cause) (input took left wrote : List ℕ) → input ≡ took ++ left →
-    (run : Run everything limit (Err c) took left wrote) → (last : List ℕ) → last ≡ run.last →
-    (some : HasRun everything limit (Err c) input) × (last ≡ some.run.last)
-some_run limit c input took left wrote parts run last is =
-    (record { taken = took; left = left; written = wrote; parts = parts; run = run }, is)
-
--- a writer that gives no error isn't blamed
-pub no_writer : (e : ViewFault) → HoldsViewWriteError (λ _. ⊥) ⊥ e → IsWriterFault e → ⊥
-no_writer (Writer x) (inl h) by = h
-no_writer (Writer x) (inr h) by = h.1
-no_writer Short h by = by
-no_writer (UnitType t) h by = by
-no_writer UnitLength h by = by
-no_writer TooLong h by = by
-no_writer EmptyProviders h by = by
-no_writer (UnitVersion t) h by = by
-no_writer (Prefix t) h by = by
-no_writer TooMany h by = by
-
-pub refused_by : (limit : ℕ) (e : ViewFault) (input : List ℕ) (old new : WriterState) →
-    NormalisesSlice limit (Err e) input old new → (IsWriterFault e → ⊥) →
-    (last : List ℕ) × IsViewFaultOf limit input last e
-refused_by limit e input old new p not = (p.last, by_each e p not)
-  where
-    by_each : (e : ViewFault) → (p : NormalisesSlice limit (Err e) input old new) →
-        (IsWriterFault e → ⊥) → IsViewFaultOf limit input p.last e
-    by_each (Writer x) p not = absurd (not tt)
-    by_each Short p not = some_run limit _ input p.taken p.left p.written p.parts p.run p.last p.last_is
-    by_each (UnitType t) p not =
-        some_run limit _ input p.taken p.left p.written p.parts p.run p.last p.last_is
-    by_each UnitLength p not =
-        some_run limit _ input p.taken p.left p.written p.parts p.run p.last p.last_is
-    by_each TooLong p not =
-        some_run limit _ input p.taken p.left p.written p.parts p.run p.last p.last_is
-    by_each EmptyProviders p not =
-        some_run limit _ input p.taken p.left p.written p.parts p.run p.last p.last_is
-    by_each (UnitVersion t) p not =
-        some_run limit _ input p.taken p.left p.written p.parts p.run p.last p.last_is
-    by_each (Prefix t) p not =
-        some_run limit _ input p.taken p.left p.written p.parts p.run p.last p.last_is
-    by_each TooMany p not =
-        some_run limit _ input p.taken p.left p.written p.parts p.run p.last p.last_is
+use Rattle.rtr_wire.proofs.OneAnswer.{one_has, accepted_run}
+use Rattle.rtr_wire.proofs.Runs.{accepted_same}
+use Rattle.rtr_wire.proofs.Walking.{Walked, starts, goes_on, at_end, at_limit, accepted_after}
+use Rattle.rtr_wire.proofs.Walking.{fault_after}
 
 -- ---- the whole comparison
+
+blames_nobody : (last : List ℕ) (e : ViewFault) → (IsWriterFault e → ⊥) →
+    BlamesNobody (Err (view_cause last e))
+blames_nobody last (Writer x) not = absurd (not tt)
+blames_nobody last Short not = tt
+blames_nobody last (UnitType t) not = tt
+blames_nobody last UnitLength not = tt
+blames_nobody last TooLong not = tt
+blames_nobody last EmptyProviders not = tt
+blames_nobody last (UnitVersion t) not = tt
+blames_nobody last (Prefix t) not = tt
+blames_nobody last TooMany not = tt
 
 -- a run over the input has the fault, and it blames nobody
 view_fault_run : (limit : ℕ) (input last : List ℕ) (e : ViewFault) →
     IsViewFaultOf limit input last e →
     HasRun everything limit (Err (view_cause last e)) input
     × BlamesNobody (Err (view_cause last e))
-view_fault_run limit input last (Writer x) h = absurd h
-view_fault_run limit input last Short h = (h.0, tt)
-view_fault_run limit input last (UnitType t) h = (h.0, tt)
-view_fault_run limit input last UnitLength h = (h.0, tt)
-view_fault_run limit input last TooLong h = (h.0, tt)
-view_fault_run limit input last EmptyProviders h = (h.0, tt)
-view_fault_run limit input last (UnitVersion t) h = (h.0, tt)
-view_fault_run limit input last (Prefix t) h = (h.0, tt)
-view_fault_run limit input last TooMany h = (h.0, tt)
+view_fault_run limit input last e (offset, h) = (h.some, blames_nobody last e h.not_writer)
 
 no_view_fault : (limit : ℕ) (input last : List ℕ) (e : ViewFault) → IsAccepted limit input →
     IsViewFaultOf limit input last e → ⊥
@@ -415,45 +63,128 @@ no_view_fault limit input last e (ms, d, a) h =
     no_such : Err (view_cause last e) ≡ Ok (length (written_units everything ms)) → ⊥
     no_such e = absurd cc
 
-pub stops : (limit : ℕ) (e : ViewFault) (left right last : List ℕ) →
-    IsViewFaultOf limit left last e ⊎ (IsAccepted limit left × IsViewFaultOf limit right last e) →
-    ComparesSlices limit (Err e) left right
-stops limit e left right last s = record {
+stops : (limit : ℕ) (f : ComparisonFault) (left right last : List ℕ) →
+    IsFaultOn f.side limit left right f.offset last f.fault →
+    ComparesMeanings limit (Err f) left right
+stops limit f left right last s = record {
   answers = tt;
   last = last;
   stops = s;
-  succeeds = λ l r. absurd (elim s [
-    | inl fault ↦ no_view_fault limit left last e l fault
-    | inr fault ↦ no_view_fault limit right last e r fault.1
-  ]);
+  succeeds = λ l r. absurd (on f.side l r s);
 }
+  where
+    on : (side : Side) → IsAccepted limit left → IsAccepted limit right →
+        IsFaultOn side limit left right f.offset last f.fault → ⊥
+    on Left l r s = no_view_fault limit left last f.fault l (f.offset, s)
+    on Right l r s = no_view_fault limit right last f.fault r (f.offset, s.1)
 
 answers : (limit : ℕ) (same : Bool) (left right : List ℕ) → SaysWhetherSame limit same left right →
-    ComparesSlices limit (Ok same) left right
+    ComparesMeanings limit (Ok same) left right
 answers limit same left right told =
     record { answers = told; last = []; stops = tt; succeeds = λ l r. refl }
 
-pub same_number : (limit n m : ℕ) (same : Bool) (left right : List ℕ) →
-    (h : HasUnits left n) → Accepted limit left h.meanings h.end →
-    (j : HasUnits right m) → Accepted limit right j.meanings j.end →
-    TellsEqual same left right → ComparesSlices limit (Ok same) left right
-same_number limit n m same left right h a j b told =
-    let l = accepted_same left h.bytes told.a h.meanings told.ms h.end told.d h.accepts
-    told.accepts in
-    let r = accepted_same right j.bytes told.b j.meanings told.ns j.end told.e j.accepts
-    told.accepts_other in
-    answers limit same left right (
-      h.meanings,
-      j.meanings,
-      h.end,
-      j.end,
-      a,
-      b,
+-- ---- both inputs at once
+
+-- what is left of both, where as many units before mean the same
+pub record Both (count : ℕ) (left right l r : List ℕ) : Type 0 where
+  pub first : Walked count left l
+  pub second : Walked count right r
+  pub same : first.ms ≡ second.ms
+
+pub both_start : (left right : List ℕ) → Both 0 left right left right
+both_start left right = record { first = starts left; second = starts right; same = refl }
+
+pub both_go_on : (count : ℕ) (left right l r l' r' : List ℕ) → Both count left right l r →
+    SameFront true l r l' r' → Both (count + 1) left right l' r'
+both_go_on count left right l r l' r' both (x, y, m, p, q, u, w) = record {
+  first = goes_on count left l x l' m both.first p u;
+  second = goes_on count right r y r' m both.second q w;
+  same = ap (λ ms. ms ++ m ∷ []) both.same;
+}
+
+pub both_end : (limit count : ℕ) (left right l r l' r' : List ℕ) → count < limit →
+    Both count left right l r → SameFront false l r l' r' →
+    ComparesMeanings limit (Ok true) left right
+both_end limit count left right l r l' r' less both (x, y, e, p, q, h, j) =
+    answers limit true left right (
+      both.first.ms,
+      both.second.ms,
+      e,
+      e,
+      at_end limit count left l x l' e less both.first p h,
+      at_end limit count right r y r' e less both.second q j,
+      (λ yes. (both.same, refl), λ equal. refl),
+    )
+
+pub both_differ : (limit count : ℕ) (left right l r : List ℕ) → count < limit →
+    Both count left right l r → AreDifferent l r → IsAccepted (limit - count) l →
+    IsAccepted (limit - count) r → ComparesMeanings limit (Ok false) left right
+both_differ limit count left right l r less both different (ms, d, a) (ns, e, b) =
+    let first = both.first in
+    let second = both.second in
+    answers limit false left right (
+      first.ms ++ ms,
+      second.ms ++ ns,
+      d,
+      e,
+      accepted_after limit count left l first less ms d a,
+      accepted_after limit count right r second less ns e b,
       (
-        λ yes. let t = told.equal.0 yes in (l.1 ∙ t.0 ∙ sym r.1, l.2 ∙ t.1 ∙ sym r.2),
-        λ equal. told.equal.1 (sym l.1 ∙ equal.0 ∙ r.1, sym l.2 ∙ equal.1 ∙ r.2),
+        λ yes. absurd cc,
+        λ equal.
+            absurd (different a.b b.b ms ns d e a.accepts b.accepts
+            (append_cancel_left second.ms ms ns
+            (ap (λ t. t ++ ms) (sym both.same) ∙ equal.0)) equal.1),
       ),
     )
+
+pub left_stops : (limit count : ℕ) (left right l : List ℕ) (f : ComparisonFault)
+    (offset : ℕ) (last : List ℕ) → count < limit → Walked count left l → f.side ≡ Left →
+    f.offset ≡ length left - length l + offset →
+    IsViewFaultAt (limit - count) l offset last f.fault → ComparesMeanings limit (Err f) left right
+left_stops limit count left right l f offset last less p side at is =
+    stops limit f left right last (rw side (
+      subst (λ n. IsViewFaultAt limit left n last f.fault) (sym at)
+          (fault_after limit count left l p less offset last f.fault is)))
+
+pub right_stops : (limit count : ℕ) (left right l r : List ℕ) (f : ComparisonFault)
+    (offset : ℕ) (last : List ℕ) → count < limit → Walked count left l → Walked count right r →
+    IsAccepted (limit - count) l → f.side ≡ Right →
+    f.offset ≡ length right - length r + offset →
+    IsViewFaultAt (limit - count) r offset last f.fault → ComparesMeanings limit (Err f) left right
+right_stops limit count left right l r f offset last less p q (ms, d, a) side at is =
+    stops limit f left right last (rw side (
+      (p.ms ++ ms, d, accepted_after limit count left l p less ms d a),
+      subst (λ n. IsViewFaultAt limit right n last f.fault) (sym at)
+          (fault_after limit count right r q less offset last f.fault is)))
+
+pub left_too_many : (limit : ℕ) (left right l : List ℕ) → Walked limit left l →
+    ComparesMeanings limit
+    (Err (record { side = Left; offset = length left - length l; fault = TooMany })) left right
+left_too_many limit left right l p =
+    stops limit (record { side = Left; offset = length left - length l; fault = TooMany }) left right
+    [] (at_limit limit left l p)
+
+-- ---- the answer without the side
+
+pub fault_told : (limit : ℕ) (f : ComparisonFault) (left right : List ℕ) →
+    ComparesMeanings limit (Err f) left right → ComparesSlices limit (Err f.fault) left right
+fault_told limit f left right p = record {
+  answers = tt;
+  last = p.last;
+  stops = on f.side p.stops;
+  succeeds = λ l r. absurd (no_answer (Err f) refl (p.succeeds l r));
+}
+  where
+    on : (side : Side) → IsFaultOn side limit left right f.offset p.last f.fault →
+        IsViewFaultOf limit left p.last f.fault
+        ⊎ (IsAccepted limit left × IsViewFaultOf limit right p.last f.fault)
+    on Left s = inl (f.offset, s)
+    on Right s = inr (s.0, (f.offset, s.1))
+
+    no_answer : (r : Result Bool ComparisonFault) → r ≡ Err f → IsOk r → ⊥
+    no_answer (Ok same) e h = absurd cc
+    no_answer (Err g) e h = absurd cc
 
 -- ---- both ways
 
