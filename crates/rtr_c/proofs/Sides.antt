@@ -124,15 +124,15 @@ module _ (limit : ℕ) (input : List ℕ) where
   fault_run : (last : List ℕ) (e : ViewFault) → IsViewFaultOf limit input last e →
       HasRun everything limit (Err (view_cause last e)) input
       × BlamesNobody (Err (view_cause last e))
-  fault_run last (faults.Writer e) is = absurd is
-  fault_run last faults.Short is = (is.0, tt)
-  fault_run last (faults.UnitType t) is = (is.0, tt)
-  fault_run last faults.UnitLength is = (is.0, tt)
-  fault_run last faults.TooLong is = (is.0, tt)
-  fault_run last faults.EmptyProviders is = (is.0, tt)
-  fault_run last (faults.UnitVersion v) is = (is.0, tt)
-  fault_run last (faults.Prefix rule) is = (is.0, tt)
-  fault_run last faults.TooMany is = (is.0, tt)
+  fault_run last (faults.Writer e) is = absurd (is.1.not_writer tt)
+  fault_run last faults.Short is = (is.1.some, tt)
+  fault_run last (faults.UnitType t) is = (is.1.some, tt)
+  fault_run last faults.UnitLength is = (is.1.some, tt)
+  fault_run last faults.TooLong is = (is.1.some, tt)
+  fault_run last faults.EmptyProviders is = (is.1.some, tt)
+  fault_run last (faults.UnitVersion v) is = (is.1.some, tt)
+  fault_run last (faults.Prefix rule) is = (is.1.some, tt)
+  fault_run last faults.TooMany is = (is.1.some, tt)
 
   number_run : IsAccepted limit input → (n : ℕ) × HasRun everything limit (Ok n) input
   number_run (ms, d, a) = (

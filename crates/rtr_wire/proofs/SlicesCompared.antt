@@ -7,7 +7,10 @@ use Rattle.std.proofs.lemmas.Bool.Decides.{same_from_decides}
 use Rattle.std.proofs.lemmas.List.{append_cancel_left}
 use Rattle.rtr_units.specs.StopCauses.{Cause, by_reader, by_writer, too_many, no_memory, wrong}
 use Rattle.rtr_units.specs.StopCauses.{by_cause, cause_of}
+use Rattle.rtr_units.specs.StopCauses.{short, unit_type, unit_version, too_long, unit_length}
+use Rattle.rtr_units.specs.StopCauses.{empty_providers, refused}
 use Rattle.rtr_units.specs.declared.fault.Fault.{Fault}
+use Rattle.rtr_payload.specs.FirstFault.{refusal_report}
 use Rattle.rtr_payload.specs.Payloads.{Meaning}
 use Rattle.rtr_views.specs.Faults.{IsWriterFault}
 use Rattle.rtr_views.specs.declared.fault.ViewFault.{ViewFault}
@@ -17,17 +20,19 @@ use Rattle.rtr_views.specs.declared.fault.ViewFault.TheVariants.{EmptyProviders,
 use Rattle.rtr_views.specs.declared.fault.ViewFault.TheVariants.{Prefix, TooMany}
 use Rattle.rtr_wire.specs.Comparison.{IsAccepted, IsFaultOf, SaysWhetherSame}
 use Rattle.rtr_wire.specs.Comparison.{IsViewFaultAt, IsViewFaultOf, IsFaultOn}
-use Rattle.rtr_wire.specs.Comparison.{Compares, ComparesMeanings, ComparesSlices, by_view_cause}
+use Rattle.rtr_wire.specs.Comparison.{Compares, ComparesMeanings, ComparesSlices}
+use Rattle.rtr_wire.specs.Comparison.{by_place, by_view_cause}
 use Rattle.rtr_wire.specs.PrivateSteps.{AreDifferent, SameFront}
 use Rattle.rtr_wire.specs.Run.{HasRun, BlamesNobody}
-use Rattle.rtr_wire.specs.Sequences.{everything, written_units}
+use Rattle.rtr_wire.specs.Sequences.{IsKept, everything, written_units}
 use Rattle.rtr_wire.specs.SliceRun.{view_cause}
 use Rattle.rtr_wire.specs.declared.compare_slices.ComparisonFault.{ComparisonFault}
 use Rattle.rtr_wire.specs.declared.compare_slices.Side.{Side}
 use Rattle.rtr_wire.specs.declared.compare_slices.Side.TheVariants.{Left, Right}
 use Rattle.rtr_wire.proofs.Comparing.{no_fault}
 use Rattle.rtr_wire.proofs.OneAnswer.{one_has, accepted_run}
-use Rattle.rtr_wire.proofs.Runs.{accepted_same}
+use Rattle.rtr_wire.proofs.Promises.{fault_of_run, limit_of_run}
+use Rattle.rtr_wire.proofs.Runs.{accepted_same, kept_same}
 use Rattle.rtr_wire.proofs.Walking.{Walked, starts, goes_on, at_end, at_limit, accepted_after}
 use Rattle.rtr_wire.proofs.Walking.{fault_after}
 
@@ -63,6 +68,12 @@ no_view_fault limit input last e (ms, d, a) h =
     no_such : Err (view_cause last e) ≡ Ok (length (written_units everything ms)) → ⊥
     no_such e = absurd cc
 
+not_on : (limit : ℕ) (left right : List ℕ) (side : Side) (offset : ℕ) (last : List ℕ)
+    (e : ViewFault) → IsAccepted limit left → IsAccepted limit right →
+    IsFaultOn side limit left right offset last e → ⊥
+not_on limit left right Left offset last e l r s = no_view_fault limit left last e l (offset, s)
+not_on limit left right Right offset last e l r s = no_view_fault limit right last e r (offset, s.1)
+
 stops : (limit : ℕ) (f : ComparisonFault) (left right last : List ℕ) →
     IsFaultOn f.side limit left right f.offset last f.fault →
     ComparesMeanings limit (Err f) left right
@@ -70,13 +81,8 @@ stops limit f left right last s = record {
   answers = tt;
   last = last;
   stops = s;
-  succeeds = λ l r. absurd (on f.side l r s);
+  succeeds = λ l r. absurd (not_on limit left right f.side f.offset last f.fault l r s);
 }
-  where
-    on : (side : Side) → IsAccepted limit left → IsAccepted limit right →
-        IsFaultOn side limit left right f.offset last f.fault → ⊥
-    on Left l r s = no_view_fault limit left last f.fault l (f.offset, s)
-    on Right l r s = no_view_fault limit right last f.fault r (f.offset, s.1)
 
 answers : (limit : ℕ) (same : Bool) (left right : List ℕ) → SaysWhetherSame limit same left right →
     ComparesMeanings limit (Ok same) left right
@@ -144,8 +150,8 @@ pub left_stops : (limit count : ℕ) (left right l : List ℕ) (f : ComparisonFa
     IsViewFaultAt (limit - count) l offset last f.fault → ComparesMeanings limit (Err f) left right
 left_stops limit count left right l f offset last less p side at is =
     stops limit f left right last (rw side (
-      subst (λ n. IsViewFaultAt limit left n last f.fault) (sym at)
-          (fault_after limit count left l p less offset last f.fault is)))
+    subst (λ n. IsViewFaultAt limit left n last f.fault) (sym at)
+    (fault_after limit count left l p less offset last f.fault is)))
 
 pub right_stops : (limit count : ℕ) (left right l r : List ℕ) (f : ComparisonFault)
     (offset : ℕ) (last : List ℕ) → count < limit → Walked count left l → Walked count right r →
@@ -156,7 +162,8 @@ right_stops limit count left right l r f offset last less p q (ms, d, a) side at
     stops limit f left right last (rw side (
       (p.ms ++ ms, d, accepted_after limit count left l p less ms d a),
       subst (λ n. IsViewFaultAt limit right n last f.fault) (sym at)
-          (fault_after limit count right r q less offset last f.fault is)))
+          (fault_after limit count right r q less offset last f.fault is),
+    ))
 
 pub left_too_many : (limit : ℕ) (left right l : List ℕ) → Walked limit left l →
     ComparesMeanings limit
@@ -248,3 +255,71 @@ same_comparison limit (Err f) (Err e) left right p q not =
         | inr same ↦ ap Err (one_fault limit right q.last (cause_of f) e other fault.1 same.1)
       ]
     ]
+
+-- ---- one answer
+
+-- the units before a fault are the longest front of units
+kept : (limit offset : ℕ) (input last : List ℕ) (e : ViewFault) →
+    (h : IsViewFaultAt limit input offset last e) →
+    (rest : List ℕ) × IsKept input limit h.some.run.units h.some.run.meanings rest
+kept limit offset input last (Writer x) h = absurd (h.not_writer tt)
+kept limit offset input last Short h =
+    (_, (fault_of_run everything limit short input h.some).kept)
+kept limit offset input last (UnitType t) h =
+    (_, (fault_of_run everything limit (unit_type t) input h.some).kept)
+kept limit offset input last UnitLength h =
+    (_, (fault_of_run everything limit unit_length input h.some).kept)
+kept limit offset input last TooLong h =
+    (_, (fault_of_run everything limit too_long input h.some).kept)
+kept limit offset input last EmptyProviders h =
+    (_, (fault_of_run everything limit empty_providers input h.some).kept)
+kept limit offset input last (UnitVersion v) h =
+    (_, (fault_of_run everything limit (unit_version v) input h.some).kept)
+kept limit offset input last (Prefix rule) h =
+    (_, (fault_of_run everything limit (refused (refusal_report last rule)) input h.some).kept)
+kept limit offset input last TooMany h =
+    (_, (limit_of_run everything limit input h.some).kept)
+
+one_place : (limit : ℕ) (input last last' : List ℕ) (n m : ℕ) (e f : ViewFault) →
+    IsViewFaultAt limit input n last e → IsViewFaultAt limit input m last' f →
+    (n ≡ m) × (view_cause last e ≡ view_cause last' f)
+one_place limit input last last' n m e f h j =
+    let (rest, k) = kept limit n input last e h in
+    let (rest', l) = kept limit m input last' f j in
+    let front = kept_same input limit h.some.run.units j.some.run.units rest rest'
+    h.some.run.meanings j.some.run.meanings k l in
+    let one : Err (view_cause last e) ≡ Err (view_cause last' f) =
+    one_has everything limit (Err (view_cause last e)) (Err (view_cause last' f)) input h.some
+    j.some (blames_nobody last e h.not_writer) (blames_nobody last' f j.not_writer) in
+    (h.offset_is ∙ ap length front.0 ∙ sym j.offset_is, cc)
+
+one_fault_on : (limit : ℕ) (left right : List ℕ) (x y : Side) (n m : ℕ) (last last' : List ℕ)
+    (e f : ViewFault) → IsFaultOn x limit left right n last e →
+    IsFaultOn y limit left right m last' f →
+    (x ≡ y) × (n ≡ m) × (view_cause last e ≡ view_cause last' f)
+one_fault_on limit left right Left Left n m last last' e f h j =
+    let t = one_place limit left last last' n m e f h j in
+    (refl, t.0, t.1)
+one_fault_on limit left right Left Right n m last last' e f h j =
+    absurd (no_view_fault limit left last e j.0 (n, h))
+one_fault_on limit left right Right Left n m last last' e f h j =
+    absurd (no_view_fault limit left last' f h.0 (m, j))
+one_fault_on limit left right Right Right n m last last' e f h j =
+    let t = one_place limit right last last' n m e f h.1 j.1 in
+    (refl, t.0, t.1)
+
+pub one_comparison : (limit : ℕ) (r s : Result Bool ComparisonFault) (left right : List ℕ)
+    (p : ComparesMeanings limit r left right) (q : ComparesMeanings limit s left right) →
+    by_place p.last r ≡ by_place q.last s
+one_comparison limit (Ok x) (Ok y) left right p q =
+    ap Ok (one_told limit x y left right p.answers q.answers)
+one_comparison limit (Ok x) (Err f) left right p q =
+    let a = accepts_left limit x left right p.answers in
+    absurd (not_on limit left right f.side f.offset q.last f.fault a.0 a.1 q.stops)
+one_comparison limit (Err f) (Ok y) left right p q =
+    let a = accepts_left limit y left right q.answers in
+    absurd (not_on limit left right f.side f.offset p.last f.fault a.0 a.1 p.stops)
+one_comparison limit (Err f) (Err g) left right p q =
+    let t = one_fault_on limit left right f.side g.side f.offset g.offset p.last q.last f.fault
+    g.fault p.stops q.stops in
+    λ i. Err (t.0 i, t.1 i, t.2 i)

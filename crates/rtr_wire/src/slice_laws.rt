@@ -6,12 +6,14 @@ ghost use Rattle.rtr_units.specs.declared.fault.Fault.{Fault};
 ghost use Rattle.rtr_units.specs.StopCauses.{ReaderState, WriterState};
 ghost use Rattle.rtr_views.specs.declared.fault.ViewFault.{ViewFault};
 ghost use Rattle.rtr_units.specs.StopCauses.{by_cause, no_memory};
-ghost use Rattle.rtr_wire.specs.Comparison.{Compares, ComparesSlices, by_view_cause};
+ghost use Rattle.rtr_wire.specs.Comparison.{Compares, ComparesMeanings, ComparesSlices};
+ghost use Rattle.rtr_wire.specs.Comparison.{by_place, by_view_cause};
 ghost use Rattle.rtr_wire.specs.Promise.{SlicePromises};
 ghost use Rattle.rtr_wire.specs.Run.{BlamesNobody, Normalises};
 ghost use Rattle.rtr_wire.specs.Into.{NormalisesInto};
 ghost use Rattle.rtr_wire.specs.Sequences.{Output, everything};
 ghost use Rattle.rtr_wire.specs.SliceRun.{NormalisesSlice, slice_answer};
+ghost use Rattle.rtr_wire.specs.declared.compare_slices.ComparisonFault.{ComparisonFault};
 ghost use Rattle.rtr_wire.specs.declared.into.IntoFault.{IntoFault};
 ghost use Rattle.rtr_wire.specs.declared.into.Progress.{Progress};
 
@@ -37,6 +39,15 @@ pub fn same_comparison()
         (left right : List ℕ) →
         Compares limit first left right → (q : ComparesSlices limit second left right) →
         by_cause first ≢ Err no_memory → by_cause first ≡ by_view_cause q.last second }
+{}
+
+/// Two calls of `compare_meanings` over the same inputs, with the same limit, answer the same, or
+/// faults of one cause, of the same side and at the same offset.
+pub fn one_comparison()
+    ensures { (limit : ℕ) (first second : Result Bool ComparisonFault) (left right : List ℕ)
+        (p : ComparesMeanings limit first left right)
+        (q : ComparesMeanings limit second left right) →
+        by_place p.last first ≡ by_place q.last second }
 {}
 
 /// What follows from the contract of `normalise_slice`, by the answer.
