@@ -98,17 +98,17 @@ static void print_aspa(const struct rtr_unit *unit, const uint8_t *bytes, bool j
 
 static void print_change(const struct rtr_unit *unit, const uint8_t *bytes, bool json)
 {
-    static const char *const kinds[][2] = {
-        [RTR_IPV4_PREFIX] = {"IPv4 prefix", "ipv4_prefix"},
-        [RTR_IPV6_PREFIX] = {"IPv6 prefix", "ipv6_prefix"},
-        [RTR_ROUTER_KEY] = {"router key", "router_key"},
-        [RTR_ASPA] = {"ASPA", "aspa"},
+    static const char *const kinds[] = {
+        [RTR_IPV4_PREFIX] = "ipv4_prefix",
+        [RTR_IPV6_PREFIX] = "ipv6_prefix",
+        [RTR_ROUTER_KEY] = "router_key",
+        [RTR_ASPA] = "aspa",
     };
-    const char *action = unit->action ? "announce" : "withdraw", *kind = kinds[unit->kind][json];
     if (json)
-        printf("{\"kind\":\"%s\",\"action\":\"%s\",", kind, action);
+        printf("{\"kind\":\"%s\",\"action\":\"%s\",", kinds[unit->kind],
+               unit->action ? "announce" : "withdraw");
     else
-        printf("%c %s ", unit->action ? '+' : '-', kind);
+        printf("%c %s ", unit->action ? '+' : '-', rtr_kind_text(unit->kind));
     if (unit->kind == RTR_ROUTER_KEY)
         print_key(unit, bytes, json);
     else if (unit->kind == RTR_ASPA)

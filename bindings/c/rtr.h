@@ -457,6 +457,26 @@ static inline const char *rtr_status_text(uint8_t status)
                                                                     : "unknown status";
 }
 
+/* A name for a kind, never null; any number may be passed. */
+static inline const char *rtr_kind_text(uint8_t kind)
+{
+    static const char *const texts[] = {
+        "serial notify",
+        "serial query",
+        "reset query",
+        "cache response",
+        "IPv4 prefix",
+        0,
+        "IPv6 prefix",
+        "end of data",
+        "cache reset",
+        "router key",
+        "error report",
+        "ASPA",
+    };
+    return kind < sizeof texts / sizeof texts[0] && texts[kind] ? texts[kind] : "unknown kind";
+}
+
 #ifdef __cplusplus
 }
 #endif

@@ -3,14 +3,10 @@
 #include <stdio.h>
 #include "rtr.h"
 
-static const char *const names[] = {
-    "serial notify", "serial query", "reset query", "cache response", "IPv4 prefix", "",
-    "IPv6 prefix", "end of data", "cache reset", "router key", "error report", "ASPA"};
-
 static void print_unit(const struct rtr_unit *u, const uint8_t *at)
 {
     uint32_t provider;
-    printf("%s, %zu bytes", names[u->kind], u->size);
+    printf("%s, %zu bytes", rtr_kind_text(u->kind), u->size);
     if (u->kind <= RTR_SERIAL_QUERY || u->kind == RTR_END_OF_DATA)
         printf(": session %u, serial %" PRIu32, u->session, u->serial);
     else if (u->kind == RTR_CACHE_RESPONSE)

@@ -331,6 +331,18 @@ static void check_bounds(const struct place *place)
         CHECK(rtr_status_text((uint8_t)status)[0] != '\0');
 }
 
+/* The names of the kinds, by their types (RFC 8210 section 5; ASPA as in rtr.h). */
+static void check_names(void)
+{
+    static const char *const names[] = {
+        "serial notify", "serial query", "reset query", "cache response", "IPv4 prefix",
+        "unknown kind",  "IPv6 prefix",  "end of data", "cache reset",    "router key",
+        "error report",  "ASPA",
+    };
+    for (int kind = 0; kind < 256; kind++)
+        CHECK(strcmp(rtr_kind_text((uint8_t)kind), kind < 12 ? names[kind] : "unknown kind") == 0);
+}
+
 /* The unit that an answer of a session says, with its status in *status. */
 static struct rtr_unit next_answer(const uint8_t **at, uint64_t *status)
 {
@@ -593,6 +605,7 @@ int main(int count, char **words)
     }
     check_serials();
     check_versions();
+    check_names();
     pthread_t threads[THREADS];
     for (int i = 0; i < THREADS; i++)
         CHECK(pthread_create(&threads[i], NULL, check_cases, &cases) == 0);
