@@ -16,13 +16,12 @@ use crate::answer::{ACCEPTED, fault_detail, fault_status};
 use crate::unit::RtrUnit;
 use rtr_session::{ReportView, SessionFault, SessionView};
 use rtr_units::fixed_unit::FixedUnit;
-use rtr_units::numbers::u32_at;
+use rtr_units::numbers::{u32_at, u128_bytes};
 use rtr_wire::payload::Action;
 use rtr_wire::pdu::{
     Aspa, AspaView, CacheResponse, EndOfData, Error, Ipv4Prefix, Ipv6Prefix, OriginView, RouterKey,
     RouterKeyView, SerialNotify, SerialQuery, Unit, UnitView, ViewFault,
 };
-use std::net::IpAddr;
 
 /// The bytes of a report beside its parts: a header and two lengths.
 pub(crate) const REPORT_FIXED: usize = 16;
@@ -186,17 +185,14 @@ fn show_origin(view: &OriginView, size: usize, unit: &mut RtrUnit)
     unit.action = Action::from_flags(view.flags()).into_flags();
     unit.prefix_length = prefix.len();
     unit.max_length = origin.prefix.resolved_max_len();
-    match prefix.addr() {
-        IpAddr::V4(address) => {
-            unit.kind = Ipv4Prefix::PDU;
-            unit.family = 4;
-            unit.address[..4].copy_from_slice(&address.octets());
-        }
-        IpAddr::V6(address) => {
-            unit.kind = Ipv6Prefix::PDU;
-            unit.family = 6;
-            unit.address = address.octets();
-        }
+    if prefix.is_v4() {
+        unit.kind = Ipv4Prefix::PDU;
+        unit.family = 4;
+        unit.address[..4].copy_from_slice(&(prefix.bits() as u32).to_be_bytes());
+    } else {
+        unit.kind = Ipv6Prefix::PDU;
+        unit.family = 6;
+        unit.address = u128_bytes(prefix.bits());
     }
 }
 
