@@ -450,18 +450,6 @@ uint8_t write_by_hand(const struct rtr_unit *unit, const uint8_t *in, size_t len
     return RTR_OK;
 }
 
-/* The status of the rest of a sequence, of which so many units may be taken. */
-static uint8_t rest(const uint8_t *in, size_t left, uint64_t limit)
-{
-    uint8_t detail;
-    for (size_t size; limit > 0; limit--, in += size, left -= size) {
-        uint8_t status = checked(in, left, &size, &detail);
-        if (status != RTR_OK || in[1] == RTR_END_OF_DATA)
-            return status;
-    }
-    return RTR_TOO_MANY;
-}
-
 /* Whether two addresses are alike in their first bits. */
 static inline bool same_address(const uint8_t *left, const uint8_t *right, unsigned size,
                                 unsigned bits)
@@ -495,33 +483,53 @@ static inline bool same_unit(const uint8_t *left, size_t left_size,
         && memcmp(left + 8, right + 8, left_size - 8) == 0;
 }
 
+/* Goes over the rest of a sequence, which begins at this offset and of which so many units may be
+ * taken. Answers its status, and tells of its fault. */
+static uint8_t rest(const uint8_t *in, size_t left, size_t offset, uint64_t limit, uint8_t side,
+                    struct rtr_comparison *answer)
+{
+    uint8_t status = RTR_OK, detail = 0;
+    size_t size = 0;
+    for (; limit > 0; limit--, in += size, left -= size, offset += size) {
+        status = checked(in, left, &size, &detail);
+        if (status != RTR_OK || in[1] == RTR_END_OF_DATA)
+            break;
+    }
+    if (limit == 0)
+        status = RTR_TOO_MANY;
+    if (status != RTR_OK) {
+        answer->offset = offset;
+        answer->wanted = status != RTR_SHORT ? 0 : left < 8 ? 8 : size;
+        answer->status = status;
+        answer->side = side;
+        answer->detail = detail;
+    }
+    return status;
+}
+
 uint8_t same_meaning_by_hand(const uint8_t *left, size_t left_length,
                              const uint8_t *right, size_t right_length,
-                             uint64_t limit, bool *same)
+                             uint64_t limit, struct rtr_comparison *answer)
 {
-    for (uint64_t units = 0; units < limit; units++) {
-        size_t left_size, right_size;
-        uint8_t detail;
-        uint8_t status = checked(left, left_length, &left_size, &detail);
-        if (status != RTR_OK)
-            return status;
-        status = checked(right, right_length, &right_size, &detail);
-        if (status != RTR_OK || !same_unit(left, left_size, right, right_size)) {
-            uint8_t first = rest(left, left_length, limit - units);
-            if (first == RTR_OK && status == RTR_OK)
-                status = rest(right, right_length, limit - units);
-            if (first == RTR_OK && status == RTR_OK)
-                *same = false;
-            return first != RTR_OK ? first : status;
-        }
+    size_t in_left = left_length, in_right = right_length, left_size, right_size;
+    uint8_t detail;
+    memset(answer, 0, sizeof *answer);
+    for (; limit > 0; limit--) {
+        if (checked(left, in_left, &left_size, &detail) != RTR_OK
+            || checked(right, in_right, &right_size, &detail) != RTR_OK
+            || !same_unit(left, left_size, right, right_size))
+            break;
         if (left[1] == RTR_END_OF_DATA) {
-            *same = true;
+            answer->same = true;
             return RTR_OK;
         }
         left += left_size;
-        left_length -= left_size;
+        in_left -= left_size;
         right += right_size;
-        right_length -= right_size;
+        in_right -= right_size;
     }
-    return RTR_TOO_MANY;
+    uint8_t status = rest(left, in_left, left_length - in_left, limit, RTR_LEFT, answer);
+    if (status == RTR_OK)
+        status = rest(right, in_right, right_length - in_right, limit, RTR_RIGHT, answer);
+    return status;
 }

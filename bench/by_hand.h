@@ -57,6 +57,6 @@ uint8_t write_by_hand(const struct rtr_unit *unit, const uint8_t *input, size_t 
                       uint8_t *output, size_t output_length, size_t *written);
 uint8_t same_meaning_by_hand(const uint8_t *left, size_t left_length,
                              const uint8_t *right, size_t right_length,
-                             uint64_t limit, bool *same);
+                             uint64_t limit, struct rtr_comparison *answer);
 
 #endif

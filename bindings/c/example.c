@@ -71,11 +71,11 @@ int main(void)
     }
 
     struct rtr_answer answer;
-    bool same = false;
+    struct rtr_comparison comparison;
     rtr_normalise_slice(input, length, form, room, UINT32_MAX, &answer);
-    rtr_same_meaning(input, length, form, answer.written, UINT32_MAX, &same);
+    rtr_same_meaning(input, length, form, answer.written, UINT32_MAX, &comparison);
     printf("%" PRIu64 " payload units, form of %zu bytes, which means %s\n", answer.units,
-           answer.written, same ? "the same" : "something else");
+           answer.written, comparison.same ? "the same" : "something else");
     free(form);
     free(input);
     return 0;

@@ -39,6 +39,14 @@ AT(rtr_unit, address, 82);
 AT(rtr_unit, key_identifier, 98);
 AT(rtr_unit, detail, 118);
 
+_Static_assert(sizeof(struct rtr_comparison) == 24, "rtr_comparison");
+AT(rtr_comparison, offset, 0);
+AT(rtr_comparison, wanted, 8);
+AT(rtr_comparison, status, 16);
+AT(rtr_comparison, side, 17);
+AT(rtr_comparison, detail, 18);
+AT(rtr_comparison, same, 19);
+
 _Static_assert(sizeof(struct rtr_data_answer) == 24, "rtr_data_answer");
 AT(rtr_data_answer, written, 0);
 AT(rtr_data_answer, offset, 8);

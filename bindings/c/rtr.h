@@ -98,6 +98,12 @@ enum rtr_order {
     RTR_SERIAL_NO_ORDER = 3 /* they are 2^31 apart */
 };
 
+/* The two inputs of a comparison. */
+enum rtr_side {
+    RTR_LEFT = 1,
+    RTR_RIGHT = 2
+};
+
 /* The result of a call that normalises. */
 struct rtr_answer {
     uint64_t units; /* payload units that were taken from the input, without the end of data */
@@ -121,6 +127,18 @@ struct rtr_data_answer {
     uint8_t status; /* an rtr_status, as the call returns it */
     uint8_t side;   /* 1 or 2 where the first or the second input is at fault, else 0 */
     uint8_t detail; /* as in an rtr_answer */
+};
+
+/* The result of a comparison. */
+struct rtr_comparison {
+    size_t offset;  /* where the unit that the call stopped at begins, in the input of `side`; 0
+                       after RTR_OK */
+    size_t wanted;  /* after RTR_SHORT, how many bytes of that input from there on are wanted for
+                       certain, as in an rtr_unit; else 0 */
+    uint8_t status; /* an rtr_status, as the call returns it */
+    uint8_t side;   /* an rtr_side: the input that the call stopped in; 0 after RTR_OK */
+    uint8_t detail; /* as in an rtr_answer */
+    bool same;      /* whether both inputs mean the same; false unless the status is RTR_OK */
 };
 
 /* A unit of any kind. Fields that its kind doesn't have are 0. */
@@ -176,7 +194,7 @@ uint8_t rtr_write_unit_nonnull(const struct rtr_unit *unit,
                                uint8_t *output, size_t output_length, size_t *written);
 uint8_t rtr_same_meaning_nonnull(const uint8_t *left, size_t left_length,
                                  const uint8_t *right, size_t right_length,
-                                 uint64_t limit, bool *same);
+                                 uint64_t limit, struct rtr_comparison *answer);
 
 uint8_t rtr_delta_nonnull(const uint8_t *old_data, size_t old_length,
                           const uint8_t *new_data, size_t new_length,
@@ -334,15 +352,16 @@ static inline uint8_t rtr_write_unit(const struct rtr_unit *unit,
 /* Whether both inputs begin with sequences that mean the same, of fewer than `limit` payload units
  * each.
  *
- * RTR_OK with the answer in `same`. Otherwise `same` is unchanged, and the status is one of
- * RTR_SHORT to RTR_PREFIX (without a detail) or RTR_TOO_MANY: that of the left input, or if the
- * left one is accepted, that of the right one. */
+ * RTR_OK, and `same` says it. Otherwise the status is one of RTR_SHORT to RTR_PREFIX or
+ * RTR_TOO_MANY: that of the left input, or if the left one is accepted, that of the right one.
+ * `side` and `offset` say which input and which unit it is of: the one at which rtr_normalise_slice
+ * stops. */
 static inline uint8_t rtr_same_meaning(const uint8_t *left, size_t left_length,
                                        const uint8_t *right, size_t right_length,
-                                       uint64_t limit, bool *same)
+                                       uint64_t limit, struct rtr_comparison *answer)
 {
     return rtr_same_meaning_nonnull(rtr_readable(left), left_length, rtr_readable(right),
-                                    right_length, limit, same);
+                                    right_length, limit, answer);
 }
 
 /* Data and changes in canonical form.

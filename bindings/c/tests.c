@@ -170,16 +170,68 @@ static void check_units(const struct place *place, const struct test_case *one,
     }
 }
 
-/* A sequence means the same as its form. */
+/* The input of the case is compared as the left input or the right one, with a sequence that is
+ * accepted: its fault is told, or whether they mean the same. */
+static void check_comparison(const struct place *place, const struct test_case *one,
+                             const uint8_t *input, enum rtr_side side, const uint8_t *sequence,
+                             size_t length, bool same)
+{
+    struct rtr_comparison *answer = FILLED(place->told, struct rtr_comparison), expected;
+    memset(&expected, 0, sizeof expected);
+    if (one->status == RTR_OK) {
+        expected.same = same;
+    } else {
+        expected.offset = one->taken;
+        expected.wanted = one->wanted;
+        expected.status = one->status;
+        expected.side = (uint8_t)side;
+        expected.detail = one->detail;
+    }
+    const uint8_t *other = copied(place, place->other, sequence, length);
+    uint8_t status = side == RTR_LEFT
+        ? rtr_same_meaning(input, one->input_length, other, length, UINT32_MAX, answer)
+        : rtr_same_meaning(other, length, input, one->input_length, UINT32_MAX, answer);
+    CHECK(status == one->status);
+    CHECK(memcmp(answer, &expected, offsetof(struct rtr_comparison, same) + 1) == 0);
+}
+
+/* A sequence means the same as its form, and the same as an end of data if it is that. A fault is
+ * told on either side, and of two the left one's. */
 static void check_same(const struct place *place, const struct test_case *one,
                        const uint8_t *input)
 {
-    bool *same = lie(place, place->told, sizeof *same);
-    const uint8_t *form = copied(place, place->other, one->form, one->form_length);
-    *same = one->status != RTR_OK;
-    CHECK(rtr_same_meaning(input, one->input_length, form, one->form_length, UINT32_MAX, same)
-          == one->status);
-    CHECK(*same);
+    static const uint8_t end[] = {0, 7, 0, 1, 0, 0, 0, 12, 0, 0, 0, 2};
+    bool ends = one->form_length == sizeof end && memcmp(one->form, end, sizeof end) == 0;
+    check_comparison(place, one, input, RTR_LEFT, one->form, one->form_length, true);
+    check_comparison(place, one, input, RTR_LEFT, end, sizeof end, ends);
+    check_comparison(place, one, input, RTR_RIGHT, end, sizeof end, ends);
+    if (one->status == RTR_OK)
+        check_comparison(place, one, input, RTR_RIGHT, one->form, one->form_length, true);
+}
+
+/* The limit is that of both sequences, and a comparison that it ends stops at the unit after as
+ * many. */
+static void check_same_limit(const struct place *place)
+{
+    static const uint8_t units[] = {
+        1, 4, 0, 0, 0, 0, 0, 20, 1, 8, 8, 0, 10, 0, 0, 0, 0, 1, 0, 15,
+        1, 4, 0, 0, 0, 0, 0, 20, 1, 8, 8, 0, 11, 0, 0, 0, 0, 1, 0, 15,
+        1, 7, 0, 7, 0, 0, 0, 24, 0, 0, 0, 2, 0, 0, 14, 16, 0, 0, 2, 88, 0, 0, 28, 32};
+    const size_t size = 20, two = sizeof units, one = two - size;
+    struct rtr_comparison *answer = FILLED(place->told, struct rtr_comparison);
+    const uint8_t *longer = copied(place, place->input, units, two);
+    const uint8_t *shorter = copied(place, place->other, units + size, one);
+    for (uint64_t limit = 0; limit < 4; limit++) {
+        uint8_t status = rtr_same_meaning(longer, two, shorter, one, limit, answer);
+        CHECK(status == (limit < 3 ? RTR_TOO_MANY : RTR_OK) && answer->status == status);
+        CHECK(answer->offset == (limit < 3 ? size * limit : 0) && !answer->same);
+        CHECK(answer->side == (limit < 3 ? RTR_LEFT : 0));
+        status = rtr_same_meaning(shorter, one, longer, two, limit, answer);
+        CHECK(status == (limit < 3 ? RTR_TOO_MANY : RTR_OK) && answer->status == status);
+        CHECK(answer->offset == (limit < 3 ? size * limit : 0) && !answer->same);
+        CHECK(answer->side == (limit < 2 ? RTR_LEFT : limit < 3 ? RTR_RIGHT : 0));
+        CHECK(answer->wanted == 0 && answer->detail == 0);
+    }
 }
 
 static void check_case(const struct place *place, const struct test_case *one)
@@ -324,9 +376,9 @@ static void check_bounds(const struct place *place)
               == RTR_UNIT_VERSION);
         CHECK(answer->detail == version && answer->units == 0 && answer->written == 0);
     }
-    bool *same = lie(place, place->told, sizeof *same);
-    *same = false;
-    CHECK(rtr_same_meaning(none, 0, none, 0, 1, same) == RTR_SHORT && !*same);
+    struct rtr_comparison *both = FILLED(place->told, struct rtr_comparison);
+    CHECK(rtr_same_meaning(none, 0, none, 0, 1, both) == RTR_SHORT && both->side == RTR_LEFT);
+    CHECK(rtr_same_meaning(none, 0, none, 0, 0, both) == RTR_TOO_MANY && both->wanted == 0);
     for (int status = 0; status < 256; status++)
         CHECK(rtr_status_text((uint8_t)status)[0] != '\0');
 }
@@ -456,8 +508,9 @@ static void check_null(const struct place *place)
     size_t *size = FILLED(place->told, size_t);
     uint8_t detail = 1;
     CHECK(rtr_unit_size(NULL, 0, size, &detail) == RTR_SHORT && *size == 8 && detail == 0);
-    bool *same = memset(lie(place, place->told, sizeof *same), 0, sizeof *same);
-    CHECK(rtr_same_meaning(NULL, 0, NULL, 0, 1, same) == RTR_SHORT && !*same);
+    struct rtr_comparison *both = FILLED(place->told, struct rtr_comparison);
+    CHECK(rtr_same_meaning(NULL, 0, NULL, 0, 1, both) == RTR_SHORT && !both->same);
+    CHECK(both->side == RTR_LEFT && both->offset == 0 && both->wanted == 8);
     uint16_t *code = FILLED(place->told, uint16_t);
     CHECK(rtr_error_code(RTR_SHORT, NULL, 0, code) && *code == 0);
     uint32_t *provider = FILLED(place->told, uint32_t);
@@ -597,6 +650,7 @@ int main(int count, char **words)
         check_older_aspa(&place);
         check_refused(&place);
         check_bounds(&place);
+        check_same_limit(&place);
         check_null(&place);
         check_codes(&place);
         check_providers(&place);

@@ -252,9 +252,9 @@ func TestMeanings(t *testing.T) {
 			continue
 		}
 		same, err := SameMeaning(one.input, one.form, 1<<32)
-		one.checkSame(t, same, one.status == 0, err)
+		one.checkSame(t, same, one.status == 0, Left, err)
 		same, err = SameMeaning(end, one.input, 1<<32)
-		one.checkSame(t, same, one.status == 0 && bytes.Equal(end, one.form), err)
+		one.checkSame(t, same, one.status == 0 && bytes.Equal(end, one.form), Right, err)
 	}
 }
 
@@ -274,21 +274,28 @@ func TestSameMeaningLimit(t *testing.T) {
 			if same != (limit == 3 && bytes.Equal(pair[0], pair[1])) || refused != (limit < units) {
 				t.Fatalf("%d: %v %v", limit, same, err)
 			}
-			if refused && (fault.Status != TooMany || fault.Offset != int64(limit)*int64(len(ipv4))) {
+			side := Left
+			if limit == 2 && len(pair[0]) == len(short) {
+				side = Right
+			}
+			if refused && (fault.Status != TooMany || fault.Side != side || len(fault.Unit) > 0 ||
+				fault.Offset != int64(limit)*int64(len(ipv4))) {
 				t.Fatalf("%d: %v", limit, err)
 			}
 		}
 	}
 }
 
-// checkSame checks what SameMeaning answered of the case and a sequence that is accepted.
-func (one *testCase) checkSame(t *testing.T, same, expected bool, err error) {
+// checkSame checks what SameMeaning answered of the case, which is the input of this side, and a
+// sequence that is accepted.
+func (one *testCase) checkSame(t *testing.T, same, expected bool, side Side, err error) {
 	status, detail := numbers(err)
 	if same != expected || status != one.status || detail != one.detail {
 		t.Fatalf("%x: %v %v", one.input, same, err)
 	}
 	var fault *Fault
-	if errors.As(err, &fault) && fault.Offset != int64(one.numbers[2]) {
+	if errors.As(err, &fault) && (fault.Offset != int64(one.numbers[2]) || fault.Side != side ||
+		!bytes.HasPrefix(one.input[fault.Offset:], fault.Unit)) {
 		t.Fatalf("%x: %v", one.input, err)
 	}
 	if errors.Is(err, io.ErrUnexpectedEOF) != (one.status == uint8(Short)) {

@@ -73,11 +73,33 @@ var ruleTexts = [...]string{
 	3: "max-length smaller than prefix length",
 }
 
+// Side is one of the two inputs of SameMeaning.
+type Side uint8
+
+// The inputs, with the numbers of rtr.h.
+const (
+	Left Side = 1 + iota
+	Right
+)
+
+// String names the input.
+func (s Side) String() string {
+	switch s {
+	case Left:
+		return "left"
+	case Right:
+		return "right"
+	}
+	return "neither"
+}
+
 // Fault is what is wrong with a unit, or with a call. errors.Is finds its Status in it, and
 // io.ErrUnexpectedEOF if that is Short.
 type Fault struct {
 	Status Status
 	Detail uint8 // a type, a version or a rule on prefix lengths, as the Status says, else 0
+	// Which input of SameMeaning has the unit that is refused; else 0.
+	Side Side
 	// Where the unit begins that is refused: in bytes from the first one that the Reader read, or
 	// from the front of the input. -1 where no unit was read.
 	Offset int64
@@ -90,8 +112,11 @@ type Fault struct {
 // Error is a text that names the detail and the offset.
 func (f *Fault) Error() string {
 	text := f.text()
-	if f.Offset < 0 {
+	switch {
+	case f.Offset < 0:
 		return "rtr: " + text
+	case f.Side != 0:
+		return fmt.Sprintf("rtr: %s, at byte %d of the %v input", text, f.Offset, f.Side)
 	}
 	return fmt.Sprintf("rtr: %s, at byte %d", text, f.Offset)
 }

@@ -79,11 +79,6 @@ struct owed {
 	uint16_t code;
 };
 
-struct same {
-	bool same;
-	uint8_t status;
-};
-
 static struct shown next(const uint8_t *input, size_t length)
 {
 	struct shown shown;
@@ -130,12 +125,13 @@ static struct rtr_answer normalise_for(const uint8_t *input, size_t length,
 	return answer;
 }
 
-static struct same same_meaning(const uint8_t *left, size_t left_length,
-                                const uint8_t *right, size_t right_length, uint64_t limit)
+static struct rtr_comparison same_meaning(const uint8_t *left, size_t left_length,
+                                          const uint8_t *right, size_t right_length,
+                                          uint64_t limit)
 {
-	struct same same = {false, 0};
-	same.status = rtr_same_meaning(left, left_length, right, right_length, limit, &same.same);
-	return same;
+	struct rtr_comparison answer;
+	rtr_same_meaning(left, left_length, right, right_length, limit, &answer);
+	return answer;
 }
 */
 import "C"
@@ -277,10 +273,19 @@ func ended(a C.struct_rtr_answer) (Progress, Status, uint8) {
 	return progress, Status(a.status), uint8(a.detail)
 }
 
-// sameMeaning is SameMeaning in numbers.
-func sameMeaning(left, right []byte, limit uint64) (bool, Status) {
+// comparison is what is told of two inputs: whether they mean the same, or the fault of one.
+type comparison struct {
+	same   bool
+	side   Side
+	status Status
+	detail uint8
+	offset int
+}
+
+// compare is SameMeaning in numbers.
+func compare(left, right []byte, limit uint64) comparison {
 	l, n := place(left)
 	r, m := place(right)
-	same := C.same_meaning(l, n, r, m, C.uint64_t(limit))
-	return bool(same.same), Status(same.status)
+	a := C.same_meaning(l, n, r, m, C.uint64_t(limit))
+	return comparison{bool(a.same), Side(a.side), Status(a.status), uint8(a.detail), int(a.offset)}
 }

@@ -51,40 +51,18 @@ func stopped(input []byte, progress Progress, status Status, detail uint8) error
 // SameMeaning says whether both inputs begin with sequences that mean the same, of fewer than limit
 // payload units each.
 //
-// The error is a Fault with one of Short to TooMany: that of left, or if left is accepted, that of
-// right.
+// The error is a Fault with one of Short to TooMany, its Side and its Offset there: that of left,
+// or if left is accepted, that of right.
 func SameMeaning(left, right []byte, limit uint64) (bool, error) {
-	same, status := sameMeaning(left, right, limit)
-	if status == OK {
-		return same, nil
+	told := compare(left, right, limit)
+	if told.status == OK {
+		return told.same, nil
 	}
-	// The call reports the status alone: the fault itself is found once more.
-	for _, input := range [][]byte{left, right} {
-		if fault := firstFault(input, limit); fault != nil {
-			return false, fault
-		}
+	input := left
+	if told.side == Right {
+		input = right
 	}
-	return false, &Fault{Status: status, Offset: -1}
-}
-
-// firstFault is the fault at which a sequence stops, or nil.
-func firstFault(input []byte, limit uint64) error {
-	var unit Unit
-	for at := 0; ; limit-- {
-		rest := input[at:]
-		if limit == 0 {
-			return refusal(TooMany, 0, rest, int64(at))
-		}
-		if len(rest) >= header && !Kind(rest[1]).inSequence() {
-			return refusal(UnitType, rest[1], rest, int64(at))
-		}
-		size, status, detail := unit.parse(rest)
-		if status != OK {
-			return refusal(status, detail, rest, int64(at))
-		}
-		if unit.Kind == EndOfData {
-			return nil
-		}
-		at += size
-	}
+	fault := refusal(told.status, told.detail, input[told.offset:], int64(told.offset))
+	fault.Side = told.side
+	return false, fault
 }

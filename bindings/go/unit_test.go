@@ -596,6 +596,10 @@ func TestTexts(t *testing.T) {
 				strings.ContainsAny(text, "\n%") {
 				t.Fatal(text)
 			}
+			fault := Fault{Status: status, Detail: uint8(detail), Offset: 7, Side: Right}
+			if fault.Error() != text+" of the right input" {
+				t.Fatal(&fault)
+			}
 		}
 	}
 }

@@ -8,9 +8,9 @@ use core::fmt;
 /// One of the two inputs of a call.
 #[derive(Clone, Copy, Debug, PartialEq, Eq, Hash)]
 pub enum Side {
-    /// The data, or the old data; or the only input.
+    /// The data, or the old data; the left input; or the only one.
     First,
-    /// The changes, or the new data.
+    /// The changes, or the new data; or the right input.
     Second,
 }
 

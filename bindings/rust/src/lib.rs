@@ -97,7 +97,7 @@ pub use lines::{change_json, change_line};
 pub use owned_data::{order, Changes, Data};
 #[cfg(feature = "std")]
 pub use reader::{Error, Reader, Refusal, Sequence};
-pub use sequence::{normalise, normalise_for, same_meaning, Progress, Stopped};
+pub use sequence::{normalise, normalise_for, same_meaning, NotCompared, Progress, Stopped};
 #[cfg(feature = "std")]
 pub use server::{Server, ServerOptions};
 #[cfg(feature = "std")]

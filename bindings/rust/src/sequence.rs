@@ -1,8 +1,8 @@
 //! Whole sequences in memory.
 
+use crate::data::{Place, Side};
 use crate::fault::Fault;
 use crate::sys;
-use crate::units::Units;
 use core::fmt;
 
 /// How far a call that normalises got: whole units, and the end of data if it was accepted.
@@ -82,20 +82,36 @@ pub fn normalise_for(
     sys::normalise_for(input, output, limit, version)
 }
 
+/// A comparison stopped before an end of data: where, and why.
+#[derive(Clone, Copy, Debug, PartialEq, Eq, Hash)]
+#[non_exhaustive]
+pub struct NotCompared {
+    /// Why it stopped, at the unit that begins there.
+    pub fault: Fault,
+    /// The input that has this unit, and how many bytes come before it.
+    pub place: Place,
+}
+
+impl fmt::Display for NotCompared {
+    fn fmt(&self, f: &mut fmt::Formatter<'_>) -> fmt::Result {
+        let side = match self.place.side {
+            Side::First => "left",
+            Side::Second => "right",
+        };
+        let offset = self.place.offset;
+        write!(f, "{}, at byte {offset} of the {side} input", self.fault)
+    }
+}
+
+impl core::error::Error for NotCompared {}
+
 /// Whether both inputs begin with sequences that mean the same, of fewer than `limit` payload
 /// units each. It allocates nothing.
 ///
 /// # Errors
 ///
 /// One of `Short` to `TooMany`: that of the left input, or if the left one is accepted, that of the
-/// right one.
-pub fn same_meaning(left: &[u8], right: &[u8], limit: u64) -> Result<bool, Fault> {
-    // The call reports the status alone. So look for the first fault, which has the type, the
-    // version or the broken rule.
-    let first_fault = |input| Units::sequence(input, limit).find_map(Result::err);
-    sys::same_meaning(left, right, limit).map_err(|fault| {
-        first_fault(left)
-            .or_else(|| first_fault(right))
-            .unwrap_or(fault)
-    })
+/// right one, at the unit at which [`normalise`] stops.
+pub fn same_meaning(left: &[u8], right: &[u8], limit: u64) -> Result<bool, NotCompared> {
+    sys::same_meaning(left, right, limit)
 }

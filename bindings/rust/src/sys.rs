@@ -3,7 +3,7 @@
 use crate::data::{DataError, Place, Side};
 use crate::fault::{ErrorCode, Fault};
 use crate::kind::Kind;
-use crate::sequence::{Progress, Stopped};
+use crate::sequence::{NotCompared, Progress, Stopped};
 use crate::unit::{self, ErrorReport, Providers, ReportParts, Timing, UnitRef};
 use core::net::{Ipv4Addr, Ipv6Addr};
 
@@ -18,6 +18,18 @@ pub(crate) struct Answer {
     pub(crate) wanted: usize,
     pub(crate) status: u8,
     pub(crate) detail: u8,
+}
+
+/// The result of a comparison.
+#[repr(C)]
+#[derive(Default)]
+pub(crate) struct Comparison {
+    pub(crate) offset: usize,
+    pub(crate) wanted: usize,
+    pub(crate) status: u8,
+    pub(crate) side: u8,
+    pub(crate) detail: u8,
+    pub(crate) same: bool,
 }
 
 /// The result of a call on data and changes.
@@ -100,7 +112,7 @@ extern "C" {
         right: *const u8,
         right_length: usize,
         limit: u64,
-        same: *mut bool,
+        answer: *mut Comparison,
     ) -> u8;
     fn rtr_delta_nonnull(
         old_data: *const u8,
@@ -239,23 +251,31 @@ pub(crate) fn write(unit: &Unit, part: &[u8], output: &mut [u8]) -> Result<usize
     }
 }
 
-/// The fault comes without the type, the version or the broken rule.
-pub(crate) fn same_meaning(left: &[u8], right: &[u8], limit: u64) -> Result<bool, Fault> {
-    let mut same = false;
-    // SAFETY: both slices are live and of these lengths, and `same` overlaps nothing.
-    let status = unsafe {
+pub(crate) fn same_meaning(left: &[u8], right: &[u8], limit: u64) -> Result<bool, NotCompared> {
+    let mut answer = Comparison::default();
+    // SAFETY: both slices are live and of these lengths, and the answer overlaps nothing.
+    unsafe {
         rtr_same_meaning_nonnull(
             left.as_ptr(),
             left.len(),
             right.as_ptr(),
             right.len(),
             limit,
-            &mut same,
+            &mut answer,
         )
     };
-    match status {
-        0 => Ok(same),
-        status => Err(Fault::of(status, 0)),
+    match answer.status {
+        0 => Ok(answer.same),
+        status => Err(NotCompared {
+            fault: Fault::of(status, answer.detail),
+            place: Place {
+                side: match answer.side {
+                    1 => Side::First,
+                    _ => Side::Second,
+                },
+                offset: answer.offset,
+            },
+        }),
     }
 }
 
@@ -511,7 +531,7 @@ impl Unit {
 
 #[cfg(test)]
 mod tests {
-    use super::{write, Answer, DataAnswer, Fault, Unit};
+    use super::{write, Answer, Comparison, DataAnswer, Fault, Unit};
     use core::mem::{offset_of, size_of};
     use std::string::ToString;
 
@@ -569,6 +589,16 @@ mod tests {
             offset_of!(Answer, detail),
         ];
         assert_eq!(answer, [0, 8, 16, 24, 32, 40, 41]);
+        assert_eq!(size_of::<Comparison>(), 24);
+        let comparison = [
+            offset_of!(Comparison, offset),
+            offset_of!(Comparison, wanted),
+            offset_of!(Comparison, status),
+            offset_of!(Comparison, side),
+            offset_of!(Comparison, detail),
+            offset_of!(Comparison, same),
+        ];
+        assert_eq!(comparison, [0, 8, 16, 17, 18, 19]);
         assert_eq!(size_of::<DataAnswer>(), 24);
         let data_answer = [
             offset_of!(DataAnswer, written),

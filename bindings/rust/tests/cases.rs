@@ -2,7 +2,7 @@
 //! made by python3. Where there is no python3, nothing is tested here.
 
 use rtr_wire::{
-    normalise, normalise_for, same_meaning, Fault, PrefixRule, Progress, Stopped, Units,
+    normalise, normalise_for, same_meaning, Fault, PrefixRule, Progress, Side, Stopped, Units,
 };
 use std::process::Command;
 
@@ -219,8 +219,19 @@ fn meanings() {
             assert_eq!(left, Ok(true));
             assert_eq!(right, Ok(case.form == end));
         } else {
-            assert_eq!(left.map_err(numbers), Err((case.status, case.detail)));
-            assert_eq!(right.map_err(numbers), Err((case.status, case.detail)));
+            for (answer, side, text) in
+                [(left, Side::First, "left"), (right, Side::Second, "right")]
+            {
+                let error = answer.expect_err("the case has a fault");
+                assert_eq!(numbers(error.fault), (case.status, case.detail));
+                assert_eq!(error.place.side, side);
+                assert_eq!(error.place.offset, case.taken);
+                let text = format!(
+                    "{}, at byte {} of the {text} input",
+                    error.fault, case.taken
+                );
+                assert_eq!(error.to_string(), text);
+            }
         }
     }
 }

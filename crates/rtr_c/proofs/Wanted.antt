@@ -1,6 +1,6 @@
 -- How many bytes are wanted where an input is too short.
-use Rattle.std.proofs.Common.{◌≡◌, ℕ, ◌<◌, ◌≤◌, Bool, true, false, cond, ltb, List, ◌++◌}
-use Rattle.std.proofs.Common.{length, drop, Option, Some, None, Result, Ok, Err}
+use Rattle.std.proofs.Common.{◌≡◌, ◌⊎◌, inl, inr, ℕ, ◌<◌, ◌≤◌, Bool, true, false, cond, ltb, List}
+use Rattle.std.proofs.Common.{◌++◌, length, drop, Option, Some, None, Result, Ok, Err}
 use Rattle.std.proofs.Common.{refl, sym, ap, subst, ◌∙◌, arith, append-nil}
 use Rattle.std.proofs.lemmas.Bool.Decides.{nat_tests}
 use Rattle.std.proofs.lemmas.List.{drop_at}
@@ -18,13 +18,20 @@ use Rattle.rtr_session.specs.AnyFields.{AnyFields}
 use Rattle.rtr_session.specs.SessionKinds.{any_header_fault}
 use Rattle.rtr_session.specs.SessionViews.{session_fault}
 use Rattle.rtr_session.proofs.Lengths.{bounded}
+use Rattle.rtr_wire.specs.Comparison.{IsViewFaultAt, IsFaultOn, ComparesMeanings}
 use Rattle.rtr_wire.specs.Into.{NormalisesInto}
 use Rattle.rtr_wire.specs.Sequences.{Output}
+use Rattle.rtr_wire.specs.declared.compare_slices.ComparisonFault.{ComparisonFault}
+use Rattle.rtr_wire.specs.declared.compare_slices.Side.{Side}
+use Rattle.rtr_wire.specs.declared.compare_slices.Side.TheVariants.{Left, Right}
 use Rattle.rtr_wire.specs.declared.into.IntoFault.{IntoFault}
 use Rattle.rtr_wire.specs.declared.into.IntoFault.TheVariants.{NoRoom, TooMany, Refused}
 use Rattle.rtr_wire.specs.declared.into.Progress.{Progress}
-use Rattle.rtr_c.specs.Answers.{IsWanted, wanted, Tells, CallNormalises}
+use Rattle.rtr_c.specs.Answers.{IsWanted, wanted, fault_status, Tells, CallNormalises}
+use Rattle.rtr_c.specs.Compared.{WantsMore, fault_wanted, refusal_told, comparison_told}
+use Rattle.rtr_c.specs.Compared.{TellsComparison}
 use Rattle.rtr_c.specs.declared.answer.RtrAnswer.{RtrAnswer}
+use Rattle.rtr_c.specs.declared.compare.RtrComparison.{RtrComparison}
 use Rattle.rtr_c.specs.Shown.{ShowsFirst}
 use Rattle.rtr_c.specs.declared.unit.RtrUnit.{RtrUnit}
 
@@ -177,3 +184,41 @@ pub call_wants : (what : Output) (limit : ℕ) (input before after : List ℕ) (
     IsWanted (drop a.taken input) a.wanted
 call_wants what limit input before after a code (p, r, f, t) one =
     run_wants what limit input before after p a code r f t one
+
+module _ (limit : ℕ) (input : List ℕ) (o : ℕ) (last : List ℕ) where
+  fault_wants : (e : ViewFault) → IsViewFaultAt limit input o last e → fault_status e ≡ 1 →
+      IsWanted (drop o input) (fault_wanted e (drop o input))
+  fault_wants faults.Short is one =
+      let run = is.some.run in
+      let (partial, none, wrote) = run.ends in
+      let parts : input ≡ run.units ++ run.last =
+      is.some.parts ∙ (λ i. run.taken_parts i ++ none i) ∙ append-nil (run.units ++ run.last) in
+      let left : drop o input ≡ run.last =
+      ap (drop o) parts ∙ drop_at run.units run.last o (sym is.offset_is) in
+      subst (λ l. IsWanted l (wanted l)) (sym left) (sequence_wants run.last partial)
+  fault_wants (faults.Writer e) is one = absurd (omega (arith, one))
+  fault_wants (faults.UnitType v) is one = absurd (omega (arith, one))
+  fault_wants faults.UnitLength is one = absurd (omega (arith, one))
+  fault_wants faults.TooLong is one = absurd (omega (arith, one))
+  fault_wants faults.EmptyProviders is one = absurd (omega (arith, one))
+  fault_wants (faults.UnitVersion v) is one = absurd (omega (arith, one))
+  fault_wants (faults.Prefix rule) is one = absurd (omega (arith, one))
+  fault_wants faults.TooMany is one = absurd (omega (arith, one))
+
+module _ (limit : ℕ) (left right : List ℕ) where
+  side_wants : (side : Side) (o : ℕ) (last : List ℕ) (e : ViewFault) →
+      IsFaultOn side limit left right o last e → (refusal_told side o e left right).status ≡ 1 →
+      WantsMore left right (refusal_told side o e left right)
+  side_wants Left o last e is one = inl (refl, fault_wants limit left o last e is one)
+  side_wants Right o last e (accepted, is) one =
+      inr (refl, fault_wants limit right o last e is one)
+
+pub comparison_wants : (limit : ℕ) (r : Result Bool ComparisonFault) (left right : List ℕ)
+    (c : RtrComparison) (code : ℕ) → ComparesMeanings limit r left right →
+    TellsComparison (comparison_told r left right) c code → code ≡ 1 → WantsMore left right c
+comparison_wants limit (Ok same) left right c code compares tells one =
+    absurd (omega (arith, tells.1, one))
+comparison_wants limit (Err f) left right c code compares tells one =
+    subst (WantsMore left right) (sym tells.0)
+    (side_wants limit left right f.side f.offset compares.last f.fault compares.stops
+    (sym tells.1 ∙ one))

@@ -1,29 +1,88 @@
 //! Whether two sequences mean the same.
 
-ghost use Rattle.std.specs.Prelude.{◌≡◌, Bool, Result};
-ghost use Rattle.rtr_views.specs.declared.fault.ViewFault.{ViewFault};
-ghost use Rattle.rtr_wire.specs.Comparison.{ComparesSlices};
-ghost use Rattle.rtr_c.specs.Compared.{TellsSame};
+ghost use Rattle.std.specs.Prelude.{◌≡◌, ◌≤◌, Bool, Result, length};
+ghost use Rattle.rtr_wire.specs.Comparison.{ComparesMeanings};
+ghost use Rattle.rtr_wire.specs.declared.compare_slices.ComparisonFault.{ComparisonFault};
+ghost use Rattle.rtr_c.specs.Compared.{TellsComparison, comparison_told, same_told, unit_refused};
 
-use crate::answer::{ACCEPTED, fault_status};
+use crate::answer::{ACCEPTED, fault_detail, fault_status};
+use crate::data_answer::{FIRST, NEITHER, SECOND};
+use crate::next::wanted;
+use rtr_wire::pdu::ViewFault;
+use rtr_wire::{ComparisonFault, Side, compare_meanings};
 
-/// As `rtr_wire::same_meaning_slice`. If both inputs are accepted, `same` says whether they mean
-/// the same.
+/// How a comparison ended.
+#[repr(C)]
+#[derive(Drop)]
+pub struct RtrComparison {
+    /// Where the unit begins that the comparison stopped at, in its input. If both inputs are
+    /// accepted it is 0.
+    pub offset: usize,
+    /// With `SHORT`, how many bytes from there on are wanted for certain, as in an `RtrAnswer`.
+    /// Otherwise 0.
+    pub wanted: usize,
+    /// How the call ended.
+    pub status: u8,
+    /// 1 if the left input is at fault, 2 if the right one is, and else 0.
+    pub side: u8,
+    /// As in an `RtrAnswer`.
+    pub detail: u8,
+    /// Whether both inputs mean the same. If one is at fault it is false.
+    pub same: bool,
+}
+
+// The fields stand one after the other, and four bytes are left at the end.
+const _: () = prove!(size_of::<RtrComparison>() == 24);
+
+/// As `rtr_wire::compare_meanings`.
 #[unsafe(no_mangle)]
 pub extern "C" fn rtr_same_meaning_nonnull(
     left: &[u8],
     right: &[u8],
     limit: u64,
-    same: &mut bool,
+    answer: &mut RtrComparison,
 ) -> u8
-    ensures { (r : Result Bool ViewFault) × ComparesSlices limit r left.now right.now
-        × TellsSame r same.old same.new result }
+    ensures { (r : Result Bool ComparisonFault) × ComparesMeanings limit r left.now right.now
+        × TellsComparison (comparison_told r left.now right.now) answer.new result }
 {
-    match rtr_wire::same_meaning_slice(left, right, limit) {
-        Ok(answer) => {
-            *same = answer;
-            ACCEPTED
-        }
-        Err(fault) => fault_status(&fault),
+    *answer = match compare_meanings(left, right, limit) {
+        Ok(same) => accepted(same),
+        Err(refusal) => match refusal.side {
+            Side::Left => refused(FIRST, refusal.offset, &refusal.fault, left),
+            Side::Right => refused(SECOND, refusal.offset, &refusal.fault, right),
+        },
+    };
+    answer.status
+}
+
+/// The answer where both inputs are accepted.
+fn accepted(same: bool) -> RtrComparison
+    ensures { result ≡ same_told same }
+{
+    RtrComparison {
+        offset: 0,
+        wanted: 0,
+        status: ACCEPTED,
+        side: NEITHER,
+        detail: 0,
+        same,
+    }
+}
+
+/// The answer where this input is refused, for the unit at this offset.
+fn refused(side: u8, offset: usize, fault: &ViewFault, input: &[u8]) -> RtrComparison
+    requires { offset ≤ length input.now }
+    ensures { result ≡ unit_refused side offset fault.now input.now }
+{
+    RtrComparison {
+        offset,
+        wanted: match fault {
+            ViewFault::Short => wanted(&input[offset..]),
+            _ => 0,
+        },
+        status: fault_status(fault),
+        side,
+        detail: fault_detail(fault),
+        same: false,
     }
 }

@@ -12,7 +12,7 @@ pub(crate) const FIRST: u8 = 1;
 /// The second of two inputs.
 pub(crate) const SECOND: u8 = 2;
 /// No input alone.
-const NEITHER: u8 = 0;
+pub(crate) const NEITHER: u8 = 0;
 
 /// How a call on data and changes ended.
 #[repr(C)]

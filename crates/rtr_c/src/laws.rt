@@ -11,17 +11,20 @@ ghost use Rattle.rtr_data.specs.ChangeCodes.{change_code};
 ghost use Rattle.rtr_data.specs.declared.change_error.ChangeError.TheVariants as refusals;
 ghost use Rattle.rtr_session.specs.AnyFields.{AnyFields, HasAnyFields};
 ghost use Rattle.rtr_session.specs.SessionForms.{session_form};
-ghost use Rattle.rtr_wire.specs.Comparison.{ComparesSlices};
+ghost use Rattle.rtr_wire.specs.Comparison.{ComparesMeanings};
 ghost use Rattle.rtr_wire.specs.Sequences.{Output, everything};
+ghost use Rattle.rtr_wire.specs.declared.compare_slices.ComparisonFault.{ComparisonFault};
 ghost use Rattle.rtr_c.specs.Answers.{CallNormalises, IsWanted, fault_status, joined_answer};
 ghost use Rattle.rtr_c.specs.Answers.{rtr_duplicate, rtr_no_room, rtr_ok, rtr_short, rtr_unknown};
-ghost use Rattle.rtr_c.specs.Compared.{TellsSame};
+ghost use Rattle.rtr_c.specs.Compared.{TellsComparison, comparison_told, rtr_left, rtr_right};
+ghost use Rattle.rtr_c.specs.Compared.{WantsMore, stop_compared};
 ghost use Rattle.rtr_c.specs.Kept.{IsShownAgain};
 ghost use Rattle.rtr_c.specs.Numbers.{code_owed, status_code};
 ghost use Rattle.rtr_c.specs.PrivateRanges.{IsRanged};
 ghost use Rattle.rtr_c.specs.Said.{said};
 ghost use Rattle.rtr_c.specs.Shown.{CallShows, IsWrittenAgain, ShowsFirst};
 ghost use Rattle.rtr_c.specs.declared.answer.RtrAnswer.{RtrAnswer};
+ghost use Rattle.rtr_c.specs.declared.compare.RtrComparison.{RtrComparison};
 ghost use Rattle.rtr_c.specs.declared.unit.RtrUnit.{RtrUnit};
 
 use crate::unit::RtrUnit;
@@ -93,20 +96,24 @@ fn are_bytes(bytes: &[u8])
     ensures { IsBytes bytes.now }
 {}
 
-/// The status of `rtr_same_meaning` is that of `rtr_normalise_slice` over the left input if that is
-/// refused, and else over the right one, with the same limit and enough room. So that call tells of
-/// a fault on which side it is, its detail and its offset.
+/// `rtr_same_meaning` tells of the left input what `rtr_normalise_slice` tells of it, if that is
+/// refused, and else of the right one, with the same limit and enough room: the status, the detail,
+/// the offset, and how many bytes are wanted.
 pub fn faults_of_two()
-    ensures left { (limit : ℕ) (r : Result Bool ViewFault) (left right before after : List ℕ)
-        (x y : Bool) (a : RtrAnswer) (status code : ℕ) → ComparesSlices limit r left right →
-        TellsSame r x y status → CallNormalises everything limit left before after a code →
-        code ≢ rtr_ok → code ≢ rtr_no_room → status ≡ code }
-    ensures right { (limit : ℕ) (r : Result Bool ViewFault)
-        (left right before after room filled : List ℕ) (x y : Bool) (a b : RtrAnswer)
-        (status code : ℕ) → ComparesSlices limit r left right → TellsSame r x y status →
+    ensures left { (limit : ℕ) (r : Result Bool ComparisonFault)
+        (left right before after : List ℕ) (c : RtrComparison) (a : RtrAnswer) (status code : ℕ) →
+        ComparesMeanings limit r left right →
+        TellsComparison (comparison_told r left right) c status →
+        CallNormalises everything limit left before after a code →
+        code ≢ rtr_ok → code ≢ rtr_no_room →
+        (status ≡ code) × (c ≡ stop_compared rtr_left a) }
+    ensures right { (limit : ℕ) (r : Result Bool ComparisonFault)
+        (left right before after room filled : List ℕ) (c : RtrComparison) (a b : RtrAnswer)
+        (status code : ℕ) → ComparesMeanings limit r left right →
+        TellsComparison (comparison_told r left right) c status →
         CallNormalises everything limit left before after a rtr_ok →
-        CallNormalises everything limit right room filled b code →
-        code ≢ rtr_no_room → status ≡ code }
+        CallNormalises everything limit right room filled b code → code ≢ rtr_no_room →
+        (status ≡ code) × (code ≢ rtr_ok → c ≡ stop_compared rtr_right b) }
 {}
 
 /// If an input is too short, as many bytes are wanted from where the call stopped on as a header
@@ -117,6 +124,10 @@ pub fn bounded_wants()
     ensures sequence { (what : Output) (limit : ℕ) (input before after : List ℕ) (a : RtrAnswer)
         (code : ℕ) → CallNormalises what limit input before after a code → code ≡ rtr_short →
         IsWanted (drop a.taken input) a.wanted }
+    ensures comparison { (limit : ℕ) (r : Result Bool ComparisonFault) (left right : List ℕ)
+        (c : RtrComparison) (code : ℕ) → ComparesMeanings limit r left right →
+        TellsComparison (comparison_told r left right) c code → code ≡ rtr_short →
+        WantsMore left right c }
 {}
 
 /// The error code of a status is that of each fault which is told as it: of `ViewFault::code`, with
