@@ -224,7 +224,8 @@ told_wanted rest (faults.Prefix rule) = refl
 told_wanted rest faults.TooMany = refl
 
 module _ (limit : ℕ) (input before after : List ℕ) (p : Progress) (a : RtrAnswer) (code : ℕ) where
-  abbrev has : (r : Result Unit IntoFault) (f : NormalisesInto everything limit r input before after p) →
+  abbrev has : (r : Result Unit IntoFault)
+      (f : NormalisesInto everything limit r input before after p) →
       HasRun everything limit (into_answer p.forms f.last r) input
   has r f = record {
     taken = f.viewed;

@@ -151,7 +151,8 @@ first_of l b ms m d a =
       b = rest ++ q.last;
       is_unit = u;
       parts =
-          a.parts ∙ after b q.front q.last a.rest q.parts ∙ after q.front x rest (q.last ++ a.rest) is;
+          a.parts ∙ after b q.front q.last a.rest q.parts
+          ∙ after q.front x rest (q.last ++ a.rest) is;
       others = record {
         rest = a.rest;
         parts = sym (append_assoc rest q.last a.rest);

@@ -168,7 +168,8 @@ pub left_too_many : (limit : ℕ) (left right l : List ℕ) → Walked limit lef
     ComparesMeanings limit
     (Err (record { side = Left; offset = length left - length l; fault = TooMany })) left right
 left_too_many limit left right l p =
-    stops limit (record { side = Left; offset = length left - length l; fault = TooMany }) left right
+    stops limit (record { side = Left; offset = length left - length l; fault = TooMany })
+    left right
     [] (at_limit limit left l p)
 
 -- ---- the answer without the side
@@ -210,7 +211,8 @@ one_fault limit input last c e not h j =
     let one = one_has everything limit (Err c) (Err (view_cause last e)) input f.0 g.0 f.1 g.1 in
     cc
 
-accepts_left : (limit : ℕ) (same : Bool) (left right : List ℕ) → SaysWhetherSame limit same left right →
+accepts_left : (limit : ℕ) (same : Bool) (left right : List ℕ) →
+    SaysWhetherSame limit same left right →
     IsAccepted limit left × IsAccepted limit right
 accepts_left limit same left right (ms, ns, d, e, a, b, h) = ((ms, d, a), (ns, e, b))
 

@@ -35,7 +35,8 @@ pub further : (input us rest x left : List ℕ) → input ≡ us ++ rest → res
     input ≡ (us ++ x) ++ left
 further input us rest x left p q = p ∙ ap (λ l. us ++ l) q ∙ sym (append_assoc us x left)
 
-abbrev pub goes_on : (count : ℕ) (input rest x left : List ℕ) (m : Meaning) → Walked count input rest →
+abbrev pub goes_on : (count : ℕ) (input rest x left : List ℕ) (m : Meaning) →
+    Walked count input rest →
     rest ≡ x ++ left → IsUnit x m → Walked (count + 1) input left
 goes_on count input rest x left m p parts unit = record {
   us = p.us ++ x;
