@@ -1,6 +1,6 @@
 //! Comparison of what two sequences in slices mean, without memory.
 
-ghost use Rattle.std.specs.Prelude.{◌≡◌, ◌≤◌, ◌+◌, ◌-◌, ◌++◌, ◌↔◌, IsTrue, List, length, ℕ};
+ghost use Rattle.std.specs.Prelude.{◌≡◌, ◌≤◌, ◌+◌, ◌-◌, ◌↔◌, IsTrue, List, length, take, ℕ};
 ghost use Rattle.std.specs.Prelude.{IfOk, IfErr, IfSome, None};
 ghost use Rattle.rtr_payload.specs.AspaUnits.{aspa_at};
 ghost use Rattle.rtr_payload.specs.KeyUnits.{key_at};
@@ -131,6 +131,8 @@ fn check(input: &[u8], limit: u64) -> Result<(), (usize, ViewFault)>
 
 /// What follows the units, or the ends of data, at the front of both, if these mean the same; and
 /// whether they are payload units. None also where one of both is refused.
+///
+/// Each kind goes its own way, on which the compiler knows the kind of both views.
 #[inline(always)]
 fn pass_same<'a, 'b>(left: &'a [u8], right: &'b [u8]) -> Option<(bool, &'a [u8], &'b [u8])>
     ensures same { IfSome result (λ p. SameFront p.0 left.now right.now p.1.now p.2.now) }
@@ -140,16 +142,37 @@ fn pass_same<'a, 'b>(left: &'a [u8], right: &'b [u8]) -> Option<(bool, &'a [u8],
         Ok(first) => first,
         Err(_) => return None,
     };
+    match first {
+        UnitView::Origin(_) => pass_other(&first, size, left, right),
+        UnitView::RouterKey(_) => pass_other(&first, size, left, right),
+        UnitView::Aspa(_) => pass_other(&first, size, left, right),
+        UnitView::End(_) => pass_other(&first, size, left, right),
+    }
+}
+
+/// The same, where this is the view of the left one's, which has this size.
+#[inline(always)]
+fn pass_other<'a, 'b>(
+    first: &UnitView<'_>,
+    size: usize,
+    left: &'a [u8],
+    right: &'b [u8],
+) -> Option<(bool, &'a [u8], &'b [u8])>
+    requires view { IsViewOf first.now (take size left.now) }
+    requires within { size ≤ length left.now }
+    ensures same { IfSome result (λ p. SameFront p.0 left.now right.now p.1.now p.2.now) }
+    ensures different { result ≡ None → AreDifferent left.now right.now }
+{
     let (second, other_size) = match UnitView::first(right) {
         Ok(second) => second,
         Err(_) => return None,
     };
-    if !same_view(&first, &second) {
+    if !same_view(first, &second) {
         return None;
     }
     let (_, after_left) = left.split_at(size);
     let (_, after_right) = right.split_at(other_size);
-    Some((is_unit(&first), after_left, after_right))
+    Some((is_unit(first), after_left, after_right))
 }
 
 /// Whether two views mean the same; of ends of data, whether their bytes are equal.
@@ -173,9 +196,15 @@ fn same_view(left: &UnitView<'_>, right: &UnitView<'_>) -> bool
 fn same_origin(left: &OriginView, right: &OriginView) -> bool
     ensures { IsTrue result ↔ (origin_meaning left.now ≡ origin_meaning right.now) }
 {
+    // Field by field: `==` on origins goes by their order, which takes longer.
+    let (first, second) = (left.origin().prefix, right.origin().prefix);
     left.version() == right.version()
         && Action::from_flags(left.flags()) == Action::from_flags(right.flags())
-        && left.origin() == right.origin()
+        && first.prefix().is_v4() == second.prefix().is_v4()
+        && first.prefix().bits() == second.prefix().bits()
+        && first.prefix_len() == second.prefix_len()
+        && first.resolved_max_len() == second.resolved_max_len()
+        && left.origin().asn == right.origin().asn
 }
 
 /// Whether two router keys mean the same.
