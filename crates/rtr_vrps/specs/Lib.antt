@@ -1,4 +1,9 @@
+pub mod CsvItems
+pub mod CsvRows
 pub mod Gathering
 pub mod Making
 pub mod MakeStatus
+pub mod MakeWords
 pub mod PrivateAdding
+pub mod PrivateCsv
+pub mod PrivateWords

@@ -1,13 +1,19 @@
 -- How the program ends: this program's own.
-use Rattle.std.specs.Prelude.{◌≡◌, ◌⊎◌, ℕ, Bool, true, false, List, Result, Ok, Err}
+use Rattle.std.specs.Prelude.{◌≡◌, ◌⊎◌, ⊤, ℕ, Bool, true, false, List, Result, Ok, Err}
+use Rattle.std.specs.Prelude.{Option, IfSome}
+use Rattle.std.specs.Io.KnownBytes.{IsAtEnd}
 use Rattle.rtr_units.specs.Stream.{Flushes}
 use Rattle.rtr_units.specs.StopCauses.{WriterState}
+use Rattle.rtr_vrps.specs.CsvItems.{IsCsvOf, RefusesCsv}
 use Rattle.rtr_vrps.specs.Making.{MakesSequence}
 use Rattle.rtr_vrps.specs.declared.item.Item.{Item}
 use Rattle.rtr_vrps.specs.declared.item.Reason.{Reason}
 use Rattle.rtr_vrps.specs.declared.item.Reason.TheVariants.{Memory}
+use Rattle.rtr_vrps.specs.declared.item.Refusal.{Refusal}
 use Rattle.rtr_vrps.specs.declared.sequence.Trouble.{Trouble}
 use Rattle.rtr_vrps.specs.declared.sequence.Trouble.TheVariants.{Input, Output}
+use Rattle.rtr_vrps.specs.declared.words.Format.{Format}
+use Rattle.rtr_vrps.specs.declared.words.Format.TheVariants.{Csv, Json}
 use Rattle.rtr_vrps.specs.declared.words.Request.{Request}
 
 abbrev pub refusal_status : Reason → ℕ
@@ -28,13 +34,32 @@ MakesOf a items status before after =
     × MakesSequence a items answer before mid × Flushes flushed mid after
     × (status ≡ make_status answer flushed)
 
--- What a run leaves: the sequence of the items that were read; or, where the input couldn't be read
--- or holds something else, nothing was written, and the status is 1 or 3.
-abbrev pub RunsMaking : Request → ℕ → WriterState → WriterState → Type 0
-RunsMaking a status before after = ((items : List Item) × MakesOf a items status before after)
-    ⊎ ((after ≡ before) × ((status ≡ 1) ⊎ (status ≡ 3)))
+-- what is read of a text in this format: of comma-separated values the items of its rows, or why one
+-- is refused; of JSON some items, or a refusal
+abbrev pub ReadsItems : Format → List ℕ → Result (List Item) Refusal → Type 0
+ReadsItems Csv text (Ok items) = IsCsvOf text items
+ReadsItems Csv text (Err r) = RefusesCsv text r.reason
+ReadsItems Json text read = ⊤
 
--- the same of a run by words, which write nothing where they ask for nothing
-abbrev pub EndsMaking : ℕ → WriterState → WriterState → Type 0
-EndsMaking status before after = ((a : Request) × RunsMaking a status before after)
-    ⊎ ((after ≡ before) × (status ≡ 2))
+-- the sequence of the items; or, where the text is refused or memory runs out, nothing is written,
+-- and the reason decides the status
+abbrev pub MakesRead : Request → Result (List Item) Refusal → ℕ → WriterState → WriterState → Type 0
+MakesRead a (Ok items) status before after = MakesOf a items status before after
+MakesRead a (Err r) status before after = (after ≡ before) × (status ≡ refusal_status r.reason)
+
+-- what is made of a text in this format
+abbrev pub MakesText : Format → Request → List ℕ → ℕ → WriterState → WriterState → Type 0
+MakesText format a text status before after = (read : Result (List Item) Refusal)
+    × ReadsItems format text read × MakesRead a read status before after
+
+-- the text is all that the reader had left, where that is known, and the reader is at its end
+abbrev pub IsWholeInput : Option (List ℕ) → Option (List ℕ) → List ℕ → Type 0
+IsWholeInput left rest text = IfSome left (λ all. text ≡ all) × IsAtEnd rest
+
+-- What a run leaves: what is made of the whole input; or, where that couldn't be read, nothing was
+-- written, and the status is 3.
+abbrev pub RunsMaking : Request → Option (List ℕ) → Option (List ℕ) → ℕ → WriterState →
+    WriterState → Type 0
+RunsMaking a left rest status before after =
+    ((text : List ℕ) × IsWholeInput left rest text × MakesText a.format a text status before after)
+    ⊎ ((after ≡ before) × (status ≡ 3))

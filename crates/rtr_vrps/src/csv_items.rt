@@ -1,5 +1,12 @@
 //! Origins in comma-separated values, as validators print them.
 
+ghost use Rattle.std.specs.Prelude.{◌≡◌, ◌&&◌, IfErr, IfOk};
+ghost use Rattle.csv.specs.Reading.{error_kind};
+ghost use Rattle.csv.specs.Records.{fields_of};
+ghost use Rattle.rtr_vrps.specs.CsvItems.{IsCsvOf, RefusesCsv};
+ghost use Rattle.rtr_vrps.specs.CsvRows.{ReadsMaxLength, ReadsRow, field, is_header};
+ghost use Rattle.rtr_vrps.specs.PrivateCsv.{AddsRow, reason_of};
+
 use crate::item::{Item, Place, Reason, Refusal};
 use csv::{Error, ErrorKind, Position, ReaderBuilder, StringRecord};
 use rtr_base::addr::{MaxLenPrefix, Prefix};
@@ -13,7 +20,10 @@ use std::alloc::Global;
 ///
 /// The first line that is something else decides, with the reasons `NotText`, `Asn`,
 /// `Prefix`, `MaxLength` and `MaxLengthRule`, in this order; `Memory` ends reading, too.
-pub fn read_csv<'a>(alloc: Global, text: &'a [u8]) -> Result<Vec<Item<'a>>, Refusal<'a>> {
+pub fn read_csv<'a>(alloc: Global, text: &'a [u8]) -> Result<Vec<Item<'a>>, Refusal<'a>>
+    ensures items { IfOk result (λ v. IsCsvOf text.now v.items) }
+    ensures refused { IfErr result (λ r. RefusesCsv text.now r.reason) }
+{
     let mut items = Vec::new(alloc);
     let mut reader = ReaderBuilder::new()
         .has_headers(false)
@@ -22,26 +32,43 @@ pub fn read_csv<'a>(alloc: Global, text: &'a [u8]) -> Result<Vec<Item<'a>>, Refu
     let mut row = StringRecord::new(alloc);
     for count in 0..u64::MAX {
         match reader.read_record(&mut row) {
-            Ok(true) => {}
+            Ok(true) => match add_row(count == 0, text, &row, &mut items) {
+                Ok(()) => {}
+                Err(refusal) => return Err(refusal),
+            },
             Ok(false) => return Ok(items),
             Err(error) => return Err(refusal(text, &error)),
-        }
-        if count > 0 || !is_header(&row) {
-            let place = Place::Line(line_of(text, &row));
-            match origin(&row) {
-                Ok(payload) => {
-                    if items.push(Item { place, payload }).is_err() {
-                        return Err(out_of_memory());
-                    }
-                }
-                Err(reason) => return Err(Refusal { place, reason }),
-            }
         }
     }
     Err(out_of_memory())
 }
 
-fn out_of_memory<'a>() -> Refusal<'a> {
+/// Adds the origin that a row is. The first row may name the columns, and is then passed over.
+fn add_row<'a>(
+    first: bool,
+    text: &[u8],
+    row: &StringRecord,
+    items: &mut Vec<Item<'a>>,
+) -> Result<(), Refusal<'a>>
+    ensures { AddsRow (first && is_header (fields_of row.now)) (fields_of row.now) result
+        items.old.items items.new.items }
+{
+    if first && is_header(row) {
+        return Ok(());
+    }
+    let place = Place::Line(line_of(text, row));
+    match origin(row) {
+        Ok(payload) => match items.push(Item { place, payload }) {
+            Ok(()) => Ok(()),
+            Err(_) => Err(out_of_memory()),
+        },
+        Err(reason) => Err(Refusal { place, reason }),
+    }
+}
+
+fn out_of_memory<'a>() -> Refusal<'a>
+    ensures { result.reason ≡ Reason.Memory }
+{
     Refusal {
         place: Place::Input,
         reason: Reason::Memory,
@@ -49,7 +76,9 @@ fn out_of_memory<'a>() -> Refusal<'a> {
 }
 
 /// The refusal for what stopped the reader of lines.
-fn refusal<'a>(text: &[u8], error: &Error) -> Refusal<'a> {
+fn refusal<'a>(text: &[u8], error: &Error) -> Refusal<'a>
+    ensures { result.reason ≡ reason_of (error_kind error.now) }
+{
     match error.kind() {
         ErrorKind::Utf8 { pos, .. } => Refusal {
             place: match pos {
@@ -92,30 +121,52 @@ fn read_from(text: &[u8], start: u64) -> &[u8] {
     text.get(start as usize..).unwrap_or(&[])
 }
 
+/// The field at a place, of which the first is 0. One that isn't there is empty.
+fn field(row: &StringRecord, index: usize) -> &str
+    ensures { result.now ≡ field (fields_of row.now) index }
+{
+    row.get(index).unwrap_or("")
+}
+
 /// Whether the row names its columns.
-fn is_header(row: &StringRecord) -> bool {
-    matches!(row.get(0), Some("ASN" | "asn"))
+fn is_header(row: &StringRecord) -> bool
+    ensures { result ≡ is_header (fields_of row.now) }
+{
+    let name = field(row, 0);
+    name == "ASN" || name == "asn"
 }
 
 /// The origin that the row is.
-fn origin(row: &StringRecord) -> Result<Payload, Reason> {
-    let asn = match row.get(0).unwrap_or("").parse::<Asn>() {
+fn origin(row: &StringRecord) -> Result<Payload, Reason>
+    ensures { ReadsRow (fields_of row.now) result }
+{
+    let asn = match field(row, 0).parse::<Asn>() {
         Ok(asn) => asn,
         Err(_) => return Err(Reason::Asn),
     };
-    let prefix = match row.get(1).unwrap_or("").parse::<Prefix>() {
+    let prefix = match field(row, 1).parse::<Prefix>() {
         Ok(prefix) => prefix,
         Err(error) => return Err(Reason::Prefix(error)),
     };
-    let max_length = match row.get(2) {
-        None | Some("") => None,
-        Some(text) => match text.parse::<u8>() {
-            Ok(length) => Some(length),
-            Err(_) => return Err(Reason::MaxLength),
-        },
+    let max_length = match max_length(field(row, 2)) {
+        Ok(max_length) => max_length,
+        Err(reason) => return Err(reason),
     };
     match MaxLenPrefix::new(prefix, max_length) {
         Ok(prefix) => Ok(Payload::origin(prefix, asn)),
         Err(error) => Err(Reason::MaxLengthRule(error)),
+    }
+}
+
+/// The max length that the field is: none if it is empty.
+fn max_length(text: &str) -> Result<Option<u8>, Reason>
+    ensures { ReadsMaxLength text.now result }
+{
+    if text.is_empty() {
+        return Ok(None);
+    }
+    match text.parse::<u8>() {
+        Ok(length) => Ok(Some(length)),
+        Err(_) => Err(Reason::MaxLength),
     }
 }

@@ -1,8 +1,9 @@
 //! One run of the program, over any reader and writers.
 
-ghost use Rattle.std.specs.Prelude.{◌≡◌};
+ghost use Rattle.std.specs.Prelude.{◌≡◌, drop, IfSome, IsNone, None};
 ghost use Rattle.std.specs.Process.{exit_status};
-ghost use Rattle.rtr_vrps.specs.MakeStatus.{EndsMaking, MakesOf, RunsMaking, refusal_status};
+ghost use Rattle.rtr_vrps.specs.MakeStatus.{MakesOf, MakesText, RunsMaking, refusal_status};
+ghost use Rattle.rtr_vrps.specs.MakeWords.{asked_by_words};
 
 use crate::csv_items::read_csv;
 use crate::item::{Item, Reason, Refusal};
@@ -24,7 +25,7 @@ const USAGE: u8 = 2;
 /// The status if reading, writing, flushing or memory failed.
 const FAILED: u8 = 3;
 
-/// RunsMaking the program with the words that it was started with, its name first, and answers the code
+/// Runs the program with the words that it was started with, its name first, and answers the code
 /// to end with, which is the status of `run`. If there are no words, since they can't be had as
 /// texts, it prints the usage.
 pub fn program<R: Read, W: Sink, F: Write>(
@@ -34,16 +35,32 @@ pub fn program<R: Read, W: Sink, F: Write>(
     output: &mut W,
     faults: &mut F,
 ) -> ExitCode
-    ensures ends { EndsMaking (exit_status result) (W.state output.old) (W.state output.new) }
+    // Without words nothing is read or written.
+    ensures no_words { IsNone words →
+        (exit_status result ≡ 2) × (input.new ≡ input.old) × (output.new ≡ output.old) }
+    // The same with words after the program's name that ask for nothing.
+    ensures usage { IfSome words (λ all. asked_by_words (drop 1 all.items) ≡ None →
+        (exit_status result ≡ 2) × (input.new ≡ input.old) × (output.new ≡ output.old)) }
+    // Otherwise what they ask for is made of the input.
+    ensures makes { IfSome words (λ all. IfSome (asked_by_words (drop 1 all.items)) (λ what.
+        RunsMaking what (R.remaining input.old) (R.remaining input.new) (exit_status result)
+        (W.state output.old) (W.state output.new))) }
 {
     let Some(words) = words else {
         return ExitCode::from(usage(&[], faults));
     };
-    let status = run_asked(alloc, words.get(1..).unwrap_or(&[]), input, output, faults);
+    let status = run_asked(alloc, words_after_name(&words), input, output, faults);
     ExitCode::from(status)
 }
 
-/// RunsMaking what the words after the program's name ask for, or prints the usage.
+/// The words after the first one, which is the program's name.
+fn words_after_name(words: &[String]) -> &[String]
+    ensures { result.now ≡ drop 1 words.now }
+{
+    words.get(1..).unwrap_or(&[])
+}
+
+/// Runs what the words after the program's name ask for, or prints the usage.
 fn run_asked<R: Read, W: Sink, F: Write>(
     alloc: Global,
     words: &[String],
@@ -51,7 +68,11 @@ fn run_asked<R: Read, W: Sink, F: Write>(
     output: &mut W,
     faults: &mut F,
 ) -> u8
-    ensures ends { EndsMaking result (W.state output.old) (W.state output.new) }
+    ensures usage { asked_by_words words.now ≡ None →
+        (result ≡ 2) × (input.new ≡ input.old) × (output.new ≡ output.old) }
+    ensures makes { IfSome (asked_by_words words.now) (λ what. RunsMaking what
+        (R.remaining input.old) (R.remaining input.new) result
+        (W.state output.old) (W.state output.new)) }
 {
     match asked(words) {
         Some(asked) => run(alloc, &asked, input, output, faults),
@@ -74,7 +95,8 @@ pub fn run<R: Read, W: Sink, F: Write>(
     output: &mut W,
     faults: &mut F,
 ) -> u8
-    ensures { RunsMaking asked.now result (W.state output.old) (W.state output.new) }
+    ensures { RunsMaking asked.now (R.remaining input.old) (R.remaining input.new) result
+        (W.state output.old) (W.state output.new) }
 {
     let mut text: Vec<u8> = Vec::new(alloc);
     if let Err(error) = input.read_to_end(&mut text) {
@@ -100,7 +122,8 @@ fn make_of_csv<W: Sink, F: Write>(
     output: &mut W,
     faults: &mut F,
 ) -> u8
-    ensures { RunsMaking asked.now result (W.state output.old) (W.state output.new) }
+    ensures { MakesText Format.Csv asked.now text.now result
+        (W.state output.old) (W.state output.new) }
 {
     match read_csv(alloc, text) {
         Ok(items) => write(alloc, asked, &items, output, faults),
@@ -116,7 +139,8 @@ fn make_of_json<W: Sink, F: Write>(
     output: &mut W,
     faults: &mut F,
 ) -> u8
-    ensures { RunsMaking asked.now result (W.state output.old) (W.state output.new) }
+    ensures { MakesText Format.Json asked.now text.now result
+        (W.state output.old) (W.state output.new) }
 {
     let mut scratch = Scratch::new(alloc);
     match read_json(alloc, text, &mut scratch) {

@@ -1,11 +1,14 @@
 //! What the program is asked for.
 
 ghost use Rattle.std.specs.Prelude.{◌≡◌};
+ghost use Rattle.rtr_vrps.specs.MakeWords.{asked_by_words, has_timing, nothing_said, number_of};
+ghost use Rattle.rtr_vrps.specs.MakeWords.{once, request_of, said_alone, said_with};
+ghost use Rattle.rtr_vrps.specs.MakeWords.{setting_named, version_of};
 ghost use Rattle.rtr_vrps.specs.Making.{version_number};
+ghost use Rattle.rtr_vrps.specs.PrivateWords.{word_taken};
 
 use rtr_base::state::{Serial, State};
 use rtr_base::timing::Timing;
-use std::str::FromStr;
 
 /// In which format the payloads are given.
 #[derive(Clone, Copy, Debug, PartialEq, Eq)]
@@ -83,26 +86,13 @@ struct Said {
 /// and each of the options at most once, in any order. Without `--version` it is 2. The session and
 /// the serial number are 0 and the timings those of RFC 8210 section 6, if they aren't given.
 /// Version 0 has no timings: none may be given with it.
-pub fn asked(words: &[String]) -> Option<Request> {
-    let mut said = Said {
-        format: None,
-        version: None,
-        session: None,
-        serial: None,
-        refresh: None,
-        retry: None,
-        expire: None,
-        leaves_out: None,
-    };
+pub fn asked(words: &[String]) -> Option<Request>
+    ensures { result ≡ asked_by_words words.now }
+{
+    let mut said = Said::nothing();
     let mut open: Option<Setting> = None;
     for word in words {
-        open = match open {
-            Some(setting) => {
-                said.set(setting, word.as_str())?;
-                None
-            }
-            None => said.word(word.as_str())?,
-        };
+        (said, open) = said.after(open, word.as_str())?;
     }
     match open {
         Some(_) => None,
@@ -110,66 +100,137 @@ pub fn asked(words: &[String]) -> Option<Request> {
     }
 }
 
-/// Sets what wasn't set.
-fn put<T: Copy>(place: &mut Option<T>, value: T) -> Option<()> {
-    if place.is_some() {
-        return None;
+/// What is set to this value, where nothing was.
+fn once<T: Copy>(place: Option<T>, value: T) -> Option<T>
+    ensures { result ≡ once place value }
+{
+    match place {
+        Some(_) => None,
+        None => Some(value),
     }
-    *place = Some(value);
-    Some(())
 }
 
-/// Sets a number that wasn't set to the one of this text.
-fn put_number<T: FromStr + Copy>(place: &mut Option<T>, text: &str) -> Option<()>
-where
-    <T as FromStr>::Err: Drop,
+/// The option of this name that a text has to follow.
+fn setting_named(word: &str) -> Option<Setting>
+    ensures { result ≡ setting_named word.now }
 {
-    let Ok(number) = text.parse::<T>() else {
-        return None;
-    };
-    put(place, number)
+    match word {
+        "--version" => Some(Setting::Version),
+        "--session" => Some(Setting::Session),
+        "--serial" => Some(Setting::Serial),
+        "--refresh" => Some(Setting::Refresh),
+        "--retry" => Some(Setting::Retry),
+        "--expire" => Some(Setting::Expire),
+        _ => None,
+    }
+}
+
+/// The version of this number.
+fn version_of(text: &str) -> Option<Version>
+    ensures { result ≡ version_of text.now }
+{
+    match text {
+        "0" => Some(Version::V0),
+        "1" => Some(Version::V1),
+        "2" => Some(Version::V2),
+        _ => None,
+    }
+}
+
+/// The number of 16 bits that the text is.
+fn short_number(text: &str) -> Option<u16>
+    ensures { result ≡ number_of 16 text.now }
+{
+    match text.parse::<u16>() {
+        Ok(number) => Some(number),
+        Err(_) => None,
+    }
+}
+
+/// The number of 32 bits that the text is.
+fn number(text: &str) -> Option<u32>
+    ensures { result ≡ number_of 32 text.now }
+{
+    match text.parse::<u32>() {
+        Ok(number) => Some(number),
+        Err(_) => None,
+    }
 }
 
 impl Said {
-    /// Takes a word that isn't a number. Answers the option that a number has to follow.
-    fn word(&mut self, word: &str) -> Option<Option<Setting>> {
-        match word {
-            "--csv" => put(&mut self.format, Format::Csv)?,
-            "--json" => put(&mut self.format, Format::Json)?,
-            "--drop" => put(&mut self.leaves_out, true)?,
-            "--version" => return Some(Some(Setting::Version)),
-            "--session" => return Some(Some(Setting::Session)),
-            "--serial" => return Some(Some(Setting::Serial)),
-            "--refresh" => return Some(Some(Setting::Refresh)),
-            "--retry" => return Some(Some(Setting::Retry)),
-            "--expire" => return Some(Some(Setting::Expire)),
-            _ => return None,
+    /// What no words say.
+    fn nothing() -> Self
+        ensures { result ≡ nothing_said }
+    {
+        Said {
+            format: None,
+            version: None,
+            session: None,
+            serial: None,
+            refresh: None,
+            retry: None,
+            expire: None,
+            leaves_out: None,
         }
-        Some(None)
     }
 
-    /// Takes the number of an option.
-    fn set(&mut self, setting: Setting, text: &str) -> Option<()> {
-        match setting {
-            Setting::Version => match text {
-                "0" => put(&mut self.version, Version::V0),
-                "1" => put(&mut self.version, Version::V1),
-                "2" => put(&mut self.version, Version::V2),
-                _ => None,
-            },
-            Setting::Session => put_number(&mut self.session, text),
-            Setting::Serial => put_number(&mut self.serial, text),
-            Setting::Refresh => put_number(&mut self.refresh, text),
-            Setting::Retry => put_number(&mut self.retry, text),
-            Setting::Expire => put_number(&mut self.expire, text),
+    /// What was said with one more word, and the option that the next has to follow. The word
+    /// follows an open option itself, if there is one.
+    fn after(self, before: Option<Setting>, word: &str) -> Option<(Said, Option<Setting>)>
+        ensures { result ≡ word_taken before word.now self }
+    {
+        if let Some(setting) = before {
+            return Some((self.setting(setting, word)?, None));
         }
+        match setting_named(word) {
+            Some(setting) => Some((self, Some(setting))),
+            None => Some((self.alone(word)?, None)),
+        }
+    }
+
+    /// Takes a word that stands alone.
+    fn alone(self, word: &str) -> Option<Said>
+        ensures { result ≡ said_alone word.now self }
+    {
+        let mut said = self;
+        match word {
+            "--csv" => said.format = Some(once(self.format, Format::Csv)?),
+            "--json" => said.format = Some(once(self.format, Format::Json)?),
+            "--drop" => said.leaves_out = Some(once(self.leaves_out, true)?),
+            _ => return None,
+        }
+        Some(said)
+    }
+
+    /// Takes the text that follows an option.
+    fn setting(self, setting: Setting, text: &str) -> Option<Said>
+        ensures { result ≡ said_with setting text.now self }
+    {
+        let mut said = self;
+        match setting {
+            Setting::Version => said.version = Some(once(self.version, version_of(text)?)?),
+            Setting::Session => said.session = Some(once(self.session, short_number(text)?)?),
+            Setting::Serial => said.serial = Some(once(self.serial, number(text)?)?),
+            Setting::Refresh => said.refresh = Some(once(self.refresh, number(text)?)?),
+            Setting::Retry => said.retry = Some(once(self.retry, number(text)?)?),
+            Setting::Expire => said.expire = Some(once(self.expire, number(text)?)?),
+        }
+        Some(said)
+    }
+
+    /// Whether a timing was said.
+    fn has_timing(&self) -> bool
+        ensures { result ≡ has_timing self.now }
+    {
+        self.refresh.is_some() || self.retry.is_some() || self.expire.is_some()
     }
 
     /// What all words ask for.
-    fn request(self) -> Option<Request> {
+    fn request(self) -> Option<Request>
+        ensures { result ≡ request_of self }
+    {
         let version = self.version.unwrap_or(Version::V2);
-        let has_timings = self.refresh.is_some() || self.retry.is_some() || self.expire.is_some();
-        if version == Version::V0 && has_timings {
+        if version.number() == 0 && self.has_timing() {
             return None;
         }
         let timing = Timing::default();

@@ -1,0 +1,11 @@
+use Rattle.std.proofs.Common.{◌≡◌, Bor, ℕ, List, Some}
+use Rattle.csv.specs.Reading.{Ready, default_config, source_of}
+use Rattle.csv.specs.declared.reader.Trim.TheVariants as trim
+use Rattle.rtr_vrps.proofs.Rows.{RowsSoFar}
+use Rattle.rtr_vrps.proofs.csv_items.read_csv.Given as goal
+
+abbrev pub invariant-loop-count : goal.invariant-loop-count
+invariant-loop-count l =
+    (l.reader.trim ≡ trim.None) × Ready l.reader × (l.reader.config ≡ default_config)
+    × (y : List ℕ) × (source_of (λ (s : Bor (List ℕ)). Some s.now) l.reader ≡ Some y)
+    × RowsSoFar l.fn.text l.count l.items.items l.reader.state y

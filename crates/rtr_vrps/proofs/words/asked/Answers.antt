@@ -1,0 +1,11 @@
+use Rattle.std.proofs.Common.{sym, ap, ◌∙◌}
+use Rattle.rtr_vrps.specs.PrivateWords.{word_taken}
+use Rattle.rtr_vrps.proofs.WordsSoFar.{steps}
+use Rattle.rtr_vrps.proofs.words.asked.Goals as goal
+
+pub loop-word-preserved : goal.loop-word-preserved
+loop-word-preserved c =
+    steps c.args.words.now c.loop-word.word-index c.word-item.result c.loop-word.open _
+    c.loop-word.said _ _ c.loop-word-test.true c.word-item.is
+    (ap (λ text. word_taken c.loop-word.open text c.loop-word.said) (sym c.as_str.ensures.value)
+    ∙ sym c.after.ensures ∙ c.in_ok-said.was) c.loop-word.invariant

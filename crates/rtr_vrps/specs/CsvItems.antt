@@ -1,0 +1,67 @@
+-- Which items are read of a text of comma-separated values, and why one is refused. The rows are
+-- those that the kit's `csv` reads of a text, as RFC 4180 has them, without a mark of its byte order.
+use Rattle.std.specs.Prelude.{◌≡◌, ⊤, ℕ, ◌++◌, List, [], ◌∷◌, if◌then◌else◌}
+use Rattle.std.specs.List.{AllByRecursion}
+use Rattle.csv.specs.Reading.{AreRecords, Reached, default_config, strip_bom}
+use Rattle.csv.specs.Records.{AllText}
+use Rattle.csv.specs.declared.parser.State.{State}
+use Rattle.csv.specs.declared.parser.State.TheVariants.{StartRecord}
+use Rattle.rtr_vrps.specs.CsvRows.{IsPayloadRow, RefusesRow, is_header}
+use Rattle.rtr_vrps.specs.declared.item.Item.{Item}
+use Rattle.rtr_vrps.specs.declared.item.Reason.{Reason}
+use Rattle.rtr_vrps.specs.declared.item.Reason.TheVariants.{NotText, Memory}
+
+-- these are all rows of the text
+abbrev pub HasRows : List ℕ → List (List (List ℕ)) → Type 0
+HasRows text rows = AreRecords default_config StartRecord (strip_bom text) rows
+
+-- these are the first rows of the text
+abbrev pub BeginsWithRows : List ℕ → List (List (List ℕ)) → Type 0
+BeginsWithRows text rows = (state : State) × (rest : List ℕ)
+    × Reached default_config StartRecord (strip_bom text) rows state rest
+
+-- the rows without one in the first place that names the columns
+abbrev pub without_header : List (List (List ℕ)) → List (List (List ℕ))
+without_header [] = []
+without_header (row ∷ rows) = if is_header row then rows else row ∷ rows
+
+-- an item of each row, in order, with its origin
+abbrev pub AreItemsOf : List (List (List ℕ)) → List Item → Type 0
+AreItemsOf [] [] = ⊤
+AreItemsOf (row ∷ rows) (i ∷ items) = IsPayloadRow row i.payload × AreItemsOf rows items
+AreItemsOf rows others = ⊥
+
+-- all rows are text, and all but a header are origins: those of the items
+pub record IsCsvOf (text : List ℕ) (items : List Item) : Type 0 where
+  pub rows : List (List (List ℕ))
+  pub all : HasRows text rows
+  pub text_rows : AllByRecursion AllText rows
+  pub origins : AreItemsOf (without_header rows) items
+
+-- rows that are text and, but for a header, origins, come before a row that is no text
+pub record HasNoText (text : List ℕ) : Type 0 where
+  pub before : List (List (List ℕ))
+  pub items : List Item
+  pub row : List (List ℕ)
+  pub first : BeginsWithRows text (before ++ row ∷ [])
+  pub text_rows : AllByRecursion AllText before
+  pub origins : AreItemsOf (without_header before) items
+  pub refused : ¬ AllText row
+
+-- rows that are text and, but for a header, origins, come before one that is text and no origin
+pub record HasNoOrigin (text : List ℕ) (why : Reason) : Type 0 where
+  pub rows : List (List (List ℕ))
+  pub before : List (List (List ℕ))
+  pub items : List Item
+  pub row : List (List ℕ)
+  pub first : BeginsWithRows text rows
+  pub text_rows : AllByRecursion AllText rows
+  pub last : without_header rows ≡ before ++ row ∷ []
+  pub origins : AreItemsOf before items
+  pub refused : RefusesRow row why
+
+-- why a text is refused: the first row that is at fault decides, unless memory ran out
+abbrev pub RefusesCsv : List ℕ → Reason → Type 0
+RefusesCsv text Memory = ⊤
+RefusesCsv text NotText = HasNoText text
+RefusesCsv text why = HasNoOrigin text why

@@ -1,0 +1,29 @@
+-- What one row leaves of items. Only contracts of private functions cite these.
+use Rattle.std.specs.Prelude.{◌≡◌, ⊤, ℕ, Bool, true, false, ◌++◌, List, [], ◌∷◌, Result, Ok, Err}
+use Rattle.csv.specs.declared.error.ErrorKind.{ErrorKind}
+use Rattle.csv.specs.declared.error.ErrorKind.TheVariants.{Utf8}
+use Rattle.rtr_vrps.specs.CsvRows.{IsPayloadRow, RefusesRow}
+use Rattle.rtr_vrps.specs.declared.item.Item.{Item}
+use Rattle.rtr_vrps.specs.declared.item.Reason.{Reason}
+use Rattle.rtr_vrps.specs.declared.item.Reason.TheVariants.{NotText, Memory}
+use Rattle.rtr_vrps.specs.declared.item.Refusal.{Refusal}
+
+-- the reason of what stopped the reader of rows
+abbrev pub reason_of : ErrorKind → Reason
+reason_of (Utf8 position error) = NotText
+reason_of other = Memory
+
+-- a row that is passed over adds no item, and any other adds its own
+abbrev pub AddsItem : Bool → List (List ℕ) → List Item → List Item → Type 0
+AddsItem true row old new = new ≡ old
+AddsItem false row old new = (i : Item) × (new ≡ old ++ i ∷ []) × IsPayloadRow row i.payload
+
+-- a row that isn't passed over is no origin, or memory ran out
+abbrev pub RefusesItem : Bool → List (List ℕ) → Reason → Type 0
+RefusesItem passed row Memory = ⊤
+RefusesItem passed row why = (passed ≡ false) × RefusesRow row why
+
+abbrev pub AddsRow : {T : Type 0} → Bool → List (List ℕ) → Result T Refusal → List Item →
+    List Item → Type 0
+AddsRow passed row (Ok t) old new = AddsItem passed row old new
+AddsRow passed row (Err r) old new = RefusesItem passed row r.reason
