@@ -145,9 +145,9 @@ request_of s =
     option_map (request_in s) s.format
 
 -- the request, by the texts of the words; all other words ask for nothing
-abbrev pub asked_by_texts : List (List ℕ) → Option Request
-asked_by_texts words = option_and_then request_of (said_by words nothing_said)
+abbrev pub request_by_texts : List (List ℕ) → Option Request
+request_by_texts words = option_and_then request_of (said_by words nothing_said)
 
 -- the same by the words
-abbrev pub asked_by_words : {Z : Type 0} → List (String Z) → Option Request
-asked_by_words words = asked_by_texts (map string_bytes words)
+abbrev pub request_by_words : {Z : Type 0} → List (String Z) → Option Request
+request_by_words words = request_by_texts (map string_bytes words)

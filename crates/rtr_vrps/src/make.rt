@@ -3,7 +3,7 @@
 ghost use Rattle.std.specs.Prelude.{◌≡◌, drop, IfSome, IsNone, None};
 ghost use Rattle.std.specs.Process.{exit_status};
 ghost use Rattle.rtr_vrps.specs.MakeStatus.{MakesOf, MakesText, RunsMaking, refusal_status};
-ghost use Rattle.rtr_vrps.specs.MakeWords.{asked_by_words};
+ghost use Rattle.rtr_vrps.specs.MakeWords.{request_by_words};
 
 use crate::csv_items::read_csv;
 use crate::item::{Item, Reason, Refusal};
@@ -39,10 +39,10 @@ pub fn program<R: Read, W: Sink, F: Write>(
     ensures no_words { IsNone words →
         (exit_status result ≡ 2) × (input.new ≡ input.old) × (output.new ≡ output.old) }
     // The same with words after the program's name that ask for nothing.
-    ensures usage { IfSome words (λ all. asked_by_words (drop 1 all.items) ≡ None →
+    ensures usage { IfSome words (λ all. request_by_words (drop 1 all.items) ≡ None →
         (exit_status result ≡ 2) × (input.new ≡ input.old) × (output.new ≡ output.old)) }
     // Otherwise what they ask for is made of the input.
-    ensures makes { IfSome words (λ all. IfSome (asked_by_words (drop 1 all.items)) (λ what.
+    ensures makes { IfSome words (λ all. IfSome (request_by_words (drop 1 all.items)) (λ what.
         RunsMaking what (R.remaining input.old) (R.remaining input.new) (exit_status result)
         (W.state output.old) (W.state output.new))) }
 {
@@ -68,9 +68,9 @@ fn run_asked<R: Read, W: Sink, F: Write>(
     output: &mut W,
     faults: &mut F,
 ) -> u8
-    ensures usage { asked_by_words words.now ≡ None →
+    ensures usage { request_by_words words.now ≡ None →
         (result ≡ 2) × (input.new ≡ input.old) × (output.new ≡ output.old) }
-    ensures makes { IfSome (asked_by_words words.now) (λ what. RunsMaking what
+    ensures makes { IfSome (request_by_words words.now) (λ what. RunsMaking what
         (R.remaining input.old) (R.remaining input.new) result
         (W.state output.old) (W.state output.new)) }
 {

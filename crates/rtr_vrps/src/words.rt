@@ -1,7 +1,7 @@
 //! What the program is asked for.
 
 ghost use Rattle.std.specs.Prelude.{◌≡◌};
-ghost use Rattle.rtr_vrps.specs.MakeWords.{asked_by_words, has_timing, nothing_said, number_of};
+ghost use Rattle.rtr_vrps.specs.MakeWords.{request_by_words, has_timing, nothing_said, number_of};
 ghost use Rattle.rtr_vrps.specs.MakeWords.{once, request_of, said_alone, said_with};
 ghost use Rattle.rtr_vrps.specs.MakeWords.{setting_named, version_of};
 ghost use Rattle.rtr_vrps.specs.Making.{version_number};
@@ -87,7 +87,7 @@ struct Said {
 /// the serial number are 0 and the timings those of RFC 8210 section 6, if they aren't given.
 /// Version 0 has no timings: none may be given with it.
 pub fn asked(words: &[String]) -> Option<Request>
-    ensures { result ≡ asked_by_words words.now }
+    ensures { result ≡ request_by_words words.now }
 {
     let mut said = Said::nothing();
     let mut open: Option<Setting> = None;
