@@ -1,5 +1,6 @@
 -- What rows of comma-separated values make of items.
-use Rattle.std.proofs.Common.{◌≡◌, ◌≢◌, ℕ, ◌+◌, ◌==◌, ◌&&◌, Bool, true, false, cond, List, [], ◌∷◌, ◌++◌}
+use Rattle.std.proofs.Common.{◌≡◌, ◌≢◌, ℕ, ◌+◌, ◌==◌, ◌&&◌, Bool, true}
+use Rattle.std.proofs.Common.{false, cond, List, [], ◌∷◌, ◌++◌}
 use Rattle.std.proofs.lemmas.Bool.{and_parts, eqb-true}
 use Rattle.std.proofs.lemmas.List.{length-append}
 use Rattle.std.proofs.Common.{length, Option, Some, None, Err, refl, sym, ap, ◌∙◌, subst, arith}
@@ -16,7 +17,8 @@ use Rattle.csv.specs.Records.{AllText}
 use Rattle.csv.specs.declared.parser.State.{State}
 use Rattle.csv.specs.declared.parser.State.TheVariants.{StartRecord}
 use Rattle.rtr_base.proofs.Parsing.{refuses_len}
-use Rattle.rtr_vrps.specs.CsvItems.{AreItemsOf, HasNoOrigin, HasNoText, IsCsvOf, RefusesCsv, without_header}
+use Rattle.rtr_vrps.specs.CsvItems.{AreItemsOf, HasNoOrigin, HasNoText, IsCsvOf}
+use Rattle.rtr_vrps.specs.CsvItems.{RefusesCsv, without_header}
 use Rattle.rtr_vrps.specs.CsvRows.{IsMaxLengthField, IsPayloadRow, RefusesRow, is_header}
 use Rattle.rtr_vrps.specs.PrivateCsv.{AddsItem, RefusesItem, reason_of}
 use Rattle.rtr_vrps.specs.declared.item.Item.{Item}

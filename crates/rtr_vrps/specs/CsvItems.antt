@@ -1,5 +1,6 @@
 -- Which items are read of a text of comma-separated values, and why one is refused. The rows are
--- those that the kit's `csv` reads of a text, as RFC 4180 has them, without a mark of its byte order.
+-- those that the kit's `csv` reads of a text, as RFC 4180 has them, without a mark of its byte
+-- order.
 use Rattle.std.specs.Prelude.{◌≡◌, ⊤, ℕ, ◌++◌, List, [], ◌∷◌, if◌then◌else◌}
 use Rattle.std.specs.List.{AllByRecursion}
 use Rattle.csv.specs.Reading.{AreRecords, Reached, default_config, strip_bom}

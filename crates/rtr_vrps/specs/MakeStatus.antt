@@ -34,8 +34,8 @@ MakesOf a items status before after =
     × MakesSequence a items answer before mid × Flushes flushed mid after
     × (status ≡ make_status answer flushed)
 
--- what is read of a text in this format: of comma-separated values the items of its rows, or why one
--- is refused; of JSON some items, or a refusal
+-- what is read of a text in this format: of comma-separated values the items of its rows, or why
+-- one is refused; of JSON some items, or a refusal
 abbrev pub ReadsItems : Format → List ℕ → Result (List Item) Refusal → Type 0
 ReadsItems Csv text (Ok items) = IsCsvOf text items
 ReadsItems Csv text (Err r) = RefusesCsv text r.reason

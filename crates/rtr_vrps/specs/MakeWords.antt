@@ -111,7 +111,8 @@ abbrev pub said_by : List (List ℕ) → Said → Option Said
 said_by [] s = Some s
 said_by (word ∷ []) s = by_name (setting_named word) (λ setting. None) (said_alone word s)
 said_by (word ∷ text ∷ rest) s =
-    by_name (setting_named word) (λ setting. option_and_then (said_by rest) (said_with setting text s))
+    by_name (setting_named word)
+    (λ setting. option_and_then (said_by rest) (said_with setting text s))
     (option_and_then (said_by (text ∷ rest)) (said_alone word s))
 
 -- ---- what they ask for

@@ -1,8 +1,8 @@
 //! What the program is asked for.
 
 ghost use Rattle.std.specs.Prelude.{◌≡◌};
-ghost use Rattle.rtr_vrps.specs.MakeWords.{request_by_words, has_timing, nothing_said, number_of};
-ghost use Rattle.rtr_vrps.specs.MakeWords.{once, request_of, said_alone, said_with};
+ghost use Rattle.rtr_vrps.specs.MakeWords.{has_timing, nothing_said, number_of, once};
+ghost use Rattle.rtr_vrps.specs.MakeWords.{request_by_words, request_of, said_alone, said_with};
 ghost use Rattle.rtr_vrps.specs.MakeWords.{setting_named, version_of};
 ghost use Rattle.rtr_vrps.specs.Making.{version_number};
 ghost use Rattle.rtr_vrps.specs.PrivateWords.{word_taken};
