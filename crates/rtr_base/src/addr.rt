@@ -11,6 +11,7 @@ ghost use Rattle.rtr_base.specs.Addresses.{v4, v6, width, cleared, v4_test, IsPr
 ghost use Rattle.rtr_base.specs.Addresses.{IsMaxLenPrefix, IsAddressOf, ip_number, resolved_len};
 ghost use Rattle.rtr_base.specs.Addresses.{prefix_of_address, prefix_cmp, BreaksPrefix};
 
+use crate::bits::Bits;
 use std::cmp::Ordering;
 use std::error::Error;
 use std::fmt;
@@ -21,7 +22,7 @@ use std::net::{IpAddr, Ipv4Addr, Ipv6Addr};
 #[derive(Clone, Copy, Debug, Hash)]
 pub struct Prefix {
     is_v4: bool,
-    bits: u128,
+    bits: Bits,
     len: u8,
 }
 
@@ -92,7 +93,7 @@ impl Prefix {
             ((len ≤ 32) × ¬ (cleared 32 len (ipv4_bits addr) ≡ ipv4_bits addr)) }
     {
         let prefix = Prefix::new_v4_relaxed(addr, len)?;
-        if prefix.bits != addr.to_bits() as u128 {
+        if prefix.bits() != addr.to_bits() as u128 {
             return Err(PrefixError::NonZeroHost);
         }
         Ok(prefix)
@@ -124,7 +125,7 @@ impl Prefix {
         }
         Ok(Prefix {
             is_v4: true,
-            bits: cleared_v4(bits, len) as u128,
+            bits: Bits::new(cleared_v4(bits, len) as u128),
             len,
         })
     }
@@ -139,7 +140,7 @@ impl Prefix {
             ((len ≤ 128) × ¬ (cleared 128 len (ipv6_bits addr) ≡ ipv6_bits addr)) }
     {
         let prefix = Prefix::new_v6_relaxed(addr, len)?;
-        if prefix.bits != addr.to_bits() {
+        if prefix.bits() != addr.to_bits() {
             return Err(PrefixError::NonZeroHost);
         }
         Ok(prefix)
@@ -171,7 +172,7 @@ impl Prefix {
         }
         Ok(Prefix {
             is_v4: false,
-            bits: cleared_v6(bits, len),
+            bits: Bits::new(cleared_v6(bits, len)),
             len,
         })
     }
@@ -193,9 +194,9 @@ impl Prefix {
         ensures valid { IsPrefix self }
     {
         if self.is_v4 {
-            IpAddr::V4(Ipv4Addr::from_bits(self.bits as u32))
+            IpAddr::V4(Ipv4Addr::from_bits(self.bits() as u32))
         } else {
-            IpAddr::V6(Ipv6Addr::from_bits(self.bits))
+            IpAddr::V6(Ipv6Addr::from_bits(self.bits()))
         }
     }
 
@@ -205,7 +206,7 @@ impl Prefix {
         ensures number { result ≡ self.address }
         ensures valid { IsPrefix self }
     {
-        self.bits
+        self.bits.get()
     }
 
     /// How many bits of the address count.
