@@ -15,10 +15,10 @@ use crate::answer::{
 };
 use crate::next::REPORT_FIXED;
 use crate::unit::RtrUnit;
-use rtr_payload::pdu::PrefixUnit;
+use rtr_payload::pdu::{PrefixUnit, flagged_header};
 use rtr_session::placing::place_report;
 use rtr_units::header::{LAST_VERSION, MAX_SIZE};
-use rtr_views::placing::{flagged_header, place};
+use rtr_views::placing::place;
 use rtr_wire::base::Asn;
 use rtr_wire::payload::{RouteOrigin, Timing};
 use rtr_wire::pdu::{

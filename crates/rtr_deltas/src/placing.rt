@@ -17,12 +17,12 @@ ghost use Rattle.rtr_deltas.specs.Items.{IsShort, meant};
 
 use crate::item::PayloadView;
 use rtr_base::action::Action;
-use rtr_payload::pdu::{Aspa, PrefixUnit, RouterKey};
+use rtr_payload::pdu::{Aspa, PrefixUnit, RouterKey, flagged_header};
 use rtr_units::prefixes::{Ipv4Prefix, Ipv6Prefix};
 use rtr_units::unit::Unit;
 use rtr_views::aspa::AspaView;
 use rtr_views::origin::OriginView;
-use rtr_views::placing::{flagged_header, place};
+use rtr_views::placing::place;
 use rtr_views::router_key::RouterKeyView;
 use rtr_views::view::UnitView;
 

@@ -133,6 +133,22 @@ pub end_after : (h : List ℕ) (r : Result (List ℕ) Cause) (a b : ReaderState)
 end_after h r a b kind (is, reads) =
     (is, reads_alike end_unit payload_unit h r a b (end_alike h (omega (arith, is.0)) kind) reads)
 
+-- a router key or an ASPA unit
+pub variable_after : (k : ℕ) → (k ≡ 9) ⊎ (k ≡ 11) → (h : List ℕ) (r : Result (List ℕ) Cause)
+    (a b : ReaderState) → type_field h ≡ k → ReadsAfter (variable_unit k) h r a b →
+    ReadsAfter payload_unit h r a b
+variable_after k (inl e) h r a b kind (is, reads) = (
+  is,
+  reads_alike (variable_unit 9) payload_unit h r a b (key_alike h (omega (arith, is.0)) (kind ∙ e))
+      (subst (λ k. Reads (variable_unit k) h r a b) e reads),
+)
+variable_after k (inr e) h r a b kind (is, reads) = (
+  is,
+  reads_alike (variable_unit 11) payload_unit h r a b
+      (aspa_alike h (omega (arith, is.0)) (kind ∙ e))
+      (subst (λ k. Reads (variable_unit k) h r a b) e reads),
+)
+
 -- a header of no unit that is read
 pub none_after : (h : List ℕ) (t : ℕ) (a : ReaderState) → AreBytes 8 h → type_field h ≡ t →
     ¬ (t ≡ 4) → ¬ (t ≡ 6) → ¬ (t ≡ 7) → ¬ (t ≡ 9) → ¬ (t ≡ 11) →

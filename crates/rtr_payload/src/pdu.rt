@@ -18,3 +18,4 @@ pub use payload_unit::PayloadUnit;
 pub use prefix_unit::PrefixUnit;
 pub use providers::{ProviderAsns, ProviderAsnsError, ProviderIter, ProviderIterError};
 pub use router_key::RouterKey;
+pub use variable_unit::{Body, VariableUnit, flagged_header, put_parts};

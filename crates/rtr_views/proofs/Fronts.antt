@@ -32,7 +32,7 @@ use Rattle.rtr_views.specs.PrivateFirst.{IsFirstUnit}
 use Rattle.rtr_views.specs.Faults.{IsFirstFault}
 use Rattle.rtr_views.specs.declared.fault.ViewFault.{ViewFault}
 use Rattle.rtr_views.specs.declared.fault.ViewFault.TheVariants.{TooLong}
-use Rattle.rtr_views.proofs.Forms.{IsWholeKey, IsWholeAspa, whole_key, whole_aspa}
+use Rattle.rtr_payload.proofs.BodyForms.{IsWholeKey, IsWholeAspa, whole_key, whole_aspa}
 
 -- the unit at the front is the first
 pub at_front : (r : List ℕ) → 8 ≤ length r → 8 ≤ length_field r → length_field r ≤ length r →

@@ -7,8 +7,8 @@ ghost use Rattle.rtr_units.specs.AnyEnd.{end_bytes};
 ghost use Rattle.rtr_views.specs.Faults.{WritesPiece};
 
 use crate::fault::ViewFault;
-use crate::placing::flagged_header;
 use rtr_base::action::Action;
+use rtr_payload::pdu::flagged_header;
 use rtr_units::end::EndOfData;
 use rtr_units::piece::write_all;
 use rtr_units::source::Sink;

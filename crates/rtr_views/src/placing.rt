@@ -17,7 +17,7 @@ use crate::origin::OriginView;
 use crate::router_key::RouterKeyView;
 use crate::view::UnitView;
 use rtr_base::action::Action;
-use rtr_payload::pdu::{Aspa, PrefixUnit, RouterKey};
+use rtr_payload::pdu::{Aspa, PrefixUnit, RouterKey, flagged_header};
 use rtr_units::prefixes::{Ipv4Prefix, Ipv6Prefix};
 use rtr_units::unit::Unit;
 
@@ -34,17 +34,6 @@ pub fn place(front: &[u8], back: &[u8], output: &mut [u8]) -> Option<usize>
     output[..front.len()].copy_from_slice(front);
     output[front.len()..size].copy_from_slice(back);
     Some(size)
-}
-
-/// The header of a router key or an ASPA unit, which has flags where others have a session.
-#[inline(always)]
-pub fn flagged_header(version: u8, pdu: u8, flags: u8, size: u32) -> [u8; 8]
-    ensures { result ≡ version ∷ pdu ∷ flags ∷ 0 ∷ be size 4 }
-{
-    let mut header = [0; 8];
-    header[..4].copy_from_slice(&[version, pdu, flags, 0]);
-    header[4..].copy_from_slice(&size.to_be_bytes());
-    header
 }
 
 /// Writes a router key or an ASPA unit: a header made from the fields, and then `rest`, which

@@ -1,7 +1,7 @@
 //! The ASPA unit (as in the Rust crate).
 
 ghost use Rattle.std.specs.Prelude.{◌≡◌, length, replicate, refl};
-ghost use Rattle.std.proofs.Common.{rules};
+ghost use Rattle.std.proofs.Common.{inr, rules};
 ghost use Rattle.rtr_base.specs.Bytes.{words};
 ghost use Rattle.rtr_payload.specs.AspaUnits.{aspa_at};
 ghost use Rattle.rtr_payload.specs.declared.pdu.aspa.TheConstants.{PDU as ASPA_TYPE};
@@ -13,8 +13,9 @@ ghost use Rattle.rtr_payload.specs.UnitFields.{aspa_unit};
 ghost use Rattle.rtr_payload.specs.Units.{form};
 
 use super::providers::ProviderAsns;
-use super::variable_unit::{Body, VariableUnit};
+use super::variable_unit::{Body, VariableUnit, flagged_parts};
 use bytes::Bytes;
+use rtr_base::action::Action;
 use rtr_base::asn::Asn;
 use rtr_units::fault::Fault;
 use rtr_units::header::{Header, MAX_SIZE};
@@ -45,7 +46,11 @@ impl Body<FIXED> for ProviderAsns {
 
     ghost PDU = { ASPA_TYPE };
 
+    ghost SMALLEST_VERSION = { 2 };
+
     const PDU: u8 = Aspa::PDU;
+
+    const SMALLEST_VERSION: u8 = 2;
 
     const NAME: &'static str = "Aspa";
 
@@ -78,6 +83,21 @@ impl Body<FIXED> for ProviderAsns {
     fn clone(&self) -> Result<Self, AllocError> {
         self.clone()
     }
+
+    /// The providers of a withdrawal aren't part of the form.
+    #[inline(always)]
+    fn form_parts(version: u8, unit: &[u8]) -> ([u8; 8], &[u8]) {
+        let action = Action::from_flags(unit[2]);
+        let kept = match action {
+            Action::Announce => unit.len(),
+            Action::Withdraw => FIXED,
+        };
+        flagged_parts(version, Aspa::PDU, action, &unit[8..kept])
+    }
+
+    ghost kinds = { inr refl };
+
+    ghost meant = { λ u. (tt, refl, refl) };
 
     ghost sized = { Prim.search rules };
 }

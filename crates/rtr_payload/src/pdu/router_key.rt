@@ -1,7 +1,7 @@
 //! The router key unit (RFC 8210 section 5.10).
 
 ghost use Rattle.std.specs.Prelude.{◌≡◌, ◌≤◌, length, replicate, refl};
-ghost use Rattle.std.proofs.Common.{rules};
+ghost use Rattle.std.proofs.Common.{inl, rules};
 ghost use Rattle.rtr_payload.specs.declared.pdu.key_info.TheConstants.{MAX_LEN as MOST};
 ghost use Rattle.rtr_payload.specs.declared.pdu.router_key.TheConstants.{PDU as KEY_TYPE};
 ghost use Rattle.rtr_payload.specs.declared.pdu.router_key.TheConstants.{FIXED as KEY_FIXED};
@@ -11,8 +11,9 @@ ghost use Rattle.rtr_payload.specs.Units.{form};
 ghost use Rattle.rtr_payload.specs.UnitFields.{key_unit};
 
 use super::key_info::{MAX_LEN, RouterKeyInfo};
-use super::variable_unit::{Body, VariableUnit};
+use super::variable_unit::{Body, VariableUnit, flagged_parts};
 use bytes::Bytes;
+use rtr_base::action::Action;
 use rtr_base::asn::Asn;
 use rtr_units::fault::Fault;
 use rtr_units::header::{Header, MAX_SIZE};
@@ -41,7 +42,11 @@ impl Body<FIXED> for RouterKeyInfo {
 
     ghost PDU = { KEY_TYPE };
 
+    ghost SMALLEST_VERSION = { 1 };
+
     const PDU: u8 = RouterKey::PDU;
+
+    const SMALLEST_VERSION: u8 = 1;
 
     const NAME: &'static str = "RouterKey";
 
@@ -70,6 +75,16 @@ impl Body<FIXED> for RouterKeyInfo {
     fn clone(&self) -> Result<Self, AllocError> {
         self.clone()
     }
+
+    #[inline(always)]
+    fn form_parts(version: u8, unit: &[u8]) -> ([u8; 8], &[u8]) {
+        let action = Action::from_flags(unit[2]);
+        flagged_parts(version, RouterKey::PDU, action, &unit[8..])
+    }
+
+    ghost kinds = { inl refl };
+
+    ghost meant = { λ u. (tt, refl, refl) };
 
     ghost sized = { Prim.search rules };
 }

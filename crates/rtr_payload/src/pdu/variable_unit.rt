@@ -1,7 +1,8 @@
 //! Variable units: a part of a fixed size, and a body (RFC 8210 section 5.10; the ASPA unit as in
 //! the Rust crate).
 
-ghost use Rattle.std.specs.Prelude.{◌≡◌, ◌≤◌, ◌<◌, ◌^◌, ◌+◌, ◌++◌, ℕ, List, [], length, take, drop};
+ghost use Rattle.std.specs.Prelude.{◌≡◌, ◌≤◌, ◌<◌, ◌^◌, ◌+◌, ◌++◌, ◌∷◌, ℕ, List, [], length, take};
+ghost use Rattle.std.specs.Prelude.{◌⊎◌, drop};
 ghost use Rattle.std.specs.Prelude.{slice_index, nat_eq, IfOk, MatchResult, None, IfErr};
 ghost use Rattle.std.specs.Cmp.{partial_equiv_from_equiv};
 ghost use Rattle.std.specs.Cmp.Lexicographic.{bytes_decides, nat_list_eq_equiv, pointwise};
@@ -9,16 +10,21 @@ ghost use Rattle.std.specs.Hash as fed;
 ghost use Rattle.rtr_units.specs.Calls.{WritesTo};
 ghost use Rattle.rtr_units.specs.StopCauses.{cause_of};
 ghost use Rattle.rtr_units.specs.Header.{version_field, type_field};
+ghost use Rattle.rtr_base.specs.Actions.{flags_of};
+ghost use Rattle.rtr_base.specs.Bytes.{be};
 ghost use Rattle.rtr_units.specs.Reading.{IsWhole, Reads, ReadsAfter, by_bytes, of_type};
 ghost use Rattle.rtr_units.specs.Stream.{PutsForm};
 ghost use Rattle.rtr_units.specs.StopCauses.{HoldsReadError, HoldsWriteError};
 ghost use Rattle.rtr_units.specs.HeaderBytes.{header_bytes};
 ghost use Rattle.rtr_payload.specs.PrivateFrames.{IsRefusedBy};
 ghost use Rattle.rtr_payload.specs.UnitKinds.{variable_unit};
-ghost use Rattle.rtr_payload.specs.UnitFields.{Fields, HasFields};
+ghost use Rattle.rtr_payload.specs.Payloads.{smallest_version};
+ghost use Rattle.rtr_payload.specs.UnitFields.{Fields, HasFields, LengthsAgree, meaning};
+ghost use Rattle.rtr_payload.specs.Units.{form_of};
 
-use super::frame::read_rest;
+use super::frame::{fill_unit, read_rest};
 use bytes::Bytes;
+use rtr_base::action::Action;
 use rtr_units::fault::Fault;
 use rtr_units::header::Header;
 use rtr_units::piece::put;
@@ -45,8 +51,14 @@ pub trait Body<const FIXED: usize>: fmt::Debug + Drop {
     /// The type of the unit, as contracts name it.
     ghost PDU: { ℕ };
 
+    /// The smallest version of the protocol that has such units, as contracts name it.
+    ghost SMALLEST_VERSION: { ℕ };
+
     /// The type of the unit.
     const PDU: u8;
+
+    /// The smallest version of the protocol that has such units.
+    const SMALLEST_VERSION: u8;
 
     /// The name that `Debug` prints of the unit.
     const NAME: &'static str;
@@ -75,6 +87,24 @@ pub trait Body<const FIXED: usize>: fmt::Debug + Drop {
     /// The same body once more.
     fn clone(&self) -> Result<Self, AllocError>
         ensures { IfOk result (λ b. b ≡ self.now) };
+
+    /// The form in this version of what a unit with these bytes means, in two parts: its header,
+    /// and what follows it, which are bytes of the unit.
+    fn form_parts(version: u8, unit: &[u8]) -> ([u8; 8], &[u8])
+        requires whole { IsWhole (of_type PDU (variable_unit PDU)) unit.now }
+        requires least { FIXED ≤ length unit.now }
+        requires most { length unit.now < 2 ^ 32 }
+        ensures { result.0 ++ result.1.now ≡
+            form_of (record (meaning (fields unit.now)) { version = version }) };
+
+    /// The type is that of router keys or that of ASPA units.
+    ghost kinds: { (PDU ≡ 9) ⊎ (PDU ≡ 11) };
+
+    /// No rule on lengths can be broken, the version is in its place, and the smallest version that
+    /// has such units is that of each of their meanings.
+    ghost meant: { (u : List ℕ) → LengthsAgree (fields u) ×
+        ((meaning (fields u)).version ≡ version_field u) ×
+        (smallest_version (meaning (fields u)).payload ≡ SMALLEST_VERSION) };
 
     /// The fixed part has a header and something more.
     ghost sized: { (12 ≤ FIXED) × (FIXED < 2 ^ 32) };
@@ -148,6 +178,35 @@ impl<const FIXED: usize, B: Body<FIXED>> VariableUnit<FIXED, B> {
         B::check_header(header)?;
         let frame = read_rest(alloc, size as usize - 8, reader)?;
         Ok(Self::from_frame(head, frame))
+    }
+
+    /// As `read_payload`, into room that is kept from unit to unit, and without a value of its own:
+    /// answers the bytes of the unit, which lie in the room.
+    ///
+    /// The room grows where it is shorter than the unit, and no other memory is asked for. So
+    /// `Memory` comes with nothing read, or not at all.
+    #[inline(always)]
+    pub fn read_into<'a, R: Source>(
+        header: Header,
+        reader: &mut R,
+        room: &'a mut Vec<u8>,
+    ) -> Result<&'a [u8], Fault>
+        ensures bytes { ReadsAfter (variable_unit B.PDU) (header_bytes header)
+            (by_bytes (λ u. u.now) result) (R.state reader.old) (R.state reader.new) }
+        ensures fields { IfOk result (λ u. type_field (header_bytes header) ≡ B.PDU →
+            HasFields u.now (B.fields u.now)) }
+        ensures least { IfOk result (λ u. FIXED ≤ length u.now) }
+        ensures most { IfOk result (λ u. length u.now < 2 ^ 32) }
+        ensures error { IfErr result (HoldsReadError (R.fails reader.new)) }
+    {
+        let size = header.length() as usize;
+        B::check_header(header)?;
+        if room.len() < size && room.resize(size, 0).is_err() {
+            return Err(Fault::Memory);
+        }
+        let unit = &mut room[..size];
+        fill_unit(header.as_ref(), unit, reader)?;
+        Ok(unit)
     }
 
     /// The unit of a header and the frame that follows it.
@@ -235,9 +294,17 @@ impl<const FIXED: usize, B: Body<FIXED>> VariableUnit<FIXED, B> {
     pub fn write<W: Sink>(&self, writer: &mut W) -> Result<(), Fault>
         ensures { WritesTo W.Sink result writer.old writer.new self.now }
     {
-        put(writer, &self.fixed)?;
-        put(writer, self.body.as_slice())
+        put_parts(writer, &self.fixed, self.body.as_slice())
     }
+}
+
+/// Writes two pieces, the second after the first.
+#[inline(always)]
+pub fn put_parts<W: Sink>(writer: &mut W, front: &[u8], back: &[u8]) -> Result<(), Fault>
+    ensures { WritesTo W.Sink result writer.old writer.new (front.now ++ back.now) }
+{
+    put(writer, front)?;
+    put(writer, back)
 }
 
 /// Writes a header and what follows it over the fixed part.
@@ -283,4 +350,31 @@ impl<const FIXED: usize, B: Body<FIXED>> Hash for VariableUnit<FIXED, B> {
         self.fixed.as_slice().hash(state);
         self.body.as_slice().hash(state);
     }
+}
+
+/// The header of a router key or an ASPA unit, which has flags where others have a session.
+#[inline(always)]
+pub fn flagged_header(version: u8, pdu: u8, flags: u8, size: u32) -> [u8; 8]
+    ensures { result ≡ version ∷ pdu ∷ flags ∷ 0 ∷ be size 4 }
+{
+    let mut header = [0; 8];
+    header[..4].copy_from_slice(&[version, pdu, flags, 0]);
+    header[4..].copy_from_slice(&size.to_be_bytes());
+    header
+}
+
+/// A router key or an ASPA unit in two parts: a header made from the fields, and `rest`, which
+/// follows it.
+#[inline(always)]
+pub(crate) fn flagged_parts(version: u8, pdu: u8, action: Action, rest: &[u8]) -> ([u8; 8], &[u8])
+    requires size { 8 + length rest.now < 2 ^ 32 }
+    ensures header { result.0 ≡
+        version ∷ pdu ∷ flags_of action ∷ 0 ∷ be (8 + length rest.now) 4 }
+    ensures rest { result.1.now ≡ rest.now }
+{
+    let size = 8 + rest.len() as u32;
+    (
+        flagged_header(version, pdu, action.into_flags(), size),
+        rest,
+    )
 }

@@ -3,3 +3,6 @@ use Rattle.rtr_deltas.proofs.applied.after_withdrawal.Goals as goal
 
 pub returns-in-None : goal.returns-in-None
 returns-in-None c = inr (inl (c.in-None.ensures.none refl))
+
+pub returns-in-Greater : goal.returns-in-Greater
+returns-in-Greater c = ?

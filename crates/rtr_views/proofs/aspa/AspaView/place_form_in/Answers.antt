@@ -2,7 +2,7 @@ use Rattle.std.proofs.Common.{◌≡◌, ℕ, ◌-◌, take, drop, sym, ap, subs
 use Rattle.std.proofs.lemmas.List.{take_rest}
 use Rattle.rtr_base.specs.Actions.{act}
 use Rattle.rtr_views.specs.Placing.{Places}
-use Rattle.rtr_views.proofs.Forms.{aspa_form_in, kept_rest}
+use Rattle.rtr_payload.proofs.BodyForms.{aspa_form_in, kept_rest}
 use Rattle.rtr_views.proofs.aspa.AspaView.place_form_in.Goals as goal
 use Rattle.rtr_views.proofs.aspa.AspaView.place_form_in.Goals.{in-Announce, in-Withdraw}
 

@@ -1,7 +1,8 @@
 use Rattle.std.proofs.Common.{rules, ◌≡◌, ℕ, ◌-◌, take, drop, sym, ap, ◌∙◌}
 use Rattle.std.proofs.lemmas.List.{take_rest}
 use Rattle.rtr_base.specs.Actions.{act}
-use Rattle.rtr_views.proofs.Forms.{aspa_form, kept_rest}
+use Rattle.rtr_payload.proofs.BodyForms.{kept_rest}
+use Rattle.rtr_views.proofs.Forms.{aspa_form}
 use Rattle.rtr_views.proofs.Puts.{same_put}
 use Rattle.rtr_views.proofs.aspa.AspaView.write_form.Goals as goal
 use Rattle.rtr_views.proofs.aspa.AspaView.write_form.Goals.{in-Announce, in-Withdraw}

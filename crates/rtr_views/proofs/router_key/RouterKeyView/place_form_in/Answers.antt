@@ -2,7 +2,7 @@ use Rattle.std.proofs.Common.{ap, subst, ◌∙◌}
 use Rattle.std.proofs.lemmas.List.{take_rest}
 use Rattle.rtr_base.specs.Actions.{act}
 use Rattle.rtr_views.specs.Placing.{Places}
-use Rattle.rtr_views.proofs.Forms.{key_form_in}
+use Rattle.rtr_payload.proofs.BodyForms.{key_form_in}
 use Rattle.rtr_views.proofs.router_key.RouterKeyView.place_form_in.Goals as goal
 
 pub returns : goal.returns
