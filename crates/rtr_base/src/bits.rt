@@ -1,4 +1,4 @@
-//! The number that an address is, kept as bytes.
+//! The number that an address is, at any place of memory.
 
 ghost use Rattle.std.specs.Prelude.{◌≡◌, ◌<◌, ◌^◌, refl};
 ghost use Rattle.std.proofs.Common.{rules};
@@ -11,25 +11,29 @@ use std::fmt;
 use std::hash::{Hash, Hasher};
 use std::marker::Model;
 
-/// An address as a number, in 16 bytes at any place of memory: a `u128` would have whatever holds
-/// it begin at a multiple of 16 bytes, and so take three times as much.
+/// An address as a number, in two halves: a `u128` would have whatever holds it begin at a multiple
+/// of 16 bytes, and so take twice as much.
 #[derive(Clone, Copy)]
-pub struct Bits([u8; 16]);
+pub struct Bits {
+    high: u64,
+    low: u64,
+}
 
 impl Model for Bits {
-    ghost use Rattle.std.specs.Prelude.{ℕ, ◌≡◌};
-    ghost use Rattle.std.proofs.Common.{ap};
-    ghost use Rattle.rtr_base.specs.Bytes.{be, value};
+    ghost use Rattle.std.specs.Prelude.{ℕ, ◌≡◌, ◌+◌, ◌*◌, ◌/◌, ◌%◌, ◌^◌};
 
     ghost Value = { ℕ };
 
-    ghost view = { λ a. value a.0 };
+    ghost view = { λ a. a.high * 2 ^ 64 + a.low };
 
-    ghost invariant = { λ a. be (value a.0) 16 ≡ a.0 };
+    // Its halves are those of the number.
+    ghost invariant = { λ a.
+        ((a.high * 2 ^ 64 + a.low) / 2 ^ 64 ≡ a.high)
+        × ((a.high * 2 ^ 64 + a.low) % 2 ^ 64 ≡ a.low) };
 
-    ghost inverse = { λ n. record { 0 = be n 16 } };
+    ghost inverse = { λ n. record { high = n / 2 ^ 64; low = n % 2 ^ 64 } };
 
-    ghost inverse_ok = { λ a h. ap (λ bytes. record a { 0 = bytes }) h };
+    ghost inverse_ok = { λ a h i. record a { high = h.0 i; low = h.1 i } };
 }
 
 impl Bits {
@@ -37,7 +41,10 @@ impl Bits {
     pub fn new(bits: u128) -> Self
         ensures number { result ≡ bits }
     {
-        Bits(bits.to_be_bytes())
+        Bits {
+            high: (bits >> 64) as u64,
+            low: (bits % (1 << 64)) as u64,
+        }
     }
 
     #[inline(always)]
@@ -45,7 +52,7 @@ impl Bits {
         ensures number { result ≡ self }
         ensures small { self < 2 ^ 128 }
     {
-        u128::from_be_bytes(self.0)
+        ((self.high as u128) << 64) + self.low as u128
     }
 }
 
