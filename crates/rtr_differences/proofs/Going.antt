@@ -137,22 +137,6 @@ by_append action other ps qs =
     ∙ map-append (change_by action) (filter (is_changed action other) ps)
     (filter (is_changed action other) qs)
 
-by_map_at : {T : Type 0} (action : Action) (f : T → Payload) (x : T) (ps : List Payload)
-    (ts : List T) (b : Bool) → map (change_by action) ps ≡ map (λ t. change_by action (f t)) ts →
-    map (change_by action) (cond b (f x ∷ ps) ps) ≡
-    map (λ t. change_by action (f t)) (cond b (x ∷ ts) ts)
-by_map_at action f x ps ts true h = ap (λ l. change_by action (f x) ∷ l) h
-by_map_at action f x ps ts false h = h
-
-pub by_map : {T : Type 0} (action : Action) (other : List Payload) (f : T → Payload)
-    (xs : List T) → changes_by action other (map f xs) ≡
-    map (λ t. change_by action (f t)) (filter (λ t. is_changed action other (f t)) xs)
-by_map action other f [] = refl
-by_map action other f (x ∷ xs) =
-    by_map_at action f x (filter (is_changed action other) (map f xs))
-    (filter (λ t. is_changed action other (f t)) xs) (is_changed action other (f x))
-    (by_map action other f xs)
-
 pub in_form : (r : Result (Unit {0}) Fault) (a b : WriterState) (form other : Form)
     (v w : ℕ) (c : Change) → other ≡ form → w ≡ v → Puts r a b (change_piece other w c) →
     Puts r a b (change_piece form v c)
@@ -217,3 +201,77 @@ pub any_of_two : (x y : Bool) (ps qs all : List Change) → all ≡ ps ++ qs →
 any_of_two x y ps qs all is e f =
     ap (λ (b : Bool). b || y) e ∙ ap (λ (b : Bool). has_some ps || b) f
     ∙ sym (some_append ps qs) ∙ ap has_some (sym is)
+
+-- ---- a part of data that is gone over
+
+-- of the changes by all these payloads those before the ones that are left were printed
+pub record Going (form : Form) (v : ℕ) (action : Action) (other : List Payload)
+    (a b : WriterState) (any : Bool) (all left : List Payload) : Type 0 where
+  pub changes : List Change
+  pub done : Done form v a b any changes
+  pub rest : changes_by action other all ≡ changes ++ changes_by action other left
+
+pub going_begins : (form : Form) (v : ℕ) (action : Action) (other : List Payload)
+    (a : WriterState) (all : List Payload) → Going form v action other a a false all all
+going_begins form v action other a all =
+    record { changes = []; done = done_none form v a; rest = refl }
+
+-- the next payload makes a change or none
+by_next : (action : Action) (other ps qs : List Payload) (p : Payload) (b : Bool) →
+    ps ≡ p ∷ qs → is_changed action other p ≡ b →
+    changes_by action other ps ≡
+    cond b (change_by action p ∷ changes_by action other qs) (changes_by action other qs)
+by_next action other ps qs p true is e =
+    ap (changes_by action other) is
+    ∙ ap (λ (b : Bool). map (change_by action)
+    (cond b (p ∷ filter (is_changed action other) qs) (filter (is_changed action other) qs))) e
+by_next action other ps qs p false is e =
+    ap (changes_by action other) is
+    ∙ ap (λ (b : Bool). map (change_by action)
+    (cond b (p ∷ filter (is_changed action other) qs) (filter (is_changed action other) qs))) e
+
+pub going_on : (form : Form) (v : ℕ) (action : Action) (other : List Payload)
+    (a b d : WriterState) (any : Bool) (all ps qs : List Payload) (p : Payload) →
+    Going form v action other a b any all ps → ps ≡ p ∷ qs → is_changed action other p ≡ true →
+    Wrote b d (change_piece form v (change_by action p)) →
+    Going form v action other a d true all qs
+going_on form v action other a b d any all ps qs p g is e put = record {
+  changes = g.changes ++ change_by action p ∷ [];
+  done = done_more form v a b d any g.changes _ (change_by action p) refl g.done put;
+  rest = g.rest ∙ ap (λ l. g.changes ++ l) (by_next action other ps qs p true is e)
+      ∙ sym (append_assoc g.changes (change_by action p ∷ []) (changes_by action other qs));
+}
+
+pub going_past : (form : Form) (v : ℕ) (action : Action) (other : List Payload)
+    (a b : WriterState) (any : Bool) (all ps qs : List Payload) (p : Payload) →
+    Going form v action other a b any all ps → ps ≡ p ∷ qs → is_changed action other p ≡ false →
+    Going form v action other a b any all qs
+going_past form v action other a b any all ps qs p g is e = record {
+  changes = g.changes;
+  done = g.done;
+  rest = g.rest ∙ ap (λ l. g.changes ++ l) (by_next action other ps qs p false is e);
+}
+
+pub going_stops : (form : Form) (v : ℕ) (action : Action) (other : List Payload)
+    (a b d : WriterState) (any : Bool) (all ps qs : List Payload) (p : Payload) (f : Fault) →
+    Going form v action other a b any all ps → ps ≡ p ∷ qs → is_changed action other p ≡ true →
+    Puts {T = Unit {0}} (Err f) b d (change_piece form v (change_by action p)) →
+    Puts {T = Bool} (Err f) a d (change_pieces form v (changes_by action other all))
+going_stops form v action other a b d any all ps qs p f g is e put =
+    done_stops form v a b d any f g.changes (changes_by action other qs) _ (change_by action p)
+    (g.rest ∙ ap (λ l. g.changes ++ l) (by_next action other ps qs p true is e)) g.done put
+
+pub going_starves : (form : Form) (v : ℕ) (action : Action) (other : List Payload)
+    (a b : WriterState) (any : Bool) (all ps : List Payload) →
+    Going form v action other a b any all ps →
+    Puts {T = Bool} (Err faults.Memory) a b (change_pieces form v (changes_by action other all))
+going_starves form v action other a b any all ps g =
+    done_starves form v a b any g.changes (changes_by action other ps) _ g.rest g.done
+
+pub going_ends : (form : Form) (v : ℕ) (action : Action) (other : List Payload)
+    (a b : WriterState) (any : Bool) (all ps : List Payload) →
+    Going form v action other a b any all ps → ps ≡ [] →
+    Done form v a b any (changes_by action other all)
+going_ends form v action other a b any all ps g is =
+    done_same form v a b any g.changes _
+    (g.rest ∙ ap (λ l. g.changes ++ changes_by action other l) is ∙ append-nil g.changes) g.done

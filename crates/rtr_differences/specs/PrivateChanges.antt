@@ -1,16 +1,23 @@
 -- Changes of one kind, picked of the payloads that one part of data has. Only contracts of private
 -- functions cite these.
-use Rattle.std.specs.Prelude.{◌≡◌, Bool, not, List, map, Result, IfOk}
+use Rattle.std.specs.Prelude.{◌≡◌, Bool, not, List, [], ◌∷◌, map, Option, Some, None, Result, IfOk}
 use Rattle.std.specs.List.{filter}
 use Rattle.rtr_base.specs.declared.action.Action.{Action}
 use Rattle.rtr_base.specs.declared.action.Action.TheVariants.{Announce, Withdraw}
+use Rattle.rtr_payload.specs.Meanings.{payload_of}
 use Rattle.rtr_payload.specs.Payloads.{Payload}
+use Rattle.rtr_payload.specs.declared.payload.Payload.{Payload as Value}
 use Rattle.rtr_units.specs.declared.fault.Fault.{Fault}
 use Rattle.rtr_units.specs.StopCauses.{WriterState}
 use Rattle.rtr_data.specs.Data.{Change, has, has_name, announcement, withdrawal}
 use Rattle.rtr_differences.specs.Differences.{change_pieces, has_some}
 use Rattle.rtr_differences.specs.Printing.{Puts}
 use Rattle.rtr_differences.specs.declared.printer.Printer.{Printer}
+
+-- the first of the payloads that were to come was taken, or none came
+abbrev pub Takes : Option Value → (old new : List Payload) → Type 0
+Takes (Some p) old new = old ≡ payload_of p ∷ new
+Takes None old new = old ≡ []
 
 -- the change that announces or withdraws the payload
 abbrev pub change_by : Action → Payload → Change

@@ -5,6 +5,7 @@
 mod differences;
 mod file;
 pub mod laws;
+mod part;
 mod printer;
 mod program;
 mod words;
