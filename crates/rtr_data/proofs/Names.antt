@@ -6,7 +6,8 @@ use Rattle.std.specs.List.{AllByRecursion}
 use Rattle.std.specs.Ordering.{is_eq, ordering_reverse}
 use Rattle.std.specs.declared.cmp.Ordering.{Ordering}
 use Rattle.std.specs.declared.cmp.Ordering.TheVariants.{Less, Equal, Greater}
-use Rattle.rtr_payload.proofs.Orders.{payload_total, payload_same}
+use Rattle.rtr_payload.specs.OrderLaws.{payload_total}
+use Rattle.rtr_payload.proofs.Orders.{payload_same}
 use Rattle.rtr_payload.specs.Orders.{payload_cmp}
 use Rattle.rtr_payload.specs.Payloads.{Payload, origin, key, aspa}
 use Rattle.rtr_data.specs.Data.{name_cmp, name_of, takes_place, has, has_name}

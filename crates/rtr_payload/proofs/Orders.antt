@@ -1,14 +1,14 @@
 -- The order of payloads part by part, as the code compares them, and that it tells them apart.
 use Rattle.std.proofs.Common.{◌≡◌, refl, sym, ap, ◌∙◌, ◌↔◌}
 use Rattle.std.specs.Bool.{Decides}
-use Rattle.std.specs.Cmp.{Equal-is, IsTotalOrder, on_total, tied_itself}
-use Rattle.std.specs.Cmp.Lexicographic.{lists_total, nat_list_cmp_total}
+use Rattle.std.specs.Cmp.{Equal-is, tied_itself}
 use Rattle.std.specs.FinMap.{IsAntisymmetric, nat_cmp-IsAntisymmetric, slice_cmp-IsAntisymmetric}
 use Rattle.std.specs.declared.cmp.Ordering.{Ordering}
 use Rattle.std.specs.declared.cmp.Ordering.TheVariants.{Less, Equal, Greater}
 use Rattle.std.specs.Ordering.{eq_by_cmp, nat_cmp, ordering_then}
 use Rattle.rtr_base.proofs.Prefixes.{same_version}
 use Rattle.rtr_payload.specs.Payloads.{AspaParts, Payload, origin, key, aspa}
+use Rattle.rtr_payload.specs.OrderLaws.{payload_total}
 use Rattle.rtr_payload.specs.Orders.{list_cmp, parts, payload_cmp}
 
 then_equal : (o : Ordering) → ordering_then o Equal ≡ o
@@ -20,10 +20,6 @@ pub aspa_chain : (a b : AspaParts) →
     payload_cmp (aspa a) (aspa b) ≡
     ordering_then (nat_cmp a.customer b.customer) (list_cmp a.providers b.providers)
 aspa_chain a b = simp then_equal
-
--- an instance of std's law on lists
-pub payload_total : IsTotalOrder payload_cmp
-payload_total = on_total parts (lists_total nat_list_cmp_total)
 
 same_parts : (p q : Payload) → parts p ≡ parts q → p ≡ q
 same_parts (origin o) (origin p) e =

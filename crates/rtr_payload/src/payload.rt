@@ -8,7 +8,6 @@ ghost use Rattle.rtr_payload.specs.declared.payload.Payload.TheVariants as paylo
 ghost use Rattle.rtr_payload.specs.declared.payload.PayloadRef.TheVariants as lent;
 
 mod compare;
-mod compare_origins;
 pub mod laws;
 mod texts;
 

@@ -1,26 +1,82 @@
-//! Equality, order and hash of router keys, ASPAs and payloads: those of what they mean.
+//! Equality, order and hash of route origins, router keys, ASPAs and payloads: those of what they
+//! mean, so that an origin without a max length is as one whose max length is its prefix length.
 
 ghost use Rattle.std.specs.Prelude.{◌≡◌, refl};
-ghost use Rattle.std.proofs.Common.{arith, rules};
-ghost use Rattle.std.specs.Cmp.{Equal-is, eq_by_cmp_equiv, on_equiv, on_po, on_total};
-ghost use Rattle.std.specs.Cmp.{partial_equiv_from_equiv, partial_order_from_total};
-ghost use Rattle.std.specs.Cmp.Lexicographic.{lists_total, nat_list_cmp_total};
-ghost use Rattle.std.specs.Cmp.Rules.{comparing};
-ghost use Rattle.std.specs.FinMap.{nat_cmp-IsAntisymmetric, slice_cmp-IsAntisymmetric};
+ghost use Rattle.std.proofs.Common.{arith};
 ghost use Rattle.std.specs.Ordering.{as_partial_cmp, eq_by_cmp, on};
 ghost use Rattle.rtr_payload.specs.Hashes.{part_writes, payload_writes};
+ghost use Rattle.rtr_payload.specs.OrderLaws.{meant_equiv, meant_partial_equiv};
+ghost use Rattle.rtr_payload.specs.OrderLaws.{meant_partial_order, meant_total, same_meant};
 ghost use Rattle.rtr_payload.specs.Orders.{parts, payload_cmp};
-ghost use Rattle.rtr_payload.specs.Meanings.{aspa_of, key_of, payload_of, payload_of_ref};
+ghost use Rattle.rtr_payload.specs.Meanings.{aspa_of, key_of, origin_of, payload_of};
+ghost use Rattle.rtr_payload.specs.Meanings.{payload_of_ref};
 
-use super::{Aspa, Payload, PayloadRef, RouterKey};
+use super::{Aspa, Payload, PayloadRef, RouteOrigin, RouterKey};
 use std::cmp::Ordering;
 use std::hash::{Hash, Hasher};
+
+impl PartialEq for RouteOrigin {
+    ghost eq = { on origin_of (eq_by_cmp payload_cmp) };
+
+    ghost laws = { meant_partial_equiv origin_of };
+
+    fn eq(&self, other: &Self) -> bool {
+        self.cmp(other).is_eq()
+    }
+}
+
+impl Eq for RouteOrigin {
+    ghost laws = { meant_equiv origin_of };
+}
+
+impl PartialOrd for RouteOrigin {
+    ghost partial_cmp = { on origin_of (as_partial_cmp payload_cmp) };
+
+    ghost laws = { meant_partial_order origin_of };
+
+    fn partial_cmp(&self, other: &Self) -> Option<Ordering> {
+        Some(self.cmp(other))
+    }
+}
+
+/// By the prefix, then by the longest prefix length that is meant, then by the ASN.
+impl Ord for RouteOrigin {
+    ghost cmp = { on origin_of payload_cmp };
+
+    ghost total = { meant_total origin_of };
+
+    ghost matches_partial_cmp = { λ _ _. refl };
+
+    ghost matches_eq = { λ _ _. refl };
+
+    fn cmp(&self, other: &Self) -> Ordering {
+        let (left, right) = (self.prefix, other.prefix);
+        let by_prefix = left.prefix().cmp(&right.prefix());
+        if by_prefix.is_ne() {
+            return by_prefix;
+        }
+        left.resolved_max_len()
+            .cmp(&right.resolved_max_len())
+            .then(self.asn.cmp(&other.asn))
+    }
+}
+
+impl Hash for RouteOrigin {
+    ghost hash_input = { λ value. part_writes (origin_of value) };
+
+    ghost respects_eq = { λ a b e. let same = same_meant origin_of a b e in Prim.cc };
+
+    fn hash<H: Hasher>(&self, state: &mut H) {
+        self.prefix.prefix().hash(state);
+        self.prefix.resolved_max_len().hash(state);
+        self.asn.hash(state);
+    }
+}
 
 impl PartialEq for RouterKey {
     ghost eq = { on key_of (eq_by_cmp payload_cmp) };
 
-    ghost laws = { partial_equiv_from_equiv (on_equiv key_of (eq_by_cmp_equiv
-        (on_total parts (lists_total nat_list_cmp_total)))) };
+    ghost laws = { meant_partial_equiv key_of };
 
     fn eq(&self, other: &Self) -> bool {
         self.cmp(other).is_eq()
@@ -28,15 +84,13 @@ impl PartialEq for RouterKey {
 }
 
 impl Eq for RouterKey {
-    ghost laws = { on_equiv key_of (eq_by_cmp_equiv
-        (on_total parts (lists_total nat_list_cmp_total))) };
+    ghost laws = { meant_equiv key_of };
 }
 
 impl PartialOrd for RouterKey {
     ghost partial_cmp = { on key_of (as_partial_cmp payload_cmp) };
 
-    ghost laws = { on_po key_of (partial_order_from_total
-        (on_total parts (lists_total nat_list_cmp_total))) };
+    ghost laws = { meant_partial_order key_of };
 
     fn partial_cmp(&self, other: &Self) -> Option<Ordering> {
         Some(self.cmp(other))
@@ -47,7 +101,7 @@ impl PartialOrd for RouterKey {
 impl Ord for RouterKey {
     ghost cmp = { on key_of payload_cmp };
 
-    ghost total = { Prim.search (comparing, rules) };
+    ghost total = { meant_total key_of };
 
     ghost matches_partial_cmp = { λ _ _. refl };
 
@@ -68,11 +122,7 @@ impl Ord for RouterKey {
 impl Hash for RouterKey {
     ghost hash_input = { λ value. part_writes (key_of value) };
 
-    ghost respects_eq = { λ a b e.
-        let same : parts (key_of a) ≡ parts (key_of b) =
-        slice_cmp-IsAntisymmetric (slice_cmp-IsAntisymmetric nat_cmp-IsAntisymmetric) _ _
-        ((Equal-is (payload_cmp (key_of a) (key_of b))).0 e)
-        in Prim.cc };
+    ghost respects_eq = { λ a b e. let same = same_meant key_of a b e in Prim.cc };
 
     fn hash<H: Hasher>(&self, state: &mut H) {
         self.key_identifier.hash(state);
@@ -84,8 +134,7 @@ impl Hash for RouterKey {
 impl PartialEq for Aspa {
     ghost eq = { on aspa_of (eq_by_cmp payload_cmp) };
 
-    ghost laws = { partial_equiv_from_equiv (on_equiv aspa_of (eq_by_cmp_equiv
-        (on_total parts (lists_total nat_list_cmp_total)))) };
+    ghost laws = { meant_partial_equiv aspa_of };
 
     fn eq(&self, other: &Self) -> bool {
         self.cmp(other).is_eq()
@@ -93,15 +142,13 @@ impl PartialEq for Aspa {
 }
 
 impl Eq for Aspa {
-    ghost laws = { on_equiv aspa_of (eq_by_cmp_equiv
-        (on_total parts (lists_total nat_list_cmp_total))) };
+    ghost laws = { meant_equiv aspa_of };
 }
 
 impl PartialOrd for Aspa {
     ghost partial_cmp = { on aspa_of (as_partial_cmp payload_cmp) };
 
-    ghost laws = { on_po aspa_of (partial_order_from_total
-        (on_total parts (lists_total nat_list_cmp_total))) };
+    ghost laws = { meant_partial_order aspa_of };
 
     fn partial_cmp(&self, other: &Self) -> Option<Ordering> {
         Some(self.cmp(other))
@@ -112,7 +159,7 @@ impl PartialOrd for Aspa {
 impl Ord for Aspa {
     ghost cmp = { on aspa_of payload_cmp };
 
-    ghost total = { Prim.search (comparing, rules) };
+    ghost total = { meant_total aspa_of };
 
     ghost matches_partial_cmp = { λ _ _. refl };
 
@@ -130,11 +177,7 @@ impl Ord for Aspa {
 impl Hash for Aspa {
     ghost hash_input = { λ value. part_writes (aspa_of value) };
 
-    ghost respects_eq = { λ a b e.
-        let same : parts (aspa_of a) ≡ parts (aspa_of b) =
-        slice_cmp-IsAntisymmetric (slice_cmp-IsAntisymmetric nat_cmp-IsAntisymmetric) _ _
-        ((Equal-is (payload_cmp (aspa_of a) (aspa_of b))).0 e)
-        in Prim.cc };
+    ghost respects_eq = { λ a b e. let same = same_meant aspa_of a b e in Prim.cc };
 
     fn hash<H: Hasher>(&self, state: &mut H) {
         self.customer.hash(state);
@@ -145,8 +188,7 @@ impl Hash for Aspa {
 impl PartialEq for Payload {
     ghost eq = { on payload_of (eq_by_cmp payload_cmp) };
 
-    ghost laws = { partial_equiv_from_equiv (on_equiv payload_of (eq_by_cmp_equiv
-        (on_total parts (lists_total nat_list_cmp_total)))) };
+    ghost laws = { meant_partial_equiv payload_of };
 
     fn eq(&self, other: &Self) -> bool {
         self.cmp(other).is_eq()
@@ -154,15 +196,13 @@ impl PartialEq for Payload {
 }
 
 impl Eq for Payload {
-    ghost laws = { on_equiv payload_of (eq_by_cmp_equiv
-        (on_total parts (lists_total nat_list_cmp_total))) };
+    ghost laws = { meant_equiv payload_of };
 }
 
 impl PartialOrd for Payload {
     ghost partial_cmp = { on payload_of (as_partial_cmp payload_cmp) };
 
-    ghost laws = { on_po payload_of (partial_order_from_total
-        (on_total parts (lists_total nat_list_cmp_total))) };
+    ghost laws = { meant_partial_order payload_of };
 
     fn partial_cmp(&self, other: &Self) -> Option<Ordering> {
         Some(self.cmp(other))
@@ -173,7 +213,7 @@ impl PartialOrd for Payload {
 impl Ord for Payload {
     ghost cmp = { on payload_of payload_cmp };
 
-    ghost total = { Prim.search (comparing, rules) };
+    ghost total = { meant_total payload_of };
 
     ghost matches_partial_cmp = { λ _ _. refl };
 
@@ -187,11 +227,7 @@ impl Ord for Payload {
 impl Hash for Payload {
     ghost hash_input = { λ value. payload_writes (payload_of value) };
 
-    ghost respects_eq = { λ a b e.
-        let same : parts (payload_of a) ≡ parts (payload_of b) =
-        slice_cmp-IsAntisymmetric (slice_cmp-IsAntisymmetric nat_cmp-IsAntisymmetric) _ _
-        ((Equal-is (payload_cmp (payload_of a) (payload_of b))).0 e)
-        in Prim.grind arith };
+    ghost respects_eq = { λ a b e. let same = same_meant payload_of a b e in Prim.grind arith };
 
     fn hash<H: Hasher>(&self, state: &mut H) {
         self.as_ref().hash(state);
@@ -201,8 +237,7 @@ impl Hash for Payload {
 impl<'a> PartialEq for PayloadRef<'a> {
     ghost eq = { on payload_of_ref (eq_by_cmp payload_cmp) };
 
-    ghost laws = { partial_equiv_from_equiv (on_equiv payload_of_ref (eq_by_cmp_equiv
-        (on_total parts (lists_total nat_list_cmp_total)))) };
+    ghost laws = { meant_partial_equiv payload_of_ref };
 
     fn eq(&self, other: &Self) -> bool {
         self.cmp(other).is_eq()
@@ -210,15 +245,13 @@ impl<'a> PartialEq for PayloadRef<'a> {
 }
 
 impl<'a> Eq for PayloadRef<'a> {
-    ghost laws = { on_equiv payload_of_ref (eq_by_cmp_equiv
-        (on_total parts (lists_total nat_list_cmp_total))) };
+    ghost laws = { meant_equiv payload_of_ref };
 }
 
 impl<'a> PartialOrd for PayloadRef<'a> {
     ghost partial_cmp = { on payload_of_ref (as_partial_cmp payload_cmp) };
 
-    ghost laws = { on_po payload_of_ref (partial_order_from_total
-        (on_total parts (lists_total nat_list_cmp_total))) };
+    ghost laws = { meant_partial_order payload_of_ref };
 
     fn partial_cmp(&self, other: &Self) -> Option<Ordering> {
         Some(self.cmp(other))
@@ -229,7 +262,7 @@ impl<'a> PartialOrd for PayloadRef<'a> {
 impl<'a> Ord for PayloadRef<'a> {
     ghost cmp = { on payload_of_ref payload_cmp };
 
-    ghost total = { Prim.search (comparing, rules) };
+    ghost total = { meant_total payload_of_ref };
 
     ghost matches_partial_cmp = { λ _ _. refl };
 
@@ -251,11 +284,7 @@ impl<'a> Ord for PayloadRef<'a> {
 impl<'a> Hash for PayloadRef<'a> {
     ghost hash_input = { λ value. payload_writes (payload_of_ref value) };
 
-    ghost respects_eq = { λ a b e.
-        let same : parts (payload_of_ref a) ≡ parts (payload_of_ref b) =
-        slice_cmp-IsAntisymmetric (slice_cmp-IsAntisymmetric nat_cmp-IsAntisymmetric) _ _
-        ((Equal-is (payload_cmp (payload_of_ref a) (payload_of_ref b))).0 e)
-        in Prim.grind arith };
+    ghost respects_eq = { λ a b e. let same = same_meant payload_of_ref a b e in Prim.grind arith };
 
     fn hash<H: Hasher>(&self, state: &mut H) {
         match self {
