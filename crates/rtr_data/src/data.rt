@@ -2,6 +2,7 @@
 
 ghost use Rattle.std.specs.Prelude.{◌≡◌, ◌<◌, ◌≤◌, [], Bool, Err, IfErr, false, length, min, nat_eq};
 ghost use Rattle.rtr_base.specs.declared.action.Action.TheVariants.{Announce, Withdraw};
+ghost use Rattle.rtr_units.specs.Calls.{WritesTo};
 ghost use Rattle.rtr_units.specs.StopCauses.{HoldsWriteError, by_cause, unit_version, wrong};
 ghost use Rattle.rtr_units.specs.Stream.{PutsForm};
 ghost use Rattle.rtr_payload.specs.Meanings.{payload_of, payload_of_ref};
@@ -258,10 +259,9 @@ impl Data {
         version: u8,
         writer: &mut W,
     ) -> Result<(), Fault>
-        ensures bytes { PutsForm result (W.state writer.old) (W.state writer.new)
+        ensures { WritesTo W.Sink result writer.old writer.new
             (change_forms version
             (announcements (data_for version self.now) (data_for version new.now))) }
-        ensures error { IfErr result (HoldsWriteError (W.fails writer.new) (W.stalls writer.new)) }
     {
         let action = Action::Announce;
         write_origins(version, action, &new.origins, &self.origins, writer)?;
@@ -276,10 +276,9 @@ impl Data {
         version: u8,
         writer: &mut W,
     ) -> Result<(), Fault>
-        ensures bytes { PutsForm result (W.state writer.old) (W.state writer.new)
+        ensures { WritesTo W.Sink result writer.old writer.new
             (change_forms version
             (withdrawals (data_for version self.now) (data_for version new.now))) }
-        ensures error { IfErr result (HoldsWriteError (W.fails writer.new) (W.stalls writer.new)) }
     {
         let action = Action::Withdraw;
         write_origins(version, action, &self.origins, &new.origins, writer)?;

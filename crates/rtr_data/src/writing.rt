@@ -1,13 +1,12 @@
 //! Units of the payloads that one part of data has, and one of other data lacks.
 
-ghost use Rattle.std.specs.Prelude.{◌≡◌, ◌+◌, ◌*◌, ◌∷◌, ◌++◌, [], map, filter, IfErr};
+ghost use Rattle.std.specs.Prelude.{◌≡◌, ◌+◌, ◌*◌, ◌∷◌, ◌++◌, [], map, filter};
 ghost use Rattle.std.specs.BTreeSet.{difference};
 ghost use Rattle.std.specs.Ordering.{on};
 ghost use Rattle.rtr_base.specs.Actions.{flags_of};
 ghost use Rattle.rtr_base.specs.Bytes.{be};
 ghost use Rattle.rtr_base.specs.declared.action.Action.TheVariants.{Announce, Withdraw};
-ghost use Rattle.rtr_units.specs.StopCauses.{HoldsWriteError};
-ghost use Rattle.rtr_units.specs.Stream.{PutsForm};
+ghost use Rattle.rtr_units.specs.Calls.{WritesTo};
 ghost use Rattle.rtr_payload.specs.Meanings.{key_of, origin_of};
 ghost use Rattle.rtr_payload.specs.Orders.{payload_cmp};
 ghost use Rattle.rtr_payload.specs.Units.{form};
@@ -29,9 +28,8 @@ use std::collections::{BTreeMap, BTreeSet};
 
 /// Writes two pieces, one after the other.
 fn put_both<W: Sink>(writer: &mut W, front: &[u8], rest: &[u8]) -> Result<(), Fault>
-    ensures bytes { PutsForm result (W.state writer.old) (W.state writer.new)
+    ensures { WritesTo W.Sink result writer.old writer.new
         (front.now ++ rest.now) }
-    ensures error { IfErr result (HoldsWriteError (W.fails writer.new) (W.stalls writer.new)) }
 {
     put(writer, front)?;
     put(writer, rest)
@@ -44,9 +42,8 @@ fn write_origin<W: Sink>(
     origin: RouteOrigin,
     writer: &mut W,
 ) -> Result<(), Fault>
-    ensures bytes { PutsForm result (W.state writer.old) (W.state writer.new)
+    ensures { WritesTo W.Sink result writer.old writer.new
         (form version (flags_of action) (origin_of origin)) }
-    ensures error { IfErr result (HoldsWriteError (W.fails writer.new) (W.stalls writer.new)) }
 {
     let origin = Payload::Origin(origin);
     let unit = pdu::Payload::from_payload(version, action.into_flags(), origin);
@@ -73,9 +70,8 @@ fn write_key<W: Sink>(
     key: &RouterKey,
     writer: &mut W,
 ) -> Result<(), Fault>
-    ensures bytes { PutsForm result (W.state writer.old) (W.state writer.new)
+    ensures { WritesTo W.Sink result writer.old writer.new
         (form version (flags_of action) (key_of key.now)) }
-    ensures error { IfErr result (HoldsWriteError (W.fails writer.new) (W.stalls writer.new)) }
 {
     let front = key_front(version, action, key);
     put_both(writer, &front, key.key_info.as_slice())
@@ -102,9 +98,8 @@ fn announce_aspa<W: Sink>(
     providers: &ProviderAsns,
     writer: &mut W,
 ) -> Result<(), Fault>
-    ensures bytes { PutsForm result (W.state writer.old) (W.state writer.new)
+    ensures { WritesTo W.Sink result writer.old writer.new
         (form version (flags_of Announce) (entry_of (customer, providers.now))) }
-    ensures error { IfErr result (HoldsWriteError (W.fails writer.new) (W.stalls writer.new)) }
 {
     let front = aspa_front(version, Action::Announce, customer, providers.asn_count());
     put_both(writer, &front, providers.as_slice())
@@ -112,9 +107,8 @@ fn announce_aspa<W: Sink>(
 
 /// Writes the unit that withdraws the ASPA of the customer.
 fn withdraw_aspa<W: Sink>(version: u8, customer: Asn, writer: &mut W) -> Result<(), Fault>
-    ensures bytes { PutsForm result (W.state writer.old) (W.state writer.new)
+    ensures { WritesTo W.Sink result writer.old writer.new
         (form version (flags_of Withdraw) (entry_of (customer, []))) }
-    ensures error { IfErr result (HoldsWriteError (W.fails writer.new) (W.stalls writer.new)) }
 {
     let front = aspa_front(version, Action::Withdraw, customer, 0);
     put(writer, &front)
@@ -128,10 +122,9 @@ pub(crate) fn write_origins<W: Sink>(
     those: &BTreeSet<RouteOrigin>,
     writer: &mut W,
 ) -> Result<(), Fault>
-    ensures bytes { PutsForm result (W.state writer.old) (W.state writer.new)
+    ensures { WritesTo W.Sink result writer.old writer.new
         (payload_forms version action
         (map origin_of (difference (on origin_of payload_cmp) these.now those.now))) }
-    ensures error { IfErr result (HoldsWriteError (W.fails writer.new) (W.stalls writer.new)) }
 {
     for origin in these.difference(those) {
         write_origin(version, action, *origin, writer)?;
@@ -147,10 +140,9 @@ pub(crate) fn write_keys<W: Sink>(
     those: &BTreeSet<RouterKey>,
     writer: &mut W,
 ) -> Result<(), Fault>
-    ensures bytes { PutsForm result (W.state writer.old) (W.state writer.new)
+    ensures { WritesTo W.Sink result writer.old writer.new
         (payload_forms version action (data_for version
         (map key_of (difference (on key_of payload_cmp) these.now those.now)))) }
-    ensures error { IfErr result (HoldsWriteError (W.fails writer.new) (W.stalls writer.new)) }
 {
     if version < 1 {
         return Ok(());
@@ -184,10 +176,9 @@ pub(crate) fn write_announced<W: Sink>(
     new: &BTreeMap<Asn, ProviderAsns>,
     writer: &mut W,
 ) -> Result<(), Fault>
-    ensures bytes { PutsForm result (W.state writer.old) (W.state writer.new)
+    ensures { WritesTo W.Sink result writer.old writer.new
         (payload_forms version Announce (data_for version
         (map entry_of (filter (lacks_entry old.now) new.now.entries)))) }
-    ensures error { IfErr result (HoldsWriteError (W.fails writer.new) (W.stalls writer.new)) }
 {
     if version < 2 {
         return Ok(());
@@ -208,10 +199,9 @@ pub(crate) fn write_withdrawn<W: Sink>(
     new: &BTreeMap<Asn, ProviderAsns>,
     writer: &mut W,
 ) -> Result<(), Fault>
-    ensures bytes { PutsForm result (W.state writer.old) (W.state writer.new)
+    ensures { WritesTo W.Sink result writer.old writer.new
         (payload_forms version Withdraw (map name_of (data_for version
         (map entry_of (filter (lacks_customer new.now) old.now.entries))))) }
-    ensures error { IfErr result (HoldsWriteError (W.fails writer.new) (W.stalls writer.new)) }
 {
     if version < 2 {
         return Ok(());
@@ -231,9 +221,8 @@ pub(crate) fn write_all_origins<W: Sink>(
     origins: &BTreeSet<RouteOrigin>,
     writer: &mut W,
 ) -> Result<(), Fault>
-    ensures bytes { PutsForm result (W.state writer.old) (W.state writer.new)
+    ensures { WritesTo W.Sink result writer.old writer.new
         (payload_forms version Announce (map origin_of origins.now.keys)) }
-    ensures error { IfErr result (HoldsWriteError (W.fails writer.new) (W.stalls writer.new)) }
 {
     for origin in origins.iter() {
         write_origin(version, Action::Announce, *origin, writer)?;
@@ -247,9 +236,8 @@ pub(crate) fn write_all_keys<W: Sink>(
     keys: &BTreeSet<RouterKey>,
     writer: &mut W,
 ) -> Result<(), Fault>
-    ensures bytes { PutsForm result (W.state writer.old) (W.state writer.new)
+    ensures { WritesTo W.Sink result writer.old writer.new
         (payload_forms version Announce (data_for version (map key_of keys.now.keys))) }
-    ensures error { IfErr result (HoldsWriteError (W.fails writer.new) (W.stalls writer.new)) }
 {
     if version < 1 {
         return Ok(());
@@ -266,9 +254,8 @@ pub(crate) fn write_all_aspas<W: Sink>(
     aspas: &BTreeMap<Asn, ProviderAsns>,
     writer: &mut W,
 ) -> Result<(), Fault>
-    ensures bytes { PutsForm result (W.state writer.old) (W.state writer.new)
+    ensures { WritesTo W.Sink result writer.old writer.new
         (payload_forms version Announce (data_for version (entries aspas.now))) }
-    ensures error { IfErr result (HoldsWriteError (W.fails writer.new) (W.stalls writer.new)) }
 {
     if version < 2 {
         return Ok(());

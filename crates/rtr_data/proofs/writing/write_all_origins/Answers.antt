@@ -1,3 +1,4 @@
+use Rattle.std.proofs.Common.{rules}
 use Rattle.std.proofs.lemmas.Result.{err_from_is_err_and}
 use Rattle.std.specs.Map.Iter.{deref}
 use Rattle.rtr_base.specs.declared.action.Action.TheVariants.{Announce}
@@ -14,10 +15,12 @@ loop-origin-preserved g c = (
       c.in_ok-write_origin.ensures.bytes,
 )
 
-pub returns-in_err-write_origin-clause-bytes : goal.returns-in_err-write_origin-clause-bytes
-returns-in_err-write_origin-clause-bytes g c =
+pub returns-in_err-write_origin : goal.returns-in_err-write_origin
+returns-in_err-write_origin g c =
     let p = err_from_is_err_and c.from_residual.result c.from_residual.ensures.1 in
-    rw (p.1, p.2)
-    (sent_front c.args.version Announce _ _ _ _ _ _ (origin_of c.in-Some.origin.now) _
-    (cut deref origin_of c.loop-origin.yielded c.in-Some.origin _ _ _ c.loop-origin.invariant.0
-    c.in-Some.ensures.steps) c.loop-origin.invariant.1 c.in_err-write_origin.ensures.bytes)
+    rw (p.1, p.2) (record {
+      bytes = sent_front c.args.version Announce _ _ _ _ _ _ (origin_of c.in-Some.origin.now) _
+          (cut deref origin_of c.loop-origin.yielded c.in-Some.origin _ _ _ c.loop-origin.invariant.0
+          c.in-Some.ensures.steps) c.loop-origin.invariant.1 c.in_err-write_origin.ensures.bytes;
+      error = search rules;
+    })
