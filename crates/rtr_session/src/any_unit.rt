@@ -2,8 +2,8 @@
 
 ghost use Rattle.std.specs.Prelude.{◌≡◌, length, IfErr};
 ghost use Rattle.rtr_units.specs.Header.{version_field};
-ghost use Rattle.rtr_units.specs.Stream.{PutsForm};
-ghost use Rattle.rtr_units.specs.StopCauses.{HoldsReadError, HoldsWriteError};
+ghost use Rattle.rtr_units.specs.Calls.{WritesTo};
+ghost use Rattle.rtr_units.specs.StopCauses.{HoldsReadError};
 ghost use Rattle.rtr_units.specs.HeaderBytes.{header_bytes};
 ghost use Rattle.rtr_session.specs.AnyFields.{any_session};
 ghost use Rattle.rtr_session.specs.PrivateHeaders.{ReadsHeader};
@@ -114,9 +114,7 @@ impl AnyUnit {
 
     /// Writes all bytes of the unit.
     pub fn write<W: Sink>(&self, writer: &mut W) -> Result<(), Fault>
-        ensures bytes { PutsForm result (W.state writer.old) (W.state writer.new)
-            (any_bytes self.now) }
-        ensures error { IfErr result (HoldsWriteError (W.fails writer.new) (W.stalls writer.new)) }
+        ensures { WritesTo W.Sink result writer.old writer.new (any_bytes self.now) }
     {
         match self {
             AnyUnit::SerialNotify(unit) => unit.write(writer),

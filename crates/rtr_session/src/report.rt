@@ -11,9 +11,8 @@ ghost use Rattle.rtr_base.specs.Bytes.{value};
 ghost use Rattle.std.specs.Io.KnownBytes.{Consumes};
 ghost use Rattle.rtr_units.specs.StopCauses.{by_cause, no_memory};
 ghost use Rattle.rtr_units.specs.Header.{version_field, session_field};
-ghost use Rattle.rtr_units.specs.Reading.{Reads, ReadsAfter, Takes, by_bytes};
-ghost use Rattle.rtr_units.specs.Stream.{PutsForm};
-ghost use Rattle.rtr_units.specs.StopCauses.{HoldsReadError, HoldsWriteError};
+ghost use Rattle.rtr_units.specs.Calls.{ReadsFrom, WritesTo};
+ghost use Rattle.rtr_units.specs.Reading.{Reads, ReadsAfter, Takes};
 ghost use Rattle.rtr_units.specs.HeaderBytes.{header_bytes};
 ghost use Rattle.rtr_session.specs.SessionKinds.{report_unit};
 ghost use Rattle.rtr_session.specs.Reports.{IsReport, HasParts};
@@ -59,9 +58,8 @@ impl Report {
     /// Faults, in this order: `Short` or `Reader` inside the header; those of `read_payload`, of
     /// which `UnitType` and the two after it take the header alone.
     pub fn read<R: Source>(alloc: Global, reader: &mut R) -> Result<Self, Fault>
-        ensures bytes { Reads report_unit [] (by_bytes (λ report. report) result)
-            (R.state reader.old) (R.state reader.new) }
-        ensures error { IfErr result (HoldsReadError (R.fails reader.new)) }
+        ensures { ReadsFrom R.Source (λ report. report) result reader.old reader.new
+            (Reads report_unit []) }
     {
         let header = Header::read(reader)?;
         Report::read_payload(alloc, header, reader)
@@ -77,9 +75,8 @@ impl Report {
         header: Header,
         reader: &mut R,
     ) -> Result<Self, Fault>
-        ensures bytes { ReadsAfter report_unit (header_bytes header)
-            (by_bytes (λ report. report) result) (R.state reader.old) (R.state reader.new) }
-        ensures error { IfErr result (HoldsReadError (R.fails reader.new)) }
+        ensures { ReadsFrom R.Source (λ report. report) result reader.old reader.new
+            (ReadsAfter report_unit (header_bytes header)) }
     {
         if header.pdu() != Report::PDU {
             return Err(Fault::UnitType(header.pdu()));
@@ -151,8 +148,7 @@ impl Report {
 
     /// Writes the bytes.
     pub fn write<W: Sink>(&self, writer: &mut W) -> Result<(), Fault>
-        ensures bytes { PutsForm result (W.state writer.old) (W.state writer.new) self.now }
-        ensures error { IfErr result (HoldsWriteError (W.fails writer.new) (W.stalls writer.new)) }
+        ensures { WritesTo W.Sink result writer.old writer.new self.now }
     {
         put(writer, self.as_ref())
     }

@@ -1,4 +1,4 @@
-use Rattle.std.proofs.Common.{ap, Some, refl, ◌≡◌, ◌+◌, ◌∙◌, [], length, sym, subst, arith}
+use Rattle.std.proofs.Common.{rules, ap, Some, refl, ◌≡◌, ◌+◌, ◌∙◌, [], length, sym, subst, arith}
 use Rattle.std.proofs.lemmas.Result.{err_from_is_err_and}
 use Rattle.std.proofs.KnownBytes.{Consumes-nil}
 use Rattle.std.specs.Vec.{vec_len}
@@ -13,22 +13,25 @@ use Rattle.rtr_session.proofs.Reports.{report_in_order, report_too_long, report_
 use Rattle.rtr_session.proofs.Reports.{report_read, frame_is}
 use Rattle.rtr_session.proofs.report.Report.read_payload.Goals as goal
 
-pub returns-then-size-lt-MIN_SIZE-clause-bytes : goal.returns-then-size-lt-MIN_SIZE-clause-bytes
-returns-then-size-lt-MIN_SIZE-clause-bytes g c =
+pub returns-then-size-lt-MIN_SIZE : goal.returns-then-size-lt-MIN_SIZE
+returns-then-size-lt-MIN_SIZE g c =
     let h = header_bytes c.args.header in
     let l : length h ≡ 8 = c.pdu.ensures.header.0 in
-    let kind : type_field h ≡ 10 = sym c.pdu.ensures.value ∙ c.if-pdu-ne-PDU.false in (
-      c.pdu.ensures.header,
-      (
+    let kind : type_field h ≡ 10 = sym c.pdu.ensures.value ∙ c.if-pdu-ne-PDU.false in record {
+      bytes = (
+        c.pdu.ensures.header,
         (
-          [],
-          Consumes-nil _,
-          at_header report_unit unit_length h l
-              (report_too_short h kind (omega (arith, c.length-size.ensures.value))),
+          (
+            [],
+            Consumes-nil _,
+            at_header report_unit unit_length h l
+                (report_too_short h kind (omega (arith, c.length-size.ensures.value))),
+          ),
+          refl,
         ),
-        refl,
-      ),
-    )
+      );
+      error = search rules;
+    }
 
 pub invariant_of-result : goal.invariant_of-result
 invariant_of-result g c =
@@ -54,8 +57,8 @@ invariant_of-result g c =
     (report_read h t bytes c.fill.ensures.range kind (omega (arith, c.length-size.ensures.value))
     (omega (arith, c.length-size.ensures.value)) (size ∙ c.length-size.ensures.value))
 
-pub returns-clause-bytes : goal.returns-clause-bytes
-returns-clause-bytes g c =
+pub returns : goal.returns
+returns g c =
     let h = header_bytes c.args.header in
     let t = c.fill.new.piece in
     let kind : type_field h ≡ 10 = sym c.pdu.ensures.value ∙ c.if-pdu-ne-PDU.false in
@@ -73,23 +76,26 @@ returns-clause-bytes g c =
     ) in
     let is =
     frame_is (vec_len c.resize.new.self) h c.copy_from_slice.new.self t c.resize.new.self.items
-    (c.copy_from_slice.ensures.after ∙ c.as_ref.ensures.bytes) bytes.0 (size ∙ sym room) in (
-      c.pdu.ensures.header,
-      (
+    (c.copy_from_slice.ensures.after ∙ c.as_ref.ensures.bytes) bytes.0 (size ∙ sym room) in record {
+      bytes = (
+        c.pdu.ensures.header,
         (
-          (t, c.in_ok-fill.ensures.bytes.0.0, is),
-          subst IsReport (sym is)
-              (report_read h t bytes c.fill.ensures.range kind
-              (omega (arith, c.length-size.ensures.value))
-              (omega (arith, c.length-size.ensures.value))
-              (size ∙ c.length-size.ensures.value)),
+          (
+            (t, c.in_ok-fill.ensures.bytes.0.0, is),
+            subst IsReport (sym is)
+                (report_read h t bytes c.fill.ensures.range kind
+                (omega (arith, c.length-size.ensures.value))
+                (omega (arith, c.length-size.ensures.value))
+                (size ∙ c.length-size.ensures.value)),
+          ),
+          c.in_ok-fill.ensures.bytes.1,
         ),
-        c.in_ok-fill.ensures.bytes.1,
-      ),
-    )
+      );
+      error = search rules;
+    }
 
-pub returns-in_err-fill-clause-bytes : goal.returns-in_err-fill-clause-bytes
-returns-in_err-fill-clause-bytes g c =
+pub returns-in_err-fill : goal.returns-in_err-fill
+returns-in_err-fill g c =
     let h = header_bytes c.args.header in
     let ((t, taken, s), counts) = c.in_err-fill.ensures.bytes in
     let kind : type_field h ≡ 10 = sym c.pdu.ensures.value ∙ c.if-pdu-ne-PDU.false in
@@ -108,42 +114,51 @@ returns-in_err-fill-clause-bytes g c =
     let order = report_in_order h kind (omega (arith, c.length-size.ensures.value))
     (omega (arith, c.length-size.ensures.value)) in
     let p = err_from_is_err_and c.from_residual.result c.from_residual.ensures.1 in
-    rw (p.1, p.2) (
-      c.pdu.ensures.header,
-      (
+    rw (p.1, p.2) (record {
+      bytes = (
+        c.pdu.ensures.header,
         (
-          t,
-          taken,
-          rest_stops report_unit report_by (length c.fill.new.piece) h l order size
-              (cause_of c.in_err-fill.field-0.0) t _ s,
+          (
+            t,
+            taken,
+            rest_stops report_unit report_by (length c.fill.new.piece) h l order size
+                (cause_of c.in_err-fill.field-0.0) t _ s,
+          ),
+          counts,
         ),
-        counts,
-      ),
-    )
+      );
+      error = search rules;
+    })
 
-pub returns-then-pdu-ne-PDU-clause-bytes : goal.returns-then-pdu-ne-PDU-clause-bytes
-returns-then-pdu-ne-PDU-clause-bytes g c =
+pub returns-then-pdu-ne-PDU : goal.returns-then-pdu-ne-PDU
+returns-then-pdu-ne-PDU g c =
     let h = header_bytes c.args.header in
     let other : ¬ (type_field h ≡ 10) = λ ten. c.if-pdu-ne-PDU.true (c.pdu.ensures.value ∙ ten) in
     let fault =
     typed_not 10 report_sized h other
-    ∙ ap (λ t. Some (unit_type t)) (sym c.pdu-then-pdu-ne-PDU.ensures.value) in (
-      c.pdu.ensures.header,
-      (([], Consumes-nil _, at_header report_unit _ h c.pdu.ensures.header.0 fault), refl),
-    )
+    ∙ ap (λ t. Some (unit_type t)) (sym c.pdu-then-pdu-ne-PDU.ensures.value) in record {
+      bytes = (
+        c.pdu.ensures.header,
+        (([], Consumes-nil _, at_header report_unit _ h c.pdu.ensures.header.0 fault), refl),
+      );
+      error = search rules;
+    }
 
-pub returns-then-size-gt-MAX_SIZE-clause-bytes : goal.returns-then-size-gt-MAX_SIZE-clause-bytes
-returns-then-size-gt-MAX_SIZE-clause-bytes g c =
+pub returns-then-size-gt-MAX_SIZE : goal.returns-then-size-gt-MAX_SIZE
+returns-then-size-gt-MAX_SIZE g c =
     let h = header_bytes c.args.header in
-    let kind : type_field h ≡ 10 = sym c.pdu.ensures.value ∙ c.if-pdu-ne-PDU.false in (
-      c.pdu.ensures.header,
-      (
+    let kind : type_field h ≡ 10 = sym c.pdu.ensures.value ∙ c.if-pdu-ne-PDU.false in record {
+      bytes = (
+        c.pdu.ensures.header,
         (
-          [],
-          Consumes-nil _,
-          at_header report_unit too_long h c.pdu.ensures.header.0
-              (report_too_long h kind (omega (arith, c.length-size.ensures.value))),
+          (
+            [],
+            Consumes-nil _,
+            at_header report_unit too_long h c.pdu.ensures.header.0
+                (report_too_long h kind (omega (arith, c.length-size.ensures.value))),
+          ),
+          refl,
         ),
-        refl,
-      ),
-    )
+      );
+      error = search rules;
+    }
