@@ -190,9 +190,7 @@ impl EndOfDataV0 {
     pub fn new(state: State) -> Self
         ensures { fixed_bytes result ≡ serial_list 0 7 state.session state.serial }
     {
-        let [s0, s1] = state.session().to_be_bytes();
-        let [q0, q1, q2, q3] = state.serial().0.to_be_bytes();
-        FixedUnit::of([0, 7, s0, s1, 0, 0, 0, 12, q0, q1, q2, q3])
+        Self::of_state(0, state)
     }
 }
 

@@ -30,6 +30,25 @@ impl<const TYPE: u8> FixedUnit<TYPE, 12> {
     {
         serial_after_header(self.as_ref())
     }
+
+    /// The session and the serial number.
+    #[inline(always)]
+    pub fn state(&self) -> State
+        ensures session { result.session ≡ session_field (fixed_bytes self.now) }
+        ensures serial { result.serial ≡ serial_field (fixed_bytes self.now) }
+    {
+        State::from_parts(self.session(), self.serial())
+    }
+
+    /// The unit with this version and state.
+    #[inline(always)]
+    pub(crate) fn of_state(version: u8, state: State) -> Self
+        ensures { fixed_bytes result ≡ serial_list version TYPE state.session state.serial }
+    {
+        let [s0, s1] = state.session().to_be_bytes();
+        let [q0, q1, q2, q3] = state.serial().0.to_be_bytes();
+        FixedUnit::of([version, TYPE, s0, s1, 0, 0, 0, 12, q0, q1, q2, q3])
+    }
 }
 
 /// The cache says that it has new data (section 5.2): 12 bytes.
@@ -44,18 +63,7 @@ impl SerialNotify {
     pub fn new(version: u8, state: State) -> Self
         ensures { fixed_bytes result ≡ serial_list version 0 state.session state.serial }
     {
-        let [s0, s1] = state.session().to_be_bytes();
-        let [q0, q1, q2, q3] = state.serial().0.to_be_bytes();
-        FixedUnit::of([version, 0, s0, s1, 0, 0, 0, 12, q0, q1, q2, q3])
-    }
-
-    /// The session and the serial number.
-    #[inline(always)]
-    pub fn state(&self) -> State
-        ensures session { result.session ≡ session_field (fixed_bytes self.now) }
-        ensures serial { result.serial ≡ serial_field (fixed_bytes self.now) }
-    {
-        State::from_parts(self.session(), self.serial())
+        Self::of_state(version, state)
     }
 }
 
@@ -71,18 +79,7 @@ impl SerialQuery {
     pub fn new(version: u8, state: State) -> Self
         ensures { fixed_bytes result ≡ serial_list version 1 state.session state.serial }
     {
-        let [s0, s1] = state.session().to_be_bytes();
-        let [q0, q1, q2, q3] = state.serial().0.to_be_bytes();
-        FixedUnit::of([version, 1, s0, s1, 0, 0, 0, 12, q0, q1, q2, q3])
-    }
-
-    /// The session and the serial number.
-    #[inline(always)]
-    pub fn state(&self) -> State
-        ensures session { result.session ≡ session_field (fixed_bytes self.now) }
-        ensures serial { result.serial ≡ serial_field (fixed_bytes self.now) }
-    {
-        State::from_parts(self.session(), self.serial())
+        Self::of_state(version, state)
     }
 }
 
