@@ -1,6 +1,8 @@
 -- What is shown of payload units says all of their forms.
-use Rattle.std.proofs.Common.{◌≡◌, ℕ, ◌+◌, ◌-◌, ◌*◌, ◌^◌, ◌%◌, ◌<◌, ◌≤◌, not, cond, ltb, eqb, nat_le, List}
-use Rattle.std.proofs.Common.{false, None, [], ◌++◌, length, take, drop, Some, Ok, refl, sym, ap, ◌∙◌}
+use Rattle.std.proofs.Common.{◌≡◌, ℕ, ◌+◌, ◌-◌, ◌*◌, ◌^◌, ◌%◌, ◌<◌, ◌≤◌, not, cond, ltb, eqb}
+use Rattle.std.proofs.Common.{nat_le, List}
+use Rattle.std.proofs.Common.{false, None, [], ◌++◌, length, take, drop, Some, Ok, refl, sym, ap}
+use Rattle.std.proofs.Common.{◌∙◌}
 use Rattle.std.proofs.Common.{append_assoc, arith, length-append, inl, inr, ◌⊎◌, Err}
 use Rattle.std.proofs.lemmas.Bool.Decides.{nat_tests}
 use Rattle.std.proofs.lemmas.List.{take_at, drop_at, drop-drop}
@@ -21,12 +23,14 @@ use Rattle.rtr_payload.specs.KeyUnits.{KeyFields, key_list}
 use Rattle.rtr_payload.specs.Payloads.{IsOrigin, IsKey, IsAspa, origin, key, aspa}
 use Rattle.rtr_payload.specs.Providers.{words_of}
 use Rattle.rtr_payload.specs.Units.{form, form_of}
-use Rattle.rtr_payload.specs.UnitFields.{Fields, Fit, LengthsAgree, prefix_unit, key_unit, aspa_unit, meaning}
+use Rattle.rtr_payload.specs.UnitFields.{Fields, Fit, LengthsAgree, prefix_unit, key_unit}
+use Rattle.rtr_payload.specs.UnitFields.{aspa_unit, meaning}
 use Rattle.rtr_payload.proofs.FieldsRead.{words_of-words}
 use Rattle.rtr_c.specs.Answers.{rtr_no_form, rtr_too_long, rtr_unit_length, rtr_empty_providers}
 use Rattle.rtr_c.specs.declared.unit.RtrUnit.{RtrUnit}
 use Rattle.rtr_c.specs.Said.{said, piece_said, unless_broken, key_said, aspa_said, aspa_form}
-use Rattle.rtr_c.specs.Shown.{none, address_shown, prefix_shown, key_shown, aspa_shown, payload_shown}
+use Rattle.rtr_c.specs.Shown.{none, address_shown, prefix_shown, key_shown, aspa_shown}
+use Rattle.rtr_c.specs.Shown.{payload_shown}
 
 piece_steps : {A : Type 0} (m n : ℕ) (x y : A) → m ≤ n → cond (nat_le m n) x y ≡ x
 piece_steps m n x y h = grind (arith, nat_tests)
@@ -86,7 +90,8 @@ module _ (n v g l m asn a : ℕ) (input : List ℕ) where
       ∙ ap (λ b. Ok (form_with v4 b)) (cleared_once 32 l a clear)
   by_family v6 small clear less most =
       ap (λ r. cond (ltb 1 (g % 2) || false) (Err rtr_no_form)
-      (unless_broken r (form_with v6 (cleared 128 l (value (be a 16)))))) (in_order 128 l m less most)
+      (unless_broken r (form_with v6 (cleared 128 l (value (be a 16))))))
+      (in_order 128 l m less most)
       ∙ act_steps (g % 2) _ _ (omega arith)
       ∙ ap (λ b. Ok (form_with v6 (cleared 128 l b))) (value-be a 16 small)
       ∙ ap (λ b. Ok (form_with v6 b)) (cleared_once 128 l a clear)

@@ -1,5 +1,6 @@
 -- Forms that are written in two pieces.
-use Rattle.std.proofs.Common.{◌≡◌, ◌≢◌, ℕ, ◌+◌, ◌-◌, ◌*◌, ◌%◌, ◌≤◌, false, not, ltb, eqb, cond, List, []}
+use Rattle.std.proofs.Common.{◌≡◌, ◌≢◌, ℕ, ◌+◌, ◌-◌, ◌*◌, ◌%◌, ◌≤◌, false, not, ltb, eqb, cond}
+use Rattle.std.proofs.Common.{List, []}
 use Rattle.std.proofs.Common.{◌∷◌, ◌++◌, length, take, drop, Some, Ok}
 use Rattle.std.proofs.Common.{refl, sym, ap, ◌∙◌, append_assoc, arith}
 use Rattle.std.proofs.lemmas.Bool.Decides.{nat_tests}

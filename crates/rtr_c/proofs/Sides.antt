@@ -1,6 +1,7 @@
 -- Which of two inputs that are compared is refused, and where: a call that normalises it stops
 -- there, and tells the same.
-use Rattle.std.proofs.Common.{◌≡◌, ◌≢◌, ◌⊎◌, inl, inr, ℕ, ◌+◌, Bool, false, List, ◌++◌, length, drop}
+use Rattle.std.proofs.Common.{◌≡◌, ◌≢◌, ◌⊎◌, inl, inr, ℕ, ◌+◌, Bool, false, List, ◌++◌, length}
+use Rattle.std.proofs.Common.{drop}
 use Rattle.std.proofs.Common.{Result, Ok, Err, refl, sym, ap, subst, ◌∙◌, arith, length-append}
 use Rattle.std.proofs.lemmas.Bool.{cases_order}
 use Rattle.rtr_base.specs.Bytes.{be}
@@ -338,7 +339,8 @@ module _ (limit : ℕ) (input : List ℕ) where
         ∙ sym s.wanted in
         let detail : fault_detail e ≡ a.detail = one_detail last (view_cause last e)
         (fault_detail e) a.detail (view_details last e)
-        (subst (λ u. Details u (view_cause last e) a.detail) (sym (is.last_is ∙ same.1)) s.detail) in
+        (subst (λ u. Details u (view_cause last e) a.detail) (sym (is.last_is ∙ same.1)) s.detail)
+        in
         λ i. record {
           offset = place i;
           wanted = wants i;
@@ -424,5 +426,6 @@ of_right limit (Err f) left right before after room filled c a b status code com
     let t = right_refused limit left right a b code f.side f.offset compares.last f.fault
     compares.stops (ended limit left before after a rtr_ok first (λ e. absurd (omega (arith, e))))
     (ended limit right room filled b code call not) in
-    let all = told_of rtr_right b c (comparison_told (Err f) left right) status code tells t.0 t.1 in
+    let all = told_of rtr_right b c (comparison_told (Err f) left right) status code tells t.0 t.1
+    in
     (all.0, λ refused. all.1)

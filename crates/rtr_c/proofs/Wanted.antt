@@ -91,7 +91,8 @@ module _ (k n : ℕ) (prefix : Option Refusal) (never : prefix ≡ Some short �
   past_header (Some f) not bounds e = absurd (not e)
 
   abbrev Wants : Bool → Type 0
-  Wants b = (k < cond b 8 n) × ((k < 8 → cond b 8 n ≡ 8) × ((8 ≤ cond b 8 n) × (cond b 8 n ≤ 65535)))
+  Wants b = (k < cond b 8 n)
+      × ((k < 8 → cond b 8 n ≡ 8) × ((8 ≤ cond b 8 n) × (cond b 8 n ≤ 65535)))
 
   pub wants : (header : Option Refusal) → (header ≡ Some short → ⊥) →
       (header ≡ None → (8 ≤ n) × (n ≤ 65535)) → (b : Bool) → ltb k 8 ≡ b →

@@ -262,7 +262,8 @@ unfoldable pub breaks : (limit count : ℕ) (f : Fault) (old mid new : ReaderSta
     mid.failed ≡ old.failed → ReadsChange (Err f) mid.left new.left →
     new.failed ≡ reader_count {T = ℕ} (Err (cause_of f)) mid.failed →
     Applies limit (Err (record { units = count; cause = Read f })) old new before left_as
-breaks limit count f old mid new before made left_as same lt s kept (t, took, no_writer, told) well =
+breaks limit count f old mid new before made left_as same lt s kept
+    (t, took, no_writer, told) well =
     stopped limit count (Read f) old mid new before made left_as same s kept t took
     (few (cause_of f) limit s.ms t new.left told (omega (arith, s.counted, lt)))
     (no_writer, told_ends (cause_of f) t new.left told) well
@@ -270,7 +271,8 @@ breaks limit count f old mid new before made left_as same lt s kept (t, took, no
 -- where a change was not made
 pub stops_change : (e : ChangeError) (action : Action) (p : Value) (a b : Option (List ℕ))
     (made x : List Payload) (r : ReadsChange (Ok (Ok (action, p))) a b) →
-    Leaves {T = Unit {0}} (Err e) (changed action (payload_of p) made) made x → StopsChange e r.0 made
+    Leaves {T = Unit {0}} (Err e) (changed action (payload_of p) made) made x →
+    StopsChange e r.0 made
 stops_change Memory action p a b made x (t, m, took, unit, is) h =
     inr (m, unit, subst (λ c. IsOk (after c made)) (sym is) h.0)
 stops_change Duplicate action p a b made x (t, m, took, unit, is) h =
@@ -302,7 +304,8 @@ refuses limit count e old mid new before made left_as x action p same lt s kept 
     (stops_change e action p mid.left new.left made x r h) well
 
 unfoldable pub reaches_limit : (limit count : ℕ) (old new : ReaderState)
-    (before made left_as : List Payload) → left_as ≡ before → count ≡ limit → SoFar count old.left new.left before made → new.failed ≡ old.failed →
+    (before made left_as : List Payload) → left_as ≡ before → count ≡ limit →
+    SoFar count old.left new.left before made → new.failed ≡ old.failed →
     Applies limit (Err (record { units = limit; cause = Read TooMany })) old new before left_as
 reaches_limit limit count old new before made left_as same full s kept = record {
   units = s.us;

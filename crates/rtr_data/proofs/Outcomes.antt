@@ -99,7 +99,8 @@ refused_among input b us last left ms ns m e before made this error h j unit is 
 read_run : (limit : ℕ) (f : Fault) (us last left : List ℕ) (ns : List Meaning) → AreUnits us ns →
     Counts everything limit (Err (cause_of f)) ns →
     Ends everything (Err (cause_of f)) last left [] →
-    Run everything limit (Err (cause_of f)) (us ++ last) left (forms (written_units everything ns) ++ [])
+    Run everything limit (Err (cause_of f)) (us ++ last) left
+    (forms (written_units everything ns) ++ [])
 read_run limit f us last left ns units counts ends = record {
   units = us;
   last = last;
@@ -114,7 +115,8 @@ read_run limit f us last left ns units counts ends = record {
 
 no_change : (error : ChangeError) (input b us last left : List ℕ) (ms ns : List Meaning)
     (e : EndMeaning) (before made this : List Payload) → BlamesNoCause (Change error) →
-    Accepts input b ms e → AreUnits us ns → input ≡ (us ++ last) ++ left → after_all (map change_of ns) (Ok before) ≡ Ok made → StopsChange error last made →
+    Accepts input b ms e → AreUnits us ns → input ≡ (us ++ last) ++ left →
+    after_all (map change_of ns) (Ok before) ≡ Ok made → StopsChange error last made →
     after_all (map change_of ms) (Ok before) ≡ Ok this → ⊥
 no_change Memory input b us last left ms ns e before made this blames h j is so stops all = blames
 no_change Duplicate input b us last left ms ns e before made this blames h j is so (m, unit, x)

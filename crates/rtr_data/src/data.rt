@@ -1,6 +1,7 @@
 //! A set of payloads.
 
-ghost use Rattle.std.specs.Prelude.{◌≡◌, ◌<◌, ◌≤◌, [], Bool, Err, IfErr, false, length, min, nat_eq};
+ghost use Rattle.std.specs.Prelude.{◌≡◌, ◌<◌, ◌≤◌, [], Bool, Err, IfErr, false, length, min};
+ghost use Rattle.std.specs.Prelude.{nat_eq};
 ghost use Rattle.rtr_base.specs.declared.action.Action.TheVariants.{Announce, Withdraw};
 ghost use Rattle.rtr_units.specs.Calls.{WritesTo};
 ghost use Rattle.rtr_units.specs.StopCauses.{HoldsWriteError, by_cause, unit_version, wrong};

@@ -171,7 +171,8 @@ module _ (changes : List ℕ) (middle stop : ℕ) (e : EndMeaning)
         (names_after w.before d before_it.made w.first before_it.is
         (later_name w.before w.others w.first ordered)) ∙ w.against)
 
-    pub duplicate : RefusedAt n refusals.Duplicate changes d (both c.announced c.withdrawn) e.version
+    pub duplicate : RefusedAt n refusals.Duplicate changes d (both c.announced c.withdrawn)
+        e.version
     duplicate = record {
       before = map announcement w.before;
       refused = announcement w.first;

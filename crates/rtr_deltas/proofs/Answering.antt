@@ -15,13 +15,15 @@ use Rattle.rtr_deltas.proofs.Placed.{announcing, duplicates, unknowns, withdrawi
 use Rattle.rtr_deltas.proofs.Units.{of_data}
 
 module _ (old changes : List ℕ) (middle stop : ℕ) (d : List Payload) (e e' : EndMeaning)
-    (h : HoldsData old d e) (p : HoldsParts changes middle stop e') (version : e.version ≡ e'.version)
+    (h : HoldsData old d e) (p : HoldsParts changes middle stop e')
+    (version : e.version ≡ e'.version)
     (session : e.session ≡ e'.session) where
   held : HoldsUnits Announce e'.version old d
   held = subst (λ v. HoldsUnits Announce v old d) version (of_data old d e h)
 
   pub duplicate_at : (at : ℕ) → FindsRefused (Some at) Duplicate (announcing changes middle) old →
-      OfOneSession old changes (λ x cs end. RefusedAt at refusals.Duplicate changes x cs end.version)
+      OfOneSession old changes
+      (λ x cs end. RefusedAt at refusals.Duplicate changes x cs end.version)
   duplicate_at at f = (
     d,
     e,

@@ -279,7 +279,14 @@ module _ (old announced withdrawn old_rest new_rest gone_rest before now : List 
           (put_mid written (length now - written) now part) (written + n)
       writes n (is, le, out) = record {
         fits =
-            omega (arith, le, ap length (rest_is written now), length-drop written now, a.fits, a.room);
+            omega (
+              arith,
+              le,
+              ap length (rest_is written now),
+              length-drop written now,
+              a.fits,
+              a.room,
+            );
         room =
             omega (
               arith,

@@ -280,7 +280,8 @@ module _ (a : Action) (input places : List ℕ) (view : PayloadView) (rest : Lis
         PlacesNets a (Some (written + n)) input places before (put part)
     all_placed n placed v cs h =
         let s = r.each v cs h in
-        let w = more s.piece before now written s.so_far (last_form true a first (meant view)) part n
+        let w = more s.piece before now written s.so_far
+        (last_form true a first (meant view)) part n
         placed in
         subst (λ l. PlacesFront (Some (written + n)) l before (put part)) (sym (all_left v cs h s))
         (w.size, w.fits, w.output)

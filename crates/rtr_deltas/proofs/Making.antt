@@ -49,7 +49,8 @@ pub removed_name : (p q : Payload) → is_eq (name_cmp q p) ≡ false → (d : L
 removed_name p q n [] = refl
 removed_name p q n (x ∷ d) = by_test (removed_name p q n d) (is_eq (name_cmp p x)) refl
   where
-    by_test : has_name (remove_key (is_at (name_cmp p)) d) q ≡ has_name d q → (b : Bool) → is_eq (name_cmp p x) ≡ b →
+    by_test : has_name (remove_key (is_at (name_cmp p)) d) q ≡ has_name d q → (b : Bool) →
+        is_eq (name_cmp p x) ≡ b →
         has_name (cond b d (x ∷ remove_key (is_at (name_cmp p)) d)) q ≡ has_name (x ∷ d) q
     by_test ih true e =
         sym (ap (λ b. b || has_name d q)
@@ -87,7 +88,8 @@ names_after (p ∷ ps) d x q h n =
     both = or_parts (is_eq (name_cmp q p)) (has_name ps q) n
 
     by_first : ((e : List Payload) → after_all (map announcement ps) (Ok e) ≡ Ok x →
-        has_name x q ≡ has_name e q) → (r : Result (List Payload) ChangeError) → after (announcement p) d ≡ r →
+        has_name x q ≡ has_name e q) → (r : Result (List Payload) ChangeError) →
+        after (announcement p) d ≡ r →
         after_all (map announcement ps) r ≡ Ok x → has_name x q ≡ has_name d q
     by_first ih (Ok e) is h =
         ih e h

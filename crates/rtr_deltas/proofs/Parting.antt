@@ -22,7 +22,8 @@ use Rattle.rtr_deltas.specs.Canonical.{change}
 use Rattle.rtr_deltas.specs.CanonicalChanges.{AreOrdered, HasChanges, HoldsChanges}
 use Rattle.rtr_deltas.specs.Flaws.{AreUnitsOf, IsFlawOfChanges}
 use Rattle.rtr_deltas.specs.PrivateChanges.{BeginsAlso, Breaks, FindsAmong, FindsRefused}
-use Rattle.rtr_deltas.specs.PrivateChanges.{HoldsParts, HoldsUnits, InVersion, IsRun, NoUnit, NoUnitOf}
+use Rattle.rtr_deltas.specs.PrivateChanges.{HoldsParts, HoldsUnits, InVersion, IsRun, NoUnit}
+use Rattle.rtr_deltas.specs.PrivateChanges.{NoUnitOf}
 use Rattle.rtr_deltas.specs.PrivateChanges.{units_of}
 use Rattle.rtr_deltas.specs.declared.fault.Flaw.{Flaw}
 use Rattle.rtr_deltas.specs.declared.fault.Reason.TheVariants.{Refused, NotCanonical}
@@ -338,7 +339,8 @@ module _ (input : List ℕ) (n k : ℕ) (mid late : Option ℕ) (a : IsRun Annou
         withdrawn = w.before;
         parts = refl;
         announced_in_order = a.in_order;
-        withdrawn_in_order = front_data w.before (w.first ∷ w.others) (subst IsData w.all b.in_order);
+        withdrawn_in_order = front_data w.before (w.first ∷ w.others)
+            (subst IsData w.all b.in_order);
         apart = w.within;
       };
     }

@@ -8,7 +8,8 @@ use Rattle.rtr_units.specs.End.{EndMeaning, end_list}
 use Rattle.rtr_payload.specs.Payloads.{Payload}
 use Rattle.rtr_views.specs.Placing.{Places}
 use Rattle.rtr_deltas.specs.Canonical.{PlacesFront}
-use Rattle.rtr_deltas.specs.PrivateChanges.{FindsAmong, FindsRefused, HoldsParts, HoldsUnits, MakesNew}
+use Rattle.rtr_deltas.specs.PrivateChanges.{FindsAmong, FindsRefused, HoldsParts, HoldsUnits}
+use Rattle.rtr_deltas.specs.PrivateChanges.{MakesNew}
 use Rattle.rtr_deltas.specs.PrivateChanges.{PlacesAll, PlacesApplied}
 use Rattle.rtr_deltas.specs.declared.refused.Rule.TheVariants.{Duplicate, Unknown}
 use Rattle.rtr_deltas.proofs.Applying.{announced_forms}

@@ -1,6 +1,7 @@
 -- What is refused of the changes of an input, from what is of these in the order of names.
 use Rattle.std.proofs.Common.{◌≡◌, ◌≤◌, ℕ, ◌+◌, Bool, true, false, cond, List, [], ◌∷◌, ◌++◌}
-use Rattle.std.proofs.Common.{length, map, filter, Option, Some, None, Err, refl, sym, ap, subst, ◌∙◌}
+use Rattle.std.proofs.Common.{length, map, filter, Option, Some, None, Err, refl, sym, ap, subst}
+use Rattle.std.proofs.Common.{◌∙◌}
 use Rattle.std.proofs.Common.{append_assoc, arith, length-append}
 use Rattle.std.proofs.lemmas.List.Elements.{filter-append}
 use Rattle.std.specs.List.{AllByRecursion}
@@ -21,7 +22,8 @@ use Rattle.rtr_deltas.specs.Canonical.{PlacesFront}
 use Rattle.rtr_deltas.specs.Net.{AreLinked, of_name, undecided}
 use Rattle.rtr_deltas.specs.Order.{IsAgain, IsOpenEnd, IsRight, Orders, RefusesAt, RefusesOrder}
 use Rattle.rtr_deltas.specs.Order.{Sends, WritesOrder}
-use Rattle.rtr_deltas.specs.PrivatePlaces.{HasUnit, HaveUnits, SendsAt, UnitsAt, ordered, first_wrong}
+use Rattle.rtr_deltas.specs.PrivatePlaces.{HasUnit, HaveUnits, SendsAt, UnitsAt, ordered}
+use Rattle.rtr_deltas.specs.PrivatePlaces.{first_wrong}
 use Rattle.rtr_deltas.specs.declared.order_fault.OrderFault.{OrderFault}
 use Rattle.rtr_deltas.specs.declared.order_fault.OrderFault.TheVariants as faults
 use Rattle.rtr_deltas.proofs.NetOrdered.{IsPlain, they_net}

@@ -129,8 +129,13 @@ sent_units : (v : ℕ) (f : Payload → Change) (ps : List Payload) (cs : List C
     AreSent v f ps → AreUnits (change_forms v cs) (map (unit_of v) cs) →
     AreUnits (change_forms v (map f ps ++ cs)) (map (unit_of v) (map f ps ++ cs))
 sent_units v f [] cs h units = units
-sent_units v f (p ∷ ps) cs (g, h) units =
-    (form_of (unit_of v (f p)), change_forms v (map f ps ++ cs), refl, g, sent_units v f ps cs h units)
+sent_units v f (p ∷ ps) cs (g, h) units = (
+  form_of (unit_of v (f p)),
+  change_forms v (map f ps ++ cs),
+  refl,
+  g,
+  sent_units v f ps cs h units,
+)
 
 pub all_sent : (v : ℕ) (f : Payload → Change) (ps : List Payload) → AreSent v f ps →
     AreUnits (change_forms v (map f ps)) (map (unit_of v) (map f ps))
@@ -183,7 +188,8 @@ module _ (old new : List ℕ) (d d' : List Payload) (e e' : EndMeaning) (h : Hol
     apart = apart (λ p. not (has d p)) d' d;
   }
 
-  units : AreUnits (change_forms e'.version (changes d d')) (map (unit_of e'.version) (changes d d'))
+  units : AreUnits (change_forms e'.version (changes d d'))
+      (map (unit_of e'.version) (changes d d'))
   units =
       sent_units e'.version announcement (filter (λ p. not (has d p)) d') (withdrawals d d')
       (filter_all (λ p. IsSent e'.version (announcement p)) (λ p. not (has d p)) d'

@@ -11,7 +11,8 @@ use Rattle.rtr_base.specs.declared.action.Action.TheVariants.{Announce, Withdraw
 use Rattle.rtr_units.specs.End.{EndMeaning, IsEnd}
 use Rattle.rtr_payload.specs.AspaUnits.{meant_aspa}
 use Rattle.rtr_payload.specs.Payloads.{Meaning, Payload, origin, key, aspa}
-use Rattle.rtr_payload.specs.UnitFields.{Fields, aspa_unit, key_unit, meaning, prefix_unit, stripped}
+use Rattle.rtr_payload.specs.UnitFields.{Fields, aspa_unit, key_unit, meaning, prefix_unit}
+use Rattle.rtr_payload.specs.UnitFields.{stripped}
 use Rattle.rtr_payload.specs.Units.{IsUnit}
 use Rattle.rtr_payload.proofs.ByFields.{unit_fields_of}
 use Rattle.rtr_payload.proofs.Apart.{unit_or_end}
@@ -141,7 +142,8 @@ of_payload Withdraw (origin o) e = refl
 of_payload Withdraw (key k) e = refl
 of_payload Withdraw (aspa x) e = ap (λ q. record { action = Withdraw; payload = q }) e
 
-stripped_twice : (u : Fields) → stripped (meaning u).action (meaning u).payload ≡ (meaning u).payload
+stripped_twice : (u : Fields) → stripped (meaning u).action (meaning u).payload
+    ≡ (meaning u).payload
 stripped_twice (prefix_unit u) = refl
 stripped_twice (key_unit u) = refl
 stripped_twice (aspa_unit u) = by_action (act u.flags)

@@ -1,6 +1,7 @@
 -- What is refused of changes in the order of names.
 use Rattle.std.proofs.Common.{◌≡◌, ℕ, Bool, true, false, cond, List, [], ◌∷◌, ◌++◌, length}
-use Rattle.std.proofs.Common.{Option, Some, None, refl, sym, ap, subst, ◌∙◌, append-nil, append_assoc}
+use Rattle.std.proofs.Common.{Option, Some, None, refl, sym, ap, subst, ◌∙◌, append-nil}
+use Rattle.std.proofs.Common.{append_assoc}
 use Rattle.std.proofs.Common.{arith, length-append}
 use Rattle.std.proofs.lemmas.Bool.{true≢false}
 use Rattle.std.proofs.lemmas.List.Elements.{filter-append}
@@ -15,7 +16,8 @@ use Rattle.rtr_payload.specs.Payloads.{Payload}
 use Rattle.rtr_data.specs.Data.{Change, name_cmp}
 use Rattle.rtr_data.proofs.Merge.{laws}
 use Rattle.rtr_data.proofs.Names.{above, below, name_total}
-use Rattle.rtr_deltas.specs.Net.{AreLinked, Follow, is_open, last_of, may_follow, of_name, undecided}
+use Rattle.rtr_deltas.specs.Net.{AreLinked, Follow, is_open, last_of, may_follow, of_name}
+use Rattle.rtr_deltas.specs.Net.{undecided}
 use Rattle.rtr_deltas.specs.Order.{IsAgain, IsOpenEnd, IsRight}
 use Rattle.rtr_deltas.specs.PrivatePlaces.{between, first_after, opened, or_else, repeated_at}
 use Rattle.rtr_deltas.specs.PrivatePlaces.{same_name, first_wrong, wrong_from}

@@ -91,7 +91,8 @@ ComparesPlaces input x y r = (at : ℕ → Option Meaning) → TellsPlaces input
 
 abbrev pub SortsPlaces : (input : List ℕ) → List ℕ → Type 0
 SortsPlaces input os =
-    (at : ℕ → Option Meaning) → TellsPlaces input at → IsSortedBy (λ x y. is_lt (place_cmp at x y)) os
+    (at : ℕ → Option Meaning) → TellsPlaces input at →
+    IsSortedBy (λ x y. is_lt (place_cmp at x y)) os
 
 -- ---- reading
 

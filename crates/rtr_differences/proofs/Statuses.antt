@@ -47,7 +47,8 @@ module _ (form : Form) (old old_left new new_left : ReaderState) (before after :
   different (answer, flushed, mid, compares, flush, is) =
       different_by answer flushed mid compares flush is
 
-status_least : {E : Type 0} (answer : Result Bool E) (flushed : Bool) → diff_status answer flushed ≤ 2
+status_least : {E : Type 0} (answer : Result Bool E) (flushed : Bool) →
+    diff_status answer flushed ≤ 2
 status_least (Ok false) true = omega arith
 status_least (Ok true) true = omega arith
 status_least (Ok any) false = omega arith

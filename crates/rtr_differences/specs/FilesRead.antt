@@ -1,5 +1,5 @@
--- What reading a file leaves (this library's own; cache responses by RFC 8210 section 5.5, sequences
--- by its section 8).
+-- What reading a file leaves (this library's own; cache responses by RFC 8210 section 5.5,
+-- sequences by its section 8).
 use Rattle.std.specs.Prelude.{◌≡◌, ℕ, ◌-◌, ◌^◌, ◌&&◌, ◌==◌, List, [], ◌++◌, length, take, min}
 use Rattle.std.specs.Prelude.{Bool, if◌then◌else◌, Result, Ok, Err, IfErr}
 use Rattle.std.specs.Io.KnownBytes.{Consumes}

@@ -18,8 +18,8 @@ use Rattle.rtr_differences.specs.FilesRead.{opening}
 use Rattle.rtr_differences.specs.declared.file.ReadUnit.{ReadUnit}
 
 -- What the bytes t are that were taken, by the answer: a unit, with its change and its size; an end
--- of data; or those at which reading stopped as a step of a run does. `left` is what the reader then
--- has.
+-- of data; or those at which reading stopped as a step of a run does. `left` is what the reader
+-- then has.
 abbrev pub IsTaken : Result (Result ReadUnit EndOfData) Fault → (t : List ℕ) →
     (left : Option (List ℕ)) → Type 0
 IsTaken (Ok (Ok u)) t left = (m : Meaning) × IsUnit t m

@@ -104,7 +104,8 @@ other_refused r e d n size long other field is fault beside =
 pub plain_type : (r : List ℕ) → IsWhole session_unit r → is_payload_or_end (type_field r) ≡ false →
     IsPlainType (type_field r)
 plain_type r w other =
-    let none_of = other_type (version_field r) (type_field r) (get_or r 2 0) (length_field r) other in
+    let none_of = other_type (version_field r) (type_field r) (get_or r 2 0) (length_field r) other
+    in
     elim (kinds (version_field r) (type_field r) (get_or r 2 0) (length_field r) w.in_order) [
       | inl (t, n) ↦ inl (inl t)
       | inr (inl (t, n)) ↦ inl (inr t)

@@ -32,7 +32,8 @@ module _ (v g n : ℕ) where
   of_twelve t (inl e) = rw e refl
   of_twelve t (inr e) = rw e refl
 
-  pub of_eight : (t : ℕ) → (t ≡ 2) ⊎ ((t ≡ 3) ⊎ (t ≡ 8)) → any_header_fault v t g n ≡ exact_length 8 n
+  pub of_eight : (t : ℕ) → (t ≡ 2) ⊎ ((t ≡ 3) ⊎ (t ≡ 8)) → any_header_fault v t g n
+      ≡ exact_length 8 n
   unfolding any_header_fault
   of_eight t (inl e) = rw e refl
   of_eight t (inr (inl e)) = rw e refl

@@ -52,7 +52,8 @@ pub record IsSequenceOf (a : Request) (items : List Item) (d : List Payload)
 
 -- It was written; or a part of it, and then the writer failed; or nothing was, since an item is
 -- refused or memory ran out.
-abbrev pub MakesSequence : Request → List Item → Result ℕ Trouble → WriterState → WriterState → Type 0
+abbrev pub MakesSequence : Request → List Item → Result ℕ Trouble → WriterState → WriterState →
+    Type 0
 MakesSequence a items (Ok n) old new = (d : List Payload) × IsSequenceOf a items d n
     × PutsForm (Ok n) old new (sequence_of a d)
 MakesSequence a items (Err (troubles.Input r)) old new =

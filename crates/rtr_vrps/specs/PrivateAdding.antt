@@ -12,8 +12,8 @@ abbrev pub with_payload : Payload → List Payload → List Payload
 with_payload p d = if has d p then d else replace_key name_cmp d p
 
 -- it isn't refused and is there; or it is refused, or memory ran out
-abbrev pub AddsPayload : {T : Type 0} → ℕ → Payload → Result T Reason → List Payload → List Payload →
-    Type 0
+abbrev pub AddsPayload :
+    {T : Type 0} → ℕ → Payload → Result T Reason → List Payload → List Payload → Type 0
 AddsPayload v p (Ok t) old new = (refusal_after v old p ≡ None) × (new ≡ with_payload p old)
 AddsPayload v p (Err Memory) old new = ⊤
 AddsPayload v p (Err r) old new = refusal_after v old p ≡ Some r

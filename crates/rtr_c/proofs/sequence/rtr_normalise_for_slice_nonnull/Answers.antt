@@ -15,7 +15,8 @@ returns-clause-succeeds c known =
 pub returns-clause-succeeds_only : goal.returns-clause-succeeds_only
 returns-clause-succeeds_only c zero = elim (cases_lt 2 c.args.version) [
   | inl over ↦
-      absurd (unknown c.args.version c.normalise_for_into-end.result.1 c.args.input.now c.args.output.now
+      absurd (unknown c.args.version c.normalise_for_into-end.result.1 c.args.input.now
+      c.args.output.now
       c.normalise_for_into-end.new.output c.normalise_for_into-end.result.0 _ _
       (c.normalise_for_into-end.ensures.unknown over) c.answer_of.ensures zero)
   | inr known ↦

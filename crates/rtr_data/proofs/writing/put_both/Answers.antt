@@ -15,7 +15,8 @@ returns-in_err-put g c =
 pub returns : goal.returns
 returns g c =
     record {
-      bytes = both_put c.put-2.result _ _ _ c.args.front.now c.args.rest.now c.in_ok-put.ensures.bytes
+      bytes = both_put c.put-2.result _ _ _ c.args.front.now c.args.rest.now
+          c.in_ok-put.ensures.bytes
           c.put-2.ensures.bytes;
       error = search rules;
     }

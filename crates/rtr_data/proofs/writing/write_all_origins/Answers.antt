@@ -20,7 +20,8 @@ returns-in_err-write_origin g c =
     let p = err_from_is_err_and c.from_residual.result c.from_residual.ensures.1 in
     rw (p.1, p.2) (record {
       bytes = sent_front c.args.version Announce _ _ _ _ _ _ (origin_of c.in-Some.origin.now) _
-          (cut deref origin_of c.loop-origin.yielded c.in-Some.origin _ _ _ c.loop-origin.invariant.0
+          (cut deref origin_of c.loop-origin.yielded c.in-Some.origin _ _ _
+          c.loop-origin.invariant.0
           c.in-Some.ensures.steps) c.loop-origin.invariant.1 c.in_err-write_origin.ensures.bytes;
       error = search rules;
     })

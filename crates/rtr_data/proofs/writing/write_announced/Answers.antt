@@ -41,7 +41,8 @@ returns-in_err-announce_aspa g c =
     ap not (sym c.is_there.ensures ∙ c.if-is_there.false) in
     let p = err_from_is_err_and c.from_residual.result c.from_residual.ensures.1 in
     rw (p.1, p.2) (record {
-      bytes = sent_front c.args.version Announce _ _ _ _ (map entry_of (filter test c.next.new.self)) _
+      bytes = sent_front c.args.version Announce _ _ _ _
+          (map entry_of (filter test c.next.new.self)) _
           (entry_of (deref_pair x)) _
           (all_for_version c.args.version 2 entry_of (λ e. refl) c.if-version-lt2.false
           (filter test c.args.new.now.entries)

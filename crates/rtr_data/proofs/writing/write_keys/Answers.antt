@@ -11,7 +11,8 @@ pub returns-then-version-lt1 : goal.returns-then-version-lt1
 returns-then-version-lt1 g c =
     record {
       bytes = sent_all c.args.version c.args.action _ _ [] _ tt
-          (none_for_version c.args.version 1 key_of (λ k. refl) c.if-version-lt1.true _) (wrote_nothing _);
+          (none_for_version c.args.version 1 key_of (λ k. refl) c.if-version-lt1.true _)
+          (wrote_nothing _);
       error = search rules;
     }
 

@@ -15,7 +15,8 @@ pub returns-then-version-lt2 : goal.returns-then-version-lt2
 returns-then-version-lt2 g c =
     record {
       bytes = sent_all c.args.version Withdraw _ _ [] _ tt
-          (ap (map name_of) (none_for_version c.args.version 2 entry_of (λ e. refl) c.if-version-lt2.true
+          (ap (map name_of) (none_for_version c.args.version 2 entry_of (λ e. refl)
+          c.if-version-lt2.true
           (filter (lacks_customer c.args.new.now) c.args.old.now.entries))) (wrote_nothing _);
       error = search rules;
     }
@@ -45,7 +46,8 @@ returns-in_err-withdraw_aspa g c =
       bytes = sent_front c.args.version Withdraw _ _ _ _
           (map (λ e. name_of (entry_of e)) (filter test c.next.new.self)) _
           (name_of (entry_of (deref_pair x))) _
-          (ap (map name_of) (all_for_version c.args.version 2 entry_of (λ e. refl) c.if-version-lt2.false
+          (ap (map name_of) (all_for_version c.args.version 2 entry_of (λ e. refl)
+          c.if-version-lt2.false
           (filter test c.args.old.now.entries))
           ∙ maps entry_of name_of (filter test c.args.old.now.entries)
           ∙ picked_cut deref_pair (λ e. name_of (entry_of e)) test ys x _ _ _
@@ -58,7 +60,8 @@ pub returns : goal.returns
 returns g c =
     record {
       bytes = sent_all c.args.version Withdraw _ _ _ _ tt
-          (ap (map name_of) (all_for_version c.args.version 2 entry_of (λ e. refl) c.if-version-lt2.false
+          (ap (map name_of) (all_for_version c.args.version 2 entry_of (λ e. refl)
+          c.if-version-lt2.false
           (filter (lacks_customer c.args.new.now) c.args.old.now.entries))
           ∙ maps entry_of name_of (filter (lacks_customer c.args.new.now) c.args.old.now.entries)
           ∙ ap (λ l. map (λ e. name_of (entry_of e)) (filter (lacks_customer c.args.new.now) l))

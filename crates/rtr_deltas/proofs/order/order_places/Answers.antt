@@ -9,7 +9,8 @@ first_refused-requires c =
     let e = end_meaning c.args.end.now in
     let (cs, s) = c.requires.sends in
     let r = in_order c.args.input.now c.args.places.now cs e.version s.front (s.last ++ s.rest)
-    c.sort_places.new.places (λ i. omega (arith, c.type_inv.input i)) s.parts s.units c.sort_places.ensures.permutation
+    c.sort_places.new.places (λ i. omega (arith, c.type_inv.input i)) s.parts s.units
+    c.sort_places.ensures.permutation
     c.sort_places.ensures.sorted in
     (e.version, r.ds, r.units)
 
@@ -18,7 +19,8 @@ returns-in-Some c = λ n enough.
     let e = end_meaning c.args.end.now in
     let (cs, s) = c.requires.sends in
     let r = in_order c.args.input.now c.args.places.now cs e.version s.front (s.last ++ s.rest)
-    c.sort_places.new.places (λ i. omega (arith, c.type_inv.input i)) s.parts s.units c.sort_places.ensures.permutation
+    c.sort_places.new.places (λ i. omega (arith, c.type_inv.input i)) s.parts s.units
+    c.sort_places.ensures.permutation
     c.sort_places.ensures.sorted in
     orders_refused c.args.input.now c.args.places.now cs e s c.sort_places.new.places r n enough
     c.in-Some.fault c.args.output.now (c.in-Some.ensures e.version r.ds r.units)
@@ -28,7 +30,8 @@ place_ordered-requires-clause-units c =
     let e = end_meaning c.args.end.now in
     let (cs, s) = c.requires.sends in
     let r = in_order c.args.input.now c.args.places.now cs e.version s.front (s.last ++ s.rest)
-    c.sort_places.new.places (λ i. omega (arith, c.type_inv.input i)) s.parts s.units c.sort_places.ensures.permutation
+    c.sort_places.new.places (λ i. omega (arith, c.type_inv.input i)) s.parts s.units
+    c.sort_places.ensures.permutation
     c.sort_places.ensures.sorted in
     (e.version, r.ds, r.units)
 
@@ -37,7 +40,8 @@ returns-in-Some-place_ordered c = λ n enough.
     let e = end_meaning c.args.end.now in
     let (cs, s) = c.requires.sends in
     let r = in_order c.args.input.now c.args.places.now cs e.version s.front (s.last ++ s.rest)
-    c.sort_places.new.places (λ i. omega (arith, c.type_inv.input i)) s.parts s.units c.sort_places.ensures.permutation
+    c.sort_places.new.places (λ i. omega (arith, c.type_inv.input i)) s.parts s.units
+    c.sort_places.ensures.permutation
     c.sort_places.ensures.sorted in
     writes c.args.input.now c.args.places.now cs e s c.sort_places.new.places r n enough
     c.args.output.now c.place_ordered.new.output (Some c.in-Some-place_ordered.size)
@@ -48,7 +52,8 @@ returns-in-None-place_ordered c = λ n enough.
     let e = end_meaning c.args.end.now in
     let (cs, s) = c.requires.sends in
     let r = in_order c.args.input.now c.args.places.now cs e.version s.front (s.last ++ s.rest)
-    c.sort_places.new.places (λ i. omega (arith, c.type_inv.input i)) s.parts s.units c.sort_places.ensures.permutation
+    c.sort_places.new.places (λ i. omega (arith, c.type_inv.input i)) s.parts s.units
+    c.sort_places.ensures.permutation
     c.sort_places.ensures.sorted in
     writes c.args.input.now c.args.places.now cs e s c.sort_places.new.places r n enough
     c.args.output.now c.place_ordered.new.output None

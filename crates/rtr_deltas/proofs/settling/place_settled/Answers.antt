@@ -1,6 +1,7 @@
 use Rattle.std.proofs.Common.{◌+◌, ◌-◌, length, sym, subst}
 use borrow.Rule.Slice.PartMut.{put_mid}
-use Rattle.rtr_deltas.proofs.Going.{Settling, all_placed, last_full, next_full, next_placed, settling}
+use Rattle.rtr_deltas.proofs.Going.{Settling, all_placed, last_full, next_full, next_placed}
+use Rattle.rtr_deltas.proofs.Going.{settling}
 use Rattle.rtr_deltas.proofs.settling.place_settled.Goals as goal
 
 pub places-init : goal.places-init

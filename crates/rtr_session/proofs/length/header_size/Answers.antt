@@ -10,15 +10,18 @@ returns-in-0 c =
 
 pub returns-in-1 : goal.returns-in-1
 returns-in-1 c =
-    size_twelve _ _ _ _ _ c.exact-in-1.result (inr c.in-1.is) c.size-in-1.ensures c.exact-in-1.ensures
+    size_twelve _ _ _ _ _ c.exact-in-1.result (inr c.in-1.is) c.size-in-1.ensures
+    c.exact-in-1.ensures
 
 pub returns-in-2 : goal.returns-in-2
 returns-in-2 c =
-    size_eight _ _ _ _ _ c.exact-in-2.result (inl c.in-2.is) c.size-in-2.ensures c.exact-in-2.ensures
+    size_eight _ _ _ _ _ c.exact-in-2.result (inl c.in-2.is) c.size-in-2.ensures
+    c.exact-in-2.ensures
 
 pub returns-in-3 : goal.returns-in-3
 returns-in-3 c =
-    size_eight _ _ _ _ _ c.exact-in-3.result (inr (inl c.in-3.is)) c.size-in-3.ensures c.exact-in-3.ensures
+    size_eight _ _ _ _ _ c.exact-in-3.result (inr (inl c.in-3.is)) c.size-in-3.ensures
+    c.exact-in-3.ensures
 
 pub returns-in-4 : goal.returns-in-4
 returns-in-4 c =
@@ -30,7 +33,8 @@ returns-in-6 c =
 
 pub returns-in-8 : goal.returns-in-8
 returns-in-8 c =
-    size_eight _ _ _ _ _ c.exact-in-8.result (inr (inr c.in-8.is)) c.size-in-8.ensures c.exact-in-8.ensures
+    size_eight _ _ _ _ _ c.exact-in-8.result (inr (inr c.in-8.is)) c.size-in-8.ensures
+    c.exact-in-8.ensures
 
 pub returns-in-7 : goal.returns-in-7
 returns-in-7 c = size_seven _ _ _ _ c.end_size.result c.in-7.is c.end_size.ensures

@@ -10,4 +10,5 @@ returns-in_err-write_all g c =
 
 pub returns : goal.returns
 returns g c =
-    two_pieces _ _ _ _ _ _ c.write.result refl (c.in_ok-write_all.ensures.known c.requires) c.write.ensures.bytes
+    two_pieces _ _ _ _ _ _ c.write.result refl (c.in_ok-write_all.ensures.known c.requires)
+    c.write.ensures.bytes

@@ -8,4 +8,5 @@ use Rattle.rtr_data.proofs.data.Data.add_origins.Given as goal
 abbrev pub invariant-loop-origin : goal.invariant-loop-origin
 invariant-loop-origin l =
     (l.origins.keys ≡ map deref l.yielded ++ l.origin-iterator)
-    × (after_all (map announcement (map origin_of (map deref l.yielded))) (Ok l.fn.self) ≡ Ok l.self)
+    × (after_all (map announcement (map origin_of (map deref l.yielded))) (Ok l.fn.self)
+    ≡ Ok l.self)
