@@ -3,12 +3,12 @@ use Rattle.std.proofs.Common.{◌≡◌, ℕ, ◌<◌, ◌≤◌, List, [], ◌�
 use Rattle.std.proofs.Common.{None, Result, Ok, Err, refl, sym, ap, ◌∙◌, subst, append_assoc}
 use Rattle.std.proofs.Common.{arith, inl, inr}
 use Rattle.std.proofs.lemmas.Bool.{cases_lt}
-use Rattle.std.proofs.lemmas.List.{append-nil, length-append, map-append}
-use Rattle.std.specs.Prelude.{◌≢◌, IfSome, IsOk}
+use Rattle.std.proofs.lemmas.List.{map-append}
+use Rattle.std.specs.Prelude.{IfSome}
 use Rattle.std.specs.Io.KnownBytes.{Consumes}
-use Rattle.rtr_units.specs.AnyEnd.{end_bytes, end_meaning}
-use Rattle.rtr_units.specs.End.{EndMeaning, IsEnd, end_list}
-use Rattle.rtr_units.specs.StopCauses.{Cause, cause_of, ReaderState}
+use Rattle.rtr_units.specs.AnyEnd.{end_meaning}
+use Rattle.rtr_units.specs.End.{EndMeaning, end_list}
+use Rattle.rtr_units.specs.StopCauses.{cause_of, ReaderState}
 use Rattle.rtr_units.specs.declared.end.EndOfData.{EndOfData}
 use Rattle.rtr_units.specs.declared.fault.Fault.{Fault}
 use Rattle.rtr_payload.proofs.Apart.{begins_apart}

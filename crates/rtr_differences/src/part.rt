@@ -1,7 +1,7 @@
 //! The parts of data, each of which is gone over in the same way.
 
-ghost use Rattle.std.specs.Prelude.{◌≡◌, List, map, IfOk};
-ghost use Rattle.rtr_payload.specs.Meanings.{aspa_of, key_of, origin_of, payload_of};
+ghost use Rattle.std.specs.Prelude.{List, map, IfOk};
+ghost use Rattle.rtr_payload.specs.Meanings.{key_of, origin_of};
 ghost use Rattle.rtr_payload.specs.Payloads.{Payload};
 ghost use Rattle.rtr_data.specs.Contents.{entry_of};
 ghost use Rattle.rtr_differences.specs.PrivateChanges.{Takes};

@@ -1,7 +1,7 @@
 //! Error reports that are read (RFC 8210 section 5.11, RFC 6810 section 5.10).
 
 ghost use Rattle.std.specs.Prelude.{◌≡◌, ◌≤◌, ◌++◌, ℕ, List, [], Err, length, take, nat_eq};
-ghost use Rattle.std.specs.Prelude.{MatchOption, IfErr};
+ghost use Rattle.std.specs.Prelude.{MatchOption};
 ghost use Rattle.std.proofs.Common.{rules};
 ghost use Rattle.std.specs.Cmp.{partial_equiv_from_equiv};
 ghost use Rattle.std.specs.Cmp.Lexicographic.{nat_list_eq_equiv, pointwise};
@@ -12,7 +12,7 @@ ghost use Rattle.std.specs.Io.KnownBytes.{Consumes};
 ghost use Rattle.rtr_units.specs.StopCauses.{by_cause, no_memory};
 ghost use Rattle.rtr_units.specs.Header.{version_field, session_field};
 ghost use Rattle.rtr_units.specs.Calls.{ReadsFrom, WritesTo};
-ghost use Rattle.rtr_units.specs.Reading.{Reads, ReadsAfter, Takes};
+ghost use Rattle.rtr_units.specs.Reading.{Reads, ReadsAfter};
 ghost use Rattle.rtr_units.specs.HeaderBytes.{header_bytes};
 ghost use Rattle.rtr_session.specs.SessionKinds.{report_unit};
 ghost use Rattle.rtr_session.specs.Reports.{IsReport, HasParts};

@@ -10,8 +10,7 @@ ghost use Rattle.rtr_units.specs.FixedUnits.{fixed_bytes};
 ghost use Rattle.rtr_units.specs.Header.{version_field, type_field};
 ghost use Rattle.rtr_units.specs.Queries.{serial_list, serial_field};
 ghost use Rattle.rtr_units.specs.Reading.{ReadsAfter, by_bytes};
-ghost use Rattle.rtr_units.specs.Stream.{PutsForm};
-ghost use Rattle.rtr_units.specs.StopCauses.{HoldsReadError, HoldsWriteError};
+ghost use Rattle.rtr_units.specs.StopCauses.{HoldsReadError};
 ghost use Rattle.rtr_units.specs.HeaderBytes.{header_bytes};
 
 use crate::fault::Fault;

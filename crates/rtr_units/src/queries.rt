@@ -1,16 +1,14 @@
 //! Units by which a router and a cache speak of their states (RFC 6810 and RFC 8210 sections 5.2 to
 //! 5.5 and 5.9).
 
-ghost use Rattle.std.specs.Prelude.{◌≡◌, ◌≤◌, length, replicate, IfErr};
+ghost use Rattle.std.specs.Prelude.{◌≡◌, ◌≤◌, length, replicate};
 ghost use Rattle.std.specs.Borrow.{sem};
 ghost use Rattle.rtr_base.specs.Bytes.{be, value, IsBytes};
 ghost use Rattle.rtr_units.specs.Calls.{ReadsFrom, WritesTo};
 ghost use Rattle.rtr_units.specs.FixedUnits.{fixed_bytes};
 ghost use Rattle.rtr_units.specs.Queries.{bare_list, serial_list, serial_field};
 ghost use Rattle.rtr_units.specs.Header.{session_field};
-ghost use Rattle.rtr_units.specs.Reading.{FillsPiece, by_bytes};
-ghost use Rattle.rtr_units.specs.Stream.{PutsForm};
-ghost use Rattle.rtr_units.specs.StopCauses.{HoldsReadError, HoldsWriteError};
+ghost use Rattle.rtr_units.specs.Reading.{FillsPiece};
 ghost use Rattle.rtr_units.specs.Queries.{query_payload_bytes};
 
 use crate::cells::Cells;

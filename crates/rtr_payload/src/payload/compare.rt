@@ -7,7 +7,7 @@ ghost use Rattle.std.specs.Ordering.{as_partial_cmp, eq_by_cmp, on};
 ghost use Rattle.rtr_payload.specs.Hashes.{part_writes, payload_writes};
 ghost use Rattle.rtr_payload.specs.OrderLaws.{meant_equiv, meant_partial_equiv};
 ghost use Rattle.rtr_payload.specs.OrderLaws.{meant_partial_order, meant_total, same_meant};
-ghost use Rattle.rtr_payload.specs.Orders.{parts, payload_cmp};
+ghost use Rattle.rtr_payload.specs.Orders.{payload_cmp};
 ghost use Rattle.rtr_payload.specs.Meanings.{aspa_of, key_of, origin_of, payload_of};
 ghost use Rattle.rtr_payload.specs.Meanings.{payload_of_ref};
 

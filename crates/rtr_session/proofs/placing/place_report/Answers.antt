@@ -1,4 +1,4 @@
-use Rattle.std.proofs.Common.{◌≡◌, ◌-◌, ◌∙◌, length, take, ap, arith, subst}
+use Rattle.std.proofs.Common.{◌≡◌, ◌-◌, ◌∙◌, length, take, ap, subst}
 use Rattle.rtr_units.specs.Report.{report}
 use Rattle.rtr_views.specs.Placing.{Places}
 use Rattle.rtr_session.specs.Placed.{held_unit, held_text}
