@@ -135,15 +135,6 @@ picked_one f g test xs x e =
     ∙ picked_append g test (map f xs) (f x ∷ [])
     ∙ ap (λ b. map g (filter test (map f xs)) ++ map g (cond b (f x ∷ []) [])) e
 
-pub picked_none : {A B C : Type 0} (f : A → B) (g : B → C) (test : B → Bool) (xs : List A) (x : A) →
-    test (f x) ≡ false →
-    map g (filter test (map f (xs ++ x ∷ []))) ≡ map g (filter test (map f xs))
-picked_none f g test xs x e =
-    ap (λ l. map g (filter test l)) (map-append f xs (x ∷ []))
-    ∙ picked_append g test (map f xs) (f x ∷ [])
-    ∙ ap (λ b. map g (filter test (map f xs)) ++ map g (cond b (f x ∷ []) [])) e
-    ∙ append-nil (map g (filter test (map f xs)))
-
 pub picked_cut : {A B C : Type 0} (f : A → B) (g : B → C) (test : B → Bool) (xs : List A) (x : A)
     (all s t : List B) → all ≡ map f xs ++ s → s ≡ f x ∷ t → test (f x) ≡ true →
     map g (filter test all) ≡
@@ -178,12 +169,6 @@ all_for_version v n f k h (x ∷ xs) =
 pub so_far : {A B C : Type 0} (f : A → B) (g : B → C) (xs : List A) (all s : List B) →
     all ≡ map f xs ++ s → map g all ≡ map g (map f xs) ++ map g s
 so_far f g xs all s e = ap (map g) e ∙ map-append g (map f xs) s
-
-pub picked_far : {A B C : Type 0} (f : A → B) (g : B → C) (test : B → Bool) (xs : List A)
-    (all s : List B) → all ≡ map f xs ++ s →
-    map g (filter test all) ≡ map g (filter test (map f xs)) ++ map g (filter test s)
-picked_far f g test xs all s e =
-    ap (λ l. map g (filter test l)) e ∙ picked_append g test (map f xs) s
 
 pub maps : {A B C : Type 0} (f : A → B) (g : B → C) (xs : List A) →
     map g (map f xs) ≡ map (λ x. g (f x)) xs
