@@ -94,19 +94,29 @@ fn providers_debug(rt: HostRuntime) -> Result<(), Fail> {
     Ok(())
 }
 
+/// The debug texts of providers with these numbers, and of an iterator over them.
+fn texts_of_many(alloc: Global, count: u32) -> Result<(String, String), Fail> {
+    let named = ProviderAsns::try_from_iter(alloc, (0..count).map(|i| Asn::from_u32(i)))?;
+    let shown = format!(in alloc; "{named:?}")?;
+    let left = format!(in alloc; "{:?}", named.iter())?;
+    Ok((shown, left))
+}
+
+/// The debug text of a list of these numbers.
+fn text_of_list(alloc: Global, count: u32) -> Result<String, Fail> {
+    let mut items = Vec::new(alloc);
+    for i in 0..count {
+        items.push(Asn::from_u32(i))?;
+    }
+    Ok(format!(in alloc; "{:?}", items.as_slice())?)
+}
+
 /// The text is that of a list of all items.
 #[test]
 fn many_providers_debug(rt: HostRuntime) -> Result<(), Fail> {
-    let alloc = rt.alloc();
     for count in [8, 9, 20, 101, 16380] {
-        let named = ProviderAsns::try_from_iter(alloc, (0..count).map(|i| Asn::from_u32(i)))?;
-        let mut items = Vec::new(alloc);
-        for i in 0..count {
-            items.push(Asn::from_u32(i))?;
-        }
-        let shown = format!(in alloc; "{named:?}")?;
-        let left = format!(in alloc; "{:?}", named.iter())?;
-        let wanted = format!(in alloc; "{:?}", items.as_slice())?;
+        let (shown, left) = texts_of_many(rt.alloc(), count)?;
+        let wanted = text_of_list(rt.alloc(), count)?;
         expect_equal(&rt, shown.as_str(), wanted.as_str());
         expect_equal(&rt, left, wanted);
     }

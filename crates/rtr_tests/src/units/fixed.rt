@@ -3,7 +3,7 @@
 ghost use Rattle.std.specs.Prelude.{refl};
 ghost use Rattle.std.proofs.Common.{rules};
 
-use crate::expect::expect_equal;
+use crate::expect::{expect_at, expect_equal};
 use crate::samples::{END_0, END_1, IPV4_STRAY, IPV6_STRAY, NOTIFY, QUERY, bytes, state};
 use crate::support::{Recorder, hash_of};
 use rtr_base::asn::Asn;
@@ -32,13 +32,13 @@ fn passes<U: Unit + Eq + Hash>(
     text: &str,
 ) -> Result<(), Fail> {
     let want = bytes(alloc, &[text])?;
-    assert_eq!(rt; unit.as_ref(), want.as_slice(), "{text}");
-    assert_eq!(rt; U::size() as usize, want.len(), "{text}");
+    expect_equal(rt, unit.as_ref(), want.as_slice());
+    expect_at(rt, text, U::size() as usize == want.len());
     let mut writer = Counted::new(Recorder::new(alloc, 5));
     unit.write(&mut writer)?;
-    assert_eq!(rt; writer.into_inner().held(), want.as_slice(), "{text}");
+    expect_equal(rt, writer.into_inner().held(), want.as_slice());
     let again = U::read(&mut SliceSource::new(&want))?;
-    assert!(rt; again == unit, "{text}");
+    expect_at(rt, text, again == unit);
     expect_equal(rt, hash_of(&again), hash_of(&unit));
     Ok(())
 }
