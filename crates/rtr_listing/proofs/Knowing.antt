@@ -4,23 +4,21 @@ use Rattle.std.proofs.Common.{◌∙◌, subst}
 use Rattle.std.proofs.Common.{append_assoc, append-nil}
 use Rattle.std.specs.Prelude.{Bool, true, false, cond, ◌&&◌, unwrap_or, OnOk, Result, Ok, Err}
 use Rattle.std.specs.BTreeMap.{is_at}
-use Rattle.std.specs.BTreeSet.{contains, Updates}
 use Rattle.std.specs.List.{find}
-use Rattle.std.specs.Ordering.{on}
-use Rattle.std.specs.declared.cmp.Ordering.{Ordering}
+use Rattle.std.specs.Option.{option_map}
 use Rattle.rtr_base.specs.Actions.{act}
 use Rattle.rtr_base.specs.declared.action.Action.{Action}
 use Rattle.rtr_units.specs.Header.{version_field}
-use Rattle.rtr_payload.specs.Meanings.{payload_of}
-use Rattle.rtr_payload.specs.Orders.{payload_cmp}
+use Rattle.rtr_payload.specs.Payloads.{Payload as Meant}
 use Rattle.rtr_payload.specs.UnitBytes.{unit_bytes, unit_fields, flags_in}
 use Rattle.rtr_payload.specs.UnitFields.{Fields}
-use Rattle.rtr_payload.specs.declared.payload.Payload.{Payload as Value}
 use Rattle.rtr_payload.specs.declared.pdu.payload.Payload.{Payload}
 use Rattle.rtr_payload.specs.declared.pdu.payload.Payload.TheVariants as units
 use Rattle.rtr_session.specs.AnyFields.{AnyFields}
 use Rattle.rtr_session.specs.AnyFields.{payload}
-use Rattle.rtr_listing.specs.PrivateFollowing.{Knows, FindsIn}
+use Rattle.rtr_data.specs.Data.{has_name, name_cmp, name_of}
+use Rattle.rtr_listing.proofs.NamedPayloads.{named_in}
+use Rattle.rtr_listing.specs.PrivateFollowing.{Knows, FindsIn, Names, payload_in}
 use Rattle.rtr_listing.specs.Rules.{told, other_version, payload_reserved}
 use Rattle.rtr_listing.specs.Rules.{payload_rules, repeated, announced_twice}
 use Rattle.rtr_listing.specs.SequenceSoFar.{earlier, payload_named, is_same, is_about, is_announce}
@@ -29,9 +27,6 @@ use Rattle.rtr_listing.specs.SequenceSoFar.{sequence_version, sequence_session}
 use Rattle.rtr_listing.specs.declared.check.Checker.{Checker}
 use Rattle.rtr_listing.specs.declared.finding.Finding.{Finding}
 use Rattle.rtr_listing.specs.declared.finding.Finding.TheVariants as rules
-
-abbrev order : Value → Value → Ordering
-order = on payload_of payload_cmp
 
 pub on_ok_both : {T E A B C : Type 0} (r : Result T E) → OnOk r A → OnOk r B → (A → B → C) →
     OnOk r C
@@ -57,7 +52,7 @@ version_is (units.V6 u) = refl
 version_is (units.RouterKey u) = refl
 version_is (units.Aspa u) = refl
 
-action_is : (u : Payload) → act (flags_in u) ≡ action_of (unit_fields u)
+pub action_is : (u : Payload) → act (flags_in u) ≡ action_of (unit_fields u)
 action_is (units.V4 u) = refl
 action_is (units.V6 u) = refl
 action_is (units.RouterKey u) = refl
@@ -68,21 +63,22 @@ in_turn f a b c d = simp (append_assoc, append-nil)
 
 -- ---- payload units
 
-module _ (fields : Fields) (units : List AnyFields) (old new : Checker) (p : Value)
-    (known : Knows old units) (name : Some (payload_of p) ≡ payload_named fields) where
-  counted_after : (q : Value) →
-      contains order new.announced q ≡
-      cond (is_at (order p) q) (is_announce (action_of fields)) (contains order old.announced q) →
-      contains order new.announced q ≡ announced (payload fields ∷ units) (payload_of q)
+module _ (fields : Fields) (units : List AnyFields) (old new : Checker) (p : Meant)
+    (known : Knows old units) (name : Some (name_of p) ≡ payload_named fields) where
+  counted_after : (q : Meant) →
+      has_name new.announced q ≡
+      cond (is_at (name_cmp p) q) (is_announce (action_of fields)) (has_name old.announced q) →
+      has_name new.announced q ≡ announced (payload fields ∷ units) (name_of q)
+  unfolding name_cmp
   counted_after q counts =
       counts
-      ∙ ap (cond (is_at (order p) q) (is_announce (action_of fields))) (known.announced q)
-      ∙ ap (λ o. cond (is_same o (payload_of q)) (is_announce (action_of fields))
-      (announced units (payload_of q))) name
-      ∙ says_either (is_same (payload_named fields) (payload_of q)) (Some (payload fields))
-      (find (is_about (payload_of q)) units)
+      ∙ ap (cond (is_at (name_cmp p) q) (is_announce (action_of fields))) (known.announced q)
+      ∙ ap (λ o. cond (is_same o (name_of q)) (is_announce (action_of fields))
+      (announced units (name_of q))) name
+      ∙ says_either (is_same (payload_named fields) (name_of q)) (Some (payload fields))
+      (find (is_about (name_of q)) units)
 
-  twice_told : told (is_announce (action_of fields) && contains order old.announced p) rules.Twice ≡
+  twice_told : told (is_announce (action_of fields) && has_name old.announced p) rules.Twice ≡
       announced_twice units (payload fields)
   twice_told =
       ap (λ b. told (is_announce (action_of fields) && b) rules.Twice) (known.announced p)
@@ -90,36 +86,38 @@ module _ (fields : Fields) (units : List AnyFields) (old new : Checker) (p : Val
 
   knows_payload : new.version ≡ Some (unwrap_or old.version (payload_version fields)) →
       new.session ≡ old.session →
-      Updates order old.announced new.announced p (is_announce (action_of fields)) →
+      Names old.announced new.announced p (is_announce (action_of fields)) →
       Knows new (payload fields ∷ units)
-  knows_payload version session updates =
+  knows_payload version session names =
       record {
         version =
             version ∙ first_given old.version (payload_version fields)
             ∙ ap (λ o. earlier o (Some (payload_version fields))) known.version;
         session = session ∙ known.session ∙ nothing_later (sequence_session units);
-        announced = λ q. counted_after q (updates.0 q);
+        announced = λ q. counted_after q (names q);
       }
 
-pub payload_finds : (u : Payload) (old new : Checker) (p : Value) (v : ℕ) (a : Action)
+pub payload_finds : (u : Payload) (old new : Checker) (p : Meant) (v : ℕ) (a : Action)
     (f0 f1 f2 f3 f4 : List Finding) → v ≡ version_field (unit_bytes u) → a ≡ act (flags_in u) →
     f1 ≡ f0 ++ other_version old.version v → f2 ≡ f1 ++ payload_reserved (unit_fields u) →
-    f3 ≡ f2 ++ payload_rules (unit_fields u) → Some (payload_of p) ≡ payload_named (unit_fields u) →
-    f4 ≡ f3 ++ told (is_announce a && contains order old.announced p) rules.Twice →
+    f3 ≡ f2 ++ payload_rules (unit_fields u) → Some p ≡ payload_in (unit_fields u) →
+    f4 ≡ f3 ++ told (is_announce a && has_name old.announced p) rules.Twice →
     new.version ≡ Some (unwrap_or old.version v) → new.session ≡ old.session →
-    Updates order old.announced new.announced p (is_announce a) →
+    Names old.announced new.announced p (is_announce a) →
     FindsIn old (payload (unit_fields u)) new f0 f4
-payload_finds u old new p v a f0 f1 f2 f3 f4 v_is a_is one two three name four version session
-    updates =
+payload_finds u old new p v a f0 f1 f2 f3 f4 v_is a_is one two three is four version session
+    names =
     λ units known.
     let fields : Fields = unit_fields u in
+    let name : Some (name_of p) ≡ payload_named fields =
+    ap (option_map name_of) is ∙ named_in fields in
     let is_version : v ≡ payload_version fields = v_is ∙ version_is u in
     let is_action : a ≡ action_of fields = a_is ∙ action_is u in
     let first : f1 ≡ f0 ++ other_version (sequence_version units) (payload_version fields) =
     one ∙ ap (λ n. f0 ++ other_version old.version n) is_version
     ∙ ap (λ o. f0 ++ other_version o (payload_version fields)) known.version in
     let last : f4 ≡ f3 ++ announced_twice units (payload fields) =
-    four ∙ ap (λ x. f3 ++ told (is_announce x && contains order old.announced p) rules.Twice)
+    four ∙ ap (λ x. f3 ++ told (is_announce x && has_name old.announced p) rules.Twice)
     is_action
     ∙ ap (λ l. f3 ++ l) (twice_told fields units old new p known name) in (
       last ∙ ap (λ l. l ++ announced_twice units (payload fields))
@@ -129,6 +127,5 @@ payload_finds u old new p v a f0 f1 f2 f3 f4 v_is a_is one two three name four v
           (payload_reserved fields) (payload_rules fields) (announced_twice units (payload fields)),
       knows_payload fields units old new p known name
           (version ∙ ap (λ n. Some (unwrap_or old.version n)) is_version) session
-          (subst (λ x. Updates order old.announced new.announced p (is_announce x)) is_action
-          updates),
+          (subst (λ x. Names old.announced new.announced p (is_announce x)) is_action names),
     )

@@ -1,6 +1,8 @@
 mod Addresses
+pub mod AnnouncedNames
 mod EscapedTexts
 pub mod Knowing
+pub mod NamedPayloads
 mod Pieces
 mod Printing
 pub mod ProviderOrder

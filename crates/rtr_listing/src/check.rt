@@ -1,17 +1,18 @@
 //! What breaks the protocol's rules, unit by unit.
 
-ghost use Rattle.std.specs.Prelude.{◌≡◌, ◌++◌, ◌&&◌, [], OnOk, Some, None};
-ghost use Rattle.std.specs.BTreeSet.{contains, IsEmpty, Updates};
-ghost use Rattle.std.specs.Ordering.{on};
+ghost use Rattle.std.specs.Prelude.{◌≡◌, ◌++◌, ◌&&◌, [], IfOk, OnOk, Some, None, false, true};
+ghost use Rattle.rtr_base.specs.declared.action.Action.TheVariants.{Announce};
 ghost use Rattle.rtr_units.specs.AnyEnd.{end_meaning};
 ghost use Rattle.rtr_units.specs.Header.{version_field, session_field};
 ghost use Rattle.rtr_units.specs.FixedUnits.{fixed_bytes};
-ghost use Rattle.rtr_payload.specs.Meanings.{payload_of};
-ghost use Rattle.rtr_payload.specs.Orders.{payload_cmp};
-ghost use Rattle.rtr_payload.specs.UnitBytes.{unit_fields};
-ghost use Rattle.rtr_session.specs.AnyFields.{payload as payload_fields};
-ghost use Rattle.rtr_session.specs.AnyUnits.{any_fields};
-ghost use Rattle.rtr_listing.specs.PrivateFollowing.{Finds, FindsIn, HasSeen};
+ghost use Rattle.rtr_payload.specs.Meanings.{payload_of, payload_of_ref};
+ghost use Rattle.rtr_payload.specs.UnitBytes.{unit_bytes, unit_fields};
+ghost use Rattle.rtr_payload.specs.UnitFields.{HasFields};
+ghost use Rattle.rtr_session.specs.AnyFields.{HasAnyFields, payload as payload_fields};
+ghost use Rattle.rtr_session.specs.AnyUnits.{any_bytes, any_fields};
+ghost use Rattle.rtr_data.specs.Contents.{IsFit};
+ghost use Rattle.rtr_data.specs.Data.{has_name, takes_place};
+ghost use Rattle.rtr_listing.specs.PrivateFollowing.{Finds, FindsIn, HasSeen, Names};
 ghost use Rattle.rtr_listing.specs.Rules.{told, other_version, other_session};
 ghost use Rattle.rtr_listing.specs.SequenceSoFar.{is_announce};
 ghost use Rattle.rtr_listing.specs.declared.finding.Finding.TheVariants as broken;
@@ -19,14 +20,14 @@ ghost use Rattle.rtr_listing.specs.declared.finding.Finding.TheVariants as broke
 use crate::finding::Finding;
 use crate::unit_rules;
 use rtr_base::action::Action;
-use rtr_payload::payload;
+use rtr_data::{ChangeError, Data};
+use rtr_payload::payload::{self, PayloadRef};
 use rtr_payload::pdu::Payload;
 use rtr_session::AnyUnit;
 use rtr_units::end::EndOfData;
 use rtr_units::queries::CacheResponse;
 use rtr_units::unit::Unit;
 use std::alloc::{AllocError, Global};
-use std::collections::BTreeSet;
 
 /// What is known of the sequence that is read.
 ///
@@ -40,7 +41,7 @@ pub struct Checker {
     /// The session of the cache response that began the sequence.
     session: Option<u16>,
     /// What is announced in the sequence and not withdrawn after that.
-    announced: BTreeSet<payload::Payload>,
+    announced: Data,
 }
 
 impl Checker {
@@ -52,7 +53,7 @@ impl Checker {
             alloc,
             version: None,
             session: None,
-            announced: BTreeSet::new(alloc),
+            announced: Data::new(alloc),
         }
     }
 
@@ -62,6 +63,8 @@ impl Checker {
     ///
     /// If memory runs out the checker may have seen a part of the unit.
     pub fn check(&mut self, unit: &AnyUnit, found: &mut Vec<Finding>) -> Result<(), AllocError>
+        // As of each unit that is read.
+        requires { HasAnyFields (any_bytes unit.now) (any_fields unit.now) }
         ensures { OnOk result (Finds self.old (any_fields unit.now) self.new found.new.items) }
     {
         found.clear();
@@ -83,11 +86,11 @@ impl Checker {
     fn begin(&mut self, unit: &CacheResponse)
         ensures version { self.new.version ≡ Some (version_field (fixed_bytes unit.now)) }
         ensures session { self.new.session ≡ Some (session_field (fixed_bytes unit.now)) }
-        ensures none { IsEmpty self.new.announced }
+        ensures none { self.new.announced ≡ [] }
     {
         self.version = Some(unit.version());
         self.session = Some(unit.session());
-        self.announced.clear();
+        self.announced = Data::new(self.alloc);
     }
 
     /// What an end of data breaks, with which the sequence ends.
@@ -97,18 +100,19 @@ impl Checker {
             other_session self.old.session (end_meaning unit.now).session) }
         ensures version { OnOk result (self.new.version ≡ None) }
         ensures session { OnOk result (self.new.session ≡ None) }
-        ensures none { OnOk result (IsEmpty self.new.announced) }
+        ensures none { OnOk result (self.new.announced ≡ []) }
     {
         unit_rules::sequence_version(self.version, unit.version(), found)?;
         unit_rules::sequence_session(self.session, unit.session(), found)?;
         self.version = None;
         self.session = None;
-        self.announced.clear();
+        self.announced = Data::new(self.alloc);
         Ok(())
     }
 
     /// What a payload unit breaks, which may give the sequence its version.
     fn payload(&mut self, unit: &Payload, found: &mut Vec<Finding>) -> Result<(), AllocError>
+        requires { HasFields (unit_bytes unit.now) (unit_fields unit.now) }
         ensures { OnOk result (FindsIn self.old (payload_fields (unit_fields unit.now)) self.new
             found.old.items found.new.items) }
     {
@@ -116,7 +120,7 @@ impl Checker {
         unit_rules::sequence_version(self.version, version, found)?;
         self.version = Some(self.version.unwrap_or(version));
         unit_rules::payload_reserved(unit, found)?;
-        match unit_rules::payload_unit(self.alloc, unit, found)? {
+        match unit_rules::payload_unit(unit, found)? {
             Some(payload) => self.count(unit.action(), payload, found),
             None => Ok(()),
         }
@@ -129,23 +133,67 @@ impl Checker {
         payload: payload::Payload,
         found: &mut Vec<Finding>,
     ) -> Result<(), AllocError>
+        requires { action ≡ Announce → IsFit (payload_of payload) }
         ensures found { OnOk result (found.new.items ≡ found.old.items ++
-            told (is_announce action &&
-            contains (on payload_of payload_cmp) self.old.announced payload) broken.Twice) }
+            told (is_announce action && has_name self.old.announced (payload_of payload))
+            broken.Twice) }
         ensures version { self.new.version ≡ self.old.version }
         ensures session { self.new.session ≡ self.old.session }
-        ensures announced { OnOk result (Updates (on payload_of payload_cmp)
-            self.old.announced self.new.announced payload (is_announce action)) }
+        ensures announced { OnOk result (Names self.old.announced self.new.announced
+            (payload_of payload) (is_announce action)) }
     {
         match action {
             Action::Announce => {
-                let is_new = self.announced.insert(payload)?;
-                unit_rules::tell(!is_new, Finding::Twice, found)
+                let was_there = announce(&mut self.announced, payload)?;
+                unit_rules::tell(was_there, Finding::Twice, found)
             }
             Action::Withdraw => {
-                self.announced.remove(&payload);
+                withdraw(&mut self.announced, &payload.as_ref());
                 Ok(())
             }
         }
+    }
+}
+
+/// Announces a payload, and answers whether one of its name was there: of an ASPA, one of its
+/// customer.
+fn announce(announced: &mut Data, payload: payload::Payload) -> Result<bool, AllocError>
+    requires { IsFit (payload_of payload) }
+    ensures there { IfOk result (λ b. b ≡ has_name announced.old (payload_of payload)) }
+    ensures names { OnOk result (Names announced.old announced.new (payload_of payload) true) }
+{
+    let is_replaced = will_replace(announced, &payload.as_ref());
+    match announced.announce(payload) {
+        Ok(()) => Ok(is_replaced),
+        Err(ChangeError::Duplicate) => Ok(true),
+        Err(ChangeError::Memory) => Err(AllocError),
+        Err(ChangeError::Unknown | ChangeError::KeyTooLong | ChangeError::NoProviders) => {
+            unreachable!()
+        }
+    }
+}
+
+#[tactic(auto, unfolding(rtr_data::specs::Data::takes_place))]
+/// Whether the payload takes the place of one that is there, as an ASPA alone does.
+fn will_replace(announced: &Data, payload: &PayloadRef<'_>) -> bool
+    ensures { result ≡ (takes_place (payload_of_ref payload.now) &&
+        has_name announced.now (payload_of_ref payload.now)) }
+{
+    match payload {
+        PayloadRef::Origin(_) | PayloadRef::RouterKey(_) => false,
+        PayloadRef::Aspa(_) => announced.contains_name(payload),
+    }
+}
+
+/// Withdraws a payload, if one of its name is there.
+fn withdraw(announced: &mut Data, payload: &PayloadRef<'_>)
+    ensures { Names announced.old announced.new (payload_of_ref payload.now) false }
+{
+    // Gives the proof that the payloads are in order.
+    let _parts = announced.parts();
+    match announced.withdraw(payload) {
+        Ok(()) => {}
+        // It was not announced, which breaks no rule that is looked for.
+        Err(_) => {}
     }
 }

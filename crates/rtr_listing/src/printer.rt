@@ -3,7 +3,7 @@
 ghost use Rattle.std.specs.Prelude.{◌≡◌, ◌≢◌, ℕ, List, [], ◌∷◌, ◌++◌, Err, OnOk, OnErr};
 ghost use Rattle.rtr_units.specs.StopCauses.{by_cause, by_reader};
 ghost use Rattle.rtr_units.specs.StopCauses.{WriterState};
-ghost use Rattle.rtr_session.specs.AnyFields.{AnyFields};
+ghost use Rattle.rtr_session.specs.AnyFields.{AnyFields, HasAnyFields};
 ghost use Rattle.rtr_session.specs.AnyUnits.{any_bytes, any_fields};
 ghost use Rattle.rtr_listing.specs.FindingTexts.{finding_of};
 ghost use Rattle.rtr_listing.specs.PrivateFollowing.{HasSeen};
@@ -71,6 +71,8 @@ impl Printer {
         unit: &AnyUnit,
         output: &mut W,
     ) -> Result<bool, Fault>
+        // As of each unit that is read.
+        requires { HasAnyFields (any_bytes unit.now) (any_fields unit.now) }
         // Where these units were before, their lines are those of the unit after them.
         ensures lines { (before : List AnyFields) → HasChecked wanted self.old.checker before →
             PrintsUnit wanted self.old.offset before (any_fields unit.now) result
@@ -96,6 +98,7 @@ impl Printer {
         unit: &AnyUnit,
         output: &mut W,
     ) -> Result<bool, Fault>
+        requires { HasAnyFields (any_bytes unit.now) (any_fields unit.now) }
         ensures lines { (before : List AnyFields) → HasChecked wanted self.old.checker before →
             PrintsUnit wanted self.old.offset before (any_fields unit.now) result
             (W.state output.old) (W.state output.new) }
@@ -140,6 +143,7 @@ impl Printer {
     }
 
     fn print_findings<W: Sink>(&mut self, unit: &AnyUnit, output: &mut W) -> Result<bool, Fault>
+        requires { HasAnyFields (any_bytes unit.now) (any_fields unit.now) }
         ensures lines { (before : List AnyFields) → HasSeen self.old.checker before →
             PrintsUnit Findings self.old.offset before (any_fields unit.now) result
             (W.state output.old) (W.state output.new) }

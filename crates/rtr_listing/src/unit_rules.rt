@@ -14,7 +14,7 @@ ghost use Rattle.rtr_payload.specs.UnitBytes.{unit_fields};
 ghost use Rattle.rtr_payload.specs.UnitFields.{aspa_unit as aspa_fields, key_unit as key_fields};
 ghost use Rattle.rtr_listing.specs.ReportParts.{report_parts};
 ghost use Rattle.rtr_listing.specs.Rules as rules;
-ghost use Rattle.rtr_listing.specs.SequenceSoFar.{payload_named};
+ghost use Rattle.rtr_listing.specs.PrivateFollowing.{payload_in};
 ghost use Rattle.rtr_listing.specs.declared.finding.Finding.TheVariants as broken;
 
 use crate::fields::{byte_at, parts};
@@ -27,7 +27,7 @@ use rtr_payload::pdu::prefix_rule::{PrefixRule, ipv4_prefix, ipv6_prefix};
 use rtr_payload::pdu::{Aspa, Payload, PayloadUnit, ProviderAsns, RouterKey};
 use rtr_session::Report;
 use rtr_units::unit::Unit;
-use std::alloc::{AllocError, Global};
+use std::alloc::AllocError;
 use std::str;
 
 /// Adds the finding where the rule is broken.
@@ -137,14 +137,13 @@ fn prefix_reserved(
 
 /// Finds the rules that the fields of the unit break, and answers the payload that it is about.
 pub(crate) fn payload_unit(
-    alloc: Global,
     unit: &Payload,
     found: &mut Vec<Finding>,
 ) -> Result<Option<payload::Payload>, AllocError>
     ensures found { OnOk result (found.new.items ≡
         found.old.items ++ rules.payload_rules (unit_fields unit.now)) }
     ensures named { IfOk result (λ o.
-        option_map payload_of o ≡ payload_named (unit_fields unit.now)) }
+        option_map payload_of o ≡ payload_in (unit_fields unit.now)) }
 {
     match unit {
         Payload::V4(unit) => {
@@ -158,7 +157,7 @@ pub(crate) fn payload_unit(
         Payload::RouterKey(key) => Ok(Some(router_key(key, found)?)),
         Payload::Aspa(aspa) => {
             let free = byte_at(unit.as_partial_slice(), 3);
-            Ok(Some(aspa_unit(alloc, aspa, free, found)?))
+            Ok(Some(aspa_unit(aspa, free, found)?))
         }
     }
 }
@@ -217,7 +216,6 @@ fn router_key(unit: &RouterKey, found: &mut Vec<Finding>) -> Result<payload::Pay
 
 /// The version and the providers of an ASPA unit whose byte 3 is given.
 fn aspa_unit(
-    alloc: Global,
     unit: &Aspa,
     free: u8,
     found: &mut Vec<Finding>,
@@ -225,8 +223,7 @@ fn aspa_unit(
     requires { free ≡ (aspa_at unit.now).free }
     ensures found { OnOk result (found.new.items ≡ found.old.items ++
         rules.payload_rules (aspa_fields (aspa_at unit.now))) }
-    ensures named { IfOk result (λ p. payload_of p ≡
-        aspa_meant (record { customer = (aspa_at unit.now).aspa.customer; providers = [] })) }
+    ensures named { IfOk result (λ p. payload_of p ≡ aspa_meant (aspa_at unit.now).aspa) }
 {
     let flags = unit.flags();
     let customer = unit.customer();
@@ -239,8 +236,7 @@ fn aspa_unit(
         providers,
         found,
     )?;
-    let none = ProviderAsns::empty(alloc)?;
-    Ok(payload::Payload::aspa(customer, none))
+    Ok(payload::Payload::aspa(customer, providers.clone()?))
 }
 
 fn aspa_rules(
