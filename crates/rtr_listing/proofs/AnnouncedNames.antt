@@ -3,7 +3,7 @@ use Rattle.std.proofs.Common.{◌≡◌, Bool, true, false, not, ◌||◌, ◌&&
 use Rattle.std.proofs.Common.{Ok, Err, refl, sym, ap, ◌∙◌, subst}
 use Rattle.std.specs.BTreeMap.{is_at}
 use Rattle.std.specs.BTreeSet.{replace_key}
-use Rattle.std.specs.Cmp.{IsEquivalence, eq_by_cmp_equiv, Equal-is}
+use Rattle.std.specs.Cmp.{IsEquivalence, eq_by_cmp_equiv}
 use Rattle.std.specs.List.Sorted.{IsStrictlySortedBy}
 use Rattle.std.specs.Ordering.{eq_by_cmp, is_eq, match_ordering}
 use Rattle.std.specs.Set.{remove_key}

@@ -1,4 +1,3 @@
-use Rattle.std.proofs.Common.{refl}
 use Rattle.rtr_listing.proofs.AnnouncedNames.{announced_names, duplicate_names}
 use Rattle.rtr_listing.proofs.check.announce.Goals as goal
 
