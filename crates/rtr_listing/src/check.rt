@@ -63,7 +63,7 @@ impl Checker {
     ///
     /// If memory runs out the checker may have seen a part of the unit.
     pub fn check(&mut self, unit: &AnyUnit, found: &mut Vec<Finding>) -> Result<(), AllocError>
-        // As of each unit that is read.
+        // As of each unit that is read: `Data` holds nothing else.
         requires { HasAnyFields (any_bytes unit.now) (any_fields unit.now) }
         ensures { OnOk result (Finds self.old (any_fields unit.now) self.new found.new.items) }
     {
@@ -155,8 +155,8 @@ impl Checker {
     }
 }
 
-/// Announces a payload, and answers whether one of its name was there: of an ASPA, one of its
-/// customer.
+/// Announces a payload that a reader accepts, and answers whether one of its name was there: of an
+/// ASPA, one of its customer.
 fn announce(announced: &mut Data, payload: payload::Payload) -> Result<bool, AllocError>
     requires { IsFit (payload_of payload) }
     ensures there { IfOk result (λ b. b ≡ has_name announced.old (payload_of payload)) }
