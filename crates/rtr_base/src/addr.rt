@@ -22,8 +22,8 @@ use std::net::{IpAddr, Ipv4Addr, Ipv6Addr};
 #[derive(Clone, Copy, Debug, Hash)]
 pub struct Prefix {
     is_v4: bool,
-    bits: Bits,
     len: u8,
+    bits: Bits,
 }
 
 impl Model for Prefix {
