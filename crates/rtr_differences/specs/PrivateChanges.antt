@@ -15,9 +15,9 @@ use Rattle.rtr_differences.specs.Printing.{Puts}
 use Rattle.rtr_differences.specs.declared.printer.Printer.{Printer}
 
 -- the first of the payloads that were to come was taken, or none came
-abbrev pub Takes : Option Value → (old new : List Payload) → Type 0
-Takes (Some p) old new = old ≡ payload_of p ∷ new
-Takes None old new = old ≡ []
+abbrev pub TakesNext : Option Value → (old new : List Payload) → Type 0
+TakesNext (Some p) old new = old ≡ payload_of p ∷ new
+TakesNext None old new = old ≡ []
 
 -- the change that announces or withdraws the payload
 abbrev pub change_by : Action → Payload → Change

@@ -4,7 +4,7 @@ ghost use Rattle.std.specs.Prelude.{List, map, IfOk};
 ghost use Rattle.rtr_payload.specs.Meanings.{key_of, origin_of};
 ghost use Rattle.rtr_payload.specs.Payloads.{Payload};
 ghost use Rattle.rtr_data.specs.Contents.{entry_of};
-ghost use Rattle.rtr_differences.specs.PrivateChanges.{Takes};
+ghost use Rattle.rtr_differences.specs.PrivateChanges.{TakesNext};
 
 use rtr_base::asn::Asn;
 use rtr_payload::payload;
@@ -20,7 +20,7 @@ pub trait Part: Drop {
     /// Takes the next payload, whose bytes are shared. No memory is asked for, and `AllocError`
     /// says that the count of those that share them is full.
     fn next_payload(&mut self) -> Result<Option<payload::Payload>, AllocError>
-        ensures { IfOk result (λ next. Takes next (left self.old) (left self.new)) };
+        ensures { IfOk result (λ next. TakesNext next (left self.old) (left self.new)) };
 }
 
 impl Part for btree_set::Iter<'_, payload::RouteOrigin> {
