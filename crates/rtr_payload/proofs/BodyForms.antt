@@ -16,7 +16,7 @@ use Rattle.rtr_payload.specs.KeyUnits.{key_at}
 use Rattle.rtr_payload.specs.UnitFields.{key_unit, aspa_unit, HasFields, meaning}
 use Rattle.rtr_payload.specs.AspaUnits.{AspaFields, aspa_list, aspa_at, meant_aspa}
 use Rattle.rtr_payload.specs.Providers.{words_of}
-use Rattle.rtr_payload.specs.Units.{form, form_of}
+use Rattle.rtr_payload.specs.Units.{form_of}
 use Rattle.rtr_payload.specs.FirstFault.{header_fault}
 use Rattle.rtr_payload.specs.UnitKinds.{variable_unit}
 use Rattle.rtr_payload.proofs.FieldsRead.{key_has, aspa_has}

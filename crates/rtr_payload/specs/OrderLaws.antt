@@ -1,7 +1,8 @@
 -- Laws of the order of payloads, also for values that are compared by what they mean, on which
 -- their comparisons and hashes rest (this library's own).
 use Rattle.std.specs.Prelude.{◌≡◌, true}
-use Rattle.std.specs.Cmp.{Equal-is, IsEquivalence, IsPartialEquivalence, IsPartialOrder, IsTotalOrder}
+use Rattle.std.specs.Cmp.{Equal-is, IsEquivalence, IsPartialEquivalence, IsPartialOrder}
+use Rattle.std.specs.Cmp.{IsTotalOrder}
 use Rattle.std.specs.Cmp.{eq_by_cmp_equiv, on_equiv, on_po, on_total}
 use Rattle.std.specs.Cmp.{partial_equiv_from_equiv, partial_order_from_total}
 use Rattle.std.specs.Cmp.Lexicographic.{lists_total, nat_list_cmp_total}

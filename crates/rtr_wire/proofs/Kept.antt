@@ -1,12 +1,13 @@
 -- A router key or an ASPA unit was read, whose fields are known, and this was written for it.
-use Rattle.std.proofs.Common.{◌≡◌, ℕ, cond, eqb, List, [], ◌++◌, Option, Some, None, Result, Ok, Err}
+use Rattle.std.proofs.Common.{◌≡◌, ℕ, cond, eqb, List, [], Option, Some, None}
+use Rattle.std.proofs.Common.{Ok, Err}
 use Rattle.std.proofs.Common.{refl, sym, subst, ◌∙◌, arith, inl}
 use Rattle.std.specs.Io.KnownBytes.{Consumes, Appends}
 use Rattle.std.proofs.KnownBytes.{Appends-nil}
 use Rattle.std.proofs.lemmas.Bool.Decides.{nat_tests}
 use Rattle.rtr_units.specs.declared.fault.Fault.{Fault}
 use Rattle.rtr_units.specs.Header.{type_field}
-use Rattle.rtr_units.specs.Reading.{IsWhole, Kind, ReadsBytes, of_type}
+use Rattle.rtr_units.specs.Reading.{IsWhole, ReadsBytes, of_type}
 use Rattle.rtr_units.specs.StopCauses.{Refusal, by_writer}
 use Rattle.rtr_units.specs.Stream.{StopsWriting, WritesPart}
 use Rattle.rtr_payload.specs.Payloads.{Meaning}

@@ -2,7 +2,11 @@ use Rattle.std.proofs.Common.{◌≡◌, ◌∙◌, ap}
 use Rattle.rtr_c.specs.Compared.{comparison_told}
 use Rattle.rtr_c.specs.declared.compare.RtrComparison.{RtrComparison}
 use Rattle.rtr_c.proofs.compare.rtr_same_meaning_nonnull.Goals as goal
-use Rattle.rtr_c.proofs.compare.rtr_same_meaning_nonnull.Goals.{in-Ok, in-Err+in-Left, in-Err+in-Right}
+use Rattle.rtr_c.proofs.compare.rtr_same_meaning_nonnull.Goals.{
+  in-Ok,
+  in-Err+in-Left,
+  in-Err+in-Right,
+}
 
 pub returns : goal.returns
 returns c =

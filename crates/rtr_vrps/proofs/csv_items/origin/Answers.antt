@@ -1,4 +1,4 @@
-use Rattle.std.proofs.Common.{◌≡◌, ◌<◌, ◌↔◌, ℕ, List, Option, Some, None, Result, Err, refl, subst}
+use Rattle.std.proofs.Common.{◌<◌, ◌↔◌, ℕ, List, Option, Some, None, Err, refl, subst}
 use Rattle.std.specs.Option.{IsSomeAnd}
 use Rattle.std.specs.Result.{IsErrOf}
 use Rattle.rtr_base.specs.Addresses.{BreaksMaxLen, PrefixParts, width}
@@ -30,7 +30,10 @@ returns-in-Err-new c =
     let (x, len, breaks) = rule_broken m p c.in-Err-new.error _
     (subst (λ text. IsMaxLengthField text m) c.field-3.ensures c.in-Ok-max_length.ensures)
     c.in-Err-new.ensures.overflow c.in-Err-new.ensures.underflow in (
-      (c.in-Ok.asn, subst (λ text. IsAsnText text c.in-Ok.asn) c.field.ensures c.in-Ok.ensures.value),
+      (
+        c.in-Ok.asn,
+        subst (λ text. IsAsnText text c.in-Ok.asn) c.field.ensures c.in-Ok.ensures.value,
+      ),
       p,
       x,
       subst (λ text. IsPrefixText text p) c.field-2.ensures c.in-Ok-parse.ensures.value,

@@ -1,11 +1,8 @@
 use Rattle.std.proofs.lemmas.Result.{err_from_is_err_and}
-use Rattle.std.proofs.Common.{◌≡◌, ◌++◌, List, ℕ, Option, Ok, Err, Some, None, sym, ◌∙◌}
-use Rattle.std.specs.Io.KnownBytes.{Consumes}
+use Rattle.std.proofs.Common.{◌++◌, Ok, Err, sym, ◌∙◌}
 use Rattle.rtr_units.specs.StopCauses.{cause_of}
 use Rattle.rtr_units.specs.HeaderBytes.{header_bytes}
 use Rattle.rtr_units.proofs.UnitsRead.{read_on}
-use Rattle.rtr_units.specs.Reading.{ReadsBytes}
-use Rattle.rtr_payload.specs.Payloads.{Meaning}
 use Rattle.rtr_payload.specs.UnitFields.{meaning}
 use Rattle.rtr_payload.specs.UnitKinds.{payload_unit}
 use Rattle.rtr_payload.proofs.Reading.{variable_after}

@@ -22,13 +22,14 @@ pub returns-else-self-clause-octets : goal.returns-else-self-clause-octets
 returns-else-self-clause-octets c =
     let family : c.args.self.family ≡ v6 =
     ap (λ (p : PrefixParts). p.family) (sym c.self.view_is) ∙ ap family_of c.if-self.false in
-    (family, rw c.bits-else-self.ensures.number at (ipv6_octets-bits _ _ c.from_bits-else-self.ensures))
+    let bits = c.bits-else-self.ensures.number in
+    (family, rw bits at (ipv6_octets-bits _ _ c.from_bits-else-self.ensures))
 
 pub returns-else-self-clause-number : goal.returns-else-self-clause-number
 returns-else-self-clause-number c =
     let address : c.self.inside.bits ≡ c.args.self.address =
     ap (λ (p : PrefixParts). p.address) c.self.view_is in
     let below : c.self.inside.bits < 2 ^ 128 = rw c.if-self.false at c.self.invariant.address in
-    let small : c.bits-else-self.result < 2 ^ 128 = rw (c.bits-else-self.ensures.number, ← address) below in
-    ipv6_bits-be _ _ small (ipv6_octets-bits _ _ c.from_bits-else-self.ensures)
-    ∙ c.bits-else-self.ensures.number
+    let bits = c.bits-else-self.ensures.number in
+    let small : c.bits-else-self.result < 2 ^ 128 = rw (bits, ← address) below in
+    ipv6_bits-be _ _ small (ipv6_octets-bits _ _ c.from_bits-else-self.ensures) ∙ bits

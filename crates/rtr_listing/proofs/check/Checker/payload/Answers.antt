@@ -10,8 +10,8 @@ pub returns-in-Some : goal.returns-in-Some
 returns-in-Some c =
     on_ok_both c.count.result c.count.ensures.found c.count.ensures.announced
     (λ found updates.
-    payload_finds c.args.unit.now c.args.self.now c.count.new.self (payload_of c.in-Some.payload) _ _ _ _ _ _ _
-    c.version-version.ensures c.action.ensures c.in_ok-sequence_version.ensures
+    payload_finds c.args.unit.now c.args.self.now c.count.new.self (payload_of c.in-Some.payload) _
+    _ _ _ _ _ _ c.version-version.ensures c.action.ensures c.in_ok-sequence_version.ensures
     c.in_ok-payload_reserved.ensures c.in_ok-payload.ensures.found
     (sym (ap (option_map payload_of) c.in-Some.is) ∙ c.in_ok-payload.ensures.named) found
     (c.count.ensures.version ∙ ap (λ v. Some v) c.unwrap_or.ensures) c.count.ensures.session

@@ -1,12 +1,11 @@
 use Rattle.std.proofs.Common.{◌≡◌, ℕ, ◌-◌, List, ◌++◌, length, take, drop, Option, Result, Ok, Err}
 use Rattle.std.proofs.Common.{sym, ap, subst, ◌∙◌, arith}
 use Rattle.std.proofs.Math.Seq.{drop-append_seam, take-append_seam}
-use Rattle.std.proofs.lemmas.List.{length-append}
 use Rattle.rtr_base.specs.Bytes.{IsBytes}
 use Rattle.rtr_units.specs.declared.fault.Fault.{Fault}
 use Rattle.rtr_units.specs.Reading.{FillsPiece, by_bytes}
-use Rattle.rtr_units.specs.StopCauses.{Cause, ReaderState, by_reader, by_writer, too_many, no_memory}
-use Rattle.rtr_units.specs.StopCauses.{wrong, cause_of}
+use Rattle.rtr_units.specs.StopCauses.{Cause, ReaderState, by_reader, by_writer, too_many}
+use Rattle.rtr_units.specs.StopCauses.{no_memory, wrong, cause_of}
 use Rattle.rtr_units.specs.Stream.{FallsShort}
 use Rattle.rtr_payload.specs.PrivateFrames.{ReadsFrame, StopsInFrame}
 use Rattle.rtr_payload.proofs.pdu.frame.fill_unit.Goals as goal
@@ -30,10 +29,9 @@ reads : {T : Type 0} (n : ℕ) (r : Result T Fault) (t : List ℕ) (old new : Re
     length t ≡ n → FillsPiece (length t) (by_bytes (λ _. t) r) old new →
     ReadsFrame n (by_bytes (λ _. t) r) old new
 reads n (Ok x) t old new l ((took, is), counts) = ((took, l), counts)
-reads n (Err f) t old new l ((s, took, short), counts) = (
-  (s, took, stops n (cause_of f) s new.left (subst (λ m. FallsShort m (cause_of f) s new.left) l short)),
-  counts,
-)
+reads n (Err f) t old new l ((s, took, short), counts) =
+    let less = subst (λ m. FallsShort m (cause_of f) s new.left) l short in
+    ((s, took, stops n (cause_of f) s new.left less), counts)
 
 pub returns-clause-bytes : goal.returns-clause-bytes
 returns-clause-bytes g c =
@@ -50,7 +48,8 @@ returns-clause-bytes g c =
 
 pub returns-clause-head : goal.returns-clause-head
 returns-clause-head g c =
-    the_header c.copy_from_slice.new.self c.fill.new.piece (omega arith) ∙ c.copy_from_slice.ensures.after
+    the_header c.copy_from_slice.new.self c.fill.new.piece (omega arith)
+    ∙ c.copy_from_slice.ensures.after
 
 pub returns-clause-range : goal.returns-clause-range
 returns-clause-range g c =

@@ -1,8 +1,11 @@
-use Rattle.std.proofs.Common.{◌≡◌, ℕ, ◌-◌, ◌++◌, take, drop, sym, ap, ◌∙◌}
+use Rattle.std.proofs.Common.{◌≡◌, ℕ, ◌-◌, take, drop, sym, ap, ◌∙◌}
 use Rattle.std.proofs.lemmas.List.{take_rest}
 use Rattle.rtr_payload.proofs.BodyForms.{aspa_form_in, kept_rest}
 use Rattle.rtr_payload.proofs.pdu.aspa.ProviderAsnsBodyFIXED.form_parts.Goals as goal
-use Rattle.rtr_payload.proofs.pdu.aspa.ProviderAsnsBodyFIXED.form_parts.Goals.{in-Announce, in-Withdraw}
+use Rattle.rtr_payload.proofs.pdu.aspa.ProviderAsnsBodyFIXED.form_parts.Goals.{
+  in-Announce,
+  in-Withdraw,
+}
 
 pub returns : goal.returns
 returns c =

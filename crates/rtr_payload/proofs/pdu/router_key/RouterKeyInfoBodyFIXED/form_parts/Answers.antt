@@ -1,6 +1,4 @@
-use Rattle.std.proofs.Common.{ap, sym, ◌∙◌, ◌++◌}
 use Rattle.std.proofs.lemmas.List.{take_rest}
-use Rattle.rtr_base.specs.Actions.{act}
 use Rattle.rtr_payload.proofs.BodyForms.{key_form_in}
 use Rattle.rtr_payload.proofs.pdu.router_key.RouterKeyInfoBodyFIXED.form_parts.Goals as goal
 

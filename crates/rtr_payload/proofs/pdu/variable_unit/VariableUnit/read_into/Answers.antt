@@ -17,17 +17,22 @@ use Rattle.rtr_payload.proofs.pdu.variable_unit.VariableUnit.read_into.Goals as 
 pub returns-in_err-check_header-clause-bytes : goal.returns-in_err-check_header-clause-bytes
 returns-in_err-check_header-clause-bytes g c =
     let p = err_from_is_err_and c.from_residual.result c.from_residual.ensures.1 in
+    let cause = cause_of c.in_err-check_header.field-0.0 in
     rw (p.1, p.2) (
       c.length-size.ensures.header,
-      header_stops g.B.Body.PDU (header_bytes c.args.header) (cause_of c.in_err-check_header.field-0.0) _
-          c.length-size.ensures.header.0 c.in_err-check_header.ensures.answer,
+      header_stops g.B.Body.PDU (header_bytes c.args.header) cause _ c.length-size.ensures.header.0
+          c.in_err-check_header.ensures.answer,
     )
 
 pub returns-then-is_err-clause-bytes : goal.returns-then-is_err-clause-bytes
 returns-then-is_err-clause-bytes g c =
     let h = header_bytes c.args.header in
     let size : length_field h ≡ 8 + (c.length-size.result - 8) =
-    omega (arith, c.length-size.ensures.value, eight_said _ _ _ _ c.in_ok-check_header.ensures.answer) in (
+    omega (
+      arith,
+      c.length-size.ensures.value,
+      eight_said _ _ _ _ c.in_ok-check_header.ensures.answer,
+    ) in (
       c.length-size.ensures.header,
       (
         (
@@ -122,7 +127,8 @@ returns-clause-bytes g c = (
 
 pub returns-clause-fields : goal.returns-clause-fields
 returns-clause-fields g c kind =
-    let same = same_header (h g c) (drop 8 (u g c)) (omega (arith, c.length-size.ensures.header.0)) in
+    let same = same_header (h g c) (drop 8 (u g c))
+    (omega (arith, c.length-size.ensures.header.0)) in
     (c.in_ok-check_header.ensures.whole (u g c) (whole g c)).2
     (ap type_field (parts g c) ∙ same.kind ∙ kind)
 
