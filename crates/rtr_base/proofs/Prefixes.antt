@@ -1,17 +1,16 @@
 -- Prefixes that compare as equal are one, and their order as the code compares them.
 use Rattle.std.proofs.Common.{◌≡◌, ℕ, Bool, true, false, refl, sym, ap, ◌∙◌, ◌↔◌, arith}
-use Rattle.std.proofs.Common.{◌+◌, ◌-◌, ◌*◌, ◌/◌, ◌%◌, ◌^◌, ◌<◌, ◌≤◌}
+use Rattle.std.proofs.Common.{◌+◌, ◌-◌, ◌*◌, ◌/◌, ◌%◌, ◌^◌, ◌≤◌}
+use Rattle.std.proofs.lemmas.Nat.{div-add-mod', mod-pow-add}
 use Rattle.std.specs.declared.cmp.Ordering.{Ordering}
 use Rattle.std.specs.declared.cmp.Ordering.TheVariants.{Less, Equal, Greater}
 use Rattle.std.specs.Ordering.{bool_cmp, nat_cmp, ordering_then}
 use Rattle.std.specs.FinMap.{nat_cmp-IsAntisymmetric, slice_cmp-IsAntisymmetric}
-use Rattle.std.proofs.Math.Nat.{one-le-pow}
-use Rattle.std.proofs.lemmas.Nat.{div-add-mod', mod-mul-add}
 use Rattle.std.proofs.lemmas.Cmp.{tied_itself}
 use Rattle.std.specs.Cmp.{IsTotalOrder, on_total}
 use Rattle.std.specs.Cmp.Lexicographic.{nat_list_cmp_total}
 use Rattle.rtr_base.specs.Addresses.{Family, v4, v6, PrefixParts, compared, family_of, ip_version}
-use Rattle.rtr_base.specs.Addresses.{prefix_cmp, width, cleared, IsPrefix}
+use Rattle.rtr_base.specs.Addresses.{cleared, prefix_cmp}
 
 -- an instance of std's law on lists
 pub prefix_total : IsTotalOrder prefix_cmp
@@ -61,17 +60,11 @@ pub prefix_chain : (b c : Bool) (a d l m : ℕ) →
     (record { family = family_of c; address = d; len = m })
 prefix_chain b c a d l m = rw (by_bit b c) (regrouped _ (nat_cmp a d) (nat_cmp l m))
 
--- ---- an address whose host bits are cleared is that of a prefix
+-- ---- an address whose second half has no bit that counts
 
-cleared_by : (a p : ℕ) → 0 < p → (a - a % p) % p ≡ 0
-cleared_by a p h =
-    let front : a - a % p ≡ a / p * p + 0 = omega (arith, div-add-mod' a p) in
-    ap (λ (x : ℕ). x % p) front ∙ mod-mul-add (a / p) p 0 h
-
-pub prefix_cleared : (f : Family) (l a : ℕ) → l ≤ width f → a < 2 ^ width f →
-    IsPrefix (record { family = f; address = cleared (width f) l a; len = l })
-prefix_cleared f l a h below = record {
-  len = h;
-  address = omega arith;
-  host_bits = cleared_by a (2 ^ (width f - l)) (one-le-pow (width f - l) 2 (omega arith));
-}
+-- the bits after the first l of a are cleared by those of its first half
+pub first_half_cleared : (l a : ℕ) → l ≤ 64 → cleared 64 l (a / 2 ^ 64) * 2 ^ 64 ≡ cleared 128 l a
+first_half_cleared l a short =
+    let both : a % 2 ^ (128 - l) ≡ (a / 2 ^ 64 % 2 ^ (64 - l)) * 2 ^ 64 + a % 2 ^ 64 =
+    ap (λ (n : ℕ). a % 2 ^ n) (omega arith) ∙ mod-pow-add a (64 - l) 64 in
+    omega (arith, both, div-add-mod' a (2 ^ 64))

@@ -11,7 +11,6 @@ ghost use Rattle.rtr_base.specs.Addresses.{v4, v6, width, cleared, v4_test, IsPr
 ghost use Rattle.rtr_base.specs.Addresses.{IsMaxLenPrefix, IsAddressOf, ip_number, resolved_len};
 ghost use Rattle.rtr_base.specs.Addresses.{prefix_of_address, prefix_cmp, BreaksPrefix};
 
-use crate::bits::Bits;
 use std::cmp::Ordering;
 use std::error::Error;
 use std::fmt;
@@ -23,7 +22,7 @@ use std::net::{IpAddr, Ipv4Addr, Ipv6Addr};
 pub struct Prefix {
     is_v4: bool,
     len: u8,
-    bits: Bits,
+    bits: u128,
 }
 
 impl Model for Prefix {
@@ -93,7 +92,7 @@ impl Prefix {
             ((len ≤ 32) × ¬ (cleared 32 len (ipv4_bits addr) ≡ ipv4_bits addr)) }
     {
         let prefix = Prefix::new_v4_relaxed(addr, len)?;
-        if prefix.bits() != addr.to_bits() as u128 {
+        if prefix.bits != addr.to_bits() as u128 {
             return Err(PrefixError::NonZeroHost);
         }
         Ok(prefix)
@@ -125,8 +124,8 @@ impl Prefix {
         }
         Ok(Prefix {
             is_v4: true,
-            bits: Bits::new(cleared_v4(bits, len) as u128),
             len,
+            bits: cleared_v4(bits, len) as u128,
         })
     }
 
@@ -140,7 +139,7 @@ impl Prefix {
             ((len ≤ 128) × ¬ (cleared 128 len (ipv6_bits addr) ≡ ipv6_bits addr)) }
     {
         let prefix = Prefix::new_v6_relaxed(addr, len)?;
-        if prefix.bits() != addr.to_bits() {
+        if prefix.bits != addr.to_bits() {
             return Err(PrefixError::NonZeroHost);
         }
         Ok(prefix)
@@ -172,8 +171,8 @@ impl Prefix {
         }
         Ok(Prefix {
             is_v4: false,
-            bits: Bits::new(cleared_v6(bits, len)),
             len,
+            bits: cleared_v6(bits, len),
         })
     }
 
@@ -194,9 +193,9 @@ impl Prefix {
         ensures valid { IsPrefix self }
     {
         if self.is_v4 {
-            IpAddr::V4(Ipv4Addr::from_bits(self.bits() as u32))
+            IpAddr::V4(Ipv4Addr::from_bits(self.bits as u32))
         } else {
-            IpAddr::V6(Ipv6Addr::from_bits(self.bits()))
+            IpAddr::V6(Ipv6Addr::from_bits(self.bits))
         }
     }
 
@@ -206,7 +205,7 @@ impl Prefix {
         ensures number { result ≡ self.address }
         ensures valid { IsPrefix self }
     {
-        self.bits.get()
+        self.bits
     }
 
     /// How many bits of the address count.
@@ -397,11 +396,9 @@ fn cleared_v4(bits: u32, len: u8) -> u32
     requires { len ≤ 32 }
     ensures { result ≡ cleared 32 len bits }
 {
-    if len == 0 {
-        0
-    } else {
-        bits - bits % (1 << (32 - len))
-    }
+    // In 64 bits the step fits, and none of the lengths needs a way of its own.
+    let step = 1u64 << (32 - len);
+    (u64::from(bits) - u64::from(bits) % step) as u32
 }
 
 #[inline(always)]
@@ -409,9 +406,24 @@ fn cleared_v6(bits: u128, len: u8) -> u128
     requires { len ≤ 128 }
     ensures { result ≡ cleared 128 len bits }
 {
+    // Most prefixes of networks end in the first half: their second half is zero.
+    if len <= 64 {
+        let high = (bits >> 64) as u64;
+        u128::from(cleared_half(high, len)) << 64
+    } else {
+        bits - bits % (1 << (128 - len))
+    }
+}
+
+/// The first half of an address with all its bits after the first `len` cleared.
+#[inline(always)]
+fn cleared_half(high: u64, len: u8) -> u64
+    requires { len ≤ 64 }
+    ensures { result ≡ cleared 64 len high }
+{
     if len == 0 {
         0
     } else {
-        bits - bits % (1 << (128 - len))
+        high - high % (1 << (64 - len))
     }
 }

@@ -5,7 +5,6 @@ pub mod action;
 pub mod addr;
 pub mod afi;
 pub mod asn;
-mod bits;
 pub mod error_code;
 pub mod keys;
 pub mod laws;

@@ -1,5 +1,5 @@
-//! What `rtr_make --csv` is measured against. It reads a list of VRPs as CSV from standard input, as
-//! far as its argument says: `csv` reads the rows, `origins` makes an origin of each, and `data`
+//! What `rtr_make --csv` is measured against. It reads a list of VRPs as CSV from standard input,
+//! as far as its argument says: `csv` reads the rows, `origins` makes an origin of each, and `data`
 //! announces each to a `Data`, too. It prints how many rows or origins there were, and ends with
 //! status 0; 1 for another argument or another text; 3 if reading, printing or memory failed.
 #![tactic(auto)]

@@ -18,13 +18,14 @@ mod copying;
 mod ranges;
 
 use crate::change_error::ChangeError;
+use crate::kept_origin::KeptOrigin;
 use crate::writing::{
     write_all_aspas, write_all_keys, write_all_origins, write_announced, write_keys, write_origins,
     write_withdrawn,
 };
 use rtr_base::action::Action;
 use rtr_base::asn::Asn;
-use rtr_payload::payload::{Aspa, Payload, PayloadRef, RouteOrigin, RouterKey};
+use rtr_payload::payload::{Aspa, Payload, PayloadRef, RouterKey};
 use rtr_payload::pdu::ProviderAsns;
 use rtr_units::fault::Fault;
 use rtr_units::header::LAST_VERSION;
@@ -39,7 +40,7 @@ const MOST_KEY_INFO: usize = 65503;
 /// Payloads, each of them once, and of each customer one ASPA at most.
 #[derive(Drop)]
 pub struct Data {
-    origins: BTreeSet<RouteOrigin>,
+    origins: BTreeSet<KeptOrigin>,
     router_keys: BTreeSet<RouterKey>,
     aspas: BTreeMap<Asn, ProviderAsns>,
 }
@@ -92,7 +93,7 @@ impl Data {
     pub fn parts(
         &self,
     ) -> (
-        btree_set::Iter<'_, RouteOrigin>,
+        btree_set::Iter<'_, KeptOrigin>,
         btree_set::Iter<'_, RouterKey>,
         btree_map::Iter<'_, Asn, ProviderAsns>,
     )
@@ -112,7 +113,7 @@ impl Data {
         ensures { result ≡ has self.now (payload_of_ref payload.now) }
     {
         match payload {
-            PayloadRef::Origin(origin) => self.origins.contains(origin),
+            PayloadRef::Origin(origin) => self.origins.contains(&KeptOrigin::from(*origin)),
             PayloadRef::RouterKey(key) => self.router_keys.contains(*key),
             PayloadRef::Aspa(aspa) => {
                 // Gives the proof that the customers are in order.
@@ -130,7 +131,7 @@ impl Data {
         ensures { result ≡ has_name self.now (payload_of_ref payload.now) }
     {
         match payload {
-            PayloadRef::Origin(origin) => self.origins.contains(origin),
+            PayloadRef::Origin(origin) => self.origins.contains(&KeptOrigin::from(*origin)),
             PayloadRef::RouterKey(key) => self.router_keys.contains(*key),
             PayloadRef::Aspa(aspa) => self.aspas.contains_key(&aspa.customer),
         }
@@ -155,7 +156,7 @@ impl Data {
         ensures { Leaves result (changed Announce (payload_of payload) self.old) self.old self.new }
     {
         match payload {
-            Payload::Origin(origin) => match self.origins.insert(origin) {
+            Payload::Origin(origin) => match self.origins.insert(KeptOrigin::from(origin)) {
                 Ok(true) => Ok(()),
                 Ok(false) => Err(ChangeError::Duplicate),
                 Err(_) => Err(ChangeError::Memory),
@@ -187,7 +188,7 @@ impl Data {
     {
         match payload {
             PayloadRef::Origin(origin) => {
-                if self.origins.remove(origin) {
+                if self.origins.remove(&KeptOrigin::from(*origin)) {
                     Ok(())
                 } else {
                     Err(ChangeError::Unknown)

@@ -5,9 +5,11 @@
 mod apply_error;
 mod change_error;
 mod data;
+mod kept_origin;
 pub mod laws;
 mod writing;
 
 pub use apply_error::{ApplyCause, ApplyError};
 pub use change_error::ChangeError;
 pub use data::Data;
+pub use kept_origin::KeptOrigin;

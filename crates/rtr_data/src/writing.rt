@@ -16,24 +16,16 @@ ghost use Rattle.rtr_data.specs.Deltas.{data_for};
 ghost use Rattle.rtr_data.specs.PrivateForms.{entries, lacks_customer, lacks_entry};
 ghost use Rattle.rtr_data.specs.PrivateForms.{payload_forms};
 
+use crate::kept_origin::KeptOrigin;
 use rtr_base::action::Action;
 use rtr_base::asn::Asn;
 use rtr_payload::payload::{Payload, RouteOrigin, RouterKey};
 use rtr_payload::pdu;
-use rtr_payload::pdu::ProviderAsns;
+use rtr_payload::pdu::{ProviderAsns, put_parts};
 use rtr_units::fault::Fault;
 use rtr_units::piece::put;
 use rtr_units::source::Sink;
 use std::collections::{BTreeMap, BTreeSet};
-
-/// Writes two pieces, one after the other.
-fn put_both<W: Sink>(writer: &mut W, front: &[u8], rest: &[u8]) -> Result<(), Fault>
-    ensures { WritesTo W.Sink result writer.old writer.new
-        (front.now ++ rest.now) }
-{
-    put(writer, front)?;
-    put(writer, rest)
-}
 
 /// Writes the unit that announces or withdraws the origin.
 fn write_origin<W: Sink>(
@@ -74,7 +66,7 @@ fn write_key<W: Sink>(
         (form version (flags_of action) (key_of key.now)) }
 {
     let front = key_front(version, action, key);
-    put_both(writer, &front, key.key_info.as_slice())
+    put_parts(writer, &front, key.key_info.as_slice())
 }
 
 /// What comes before the providers in the unit that announces or withdraws an ASPA, which has as
@@ -102,7 +94,7 @@ fn announce_aspa<W: Sink>(
         (form version (flags_of Announce) (entry_of (customer, providers.now))) }
 {
     let front = aspa_front(version, Action::Announce, customer, providers.asn_count());
-    put_both(writer, &front, providers.as_slice())
+    put_parts(writer, &front, providers.as_slice())
 }
 
 /// Writes the unit that withdraws the ASPA of the customer.
@@ -118,8 +110,8 @@ fn withdraw_aspa<W: Sink>(version: u8, customer: Asn, writer: &mut W) -> Result<
 pub(crate) fn write_origins<W: Sink>(
     version: u8,
     action: Action,
-    these: &BTreeSet<RouteOrigin>,
-    those: &BTreeSet<RouteOrigin>,
+    these: &BTreeSet<KeptOrigin>,
+    those: &BTreeSet<KeptOrigin>,
     writer: &mut W,
 ) -> Result<(), Fault>
     ensures { WritesTo W.Sink result writer.old writer.new
@@ -127,7 +119,7 @@ pub(crate) fn write_origins<W: Sink>(
         (map origin_of (difference (on origin_of payload_cmp) these.now those.now))) }
 {
     for origin in these.difference(those) {
-        write_origin(version, action, *origin, writer)?;
+        write_origin(version, action, origin.get(), writer)?;
     }
     Ok(())
 }
@@ -218,14 +210,14 @@ pub(crate) fn write_withdrawn<W: Sink>(
 /// Announces these origins.
 pub(crate) fn write_all_origins<W: Sink>(
     version: u8,
-    origins: &BTreeSet<RouteOrigin>,
+    origins: &BTreeSet<KeptOrigin>,
     writer: &mut W,
 ) -> Result<(), Fault>
     ensures { WritesTo W.Sink result writer.old writer.new
         (payload_forms version Announce (map origin_of origins.now.keys)) }
 {
     for origin in origins.iter() {
-        write_origin(version, Action::Announce, *origin, writer)?;
+        write_origin(version, Action::Announce, origin.get(), writer)?;
     }
     Ok(())
 }

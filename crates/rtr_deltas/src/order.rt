@@ -71,7 +71,8 @@ fn place_ordered(
 ) -> Option<usize>
     requires units { HaveSome input.now places.now }
     requires end { end_bytes end.now ≡ end_list (end_meaning end.now) }
-    ensures { PlacesOrdered result input.now places.now (end_meaning end.now) output.old output.new }
+    ensures { PlacesOrdered result input.now places.now (end_meaning end.now)
+        output.old output.new }
 {
     let announced = match place_settled(input, places, Action::Announce, output) {
         Some(size) => size,

@@ -7,6 +7,7 @@ ghost use Rattle.rtr_data.specs.Contents.{entry_of};
 ghost use Rattle.rtr_differences.specs.PrivateChanges.{TakesNext};
 
 use rtr_base::asn::Asn;
+use rtr_data::KeptOrigin;
 use rtr_payload::payload;
 use rtr_payload::pdu::ProviderAsns;
 use std::alloc::AllocError;
@@ -23,12 +24,12 @@ pub trait Part: Drop {
         ensures { IfOk result (λ next. TakesNext next (left self.old) (left self.new)) };
 }
 
-impl Part for btree_set::Iter<'_, payload::RouteOrigin> {
+impl Part for btree_set::Iter<'_, KeptOrigin> {
     ghost left = { λ s. map origin_of s };
 
     fn next_payload(&mut self) -> Result<Option<payload::Payload>, AllocError> {
         match self.next() {
-            Some(origin) => Ok(Some(payload::Payload::Origin(*origin))),
+            Some(origin) => Ok(Some(payload::Payload::Origin(origin.get()))),
             None => Ok(None),
         }
     }

@@ -5,7 +5,7 @@ ghost use Rattle.rtr_payload.specs.Meanings.{origin_of};
 ghost use Rattle.rtr_tables.specs.Tables.{csv_row, csv_text, is_aspa, is_key};
 
 use crate::pieces::add_prefix;
-use rtr_data::Data;
+use rtr_data::{Data, KeptOrigin};
 use rtr_listing::Line;
 use rtr_payload::payload::RouteOrigin;
 use std::alloc::AllocError;
@@ -24,12 +24,12 @@ pub fn add_csv(line: &mut Line, payloads: &Data) -> Result<(), AllocError>
 }
 
 /// Adds the rows of the origins.
-fn add_rows(line: &mut Line, origins: btree_set::Iter<'_, RouteOrigin>) -> Result<(), AllocError>
+fn add_rows(line: &mut Line, origins: btree_set::Iter<'_, KeptOrigin>) -> Result<(), AllocError>
     ensures { OnOk result (line.new ≡ line.old
         ++ flat_map (λ o. csv_row (origin_of o)) origins.entry) }
 {
     for origin in origins {
-        add_row(line, *origin)?;
+        add_row(line, origin.get())?;
     }
     Ok(())
 }

@@ -10,7 +10,7 @@ use crate::pieces::add_prefix;
 use base64::engine::general_purpose::STANDARD;
 use hex::encode;
 use rtr_base::asn::Asn;
-use rtr_data::Data;
+use rtr_data::{Data, KeptOrigin};
 use rtr_listing::Line;
 use rtr_payload::payload::{RouteOrigin, RouterKey};
 use rtr_payload::pdu::ProviderAsns;
@@ -47,14 +47,14 @@ fn before_item(first: bool) -> &'static str
 }
 
 /// Adds the items of the origins.
-fn add_origins(line: &mut Line, origins: btree_set::Iter<'_, RouteOrigin>) -> Result<(), AllocError>
+fn add_origins(line: &mut Line, origins: btree_set::Iter<'_, KeptOrigin>) -> Result<(), AllocError>
     ensures { OnOk result (line.new ≡ line.old
         ++ drop 1 (flat_map (λ o. origin_item (origin_of o)) origins.entry)) }
 {
     let mut first = true;
     for origin in origins {
         line.text(before_item(first))?;
-        add_origin(line, *origin)?;
+        add_origin(line, origin.get())?;
         first = false;
     }
     Ok(())

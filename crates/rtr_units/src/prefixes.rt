@@ -43,10 +43,11 @@ impl Ipv4Prefix {
           };
         }) }
     {
-        Ipv4Prefix::from_bits(version, flags, prefix_len, max_len, prefix.to_bits(), asn)
+        let (bits, asn) = (prefix.to_bits(), asn.into_u32());
+        Ipv4Prefix::from_bits(version, flags, prefix_len, max_len, bits, asn)
     }
 
-    /// As `new`, with the address as a number.
+    /// As `new`, of plain numbers.
     #[inline]
     pub fn from_bits(
         version: u8,
@@ -54,7 +55,7 @@ impl Ipv4Prefix {
         prefix_len: u8,
         max_len: u8,
         prefix: u32,
-        asn: Asn,
+        asn: u32,
     ) -> Self
         ensures { fixed_bytes result ≡ prefix_list (record {
           version = version;
@@ -74,7 +75,7 @@ impl Ipv4Prefix {
         let front = [version, 4, 0, 0, 0, 0, 0, 20, flags, prefix_len, max_len, 0];
         bytes[..12].copy_from_slice(&front);
         bytes[12..16].copy_from_slice(&prefix.to_be_bytes());
-        bytes[16..].copy_from_slice(&asn.into_u32().to_be_bytes());
+        bytes[16..].copy_from_slice(&asn.to_be_bytes());
         FixedUnit::of(bytes)
     }
 
@@ -159,10 +160,11 @@ impl Ipv6Prefix {
           };
         }) }
     {
-        Ipv6Prefix::from_bits(version, flags, prefix_len, max_len, prefix.to_bits(), asn)
+        let (bits, asn) = (prefix.to_bits(), asn.into_u32());
+        Ipv6Prefix::from_bits(version, flags, prefix_len, max_len, bits, asn)
     }
 
-    /// As `new`, with the address as a number.
+    /// As `new`, of plain numbers.
     #[inline]
     pub fn from_bits(
         version: u8,
@@ -170,7 +172,7 @@ impl Ipv6Prefix {
         prefix_len: u8,
         max_len: u8,
         prefix: u128,
-        asn: Asn,
+        asn: u32,
     ) -> Self
         ensures { fixed_bytes result ≡ prefix_list (record {
           version = version;
@@ -190,7 +192,7 @@ impl Ipv6Prefix {
         let front = [version, 6, 0, 0, 0, 0, 0, 32, flags, prefix_len, max_len, 0];
         bytes[..12].copy_from_slice(&front);
         bytes[12..28].copy_from_slice(&u128_bytes(prefix));
-        bytes[28..].copy_from_slice(&asn.into_u32().to_be_bytes());
+        bytes[28..].copy_from_slice(&asn.to_be_bytes());
         FixedUnit::of(bytes)
     }
 

@@ -1,7 +1,6 @@
 //! Views of what a slice begins with.
 
-ghost use Rattle.std.specs.Prelude.{◌≡◌, ◌≤◌, length, take, IfOk, IfErr};
-ghost use Rattle.rtr_units.specs.Header.{type_field};
+ghost use Rattle.std.specs.Prelude.{◌≤◌, length, take, IfOk, IfErr};
 ghost use Rattle.rtr_views.specs.Faults.{IsFirstFault, WritesPiece};
 ghost use Rattle.rtr_views.specs.Views.{IsViewOf, view_form};
 
@@ -48,20 +47,7 @@ impl<'a> UnitView<'a> {
         if input.len() < 8 {
             return Err(ViewFault::Short);
         }
-        UnitView::of_type(input[1], input)
-    }
-
-    /// As `first`, of an input of at least 8 bytes whose type is known: where it is a constant, no
-    /// code is left that asks for it again.
-    #[inline(always)]
-    pub fn of_type(unit_type: u8, input: &'a [u8]) -> Result<(UnitView<'a>, usize), ViewFault>
-        requires header { 8 ≤ length input.now }
-        requires kind { type_field input.now ≡ unit_type }
-        ensures view { IfOk result (λ p. IsViewOf p.0 (take p.1 input.now)) }
-        ensures within { IfOk result (λ p. p.1 ≤ length input.now) }
-        ensures fault { IfErr result (λ e. IsFirstFault input.now e) }
-    {
-        match unit_type {
+        match input[1] {
             Ipv4Prefix::PDU => match OriginView::first::<Ipv4Prefix>(input) {
                 Ok(view) => Ok((UnitView::Origin(view), Ipv4Prefix::LENGTH)),
                 Err(e) => Err(e),

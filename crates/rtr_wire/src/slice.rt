@@ -1,10 +1,8 @@
 //! Runs over sequences that lie in a slice.
 
-ghost use Rattle.std.specs.Prelude.{◌≡◌, ◌≤◌, Ok, Some, IfOk, IfErr, length, not, take};
+ghost use Rattle.std.specs.Prelude.{◌≡◌, Ok, Some, IfOk, IfErr, not};
 ghost use Rattle.rtr_units.specs.StopCauses.{count_after};
-ghost use Rattle.rtr_units.specs.Header.{type_field};
-ghost use Rattle.rtr_views.specs.Faults.{is_view_writer_fault, HoldsViewWriteError, IsFirstFault};
-ghost use Rattle.rtr_views.specs.Views.{IsViewOf};
+ghost use Rattle.rtr_views.specs.Faults.{is_view_writer_fault, HoldsViewWriteError};
 ghost use Rattle.rtr_wire.specs.PrivateSteps.{Steps, StopsStep, is_payload_unit, passed};
 ghost use Rattle.rtr_wire.specs.Sequences.{everything};
 ghost use Rattle.rtr_wire.specs.SliceRun.{NormalisesSlice};
@@ -50,7 +48,7 @@ pub fn normalise_slice<W: Sink>(
 /// Views one unit, and writes its form. Answers whether it was a payload unit, and no end of data,
 /// and what follows it.
 ///
-/// Each type goes its own way, on which the compiler knows the kind of the view. The
+/// Each type goes its own way, on which the compiler knows the kind of the view at each step. The
 /// answer of the rare ones is wrapped again, so that the others' need not lie in memory.
 #[inline(always)]
 fn step<'a, W: Sink>(rest: &'a [u8], writer: &mut W) -> Result<(bool, &'a [u8]), ViewFault>
@@ -69,33 +67,20 @@ fn step<'a, W: Sink>(rest: &'a [u8], writer: &mut W) -> Result<(bool, &'a [u8]),
         Ipv6Prefix::PDU => view_step::<{ Ipv6Prefix::PDU }, W>(rest, writer),
         RouterKey::PDU => view_step::<{ RouterKey::PDU }, W>(rest, writer),
         Aspa::PDU => view_step::<{ Aspa::PDU }, W>(rest, writer),
-        _ => view_step::<0, W>(rest, writer),
+        _ => match view_step::<0, W>(rest, writer) {
+            Ok(step) => Ok(step),
+            Err(e) => Err(e),
+        },
     }
 }
 
-/// As `UnitView::first`, of an input whose type is known, or 0 where it isn't: where it is, no code
-/// is left that asks for it again.
-#[inline(always)]
-fn first_of<const TYPE: u8>(rest: &[u8]) -> Result<(UnitView<'_>, usize), ViewFault>
-    requires { ¬ (TYPE ≡ 0) → (8 ≤ length rest.now) × (type_field rest.now ≡ TYPE) }
-    ensures view { IfOk result (λ p. IsViewOf p.0 (take p.1 rest.now)) }
-    ensures within { IfOk result (λ p. p.1 ≤ length rest.now) }
-    ensures fault { IfErr result (λ e. IsFirstFault rest.now e) }
-{
-    if TYPE == 0 {
-        UnitView::first(rest)
-    } else {
-        UnitView::of_type(TYPE, rest)
-    }
-}
-
-/// The step for units of one type, or of any other where the type is 0.
+/// The step for units of one type, or of any other: the type is named so that each has code of its
+/// own.
 #[inline(always)]
 fn view_step<'a, const TYPE: u8, W: Sink>(
     rest: &'a [u8],
     writer: &mut W,
 ) -> Result<(bool, &'a [u8]), ViewFault>
-    requires { ¬ (TYPE ≡ 0) → (8 ≤ length rest.now) × (type_field rest.now ≡ TYPE) }
     ensures unit { IfOk result (λ p. Steps everything (Ok (passed p.0))
         (Some rest.now) (Some p.1.now)
         (W.state writer.old).held (W.state writer.new).held) }
@@ -105,7 +90,7 @@ fn view_step<'a, const TYPE: u8, W: Sink>(
         count_after (W.state writer.old).failed (not (is_view_writer_fault result)) }
     ensures error { IfErr result (HoldsViewWriteError (W.fails writer.new) (W.stalls writer.new)) }
 {
-    let (view, size) = match first_of::<TYPE>(rest) {
+    let (view, size) = match UnitView::first(rest) {
         Ok(first) => first,
         Err(e) => return Err(e),
     };

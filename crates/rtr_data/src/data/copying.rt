@@ -7,8 +7,9 @@ ghost use Rattle.rtr_data.specs.Contents.{entry_of};
 ghost use Rattle.rtr_data.specs.Data.{announcement};
 
 use super::Data;
+use crate::kept_origin::KeptOrigin;
 use rtr_base::asn::Asn;
-use rtr_payload::payload::{Payload, RouteOrigin, RouterKey};
+use rtr_payload::payload::{Payload, RouterKey};
 use rtr_payload::pdu::ProviderAsns;
 use std::alloc::{AllocError, Global};
 use std::collections::{BTreeMap, BTreeSet};
@@ -29,13 +30,13 @@ impl Data {
     }
 
     /// Announces these origins.
-    fn add_origins(&mut self, origins: &BTreeSet<RouteOrigin>) -> Result<(), AllocError>
+    fn add_origins(&mut self, origins: &BTreeSet<KeptOrigin>) -> Result<(), AllocError>
         ensures { IfOk result (λ _.
             after_all (map announcement (map origin_of origins.now.keys)) (Ok self.old) ≡
             Ok self.new) }
     {
         for origin in origins.iter() {
-            let Ok(()) = self.announce(Payload::Origin(*origin)) else {
+            let Ok(()) = self.announce(Payload::Origin(origin.get())) else {
                 return Err(AllocError);
             };
         }

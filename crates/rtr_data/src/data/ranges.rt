@@ -8,6 +8,7 @@ ghost use Rattle.rtr_data.specs.Contents.{entry_of};
 ghost use Rattle.rtr_data.specs.Sequences.{IsInRange, IsSendable};
 
 use super::Data;
+use crate::kept_origin::KeptOrigin;
 use rtr_base::asn::Asn;
 use rtr_payload::payload::{RouteOrigin, RouterKey};
 use rtr_payload::pdu::ProviderAsns;
@@ -25,11 +26,11 @@ impl Data {
     }
 }
 
-fn origins_in_range(origins: &BTreeSet<RouteOrigin>)
+fn origins_in_range(origins: &BTreeSet<KeptOrigin>)
     ensures { AllByRecursion IsInRange (map origin_of origins.now.keys) }
 {
     for origin in origins.iter() {
-        origin_in_range(origin);
+        origin_in_range(&origin.get());
     }
 }
 

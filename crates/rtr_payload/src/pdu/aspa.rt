@@ -124,14 +124,6 @@ impl Aspa {
         VariableUnit::from_parts(fixed, providers)
     }
 
-    /// A unit of zeros without providers, which asks for no memory.
-    #[inline(always)]
-    pub(crate) fn empty() -> Self
-        ensures { result ≡ replicate ASPA_FIXED 0 }
-    {
-        VariableUnit::from_parts([0; FIXED], ProviderAsns::none())
-    }
-
     /// The customer: the autonomous system whose providers these are.
     pub fn customer(&self) -> Asn
         ensures { result ≡ (aspa_at self.now).aspa.customer }

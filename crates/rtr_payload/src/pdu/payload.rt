@@ -300,8 +300,7 @@ fn read_unit<U: PayloadUnit, R: Source>(
     ensures some { ¬ (result ≡ Ok (Ok None)) }
     ensures error { IfErr result (HoldsReadError (R.fails reader.new)) }
 {
-    let mut unit = U::blank();
-    unit.fill_after(alloc, header, reader)?;
+    let unit = U::read_after(alloc, header, reader)?;
     Ok(Ok(Some(unit.into_unit())))
 }
 

@@ -1,21 +1,19 @@
 //! What the four kinds of payload units have in common.
 
-ghost use Rattle.std.specs.Prelude.{◌≡◌, ◌≢◌, ℕ, List, Option, replicate, Err, IfOk, IfErr, IsOk};
+ghost use Rattle.std.specs.Prelude.{◌≡◌, ◌≢◌, ℕ, Err, IfOk, IfErr, IsOk};
 ghost use Rattle.std.specs.Prelude.{⊤};
 ghost use Rattle.std.specs.Prelude.{refl};
 ghost use Rattle.rtr_units.specs.Calls.{WritesTo};
-ghost use Rattle.rtr_units.specs.StopCauses.{Cause, by_cause, by_writer, cause_of};
+ghost use Rattle.rtr_units.specs.StopCauses.{by_cause, by_writer, cause_of};
 ghost use Rattle.rtr_units.specs.Header.{type_field, version_field};
-ghost use Rattle.rtr_units.specs.Reading.{LeavesUnit, ReadsAfter, by_bytes};
+ghost use Rattle.rtr_units.specs.Reading.{ReadsAfter, by_bytes};
 ghost use Rattle.rtr_units.specs.Stream.{PutsForm};
 ghost use Rattle.rtr_units.specs.StopCauses.{HoldsReadError, HoldsWriteError};
 ghost use Rattle.rtr_units.specs.HeaderBytes.{header_bytes};
 ghost use Rattle.rtr_payload.specs.declared.payload.Payload.{Payload as Value};
 ghost use Rattle.rtr_payload.specs.declared.payload.Payload.TheVariants as payloads;
 ghost use Rattle.rtr_payload.specs.declared.pdu.aspa.TheConstants.{PDU as ASPA_TYPE};
-ghost use Rattle.rtr_payload.specs.declared.pdu.aspa.TheConstants.{FIXED as ASPA_FIXED};
 ghost use Rattle.rtr_payload.specs.declared.pdu.router_key.TheConstants.{PDU as KEY_TYPE};
-ghost use Rattle.rtr_payload.specs.declared.pdu.router_key.TheConstants.{FIXED as KEY_FIXED};
 ghost use Rattle.rtr_payload.specs.declared.pdu.payload.Payload.{Payload};
 ghost use Rattle.rtr_payload.specs.declared.pdu.payload.Payload.TheVariants as units;
 ghost use Rattle.rtr_payload.specs.Payloads.{smallest_version};
@@ -64,36 +62,17 @@ pub trait PayloadUnit: Drop {
     /// The smallest version of the protocol that has such units.
     const SMALLEST_VERSION: u8;
 
-    /// The size of its fixed part, as contracts name it.
-    ghost FIXED: { ℕ };
-
-    /// What a call that reads into it leaves of it where reading stops: by the header, the cause,
-    /// the unit before and after, and what the reader has before and after.
-    ghost leaves: { List ℕ → Cause → Self → Self → Option (List ℕ) → Option (List ℕ) → Type 0 };
-
-    /// A unit of zeros without a body, to be read into.
-    fn blank() -> Self
-        ensures { unit_bytes (unit result) ≡ replicate FIXED 0 };
-
-    /// Reads what follows a header of this type, into this unit.
+    /// Reads what follows a header of this type. Memory is asked for a router key or an ASPA unit
+    /// alone.
     ///
-    /// Faults are those of `pdu::Payload::read_payload`. After one a router key or an ASPA unit is
-    /// as it was, and a prefix unit as `PrefixUnit::read_after` says.
-    fn fill_after<R: Source>(
-        &mut self,
-        alloc: Global,
-        header: Header,
-        reader: &mut R,
-    ) -> Result<(), Fault>
+    /// Faults are those of `pdu::Payload::read_payload`.
+    fn read_after<R: Source>(alloc: Global, header: Header, reader: &mut R) -> Result<Self, Fault>
         requires { type_field (header_bytes header) ≡ kind }
         ensures bytes { ReadsAfter payload_unit (header_bytes header)
-            (by_bytes (λ _. unit_bytes (unit self.new)) result)
+            (by_bytes (λ u. unit_bytes (unit u)) result)
             (R.state reader.old) (R.state reader.new) }
         ensures fields { IfOk result
-            (λ _. HasFields (unit_bytes (unit self.new)) (unit_fields (unit self.new))) }
-        ensures left { IfErr result
-            (λ e. leaves (header_bytes header) (cause_of e) self.old self.new
-            (R.state reader.old).left (R.state reader.new).left) }
+            (λ u. HasFields (unit_bytes (unit u)) (unit_fields (unit u))) }
         ensures no_writer { by_cause result ≢ Err by_writer }
         ensures error { IfErr result (HoldsReadError (R.fails reader.new)) };
 
@@ -148,25 +127,13 @@ impl<P: PrefixUnit> PayloadUnit for P {
 
     ghost SMALLEST_VERSION = { 0 };
 
-    ghost FIXED = { P.LENGTH };
-
-    ghost leaves = { LeavesUnit P.bytes };
-
     const SMALLEST_VERSION: u8 = 0;
 
     #[inline(always)]
-    fn blank() -> Self {
-        P::zero()
-    }
-
-    #[inline(always)]
-    fn fill_after<R: Source>(
-        &mut self,
-        _alloc: Global,
-        header: Header,
-        reader: &mut R,
-    ) -> Result<(), Fault> {
-        self.read_after(header, reader)
+    fn read_after<R: Source>(_alloc: Global, header: Header, reader: &mut R) -> Result<P, Fault> {
+        let mut unit = P::zero();
+        unit.fill_after(header, reader)?;
+        Ok(unit)
     }
 
     #[inline(always)]
@@ -220,26 +187,11 @@ impl PayloadUnit for RouterKey {
 
     ghost SMALLEST_VERSION = { 1 };
 
-    ghost FIXED = { KEY_FIXED };
-
-    ghost leaves = { λ h c u v old new. v ≡ u };
-
     const SMALLEST_VERSION: u8 = 1;
 
     #[inline(always)]
-    fn blank() -> Self {
-        RouterKey::empty()
-    }
-
-    #[inline(always)]
-    fn fill_after<R: Source>(
-        &mut self,
-        alloc: Global,
-        header: Header,
-        reader: &mut R,
-    ) -> Result<(), Fault> {
-        *self = RouterKey::read_payload(alloc, header, reader)?;
-        Ok(())
+    fn read_after<R: Source>(alloc: Global, header: Header, reader: &mut R) -> Result<Self, Fault> {
+        RouterKey::read_payload(alloc, header, reader)
     }
 
     #[inline(always)]
@@ -298,26 +250,11 @@ impl PayloadUnit for Aspa {
 
     ghost SMALLEST_VERSION = { 2 };
 
-    ghost FIXED = { ASPA_FIXED };
-
-    ghost leaves = { λ h c u v old new. v ≡ u };
-
     const SMALLEST_VERSION: u8 = 2;
 
     #[inline(always)]
-    fn blank() -> Self {
-        Aspa::empty()
-    }
-
-    #[inline(always)]
-    fn fill_after<R: Source>(
-        &mut self,
-        alloc: Global,
-        header: Header,
-        reader: &mut R,
-    ) -> Result<(), Fault> {
-        *self = Aspa::read_payload(alloc, header, reader)?;
-        Ok(())
+    fn read_after<R: Source>(alloc: Global, header: Header, reader: &mut R) -> Result<Self, Fault> {
+        Aspa::read_payload(alloc, header, reader)
     }
 
     #[inline(always)]

@@ -108,7 +108,7 @@ pub trait PrefixUnit: Unit {
     /// Faults, in this order: `UnitLength`, with nothing read and the unit as it was; `Short` or
     /// `Reader` inside the unit, which then begins with the header and the bytes that were taken.
     #[inline(always)]
-    final fn read_after<R: Source>(&mut self, header: Header, reader: &mut R) -> Result<(), Fault>
+    final fn fill_after<R: Source>(&mut self, header: Header, reader: &mut R) -> Result<(), Fault>
         requires { type_field (header_bytes header) ≡ Self.PDU }
         ensures bytes { ReadsAfter payload_unit (header_bytes header)
             (by_bytes (λ _. unit_bytes (unit self.new)) result) (R.state reader.old)
@@ -134,9 +134,7 @@ impl PrefixUnit for Ipv4Prefix {
     fn from_origin(version: u8, flags: u8, origin: RouteOrigin) -> Self {
         let (len, max_len) = (origin.prefix.prefix_len(), origin.prefix.resolved_max_len());
         let bits = origin.prefix.prefix().bits() as u32;
-        // `into_u32` says that the number fits its four bytes.
-        let asn = origin.asn.into_u32();
-        Ipv4Prefix::from_bits(version, flags, len, max_len, bits, Asn::from_u32(asn))
+        Ipv4Prefix::from_bits(version, flags, len, max_len, bits, origin.asn.into_u32())
     }
 
     #[inline(always)]
@@ -163,9 +161,7 @@ impl PrefixUnit for Ipv6Prefix {
     fn from_origin(version: u8, flags: u8, origin: RouteOrigin) -> Self {
         let (len, max_len) = (origin.prefix.prefix_len(), origin.prefix.resolved_max_len());
         let bits = origin.prefix.prefix().bits();
-        // `into_u32` says that the number fits its four bytes.
-        let asn = origin.asn.into_u32();
-        Ipv6Prefix::from_bits(version, flags, len, max_len, bits, Asn::from_u32(asn))
+        Ipv6Prefix::from_bits(version, flags, len, max_len, bits, origin.asn.into_u32())
     }
 
     #[inline(always)]

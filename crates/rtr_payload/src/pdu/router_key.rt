@@ -129,14 +129,6 @@ impl RouterKey {
         VariableUnit::from_parts(fixed, key_info)
     }
 
-    /// A unit of zeros without key info, which asks for no memory.
-    #[inline(always)]
-    pub(crate) fn empty() -> Self
-        ensures { result ≡ replicate KEY_FIXED 0 }
-    {
-        VariableUnit::from_parts([0; FIXED], RouterKeyInfo::within_limit(Bytes::new()))
-    }
-
     /// The subject key identifier.
     pub fn key_identifier(&self) -> [u8; 20]
         ensures value { result ≡ (key_at self.now).key.identifier }

@@ -12,7 +12,7 @@ loop-origin-preserved g c = (
       c.in-Some.ensures.steps,
   sent_more c.args.version Announce _ _ _ _ _ (origin_of c.in-Some.origin.now)
       (pushed deref origin_of c.loop-origin.yielded c.in-Some.origin) c.loop-origin.invariant.1
-      c.in_ok-write_origin.ensures.bytes,
+      (rw c.get.ensures at c.in_ok-write_origin.ensures.bytes),
 )
 
 pub returns-in_err-write_origin : goal.returns-in_err-write_origin
@@ -22,6 +22,7 @@ returns-in_err-write_origin g c =
       bytes = sent_front c.args.version Announce _ _ _ _ _ _ (origin_of c.in-Some.origin.now) _
           (cut deref origin_of c.loop-origin.yielded c.in-Some.origin _ _ _
           c.loop-origin.invariant.0
-          c.in-Some.ensures.steps) c.loop-origin.invariant.1 c.in_err-write_origin.ensures.bytes;
+          c.in-Some.ensures.steps) c.loop-origin.invariant.1
+          (rw c.get.ensures at c.in_err-write_origin.ensures.bytes);
       error = search rules;
     })

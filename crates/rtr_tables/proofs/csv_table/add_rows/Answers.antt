@@ -19,7 +19,8 @@ loop-origin-preserved c =
     let x = c.in-Some.origin in
     record {
       turned = turn deref xs x _ _ _ i.turned c.in-Some.ensures.steps;
-      rows = row_more deref (λ o. csv_row (origin_of o)) xs x _ _ _ i.rows c.in_ok-add_row.ensures;
+      rows = row_more deref (λ o. csv_row (origin_of o)) xs x _ _ _ i.rows
+          (rw c.get.ensures at c.in_ok-add_row.ensures);
     }
 
 pub returns : goal.returns

@@ -24,7 +24,7 @@ loop-origin-preserved c =
           item_more deref (λ t. codes "\n" ++ object_text (origin_of t)) xs x _ _ _ _ _ i.items
           i.first refl
           (on_a_line _ _ _ _ _ _ c.before_item.ensures c.in_ok-text.ensures
-          c.in_ok-add_origin.ensures);
+          (rw c.get.ensures at c.in_ok-add_origin.ensures));
       first = some_more xs x;
     }
 

@@ -10,5 +10,5 @@ loop-origin-preserved c =
       turn deref ys c.in-Some.origin _ _ _ c.loop-origin.invariant.0 c.in-Some.ensures.steps,
       announced_more _ _ (origin_of c.in-Some.origin.now) _ _ _
           (pushed deref origin_of ys c.in-Some.origin) c.loop-origin.invariant.1
-          c.in-Ok.ensures,
+          (rw c.get.ensures at c.in-Ok.ensures),
     )

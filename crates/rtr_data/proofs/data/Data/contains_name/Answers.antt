@@ -1,14 +1,15 @@
 use Rattle.std.proofs.Common.{ap, sym, ◌∙◌}
-use Rattle.rtr_payload.specs.Meanings.{payload_of_ref}
+use Rattle.rtr_payload.specs.Meanings.{origin_of, payload_of_ref}
 use Rattle.rtr_data.proofs.NamesThere.{origin_named, key_named, aspa_named, named_there}
 use Rattle.rtr_data.proofs.data.Data.contains_name.Goals as goal
 
 pub returns-in-Origin : goal.returns-in-Origin
 returns-in-Origin c =
     let i = c.self.inside in
-    named_there (ap payload_of_ref c.in-Origin.is) c.self.view_is
+    named_there (ap payload_of_ref c.in-Origin.is ∙ ap origin_of (sym c.from.ensures))
+    c.self.view_is
     (c.contains.ensures
-    ∙ sym (origin_named i.origins.keys i.router_keys.keys i.aspas.entries c.in-Origin.origin))
+    ∙ sym (origin_named i.origins.keys i.router_keys.keys i.aspas.entries c.from.result))
 
 pub returns-in-RouterKey : goal.returns-in-RouterKey
 returns-in-RouterKey c =

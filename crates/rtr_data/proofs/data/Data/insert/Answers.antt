@@ -1,7 +1,7 @@
 use Rattle.std.proofs.Common.{◌≡◌, ap, sym, ◌∙◌, Ok, refl, subst}
 use Rattle.std.proofs.lemmas.Bool.{not-true, not-false, OnFalse_at}
 use Rattle.rtr_base.specs.declared.action.Action.TheVariants.{Announce}
-use Rattle.rtr_payload.specs.Meanings.{payload_of}
+use Rattle.rtr_payload.specs.Meanings.{origin_of, payload_of}
 use Rattle.rtr_data.specs.Contents.{joined}
 use Rattle.rtr_data.specs.Contents.{IsFit}
 use Rattle.rtr_data.proofs.Fits.{announced_fit}
@@ -13,16 +13,17 @@ use Rattle.rtr_data.proofs.data.Data.insert.Goals.{in-Err+in-Some-2, in-Err+in-N
 pub returns-in-Ok-true : goal.returns-in-Ok-true
 returns-in-Ok-true c =
     let i = c.self.inside in
-    moved Announce (ap payload_of c.in-Origin.is) c.self.view_is
-    (origin_announced i.origins.keys i.router_keys.keys i.aspas.entries c.in-Origin.origin
+    moved Announce (ap payload_of c.in-Origin.is ∙ ap origin_of (sym c.from.ensures)) c.self.view_is
+    (origin_announced i.origins.keys i.router_keys.keys i.aspas.entries c.from.result
     (not-true _ (sym c.in-Ok-true.ensures.added ∙ c.in-Ok-true.field-0-test))
     ∙ ap (λ l. Ok (joined l i.router_keys.keys i.aspas.entries)) (sym c.in-Ok-true.ensures.keys))
 
 pub returns-in-Ok-false : goal.returns-in-Ok-false
 returns-in-Ok-false c =
     let i = c.self.inside in (
-      moved Announce (ap payload_of c.in-Origin.is) c.self.view_is
-          (origin_duplicate i.origins.keys i.router_keys.keys i.aspas.entries c.in-Origin.origin
+      moved Announce (ap payload_of c.in-Origin.is ∙ ap origin_of (sym c.from.ensures))
+          c.self.view_is
+          (origin_duplicate i.origins.keys i.router_keys.keys i.aspas.entries c.from.result
           (not-false _ (sym c.in-Ok-false.ensures.added ∙ c.in-Ok-false.field-0-test))),
       ap (λ l. joined l i.router_keys.keys i.aspas.entries)
           (OnFalse_at c.in-Ok-false.field-0-test c.in-Ok-false.ensures.unchanged)
@@ -32,8 +33,9 @@ returns-in-Ok-false c =
 pub returns-in-Origin : goal.returns-in-Origin
 returns-in-Origin c =
     let i = c.self.inside in (
-      granted _ (moved Announce (ap payload_of c.in-Origin.is) c.self.view_is
-          (origin_announced i.origins.keys i.router_keys.keys i.aspas.entries c.in-Origin.origin
+      granted _ (moved Announce (ap payload_of c.in-Origin.is ∙ ap origin_of (sym c.from.ensures))
+          c.self.view_is
+          (origin_announced i.origins.keys i.router_keys.keys i.aspas.entries c.from.result
           c.in-Err.ensures.absent)),
       ap (λ l. joined l i.router_keys.keys i.aspas.entries) c.in-Err.ensures.err
           ∙ c.self.view_is,
@@ -98,7 +100,7 @@ pub invariant_of-self : goal.invariant_of-self
 invariant_of-self c =
     let i = c.self.inside in
     announced_fit _ _ _ c.self.invariant refl
-    (origin_announced i.origins.keys i.router_keys.keys i.aspas.entries c.in-Origin.origin
+    (origin_announced i.origins.keys i.router_keys.keys i.aspas.entries c.from.result
     (not-true _ (sym c.in-Ok-true.ensures.added ∙ c.in-Ok-true.field-0-test))
     ∙ ap (λ l. Ok (joined l i.router_keys.keys i.aspas.entries)) (sym c.in-Ok-true.ensures.keys))
 

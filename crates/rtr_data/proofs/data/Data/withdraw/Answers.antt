@@ -2,7 +2,7 @@ use Rattle.std.proofs.Common.{◌≡◌, ap, sym, ◌∙◌, Ok}
 use Rattle.std.proofs.lemmas.Bool.{OnFalse_at}
 use Rattle.std.specs.Prelude.{is_some}
 use Rattle.rtr_base.specs.declared.action.Action.TheVariants.{Withdraw}
-use Rattle.rtr_payload.specs.Meanings.{payload_of_ref}
+use Rattle.rtr_payload.specs.Meanings.{origin_of, payload_of_ref}
 use Rattle.rtr_data.specs.Contents.{joined, Makes}
 use Rattle.rtr_data.specs.Data.{changed}
 use Rattle.rtr_data.proofs.Parts.{moved, left_changed, left_unknown, origin_withdrawn}
@@ -23,14 +23,16 @@ returns-after-remove c =
     elim c.if-remove.branch as (λ _. Makes c.if-remove.result
     (changed Withdraw (payload_of_ref c.args.payload.now) c.args.self.now) c.args.self.now new) [
       | then-remove w ↦ left_changed c.args.self.now w.result-is
-          (moved Withdraw (ap payload_of_ref c.in-Origin.is) c.self.view_is
-          (origin_withdrawn i.origins.keys i.router_keys.keys i.aspas.entries c.in-Origin.origin
+          (moved Withdraw (ap payload_of_ref c.in-Origin.is ∙ ap origin_of (sym c.from.ensures))
+          c.self.view_is
+          (origin_withdrawn i.origins.keys i.router_keys.keys i.aspas.entries c.from.result
           (sym c.remove.ensures.test ∙ w.if-remove.true)
           ∙ ap (λ l. Ok (joined l i.router_keys.keys i.aspas.entries))
           (sym c.remove.ensures.keys)))
       | else-remove w ↦ left_unknown w.result-is
-          (moved Withdraw (ap payload_of_ref c.in-Origin.is) c.self.view_is
-          (origin_unknown i.origins.keys i.router_keys.keys i.aspas.entries c.in-Origin.origin
+          (moved Withdraw (ap payload_of_ref c.in-Origin.is ∙ ap origin_of (sym c.from.ensures))
+          c.self.view_is
+          (origin_unknown i.origins.keys i.router_keys.keys i.aspas.entries c.from.result
           (sym c.remove.ensures.test ∙ w.if-remove.false)))
           (ap (λ l. joined l i.router_keys.keys i.aspas.entries)
           (OnFalse_at w.if-remove.false c.remove.ensures.unchanged)
@@ -100,7 +102,7 @@ pub invariant_of-self : goal.invariant_of-self
 invariant_of-self c =
     let i = c.self.inside in
     gone_fit _ _ _ c.self.invariant
-    (origin_gone i.origins.keys i.router_keys.keys i.aspas.entries c.in-Origin.origin
+    (origin_gone i.origins.keys i.router_keys.keys i.aspas.entries c.from.result
     ∙ ap (λ l. joined l i.router_keys.keys i.aspas.entries) (sym c.remove.ensures.keys))
 
 pub invariant_of-self-in-RouterKey : goal.invariant_of-self-in-RouterKey

@@ -9,5 +9,5 @@ loop-origin-preserved c =
     let ys = c.loop-origin.yielded in (
       turn deref ys c.in-Some.origin _ _ _ c.loop-origin.invariant.0 c.in-Some.ensures.steps,
       range_more deref origin_of ys c.in-Some.origin c.loop-origin.invariant.1
-          c.origin_in_range.ensures,
+          (rw c.get.ensures at c.origin_in_range.ensures),
     )

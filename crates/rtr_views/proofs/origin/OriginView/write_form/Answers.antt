@@ -8,7 +8,8 @@ returns-then-is_v4 g c =
     record {
       bytes =
           same_put c.put_piece.result _ _ _ _
-          (origin_form c.args.self.now c.from_flags.result c.into_flags-flags.result _ c.as_ref.result.now
+          (origin_form c.args.self.now c.from_flags.result c.into_flags-flags.result _
+          c.as_ref.result.now
           c.from_flags.ensures c.into_flags-flags.ensures.flags c.from_origin-unit.ensures.form
           c.as_ref.ensures.bytes)
           c.put_piece.ensures.bytes;

@@ -12,5 +12,5 @@ returns-clause-fields c =
     let unit = fixed_bytes c.from_bits.result in
     ap (λ f. (prefix_unit (prefix_at f unit))) (sym c.requires)
     ∙ form_fields unit a.version a.flags (origin_of a.origin)
-    (IsOrigin-of a.origin c.prefix_len-len.ensures.valid c.into_u32-asn.ensures.range)
+    (IsOrigin-of a.origin c.prefix_len-len.ensures.valid c.into_u32.ensures.range)
     (search rules)

@@ -15,13 +15,18 @@ returns-in_err-check_header-clause-bytes g c =
     let p = err_from_is_err_and c.from_residual.result c.from_residual.ensures.1 in
     rw (p.1, p.2) (
       c.length-size.ensures.header,
-      header_stops g.B.Body.PDU (header_bytes c.args.header) (cause_of c.in_err-check_header.field-0.0) _
-          c.length-size.ensures.header.0 c.in_err-check_header.ensures.answer,
+      header_stops g.B.Body.PDU (header_bytes c.args.header)
+          (cause_of c.in_err-check_header.field-0.0) _ c.length-size.ensures.header.0
+          c.in_err-check_header.ensures.answer,
     )
 
 pub overflow_sub-size : goal.overflow_sub-size
 overflow_sub-size g c =
-    omega (arith, c.length-size.ensures.value, eight_said _ _ _ _ c.in_ok-check_header.ensures.answer)
+    omega (
+      arith,
+      c.length-size.ensures.value,
+      eight_said _ _ _ _ c.in_ok-check_header.ensures.answer,
+    )
 
 pub from_frame-requires : goal.from_frame-requires
 from_frame-requires g c =
@@ -85,7 +90,11 @@ returns-in_err-frame-clause-bytes g c =
     let h = header_bytes c.args.header in
     let ((t, taken, stops), counts) = c.in_err-frame.ensures.bytes in
     let size : length_field h ≡ 8 + (c.length-size.result - 8) =
-    omega (arith, c.length-size.ensures.value, eight_said _ _ _ _ c.in_ok-check_header.ensures.answer) in
+    omega (
+      arith,
+      c.length-size.ensures.value,
+      eight_said _ _ _ _ c.in_ok-check_header.ensures.answer,
+    ) in
     let p = err_from_is_err_and c.from_residual-in_err-frame.result
     c.from_residual-in_err-frame.ensures.1 in
     rw (p.1, p.2) (

@@ -2,7 +2,7 @@ use Rattle.std.proofs.Common.{◌∙◌}
 use Rattle.rtr_units.specs.Reading.{by_bytes}
 use Rattle.rtr_units.specs.HeaderBytes.{header_bytes}
 use Rattle.rtr_payload.proofs.Reading.{prefix_after, prefix_has_fields}
-use Rattle.rtr_payload.proofs.pdu.prefix_unit.PrefixUnit.read_after.Goals as goal
+use Rattle.rtr_payload.proofs.pdu.prefix_unit.PrefixUnit.fill_after.Goals as goal
 
 pub returns-clause-bytes : goal.returns-clause-bytes
 returns-clause-bytes g c =

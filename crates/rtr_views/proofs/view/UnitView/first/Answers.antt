@@ -1,6 +1,6 @@
 use Rattle.std.proofs.Common.{arith, refl}
 use Rattle.rtr_views.proofs.Fronts.{typed_shows, other_type, key_viewed, aspa_viewed}
-use Rattle.rtr_views.proofs.view.UnitView.of_type.Goals as goal
+use Rattle.rtr_views.proofs.view.UnitView.first.Goals as goal
 
 pub returns-in-Ok-first-2-clause-view : goal.returns-in-Ok-first-2-clause-view
 returns-in-Ok-first-2-clause-view c =
@@ -14,5 +14,5 @@ returns-in-Ok-first-3-clause-view c =
 
 pub returns-in_default-clause-fault : goal.returns-in_default-clause-fault
 returns-in_default-clause-fault c =
-    typed_shows c.args.input.now _ _ c.requires.header c.requires.kind
+    typed_shows c.args.input.now _ _ c.if-input-lt8.false refl
     (other_type _ _ _ _ (omega arith) (omega arith) (omega arith) (omega arith) (omega arith))

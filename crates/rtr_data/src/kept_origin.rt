@@ -1,0 +1,177 @@
+//! A route origin in few bytes.
+
+ghost use Rattle.std.specs.Prelude.{◌≡◌, refl};
+ghost use Rattle.std.specs.Ordering.{as_partial_cmp, eq_by_cmp, on};
+ghost use Rattle.rtr_base.specs.Addresses.{prefix_cmp, resolved_len};
+ghost use Rattle.rtr_payload.specs.Meanings.{origin_of};
+ghost use Rattle.rtr_payload.specs.OrderLaws.{meant_equiv, meant_partial_equiv};
+ghost use Rattle.rtr_payload.specs.OrderLaws.{meant_partial_order, meant_total};
+ghost use Rattle.rtr_payload.specs.Orders.{payload_cmp};
+
+use rtr_base::addr::{MaxLenPrefix, Prefix};
+use rtr_base::asn::Asn;
+use rtr_payload::payload::RouteOrigin;
+use std::cmp::Ordering;
+use std::marker::Model;
+
+/// A route origin as `Data` keeps it. It takes 24 bytes where a `RouteOrigin` takes 64, which holds
+/// its address as a `u128`, at a multiple of 16 bytes.
+#[derive(Clone, Copy)]
+pub struct KeptOrigin {
+    address: [u8; 16],
+    asn: Asn,
+    is_v4: bool,
+    len: u8,
+    max_len: Option<u8>,
+}
+
+impl Model for KeptOrigin {
+    ghost use Rattle.std.specs.Prelude.{◌≡◌, Bool, true, false, refl};
+    ghost use Rattle.std.proofs.Common.{ap};
+    ghost use Rattle.rtr_base.specs.Addresses.{IsMaxLenPrefix, family_of, v4_test};
+    ghost use Rattle.rtr_base.specs.Bytes.{be, value};
+    ghost use Rattle.rtr_payload.specs.declared.payload.RouteOrigin.{RouteOrigin};
+
+    ghost Value = { RouteOrigin };
+
+    ghost view = { λ a. record {
+      prefix = record {
+        prefix = record { family = family_of a.is_v4; address = value a.address; len = a.len };
+        max_len = a.max_len;
+      };
+      asn = a.asn;
+    } };
+
+    // The bytes are those of the number, and the lengths are in order.
+    ghost invariant = { λ a.
+        (be (value a.address) 16 ≡ a.address) ×
+        IsMaxLenPrefix (record {
+          prefix = record { family = family_of a.is_v4; address = value a.address; len = a.len };
+          max_len = a.max_len;
+        }) };
+
+    ghost inverse = { λ o. record {
+      address = be o.prefix.prefix.address 16;
+      asn = o.asn;
+      is_v4 = v4_test o.prefix.prefix.family;
+      len = o.prefix.prefix.len;
+      max_len = o.prefix.max_len;
+    } };
+
+    ghost inverse_ok = { λ a h i. record a {
+      address = h.0 i;
+      is_v4 = (elim (a.is_v4) as (λ b. v4_test (family_of b) ≡ b)
+          [ true ↦ refl | false ↦ refl ]) i;
+    } };
+}
+
+impl KeptOrigin {
+    /// The origin.
+    #[inline(always)]
+    pub fn get(self) -> RouteOrigin
+        ensures { result ≡ self }
+    {
+        let bits = self.bits();
+        let prefix = if self.is_v4 {
+            Prefix::from_v4_bits(bits as u32, self.len)
+        } else {
+            Prefix::from_v6_bits(bits, self.len)
+        };
+        let Ok(prefix) = prefix else { unreachable!() };
+        let Ok(prefix) = MaxLenPrefix::new(prefix, self.max_len) else {
+            unreachable!()
+        };
+        RouteOrigin::new(prefix, self.asn)
+    }
+
+    /// Compares the prefixes as `Prefix` does, without making them: in most pairs the address
+    /// decides.
+    #[inline(always)]
+    fn compare_prefixes(&self, other: &Self) -> Ordering
+        ensures { result ≡ prefix_cmp self.now.prefix.prefix other.now.prefix.prefix }
+    {
+        let (left, right) = (self.bits(), other.bits());
+        let by_address = other.is_v4.cmp(&self.is_v4).then(left.cmp(&right));
+        if by_address.is_ne() {
+            return by_address;
+        }
+        self.len.cmp(&other.len)
+    }
+
+    /// The address as a number.
+    #[inline(always)]
+    fn bits(&self) -> u128
+        ensures { result ≡ self.now.prefix.prefix.address }
+    {
+        u128::from_be_bytes(self.address)
+    }
+
+    /// The longest prefix length that is meant.
+    #[inline(always)]
+    fn resolved_max_len(&self) -> u8
+        ensures { result ≡ resolved_len self.now.prefix }
+    {
+        self.max_len.unwrap_or(self.len)
+    }
+}
+
+impl From<RouteOrigin> for KeptOrigin {
+    ghost from_gives = { λ origin kept. kept ≡ origin };
+
+    #[inline(always)]
+    fn from(origin: RouteOrigin) -> Self {
+        let prefix = origin.prefix.prefix();
+        KeptOrigin {
+            address: prefix.bits().to_be_bytes(),
+            asn: origin.asn,
+            is_v4: prefix.is_v4(),
+            len: prefix.len(),
+            max_len: origin.prefix.max_len(),
+        }
+    }
+}
+
+impl PartialEq for KeptOrigin {
+    ghost eq = { on origin_of (eq_by_cmp payload_cmp) };
+
+    ghost laws = { meant_partial_equiv origin_of };
+
+    fn eq(&self, other: &Self) -> bool {
+        self.cmp(other).is_eq()
+    }
+}
+
+impl Eq for KeptOrigin {
+    ghost laws = { meant_equiv origin_of };
+}
+
+impl PartialOrd for KeptOrigin {
+    ghost partial_cmp = { on origin_of (as_partial_cmp payload_cmp) };
+
+    ghost laws = { meant_partial_order origin_of };
+
+    fn partial_cmp(&self, other: &Self) -> Option<Ordering> {
+        Some(self.cmp(other))
+    }
+}
+
+/// As the origins are ordered.
+impl Ord for KeptOrigin {
+    ghost cmp = { on origin_of payload_cmp };
+
+    ghost total = { meant_total origin_of };
+
+    ghost matches_partial_cmp = { λ _ _. refl };
+
+    ghost matches_eq = { λ _ _. refl };
+
+    fn cmp(&self, other: &Self) -> Ordering {
+        let by_prefix = self.compare_prefixes(other);
+        if by_prefix.is_ne() {
+            return by_prefix;
+        }
+        self.resolved_max_len()
+            .cmp(&other.resolved_max_len())
+            .then(self.asn.cmp(&other.asn))
+    }
+}
