@@ -149,6 +149,27 @@ variable_after k (inr e) h r a b kind (is, reads) = (
       (subst (λ k. Reads (variable_unit k) h r a b) e reads),
 )
 
+other_size : (n size : ℕ) → ¬ (n ≡ size) →
+    cond (eqb n size) None (Some unit_length) ≡ Some unit_length
+other_size n size other = grind (arith, nat_tests)
+
+-- a header of a prefix unit, with another length than it has
+pub size_after : (f : Family) (h : List ℕ) (a : ReaderState) → AreBytes 8 h →
+    type_field h ≡ prefix_type f → ¬ (length_field h ≡ prefix_size f) →
+    ReadsAfter payload_unit h (Err (wrong unit_length)) a a
+size_after f h a is kind other = (
+  is,
+  (
+    (
+      [],
+      Consumes-nil a.left,
+      at_header payload_unit unit_length h is.0
+          (sym (prefix_step f h kind) ∙ other_size (length_field h) (prefix_size f) other),
+    ),
+    refl,
+  ),
+)
+
 -- a header of no unit that is read
 pub none_after : (h : List ℕ) (t : ℕ) (a : ReaderState) → AreBytes 8 h → type_field h ≡ t →
     ¬ (t ≡ 4) → ¬ (t ≡ 6) → ¬ (t ≡ 7) → ¬ (t ≡ 9) → ¬ (t ≡ 11) →

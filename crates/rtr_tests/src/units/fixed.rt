@@ -45,7 +45,7 @@ fn passes<U: Unit + Eq + Hash>(
 
 #[test]
 fn addresses_as_numbers(rt: HostRuntime) -> Result<(), Fail> {
-    let asn = Asn::from_u32(65551);
+    let asn = 65551;
     let short = 0xc000020a;
     let long = 0x20010db8_00000002_000a0000_deadbeef;
     let v4 = Ipv4Prefix::from_bits(1, 1, 23, 26, short, asn);
