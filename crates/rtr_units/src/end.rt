@@ -17,6 +17,7 @@ use crate::fault::Fault;
 use crate::fixed_unit::FixedUnit;
 use crate::header::{Header, LAST_VERSION};
 use crate::numbers::u32_at;
+use crate::piece::put;
 use crate::queries::serial_after_header;
 use crate::source::{Sink, Source};
 use crate::unit::Unit;
@@ -146,10 +147,7 @@ impl EndOfData {
     pub fn write<W: Sink>(&self, writer: &mut W) -> Result<(), Fault>
         ensures { WritesTo W.Sink result writer.old writer.new (end_bytes self.now) }
     {
-        match self {
-            EndOfData::V0(unit) => unit.write(writer),
-            EndOfData::V1(unit) => unit.write(writer),
-        }
+        put(writer, self.as_ref())
     }
 
     /// All bytes of the unit.
