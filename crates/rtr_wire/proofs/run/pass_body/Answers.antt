@@ -8,7 +8,7 @@ use Rattle.rtr_payload.specs.UnitKinds.{payload_unit}
 use Rattle.rtr_payload.proofs.Reading.{variable_after}
 use Rattle.rtr_wire.specs.Sequences.{in_version}
 use Rattle.rtr_wire.proofs.Kept.{not_written, written, partly_written}
-use Rattle.rtr_wire.proofs.Units.{not_read}
+use Rattle.rtr_wire.proofs.Units.{not_read_after}
 use Rattle.rtr_wire.proofs.Written.{none_written, one_written}
 use Rattle.rtr_wire.proofs.run.pass_body.Goals as goal
 
@@ -20,8 +20,7 @@ returns-in_err-unit-clause-bytes g c is before took =
     let reads = variable_after _ g.met.B.Body.kinds h (Err (cause_of e)) _ _ c.requires
     c.in_err-unit.ensures.bytes in
     rw (p.1, p.2)
-    (not_read (g.S.Writing.what c.args.writing) e _ _ _
-    (read_on payload_unit h (Err (cause_of e)) before _ _ took reads.1.0))
+    (not_read_after (g.S.Writing.what c.args.writing) e h before _ _ _ took reads.1.0)
 
 pub returns-then-not-writes-clause-bytes : goal.returns-then-not-writes-clause-bytes
 returns-then-not-writes-clause-bytes g c is before took =

@@ -6,7 +6,7 @@ use Rattle.rtr_units.specs.HeaderBytes.{header_bytes}
 use Rattle.rtr_units.proofs.UnitsRead.{read_on}
 use Rattle.rtr_payload.specs.UnitKinds.{payload_unit}
 use Rattle.rtr_payload.proofs.Reading.{end_after}
-use Rattle.rtr_wire.proofs.Units.{not_read, end_written, end_not_written}
+use Rattle.rtr_wire.proofs.Units.{not_read_after, end_written, end_not_written}
 use Rattle.rtr_wire.proofs.run.pass_end.Goals as goal
 
 pub returns-in_err-end-clause-bytes : goal.returns-in_err-end-clause-bytes
@@ -16,8 +16,7 @@ returns-in_err-end-clause-bytes g c is before took =
     let h = header_bytes c.args.header in
     let reads = end_after h (Err (cause_of e)) _ _ c.requires c.in_err-end.ensures.bytes in
     rw (p.1, p.2)
-    (not_read (g.S.Writing.what c.args.writing) e _ _ _
-    (read_on payload_unit h (Err (cause_of e)) before _ _ took reads.1.0))
+    (not_read_after (g.S.Writing.what c.args.writing) e h before _ _ _ took reads.1.0)
 
 -- the end of data was read, for which another is written
 pub returns-clause-bytes : goal.returns-clause-bytes
