@@ -253,11 +253,14 @@ impl Ord for Prefix {
     ghost matches_eq = { λ _ _. refl };
 
     fn cmp(&self, other: &Prefix) -> Ordering {
-        other
-            .is_v4
-            .cmp(&self.is_v4)
-            .then(self.bits.cmp(&other.bits))
-            .then(self.len.cmp(&other.len))
+        // In most pairs the address decides: what comes after it isn't looked at then.
+        if self.is_v4 != other.is_v4 {
+            return other.is_v4.cmp(&self.is_v4);
+        }
+        if self.bits != other.bits {
+            return self.bits.cmp(&other.bits);
+        }
+        self.len.cmp(&other.len)
     }
 }
 
