@@ -15,10 +15,11 @@ use std::cmp::Ordering;
 use std::marker::Model;
 
 /// A route origin as `Data` keeps it. It takes 24 bytes where a `RouteOrigin` takes 64, which holds
-/// its address as a `u128`, at a multiple of 16 bytes.
+/// its address as a `u128`, at a multiple of 16 bytes: here the address is in two halves.
 #[derive(Clone, Copy)]
 pub struct KeptOrigin {
-    address: [u8; 16],
+    high: u64,
+    low: u64,
     asn: Asn,
     is_v4: bool,
     len: u8,
@@ -26,32 +27,41 @@ pub struct KeptOrigin {
 }
 
 impl Model for KeptOrigin {
-    ghost use Rattle.std.specs.Prelude.{◌≡◌, Bool, true, false, refl};
+    ghost use Rattle.std.specs.Prelude.{◌≡◌, ◌+◌, ◌*◌, ◌/◌, ◌%◌, ◌^◌, Bool, true, false, refl};
     ghost use Rattle.std.proofs.Common.{ap};
     ghost use Rattle.rtr_base.specs.Addresses.{IsMaxLenPrefix, family_of, v4_test};
-    ghost use Rattle.rtr_base.specs.Bytes.{be, value};
     ghost use Rattle.rtr_payload.specs.declared.payload.RouteOrigin.{RouteOrigin};
 
     ghost Value = { RouteOrigin };
 
     ghost view = { λ a. record {
       prefix = record {
-        prefix = record { family = family_of a.is_v4; address = value a.address; len = a.len };
+        prefix = record {
+          family = family_of a.is_v4;
+          address = a.high * 2 ^ 64 + a.low;
+          len = a.len;
+        };
         max_len = a.max_len;
       };
       asn = a.asn;
     } };
 
-    // The bytes are those of the number, and the lengths are in order.
+    // The halves are those of the number, and the lengths are in order.
     ghost invariant = { λ a.
-        (be (value a.address) 16 ≡ a.address) ×
+        ((a.high * 2 ^ 64 + a.low) / 2 ^ 64 ≡ a.high) ×
+        ((a.high * 2 ^ 64 + a.low) % 2 ^ 64 ≡ a.low) ×
         IsMaxLenPrefix (record {
-          prefix = record { family = family_of a.is_v4; address = value a.address; len = a.len };
+          prefix = record {
+            family = family_of a.is_v4;
+            address = a.high * 2 ^ 64 + a.low;
+            len = a.len;
+          };
           max_len = a.max_len;
         }) };
 
     ghost inverse = { λ o. record {
-      address = be o.prefix.prefix.address 16;
+      high = o.prefix.prefix.address / 2 ^ 64;
+      low = o.prefix.prefix.address % 2 ^ 64;
       asn = o.asn;
       is_v4 = v4_test o.prefix.prefix.family;
       len = o.prefix.prefix.len;
@@ -59,7 +69,8 @@ impl Model for KeptOrigin {
     } };
 
     ghost inverse_ok = { λ a h i. record a {
-      address = h.0 i;
+      high = h.0 i;
+      low = h.1 i;
       is_v4 = (elim (a.is_v4) as (λ b. v4_test (family_of b) ≡ b)
           [ true ↦ refl | false ↦ refl ]) i;
     } };
@@ -90,10 +101,12 @@ impl KeptOrigin {
     fn compare_prefixes(&self, other: &Self) -> Ordering
         ensures { result ≡ prefix_cmp self.now.prefix.prefix other.now.prefix.prefix }
     {
+        if self.is_v4 != other.is_v4 {
+            return other.is_v4.cmp(&self.is_v4);
+        }
         let (left, right) = (self.bits(), other.bits());
-        let by_address = other.is_v4.cmp(&self.is_v4).then(left.cmp(&right));
-        if by_address.is_ne() {
-            return by_address;
+        if left != right {
+            return left.cmp(&right);
         }
         self.len.cmp(&other.len)
     }
@@ -103,7 +116,7 @@ impl KeptOrigin {
     fn bits(&self) -> u128
         ensures { result ≡ self.now.prefix.prefix.address }
     {
-        u128::from_be_bytes(self.address)
+        ((self.high as u128) << 64) + self.low as u128
     }
 
     /// The longest prefix length that is meant.
@@ -121,8 +134,10 @@ impl From<RouteOrigin> for KeptOrigin {
     #[inline(always)]
     fn from(origin: RouteOrigin) -> Self {
         let prefix = origin.prefix.prefix();
+        let bits = prefix.bits();
         KeptOrigin {
-            address: prefix.bits().to_be_bytes(),
+            high: (bits >> 64) as u64,
+            low: (bits % (1 << 64)) as u64,
             asn: origin.asn,
             is_v4: prefix.is_v4(),
             len: prefix.len(),
