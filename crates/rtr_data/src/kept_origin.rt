@@ -1,7 +1,7 @@
 //! A route origin in few bytes.
 
 ghost use Rattle.std.specs.Prelude.{◌≡◌, refl};
-ghost use Rattle.std.specs.Ordering.{as_partial_cmp, eq_by_cmp, on};
+ghost use Rattle.std.specs.Ordering.{as_partial_cmp, eq_by_cmp, nat_cmp, on};
 ghost use Rattle.rtr_base.specs.Addresses.{prefix_cmp, resolved_len};
 ghost use Rattle.rtr_payload.specs.Meanings.{origin_of};
 ghost use Rattle.rtr_payload.specs.OrderLaws.{meant_equiv, meant_partial_equiv};
@@ -104,11 +104,23 @@ impl KeptOrigin {
         if self.is_v4 != other.is_v4 {
             return other.is_v4.cmp(&self.is_v4);
         }
-        let (left, right) = (self.bits(), other.bits());
-        if left != right {
-            return left.cmp(&right);
+        let by_address = self.compare_addresses(other);
+        if by_address.is_ne() {
+            return by_address;
         }
         self.len.cmp(&other.len)
+    }
+
+    /// Compares the addresses as numbers: the first halves decide, or else the second ones.
+    #[inline(always)]
+    fn compare_addresses(&self, other: &Self) -> Ordering
+        ensures { result ≡
+            nat_cmp self.now.prefix.prefix.address other.now.prefix.prefix.address }
+    {
+        if self.high != other.high {
+            return self.high.cmp(&other.high);
+        }
+        self.low.cmp(&other.low)
     }
 
     /// The address as a number.
