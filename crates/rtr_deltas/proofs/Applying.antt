@@ -1,6 +1,6 @@
 -- Going over data and changes at once, and writing what the changes make of the data.
 use Rattle.std.proofs.Common.{◌≡◌, ℕ, Bool, ◌+◌, ◌-◌, ◌≤◌, true, false, List, [], ◌∷◌, ◌++◌, length}
-use Rattle.std.proofs.Common.{drop, map, Some, None, refl, sym, ap, subst, ◌∙◌, append_assoc}
+use Rattle.std.proofs.Common.{drop, map, Option, Some, None, refl, sym, ap, subst, ◌∙◌, append_assoc}
 use Rattle.std.proofs.Common.{append-nil, arith, inl, inr}
 use Rattle.std.proofs.lemmas.List.{length-append, length-drop, take-append-drop}
 use Rattle.std.specs.Prelude.{take}
@@ -16,7 +16,7 @@ use Rattle.rtr_data.specs.Data.{IsData, announcement, has_name, name_cmp}
 use Rattle.rtr_data.specs.Deltas.{change_forms, unit_of}
 use Rattle.rtr_deltas.specs.Canonical.{PlacesFront}
 use Rattle.rtr_deltas.specs.Items.{meant}
-use Rattle.rtr_deltas.specs.PrivateChanges.{HoldsUnits, IsAfterWithdrawal, IsFirst}
+use Rattle.rtr_deltas.specs.PrivateChanges.{HoldsUnits, IsAfterWithdrawal, IsBound, IsFirst}
 use Rattle.rtr_deltas.specs.PrivateChanges.{LeastOf, MakesNew, NothingLeft, PlacesApplied}
 use Rattle.rtr_deltas.specs.declared.item.PayloadView.{PayloadView}
 use Rattle.rtr_deltas.proofs.Making.{Follows, StartsElsewhere, or_parts, step_added, step_end}
@@ -48,16 +48,19 @@ pub record Placing (v : ℕ) (made : List Payload) (old new gone before now : Li
   pub whole : announced_forms v made ≡ piece ++ announced_forms v rest
 
 pub record Along (old announced withdrawn old_rest new_rest gone_rest before now : List ℕ)
-    (written : ℕ) : Type 0 where
+    (written : ℕ) (bound : Option PayloadView) : Type 0 where
+  pub bounds : IsBound bound new_rest gone_rest
   pub fits : written ≤ length before
   pub room : length now ≡ length before
   pub placing : (v : ℕ) (d ps qs d' : List Payload) → HoldsUnits Announce v old d →
       HoldsUnits Announce v announced ps → HoldsUnits Withdraw v withdrawn qs → IsApart ps qs →
       MakesNew d ps qs d' → Placing v d' old_rest new_rest gone_rest before now written
 
-pub begins : (old announced withdrawn before : List ℕ) →
-    Along old announced withdrawn old announced withdrawn before before 0
-begins old announced withdrawn before = record {
+pub begins : (old announced withdrawn before : List ℕ) (bound : Option PayloadView) →
+    IsBound bound announced withdrawn →
+    Along old announced withdrawn old announced withdrawn before before 0 bound
+begins old announced withdrawn before bound bounds = record {
+  bounds = bounds;
   fits = omega arith;
   room = refl;
   placing = λ v d ps qs d' h j k apart makes. record {
@@ -237,7 +240,8 @@ module _ (v : ℕ) (made : List Payload) (old new gone before now : List ℕ) (w
 -- ---- the loop
 
 module _ (old announced withdrawn old_rest new_rest gone_rest before now : List ℕ) (written : ℕ)
-    (a : Along old announced withdrawn old_rest new_rest gone_rest before now written) where
+    (bound : Option PayloadView)
+    (a : Along old announced withdrawn old_rest new_rest gone_rest before now written bound) where
   pub ended : NothingLeft old_rest new_rest →
       PlacesApplied (Some written) old announced withdrawn before now
   ended none v d ps qs d' h j k apart makes =
@@ -247,8 +251,10 @@ module _ (old announced withdrawn old_rest new_rest gone_rest before now : List 
   module _ (view : PayloadView) (is_old : Bool) (old' new' : List ℕ)
       (least : LeastOf view is_old old' new' old_rest new_rest) where
     pub passes : (gone' : List ℕ) → IsAfterWithdrawal (Some gone') view is_old gone_rest →
-        Along old announced withdrawn old' new' gone' before now written
-    passes gone' after = record {
+        (bound' : Option PayloadView) → IsBound bound' new' gone' →
+        Along old announced withdrawn old' new' gone' before now written bound'
+    passes gone' after bound' bounds = record {
+      bounds = bounds;
       fits = a.fits;
       room = a.room;
       placing = λ v d ps qs d' h j k apart makes.
@@ -273,11 +279,12 @@ module _ (old announced withdrawn old_rest new_rest gone_rest before now : List 
               added v made old_rest new_rest gone_rest before now written g view is_old old' new'
               least e
 
-      pub writes : (n : ℕ) →
+      pub writes : (bound' : Option PayloadView) → IsBound bound' new' gone_rest → (n : ℕ) →
           Places (Some n) (form_of (meant view)) (rest_of written now) part →
           Along old announced withdrawn old' new' gone_rest before
-          (put_mid written (length now - written) now part) (written + n)
-      writes n (is, le, out) = record {
+          (put_mid written (length now - written) now part) (written + n) bound'
+      writes bound' bounds n (is, le, out) = record {
+        bounds = bounds;
         fits =
             omega (
               arith,

@@ -1,14 +1,18 @@
 -- The first of data and announcements.
 use Rattle.std.proofs.Common.{◌≡◌, ℕ, true, false, List, [], ◌∷◌, refl, sym, ap, subst, ◌∙◌, inl}
-use Rattle.std.proofs.Common.{inr}
+use Rattle.std.proofs.Common.{inr, Some, None, Option, ◌≢◌}
+use Rattle.std.specs.Cmp.{tied_back, tied_itself}
+use Rattle.std.specs.declared.cmp.Ordering.{Ordering}
 use Rattle.std.specs.declared.cmp.Ordering.TheVariants.{Less, Equal, Greater}
 use Rattle.rtr_base.specs.declared.action.Action.TheVariants.{Announce}
 use Rattle.rtr_payload.specs.Payloads.{Meaning, Payload}
 use Rattle.rtr_data.specs.Data.{announcement, name_cmp}
 use Rattle.rtr_data.specs.Deltas.{unit_of}
-use Rattle.rtr_data.proofs.Names.{below, below_all}
+use Rattle.rtr_data.proofs.Names.{above, below, below_all, name_total}
 use Rattle.rtr_deltas.specs.Items.{meant}
-use Rattle.rtr_deltas.specs.PrivateChanges.{HoldsUnits, IsBelow, IsNext, LeastOf, NoUnit}
+use Rattle.rtr_deltas.specs.PrivateChanges.{HoldsUnits, IsAfterWithdrawal, IsBelow, IsBound}
+use Rattle.rtr_deltas.specs.PrivateChanges.{IsBoundOf}
+use Rattle.rtr_deltas.specs.PrivateChanges.{IsNext, IsUnder, LeastOf, NoUnit}
 use Rattle.rtr_deltas.specs.declared.item.PayloadView.{PayloadView}
 use Rattle.rtr_deltas.proofs.Units.{Head, head, nothing}
 
@@ -107,3 +111,58 @@ new_alone old new second right then none v d ps h j =
         inl (refl, below_none (meant second).payload d (nothing Announce v old d none h)),
       ),
     )
+
+-- ---- a unit that is below all changes
+
+lower : (p b q : Payload) → name_cmp p b ≡ Less → name_cmp b q ≢ Greater → name_cmp p q ≡ Less
+lower p b q l not = by_order (name_cmp b q) refl
+  where
+    by_order : (o : Ordering) → name_cmp b q ≡ o → name_cmp p q ≡ Less
+    by_order Less e = name_total.trans p b q l e
+    by_order Equal e =
+        below q p (name_total.congr q b p (tied_back name_total b q e) ∙ above p b l)
+    by_order Greater e = absurd (not e)
+
+module _ (old new gone : List ℕ) (view : PayloadView) (left : List ℕ)
+    (next : IsNext view left old) where
+  pub under_least : (bound : Option PayloadView) → IsBound bound new gone → IsUnder view bound →
+      LeastOf view true left new old new
+  under_least None (none, other) under = old_alone old new view left next none
+  under_least (Some bound) (inl none, other) under = old_alone old new view left next none
+  under_least (Some bound) (inr (first, rest, at, not), other) under =
+      old_less old new view left next first rest at
+      (lower (meant view).payload (meant bound).payload (meant first).payload under not)
+
+  pub under_stays : (bound : Option PayloadView) → IsBound bound new gone → IsUnder view bound →
+      IsAfterWithdrawal None view true gone
+  under_stays None (other, none) under = inr (inl none)
+  under_stays (Some bound) (other, inl none) under = inr (inl none)
+  under_stays (Some bound) (other, inr (first, rest, at, not)) under =
+      let l = lower (meant view).payload (meant bound).payload (meant first).payload under not in
+      inr (inr (first, rest, at, λ e. let no = sym l ∙ e in cc))
+
+-- ---- the first of all changes
+
+bound_of : (view : PayloadView) (rest left : List ℕ) → IsNext view rest left → IsBoundOf view left
+bound_of view rest left next =
+    inr (view, rest, next, λ e. let t = tied_itself name_total (meant view).payload in cc)
+
+pub one_bound : (view : PayloadView) (rest left other : List ℕ) → IsNext view rest left →
+    NoUnit other → IsBoundOf view left × IsBoundOf view other
+one_bound view rest left other next none = (bound_of view rest left next, inl none)
+
+pub least_bound : (view : PayloadView) (rest left : List ℕ) → IsNext view rest left →
+    (after : PayloadView) (rest' left' : List ℕ) → IsNext after rest' left' →
+    name_cmp (meant view).payload (meant after).payload ≢ Greater →
+    IsBoundOf view left × IsBoundOf view left'
+least_bound view rest left next after rest' left' next' not =
+    (bound_of view rest left next, inr (after, rest', next', not))
+
+-- the other isn't below it
+pub new_bound : (view : PayloadView) (rest left : List ℕ) → IsNext view rest left →
+    (after : PayloadView) (rest' left' : List ℕ) → IsNext after rest' left' →
+    (name_cmp (meant after).payload (meant view).payload ≡ Less → ⊥) →
+    IsBoundOf view left × IsBoundOf view left'
+new_bound view rest left next after rest' left' next' not =
+    least_bound view rest left next after rest' left' next'
+    (λ e. not (below (meant view).payload (meant after).payload e))

@@ -4,13 +4,16 @@ pub mod Same
 pub mod Sequences
 pub mod FirstFlaws
 pub mod Checking
+pub mod Passing
 pub mod OneFlaw
 pub mod Merging
 pub mod OneData
 pub mod Deltas
 pub mod Answered
 pub mod Units
+pub mod Seeking
 pub mod Refusing
+pub mod Sharing
 pub mod Running
 pub mod Leasts
 pub mod Making

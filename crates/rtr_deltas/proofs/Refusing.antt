@@ -1,26 +1,27 @@
 -- Going over units and others at once, up to the first that breaks a rule.
-use Rattle.std.proofs.Common.{◌≡◌, ℕ, ◌-◌, ◌≤◌, Bool, true, false, ◌||◌, List, [], ◌∷◌, ◌++◌}
+use Rattle.std.proofs.Common.{◌≡◌, ℕ, ◌-◌, ◌≤◌, Bool, true, false, List, [], ◌∷◌, ◌++◌}
 use Rattle.std.proofs.Common.{length, refl, sym, ap, subst, ◌∙◌, append_assoc}
-use Rattle.std.proofs.Common.{append-nil, arith, inl, inr}
+use Rattle.std.proofs.Common.{append-nil, arith}
 use Rattle.std.proofs.lemmas.List.{length-append}
-use Rattle.std.specs.List.{AllByRecursion}
-use Rattle.std.specs.Ordering.{is_eq}
+use Rattle.std.specs.BTreeMap.{is_at}
+use Rattle.std.specs.List.{AllByRecursion, list_any}
 use Rattle.std.specs.declared.cmp.Ordering.{Ordering}
-use Rattle.std.specs.declared.cmp.Ordering.TheVariants.{Less, Equal, Greater}
+use Rattle.std.specs.declared.cmp.Ordering.TheVariants.{Greater}
 use Rattle.rtr_base.specs.declared.action.Action.TheVariants.{Announce}
 use Rattle.rtr_payload.specs.Payloads.{Meaning, Payload}
 use Rattle.rtr_payload.specs.Units.{IsUnit}
 use Rattle.rtr_wire.specs.Sequences.{AreUnits}
 use Rattle.rtr_data.specs.Data.{has_name, name_cmp}
 use Rattle.rtr_data.specs.Deltas.{unit_of}
-use Rattle.rtr_data.proofs.Names.{above, absent, below, below_all}
 use Rattle.rtr_deltas.specs.Canonical.{change}
 use Rattle.rtr_deltas.specs.Items.{meant}
-use Rattle.rtr_deltas.specs.PrivateChanges.{Breaks, HoldsUnits, IsNext, IsOrderOf, IsWithin, NoUnit}
+use Rattle.rtr_deltas.specs.PrivateChanges.{Breaks, HoldsUnits, IsNext, IsWithin, NoUnit}
+use Rattle.rtr_deltas.specs.PrivateChanges.{Passed, Seeks}
 use Rattle.rtr_deltas.specs.PrivateChanges.{rule_action, is_against, units_of}
 use Rattle.rtr_deltas.specs.declared.item.PayloadView.{PayloadView}
 use Rattle.rtr_deltas.specs.declared.refused.Rule.{Rule}
 use Rattle.rtr_deltas.specs.declared.refused.Rule.TheVariants.{Apart, Duplicate, Unknown}
+use Rattle.rtr_deltas.proofs.Seeking.{all_push, passed_all}
 use Rattle.rtr_deltas.proofs.Units.{Head, head, left_name, nothing, one_more}
 
 -- how far both were gone over
@@ -65,30 +66,12 @@ begins rule these those = record {
   };
 }
 
-pub all_push : (P : Payload → Type 0) (ps : List Payload) (p : Payload) → AllByRecursion P ps →
-    P p → AllByRecursion P (ps ++ p ∷ [])
-all_push P [] p h g = (g, tt)
-all_push P (x ∷ ps) p (f, h) g = (f, all_push P ps p h g)
-
--- a name that is below others isn't theirs
-passed : (y : Payload) (qs ys xs : List Payload) → AllByRecursion (λ x. name_cmp y x ≡ Less) xs →
-    AllByRecursion (λ x. has_name qs x ≡ has_name (y ∷ ys) x) xs →
-    AllByRecursion (λ x. has_name qs x ≡ has_name ys x) xs
-passed y qs ys [] h s = tt
-passed y qs ys (x ∷ xs) (g, h) (e, s) =
-    (e ∙ ap (λ o. is_eq o || has_name ys x) (above y x g), passed y qs ys xs h s)
-
 -- only an announcement may take the place of what is there
 against_name : (rule : Rule) (there : Bool) (p : Payload) →
     is_against rule there (change (rule_action rule) p).payload ≡ is_against rule there p
 against_name Apart there p = refl
 against_name Duplicate there p = refl
 against_name Unknown there p = refl
-
--- the order of a unit and the next of others, where its name is there or not
-abbrev pub place : Bool → Ordering
-place true = Equal
-place false = Less
 
 module _ (rule : Rule) (v w : ℕ) (ps qs : List Payload) (these these_rest those_rest : List ℕ)
     (f : Finding rule v w ps qs these these_rest those_rest) where
@@ -110,119 +93,82 @@ module _ (rule : Rule) (v w : ℕ) (ps qs : List Payload) (these these_rest thos
     same : AllByRecursion (λ x. has_name qs x ≡ has_name f.ys x) (h.first ∷ h.others)
     same = subst (AllByRecursion (λ x. has_name qs x ≡ has_name f.ys x)) h.all f.same
 
-    -- the first of those is below all of these
-    pub skips : (right : List ℕ) (o : Ordering) → IsOrderOf o first right those_rest →
-        o ≡ Greater → Finding rule v w ps qs these these_rest right
-    skips right o (inl (none, is)) e = absurd (let no = sym is ∙ e in cc)
-    skips right o (inr (second, at, is)) e =
-        let j = head Announce w second right those_rest f.ys at f.others in
-        let order : name_cmp h.first j.first ≡ Greater =
-        sym (name_is j.first)
-        ∙ ap (λ (m : Meaning). name_cmp (meant first).payload m.payload) (sym j.means)
-        ∙ sym is ∙ e in
-        let lower = below h.first j.first order in
-        record {
-          before = f.before;
-          xs = f.xs;
-          ys = j.others;
-          all = f.all;
-          front = f.front;
-          parts = f.parts;
-          units = f.units;
-          within = f.within;
-          held = f.held;
-          others = j.held;
-          same =
-              subst (AllByRecursion (λ x. has_name qs x ≡ has_name j.others x)) (sym h.all)
-              (passed j.first qs j.others (h.first ∷ h.others)
-              (lower, below_all j.first h.first lower h.others h.below)
-              (subst (λ l. AllByRecursion (λ x. has_name qs x ≡ has_name l x)
-              (h.first ∷ h.others)) j.all same));
-        }
-
-    -- whether the name is there
-    there : (right : List ℕ) (o : Ordering) (t : Bool) → IsOrderOf o first right those_rest →
-        o ≡ place t → has_name qs h.first ≡ t
-    there right o t (inl (none, is)) e =
-        same.0 ∙ ap (λ l. has_name l h.first) (nothing Announce w those_rest f.ys none f.others)
-        ∙ by_test t (sym is ∙ e)
-      where
-        by_test : (t : Bool) → Less ≡ place t → false ≡ t
-        by_test false e = refl
-        by_test true e = absurd (let no = e in cc)
-    there right o t (inr (second, at, is)) e =
-        same.0 ∙ ap (λ l. has_name l h.first) j.all
-        ∙ by_test t
-        (sym e ∙ is ∙ ap (λ (m : Meaning). name_cmp (meant first).payload m.payload) j.means
-        ∙ name_is j.first)
-      where
-        j : Head Announce w second right f.ys
-        j = head Announce w second right those_rest f.ys at f.others
-
-        by_test : (t : Bool) → place t ≡ name_cmp h.first j.first →
-            has_name (j.first ∷ j.others) h.first ≡ t
-        by_test false e =
-            absent h.first (j.first ∷ j.others)
-            (sym e, below_all h.first j.first (sym e) j.others j.below)
-        by_test true e = ap (λ x. is_eq x || has_name j.others h.first) (sym e)
-
     unit_is : IsUnit next.0 (unit_of v (change (rule_action rule) h.first))
     unit_is = subst (IsUnit next.0) h.means next.1.0
 
-    -- by what was found of it
-    judged : (right : List ℕ) (o : Ordering) (t b : Bool) → IsOrderOf o first right those_rest →
-        o ≡ place t → b ≡ is_against rule t (meant first).payload →
-        is_against rule (has_name qs h.first) h.first ≡ b
-    judged right o t b order at is =
-        ap (λ x. is_against rule x h.first) (there right o t order at)
-        ∙ sym (against_name rule t h.first)
-        ∙ ap (λ (m : Meaning). is_against rule t m.payload) (sym h.means) ∙ sym is
+    -- what is left of those, and whether the name is there
+    module _ (t : Bool) (right : List ℕ) (seeks : Seeks t first right those_rest) where
+      abbrev found_left : Passed (meant first).payload w right f.ys
+      found_left = (seeks w f.ys f.others).0
 
-    -- it breaks the rule
-    pub found : (right : List ℕ) (o : Ordering) (t b : Bool) (n : ℕ) →
-        IsOrderOf o first right those_rest → o ≡ place t →
-        b ≡ is_against rule t (meant first).payload → b ≡ true →
-        n ≡ length these - length these_rest → Breaks rule v ps qs these n
-    found right o t b n order at is e size = record {
-      before = f.before;
-      first = h.first;
-      others = h.others;
-      all = f.all ∙ ap (λ l. f.before ++ l) h.all;
-      within = f.within;
-      against = judged right o t b order at is ∙ e;
-      front = f.front;
-      unit = next.0;
-      left = left;
-      parts = f.parts ∙ ap (λ l. f.front ++ l) next.2;
-      size = omega (arith, size, ap length f.parts, length-append f.front these_rest);
-      units = f.units;
-      is_unit = unit_is;
-    }
+      renamed : (zs : List Payload) →
+          AllByRecursion (λ z. name_cmp (meant first).payload z ≡ Greater) zs →
+          AllByRecursion (λ z. name_cmp h.first z ≡ Greater) zs
+      renamed [] l = tt
+      renamed (z ∷ zs) (g, l) = (sym (name_is z) ∙ g, renamed zs l)
 
-    -- it doesn't
-    pub advances : (right : List ℕ) (o : Ordering) (t b : Bool) →
-        IsOrderOf o first right those_rest → o ≡ place t →
-        b ≡ is_against rule t (meant first).payload → b ≡ false →
-        Finding rule v w ps qs these left those_rest
-    advances right o t b order at is e = record {
-      before = f.before ++ h.first ∷ [];
-      xs = h.others;
-      ys = f.ys;
-      all =
-          f.all ∙ ap (λ l. f.before ++ l) h.all
-          ∙ sym (append_assoc f.before (h.first ∷ []) h.others);
-      front = f.front ++ next.0;
-      parts =
-          f.parts ∙ ap (λ l. f.front ++ l) next.2 ∙ sym (append_assoc f.front next.0 left);
-      units = one_more (rule_action rule) v f.front next.0 f.before h.first (meant first) f.units
-          next.1.0 h.means;
-      within =
-          all_push (IsWithin rule qs) f.before h.first f.within
-          (judged right o t b order at is ∙ e);
-      held = h.held;
-      others = f.others;
-      same = same.1;
-    }
+      left_same : AllByRecursion (λ x. has_name qs x ≡ has_name found_left.left x)
+          (h.first ∷ h.others)
+      left_same =
+          passed_all h.first h.others h.below found_left.passed found_left.left qs
+          (renamed found_left.passed found_left.lower)
+          (subst (λ l. AllByRecursion (λ x. has_name qs x ≡ has_name l x) (h.first ∷ h.others))
+          found_left.all same)
+
+      there : has_name qs h.first ≡ t
+      there =
+          left_same.0
+          ∙ sym (ap (λ (c : Payload → Ordering). list_any (is_at c) found_left.left)
+          (λ i q. name_is q i))
+          ∙ (seeks w f.ys f.others).1
+
+      -- by what was found of it
+      judged : (b : Bool) → b ≡ is_against rule t (meant first).payload →
+          is_against rule (has_name qs h.first) h.first ≡ b
+      judged b is =
+          ap (λ x. is_against rule x h.first) there ∙ sym (against_name rule t h.first)
+          ∙ ap (λ (m : Meaning). is_against rule t m.payload) (sym h.means) ∙ sym is
+
+      -- it breaks the rule
+      pub found : (b : Bool) (n : ℕ) → b ≡ is_against rule t (meant first).payload → b ≡ true →
+          n ≡ length these - length these_rest → Breaks rule v ps qs these n
+      found b n is e size = record {
+        before = f.before;
+        first = h.first;
+        others = h.others;
+        all = f.all ∙ ap (λ l. f.before ++ l) h.all;
+        within = f.within;
+        against = judged b is ∙ e;
+        front = f.front;
+        unit = next.0;
+        left = left;
+        parts = f.parts ∙ ap (λ l. f.front ++ l) next.2;
+        size = omega (arith, size, ap length f.parts, length-append f.front these_rest);
+        units = f.units;
+        is_unit = unit_is;
+      }
+
+      -- it doesn't
+      pub advances : (b : Bool) → b ≡ is_against rule t (meant first).payload → b ≡ false →
+          Finding rule v w ps qs these left right
+      advances b is e = record {
+        before = f.before ++ h.first ∷ [];
+        xs = h.others;
+        ys = found_left.left;
+        all =
+            f.all ∙ ap (λ l. f.before ++ l) h.all
+            ∙ sym (append_assoc f.before (h.first ∷ []) h.others);
+        front = f.front ++ next.0;
+        parts =
+            f.parts ∙ ap (λ l. f.front ++ l) next.2 ∙ sym (append_assoc f.front next.0 left);
+        units = one_more (rule_action rule) v f.front next.0 f.before h.first (meant first)
+            f.units next.1.0 h.means;
+        within =
+            all_push (IsWithin rule qs) f.before h.first f.within (judged b is ∙ e);
+        held = h.held;
+        others = found_left.held;
+        same = left_same.1;
+      }
 
 -- ---- the loop
 
@@ -231,28 +177,20 @@ shorter_left b rest left parts = omega (arith, ap length parts, length-append b 
 
 module _ (rule : Rule) (these those these_rest those_rest : List ℕ)
     (g : Going rule these those these_rest those_rest) (first : PayloadView) (left : List ℕ)
-    (next : IsNext first left these_rest) (right : List ℕ) (o : Ordering)
-    (order : IsOrderOf o first right those_rest) where
-  pub skip : o ≡ Greater → Going rule these those these_rest right
-  skip e = record {
-    fits = g.fits;
-    finding = λ v w ps qs h j.
-        skips rule v w ps qs these these_rest those_rest (g.finding v w ps qs h j) first left next
-        right o order e;
-  }
-
-  pub advance : (t b : Bool) → o ≡ place t → b ≡ is_against rule t (meant first).payload →
-      b ≡ false → Going rule these those left those_rest
-  advance t b at is e = record {
+    (next : IsNext first left these_rest) (t : Bool) (right : List ℕ)
+    (seeks : Seeks t first right those_rest) (b : Bool)
+    (is : b ≡ is_against rule t (meant first).payload) where
+  pub advance : b ≡ false → Going rule these those left right
+  advance e = record {
     fits = omega (arith, g.fits, shorter_left next.0 these_rest left next.2);
     finding = λ v w ps qs h j.
         advances rule v w ps qs these these_rest those_rest (g.finding v w ps qs h j) first left
-        next right o t b order at is e;
+        next t right seeks b is e;
   }
 
-  pub stop : (t b : Bool) → o ≡ place t → b ≡ is_against rule t (meant first).payload →
-      b ≡ true → (v w : ℕ) (ps qs : List Payload) → HoldsUnits (rule_action rule) v these ps →
-      HoldsUnits Announce w those qs → Breaks rule v ps qs these (length these - length these_rest)
-  stop t b at is e v w ps qs h j =
+  pub stop : b ≡ true → (v w : ℕ) (ps qs : List Payload) →
+      HoldsUnits (rule_action rule) v these ps → HoldsUnits Announce w those qs →
+      Breaks rule v ps qs these (length these - length these_rest)
+  stop e v w ps qs h j =
       found rule v w ps qs these these_rest those_rest (g.finding v w ps qs h j) first left next
-      right o t b (length these - length these_rest) order at is e refl
+      t right seeks b (length these - length these_rest) is e refl

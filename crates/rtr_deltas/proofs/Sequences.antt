@@ -57,11 +57,39 @@ item_of_view (units.End e) b is = is
 
 -- ---- the first item of a sequence
 
+-- the sequence goes on after a unit with this meaning
+abbrev pub StartsWith : Meaning → List ℕ → List Meaning → EndMeaning → Type 0
+StartsWith m left ms e =
+    (ns : List Meaning) × (b : List ℕ) × (ms ≡ m ∷ ns) × Accepts left b ns e
+
+starts_with : (m : Meaning) (b r left y : List ℕ) (ms : List Meaning) (e : EndMeaning) →
+    IsUnit b m → r ≡ b ++ left → Accepts r y ms e → StartsWith m left ms e
+starts_with m b r left y [] e unit parts a =
+    let q = a.sequence in
+    absurd (unit_or_end b q.last left a.rest m e unit q.end
+    (sym parts ∙ a.parts ∙ after y q.front q.last a.rest q.parts
+    ∙ ap (λ f. f ++ (q.last ++ a.rest)) q.units))
+starts_with m b r left y (n ∷ ms) e unit parts a =
+    let q = a.sequence in
+    let (x, more, at, u, rest) = q.units in
+    let t = units_same b x left (more ++ (q.last ++ a.rest)) m n unit u
+    (sym parts ∙ a.parts ∙ after y q.front q.last a.rest q.parts
+    ∙ after q.front x more (q.last ++ a.rest) at) in (
+      ms,
+      more ++ q.last,
+      ap (λ k. k ∷ ms) (sym t.1),
+      record {
+        rest = a.rest;
+        parts = t.2 ∙ sym (append_assoc more q.last a.rest);
+        sequence =
+            record { front = more; last = q.last; parts = refl; units = rest; end = q.end };
+      },
+    )
+
 -- by what it is: the sequence ends with it, or goes on after it
 abbrev pub Splits : Item → List ℕ → List Meaning → EndMeaning → Type 0
 Splits (items.End d) left ms e = (ms ≡ []) × (e ≡ end_meaning d)
-Splits (items.Unit v) left ms e =
-    (ns : List Meaning) × (b : List ℕ) × (ms ≡ meant v ∷ ns) × Accepts left b ns e
+Splits (items.Unit v) left ms e = StartsWith (meant v) left ms e
 
 pub splits : (x : Item) (b r left y : List ℕ) (ms : List Meaning) (e : EndMeaning) → IsItem x b →
     r ≡ b ++ left → Accepts r y ms e → Splits x left ms e
@@ -77,27 +105,8 @@ splits (items.End d) b r left y (m ∷ ms) e is parts a =
     absurd (unit_or_end x b (more ++ (q.last ++ a.rest)) left m (end_meaning d) u is.1
     (sym (after q.front x more (q.last ++ a.rest) at)
     ∙ sym (after y q.front q.last a.rest q.parts) ∙ sym a.parts ∙ parts))
-splits (items.Unit v) b r left y [] e is parts a =
-    let q = a.sequence in
-    absurd (unit_or_end b q.last left a.rest (meant v) e is.0 q.end
-    (sym parts ∙ a.parts ∙ after y q.front q.last a.rest q.parts
-    ∙ ap (λ f. f ++ (q.last ++ a.rest)) q.units))
-splits (items.Unit v) b r left y (m ∷ ms) e is parts a =
-    let q = a.sequence in
-    let (x, more, at, u, rest) = q.units in
-    let t = units_same b x left (more ++ (q.last ++ a.rest)) (meant v) m is.0 u
-    (sym parts ∙ a.parts ∙ after y q.front q.last a.rest q.parts
-    ∙ after q.front x more (q.last ++ a.rest) at) in (
-      ms,
-      more ++ q.last,
-      ap (λ k. k ∷ ms) (sym t.1),
-      record {
-        rest = a.rest;
-        parts = t.2 ∙ sym (append_assoc more q.last a.rest);
-        sequence =
-            record { front = more; last = q.last; parts = refl; units = rest; end = q.end };
-      },
-    )
+splits (items.Unit v) b r left y ms e is parts a =
+    starts_with (meant v) b r left y ms e is.0 parts a
 
 -- a unit before a sequence
 pub joins : (m : Meaning) (b r left y : List ℕ) (ms : List Meaning) (e : EndMeaning) → IsUnit b m →
@@ -198,18 +207,17 @@ pub record First (m : Meaning) (left : List ℕ) (ps : List Payload) (e : EndMea
   pub held : HoldsData left others e
   pub above : AllByRecursion (λ p. name_cmp m.payload p ≡ Less) others
 
-pub first_unit : (v : PayloadView) (b r left : List ℕ) (ps : List Payload) (e : EndMeaning) →
-    IsItem (items.Unit v) b → r ≡ b ++ left → HoldsData r ps e → First (meant v) left ps e
+pub first_meant : (m : Meaning) (b r left : List ℕ) (ps : List Payload) (e : EndMeaning) →
+    IsUnit b m → r ≡ b ++ left → HoldsData r ps e → First m left ps e
 unfolding IsStrictlySortedBy
-first_unit v b r left [] e is parts h =
-    let (ns, y, eq, a) = splits (items.Unit v) b r left h.bytes [] e is parts h.accepts in
-    absurd cc
-first_unit v b r left (p ∷ ps) e is parts h =
+first_meant m b r left [] e unit parts h =
+    let (ns, y, eq, a) = starts_with m b r left h.bytes [] e unit parts h.accepts in absurd cc
+first_meant m b r left (p ∷ ps) e unit parts h =
     let (ns, y, eq, a) =
-    splits (items.Unit v) b r left h.bytes (data_units e.version (p ∷ ps)) e is parts h.accepts in
-    let head : unit_of e.version (announcement p) ≡ meant v = cc in
+    starts_with m b r left h.bytes (data_units e.version (p ∷ ps)) e unit parts h.accepts in
+    let head : unit_of e.version (announcement p) ≡ m = cc in
     let tail : data_units e.version ps ≡ ns = cc in
-    let same : p ≡ (meant v).payload = ap (λ (m : Meaning). m.payload) head in
+    let same : p ≡ m.payload = ap (λ (m : Meaning). m.payload) head in
     record {
       others = ps;
       first = ap (λ x. x ∷ ps) same;
@@ -223,6 +231,10 @@ first_unit v b r left (p ∷ ps) e is parts h =
       above =
           subst (λ x. AllByRecursion (λ q. name_cmp x q ≡ Less) ps) same h.in_order.0;
     }
+
+pub first_unit : (v : PayloadView) (b r left : List ℕ) (ps : List Payload) (e : EndMeaning) →
+    IsItem (items.Unit v) b → r ≡ b ++ left → HoldsData r ps e → First (meant v) left ps e
+first_unit v b r left ps e is parts h = first_meant (meant v) b r left ps e is.0 parts h
 
 -- ---- the form of an announcement
 

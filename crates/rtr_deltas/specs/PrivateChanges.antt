@@ -1,9 +1,9 @@
 -- Units of changes, and what breaks the rules. Only contracts of private functions cite these.
-use Rattle.std.specs.Prelude.{◌≡◌, ◌≢◌, ◌⊎◌, ◌+◌, ℕ, Bool, true, false, not, ◌&&◌, List, ◌∷◌}
+use Rattle.std.specs.Prelude.{◌≡◌, ◌≢◌, ◌⊎◌, ◌+◌, ℕ, Bool, true, false, not, ◌&&◌, List, [], ◌∷◌}
 use Rattle.std.specs.Prelude.{◌++◌, map, length, Option, Some, None, ⊤, Ok}
 use Rattle.std.specs.List.{AllByRecursion}
 use Rattle.std.specs.declared.cmp.Ordering.{Ordering}
-use Rattle.std.specs.declared.cmp.Ordering.TheVariants.{Less, Equal}
+use Rattle.std.specs.declared.cmp.Ordering.TheVariants.{Less, Equal, Greater}
 use Rattle.rtr_base.specs.declared.action.Action.{Action}
 use Rattle.rtr_base.specs.declared.action.Action.TheVariants.{Announce, Withdraw}
 use Rattle.rtr_units.specs.End.{EndMeaning, IsEnd}
@@ -62,6 +62,18 @@ Ascends (Some last) p = name_cmp (meant last).payload p ≡ Less
 abbrev pub RunsOn : Action → Option ℕ → Option PayloadView → Meaning → Type 0
 RunsOn action version last m =
     (m.action ≡ action) × InVersion version m.version × Ascends last m.payload
+
+-- a unit goes on with data after this one
+abbrev pub RunsAfter : (last view : PayloadView) → Type 0
+RunsAfter last view = RunsOn Announce (Some (meant last).version) (Some last) (meant view)
+
+-- units that go on with data, one after the other, from after a unit up to another
+abbrev pub RunsTo : List PayloadView → (last : PayloadView) → (left : List ℕ) →
+    (last' : PayloadView) → (left' : List ℕ) → Type 0
+RunsTo [] last left last' left' = (last ≡ last') × (left ≡ left')
+RunsTo (view ∷ views) last left last' left' =
+    (next : List ℕ) × IsNext view next left × RunsAfter last view
+    × RunsTo views view next last' left'
 
 -- each unit that begins x begins the other list, too
 abbrev pub BeginsAlso : (x left : List ℕ) → Type 0
@@ -162,6 +174,24 @@ IsOrderOf order first left those =
     (NoUnit those × (order ≡ Less)) ⊎ ((second : PayloadView) × IsNext second left those
     × (order ≡ name_cmp (meant first).payload (meant second).payload))
 
+-- others in order, and what is left of them after some that are below the payload
+pub record Passed (p : Payload) (w : ℕ) (rest : List ℕ) (ys : List Payload) : Type 0 where
+  pub passed : List Payload
+  pub left : List Payload
+  pub all : ys ≡ passed ++ left
+  pub lower : AllByRecursion (λ y. name_cmp p y ≡ Greater) passed
+  pub held : HoldsUnits Announce w rest left
+
+abbrev pub Passes : Payload → (rest those : List ℕ) → Type 0
+Passes p rest those = (w : ℕ) (ys : List Payload) → HoldsUnits Announce w those ys →
+    Passed p w rest ys
+
+-- whether what is left has the unit's name
+abbrev pub Seeks : (there : Bool) → PayloadView → (rest those : List ℕ) → Type 0
+Seeks there first rest those = (w : ℕ) (ys : List Payload) → HoldsUnits Announce w those ys →
+    (s : Passed (meant first).payload w rest ys)
+    × (has_name s.left (meant first).payload ≡ there)
+
 -- ---- what changes make of data
 
 abbrev pub MakesNew : (d announced withdrawn d' : List Payload) → Type 0
@@ -204,6 +234,22 @@ IsAfterWithdrawal None view is_old withdrawn =
     (is_old ≡ false) ⊎ (NoUnit withdrawn ⊎ ((first : PayloadView) × (left : List ℕ)
     × IsNext first left withdrawn
     × (name_cmp (meant view).payload (meant first).payload ≢ Equal)))
+
+-- no unit that is left is below this one
+abbrev pub IsBoundOf : PayloadView → List ℕ → Type 0
+IsBoundOf bound left = NoUnit left ⊎ ((first : PayloadView) × (rest : List ℕ)
+    × IsNext first rest left
+    × (name_cmp (meant bound).payload (meant first).payload ≢ Greater))
+
+-- no change that is left is below this one, or none is left
+abbrev pub IsBound : Option PayloadView → (announced withdrawn : List ℕ) → Type 0
+IsBound None announced withdrawn = NoUnit announced × NoUnit withdrawn
+IsBound (Some bound) announced withdrawn = IsBoundOf bound announced × IsBoundOf bound withdrawn
+
+-- the unit is below the bound, if there is one
+abbrev pub IsUnder : PayloadView → Option PayloadView → Type 0
+IsUnder view None = ⊤
+IsUnder view (Some bound) = name_cmp (meant view).payload (meant bound).payload ≡ Less
 
 -- units that announce what the changes make of the data were written
 abbrev pub PlacesApplied : Option ℕ → (old announced withdrawn before after : List ℕ) → Type 0

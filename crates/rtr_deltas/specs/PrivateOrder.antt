@@ -1,12 +1,15 @@
 -- How data goes on after a unit. Only contracts of private functions cite these.
-use Rattle.std.specs.Prelude.{◌≡◌, ℕ, Bool, true, false, not, List, [], ◌++◌, map}
+use Rattle.std.specs.Prelude.{◌≡◌, ℕ, Bool, true, false, not, List, [], ◌++◌, map, length}
 use Rattle.std.specs.Prelude.{Option, ⊤}
 use Rattle.std.specs.Ordering.{is_eq}
 use Rattle.std.specs.declared.cmp.Ordering.{Ordering}
 use Rattle.std.specs.declared.cmp.Ordering.TheVariants.{Less, Equal, Greater}
 use Rattle.rtr_base.specs.declared.action.Action.{Action}
 use Rattle.rtr_base.specs.declared.action.Action.TheVariants.{Announce, Withdraw}
+use Rattle.rtr_base.specs.Addresses.{Family}
 use Rattle.rtr_units.specs.End.{EndMeaning, end_list}
+use Rattle.rtr_units.specs.Header.{type_field}
+use Rattle.rtr_units.specs.PrefixUnits.{prefix_size, prefix_type}
 use Rattle.rtr_payload.specs.Orders.{payload_cmp}
 use Rattle.rtr_payload.specs.Payloads.{Payload}
 use Rattle.rtr_payload.specs.Units.{form_of}
@@ -51,6 +54,17 @@ lacking_form action v false = []
 abbrev pub IsDataItem : Item → Type 0
 IsDataItem (items.Unit v) = ((meant v).action ≡ Announce) × IsComplete v × IsShort v
 IsDataItem (items.End e) = ⊤
+
+-- both begin with the same bytes, so many
+abbrev pub SharesFront : ℕ → (left left' these those : List ℕ) → Type 0
+SharesFront n left left' these those =
+    (b : List ℕ) × (length b ≡ n) × (these ≡ b ++ left) × (those ≡ b ++ left')
+
+-- and these have the type and the length of a prefix unit
+abbrev pub SharesUnit : (left left' these those : List ℕ) → Type 0
+SharesUnit left left' these those =
+    (f : Family) × (type_field these ≡ prefix_type f)
+    × SharesFront (prefix_size f) left left' these those
 
 -- What these data have and those lack was written, as units of the version of these, which
 -- announce or withdraw it.

@@ -1,9 +1,11 @@
 //! What changes make of data, written into a slice.
 
-ghost use Rattle.std.specs.Prelude.{◌≡◌, ◌≤◌, ◌<◌, ◌+◌, IfSome, None, length, true, false};
+ghost use Rattle.std.specs.Prelude.{◌≡◌, ◌≤◌, ◌<◌, ◌+◌, ◌↔◌, IfSome, IsTrue, None, length};
+ghost use Rattle.std.specs.Prelude.{true, false};
 ghost use Rattle.std.specs.Option.{option_map};
 ghost use Rattle.rtr_deltas.specs.Items.{meant};
-ghost use Rattle.rtr_deltas.specs.PrivateChanges.{IsAfterWithdrawal, LeastOf, NothingLeft};
+ghost use Rattle.rtr_deltas.specs.PrivateChanges.{IsAfterWithdrawal, IsBound, IsNext, IsUnder};
+ghost use Rattle.rtr_deltas.specs.PrivateChanges.{LeastOf, NothingLeft};
 ghost use Rattle.rtr_deltas.specs.PrivateChanges.{PlacesApplied};
 
 use crate::item::{PayloadView, next_unit};
@@ -24,7 +26,8 @@ struct Least<'a> {
 }
 
 /// Writes the units that announce what announcements and withdrawals make of data, in order, and
-/// answers their length in bytes, or none where there is no room for all of them.
+/// answers their length in bytes, or none where there is no room for all of them. Most units come
+/// before the next change: these are told first.
 pub(crate) fn place_applied(
     old: &[u8],
     announced: &[u8],
@@ -36,7 +39,16 @@ pub(crate) fn place_applied(
 {
     let (mut old_rest, mut new_rest) = (old, announced);
     let (mut withdrawn_rest, mut written) = (withdrawn, 0);
+    let mut bound = next_change(announced, withdrawn);
     'units: loop {
+        if let Some((view, left)) = next_under(old_rest, &bound) {
+            match place_unit(&view, &mut output[written..]) {
+                Some(size) => written += size,
+                None => return None,
+            }
+            old_rest = left;
+            continue 'units;
+        }
         let least = match least_of(old_rest, new_rest) {
             Some(least) => least,
             None => return Some(written),
@@ -50,6 +62,59 @@ pub(crate) fn place_applied(
                 None => return None,
             },
         }
+        bound = next_change(new_rest, withdrawn_rest);
+    }
+}
+
+/// The first of announcements and withdrawals by name, if anything is left of them.
+fn next_change<'a>(new: &'a [u8], withdrawn: &'a [u8]) -> Option<PayloadView<'a>>
+    ensures { IsBound result new.now withdrawn.now }
+{
+    match next_unit(new) {
+        Some((first, _)) => match next_unit(withdrawn) {
+            Some((second, _)) => match second.compare_names(&first) {
+                Ordering::Less => Some(second),
+                Ordering::Equal => Some(first),
+                Ordering::Greater => Some(first),
+            },
+            None => Some(first),
+        },
+        None => match next_unit(withdrawn) {
+            Some((second, _)) => Some(second),
+            None => None,
+        },
+    }
+}
+
+/// The first of the data, and what follows it, if it comes before this change: it stays as it is.
+#[inline(always)]
+fn next_under<'a>(
+    old: &'a [u8],
+    bound: &Option<PayloadView<'_>>,
+) -> Option<(PayloadView<'a>, &'a [u8])>
+    ensures unit { IfSome result (λ p. IsNext p.0 p.1.now old.now) }
+    ensures under { IfSome result (λ p. IsUnder p.0 bound.now) }
+    ensures shorter { IfSome result (λ p. length p.1.now < length old.now) }
+{
+    match next_unit(old) {
+        Some((view, left)) => {
+            if !is_under(&view, bound) {
+                return None;
+            }
+            Some((view, left))
+        }
+        None => None,
+    }
+}
+
+/// Whether the unit comes before the change.
+#[inline(always)]
+fn is_under(view: &PayloadView<'_>, bound: &Option<PayloadView<'_>>) -> bool
+    ensures { IsTrue result ↔ IsUnder view.now bound.now }
+{
+    match bound {
+        None => true,
+        Some(bound) => view.compare_names(bound).is_lt(),
     }
 }
 

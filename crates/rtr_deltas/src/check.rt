@@ -1,6 +1,7 @@
 //! Whether a slice holds data.
 
-ghost use Rattle.std.specs.Prelude.{◌≡◌, ◌↔◌, IsTrue, IfOk, IfErr, List};
+ghost use Rattle.std.specs.Prelude.{◌≡◌, ◌<◌, ◌≤◌, ◌↔◌, IsTrue, IfOk, IfErr, IfSome};
+ghost use Rattle.std.specs.Prelude.{List, length};
 ghost use Rattle.rtr_base.specs.declared.action.Action.TheVariants.{Announce};
 ghost use Rattle.rtr_payload.specs.Payloads.{Payload};
 ghost use Rattle.rtr_units.specs.AnyEnd.{end_bytes, end_meaning};
@@ -8,11 +9,16 @@ ghost use Rattle.rtr_units.specs.End.{IsEnd};
 ghost use Rattle.rtr_deltas.specs.Canonical.{HoldsData};
 ghost use Rattle.rtr_deltas.specs.Flaws.{IsFlawOfData};
 ghost use Rattle.rtr_deltas.specs.Items.{meant};
-ghost use Rattle.rtr_deltas.specs.PrivateChanges.{InVersion, RunsOn, last_version};
+ghost use Rattle.rtr_deltas.specs.PrivateChanges.{InVersion, IsNext, RunsAfter, RunsOn};
+ghost use Rattle.rtr_deltas.specs.PrivateChanges.{RunsTo, last_version};
+ghost use Rattle.rtr_deltas.specs.declared.item.PayloadView.{PayloadView};
 
 use crate::fault::{Flaw, Reason};
-use crate::item::{Item, PayloadView, next};
+use crate::item::{Item, PayloadView, begins_with_type, next, next_unit};
 use rtr_units::end::EndOfData;
+use rtr_units::prefixes::Ipv4Prefix;
+use rtr_units::unit::Unit;
+use rtr_views::origin::OriginView;
 
 /// The end of the data that the input begins with, or why there is no data there. No memory is
 /// asked for, and what follows the end of data doesn't count.
@@ -48,8 +54,9 @@ pub fn check_data(input: &[u8]) -> Result<EndOfData, Flaw>
                 if !goes_on(&last, &view) {
                     return Err(not_canonical(offset));
                 }
-                last = Some(view);
-                rest = left;
+                let (above, after) = pass_prefixes(&view, left);
+                last = Some(above);
+                rest = after;
             }
             Item::End(end) => {
                 if !ends_after(&last, &end) {
@@ -77,11 +84,95 @@ fn not_canonical(offset: usize) -> Flaw
 fn goes_on(last: &Option<PayloadView<'_>>, view: &PayloadView<'_>) -> bool
     ensures { IsTrue result ↔ RunsOn Announce (last_version last.now) last.now (meant view.now) }
 {
+    match last {
+        None => view.action().is_announce(),
+        Some(last) => is_after(last, view),
+    }
+}
+
+/// Whether the unit goes on with data after this one.
+#[inline(always)]
+fn is_after(last: &PayloadView<'_>, view: &PayloadView<'_>) -> bool
+    ensures { IsTrue result ↔ RunsAfter last.now view.now }
+{
     view.action().is_announce()
-        && match last {
-            None => true,
-            Some(last) => last.version() == view.version() && last.compare_names(view).is_lt(),
+        && last.version() == view.version()
+        && last.compare_names(view).is_lt()
+}
+
+/// The last of the prefix units that go on with data after a prefix unit, and what follows it; after
+/// another unit, that one. Most units are of prefixes: these are gone over in a loop of their own.
+#[inline(always)]
+fn pass_prefixes<'a>(view: &PayloadView<'a>, left: &'a [u8]) -> (PayloadView<'a>, &'a [u8])
+    ensures passed { (views : List PayloadView) ×
+        RunsTo views view.now left.now result.0 result.1.now }
+    ensures shorter { length result.1.now ≤ length left.now }
+{
+    match view {
+        PayloadView::Origin(origin) => {
+            let (last, rest) = pass_origins(origin, left);
+            (PayloadView::Origin(last), rest)
         }
+        PayloadView::RouterKey(key) => (PayloadView::RouterKey(*key), left),
+        PayloadView::Aspa(aspa) => (PayloadView::Aspa(*aspa), left),
+    }
+}
+
+/// The last of the prefix units that go on with data after this one, and what follows it.
+fn pass_origins<'a>(view: &OriginView, left: &'a [u8]) -> (OriginView, &'a [u8])
+    ensures passed { (views : List PayloadView) × RunsTo views (PayloadView.Origin view.now)
+        left.now (PayloadView.Origin result.0) result.1.now }
+    ensures shorter { length result.1.now ≤ length left.now }
+{
+    let (mut last, mut rest) = (*view, left);
+    'units: loop {
+        match next_origin(&last, rest) {
+            Some((view, left)) => {
+                last = view;
+                rest = left;
+            }
+            None => return (last, rest),
+        }
+    }
+}
+
+/// The prefix unit at the front of the input, and what follows it, if it goes on with data after
+/// this one. The branch lets the compiler keep apart what it makes of the most frequent type.
+#[inline(always)]
+fn next_origin<'a>(last: &OriginView, input: &'a [u8]) -> Option<(OriginView, &'a [u8])>
+    ensures next { IfSome result (λ p. IsNext (PayloadView.Origin p.0) p.1.now input.now) }
+    ensures after { IfSome result
+        (λ p. RunsAfter (PayloadView.Origin last.now) (PayloadView.Origin p.0)) }
+    ensures shorter { IfSome result (λ p. length p.1.now < length input.now) }
+{
+    if begins_with_type(input, Ipv4Prefix::PDU) {
+        origin_after(last, input)
+    } else {
+        origin_after(last, input)
+    }
+}
+
+/// The same.
+#[inline(always)]
+fn origin_after<'a>(last: &OriginView, input: &'a [u8]) -> Option<(OriginView, &'a [u8])>
+    ensures next { IfSome result (λ p. IsNext (PayloadView.Origin p.0) p.1.now input.now) }
+    ensures after { IfSome result
+        (λ p. RunsAfter (PayloadView.Origin last.now) (PayloadView.Origin p.0)) }
+    ensures shorter { IfSome result (λ p. length p.1.now < length input.now) }
+{
+    match next_unit(input) {
+        Some((view, left)) => {
+            if !is_after(&PayloadView::Origin(*last), &view) {
+                return None;
+            }
+            match view {
+                PayloadView::Origin(origin) => Some((origin, left)),
+                PayloadView::RouterKey(_) => None,
+                PayloadView::Aspa(_) => None,
+            }
+        }
+        None => None,
+    }
 }
 
 /// Whether the end of data is of the version of the last unit.

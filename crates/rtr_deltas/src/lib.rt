@@ -19,6 +19,7 @@ mod placing;
 mod reading;
 mod refused;
 mod settling;
+mod shared;
 
 pub use apply::apply_into;
 pub use changes::check_changes;

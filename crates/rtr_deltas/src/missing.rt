@@ -17,12 +17,14 @@ ghost use Rattle.rtr_deltas.specs.PrivateOrder.{lacks as is_lacking};
 
 use crate::item::{Item, PayloadView, next};
 use crate::placing::place_change;
+use crate::shared::after_shared_unit;
 use rtr_base::action::Action;
 use rtr_views::aspa::AspaView;
 use std::cmp::Ordering;
 
 /// Writes the units that announce or withdraw what these data have and those lack, in order, and
-/// answers their length in bytes, or none where there is no room for all of them.
+/// answers their length in bytes, or none where there is no room for all of them. Most units are
+/// the same in both, so these are told first.
 pub(crate) fn place_missing(
     these: &[u8],
     those: &[u8],
@@ -36,6 +38,11 @@ pub(crate) fn place_missing(
 {
     let (mut these_rest, mut those_rest, mut written) = (these, those, 0);
     'units: loop {
+        if let Some((these_left, those_left)) = after_shared_unit(these_rest, those_rest) {
+            these_rest = these_left;
+            those_rest = those_left;
+            continue 'units;
+        }
         let (item, after_first) = next_of_data(these_rest);
         let first = match item {
             Item::Unit(view) => view,

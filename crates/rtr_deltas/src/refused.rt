@@ -1,10 +1,12 @@
 //! The first of some units that breaks a rule.
 
-ghost use Rattle.std.specs.Prelude.{◌≡◌, ◌≤◌, IfSome, length};
+ghost use Rattle.std.specs.Prelude.{◌≡◌, ◌<◌, ◌≤◌, IfSome, length};
 ghost use Rattle.rtr_deltas.specs.Items.{meant};
-ghost use Rattle.rtr_deltas.specs.PrivateChanges.{FindsRefused, IsOrderOf, is_against};
+ghost use Rattle.rtr_deltas.specs.PrivateChanges.{FindsRefused, IsOrderOf, Seeks, is_against};
 
-use crate::item::{PayloadView, next_unit};
+use crate::item::{PayloadView, begins_with_type, next_unit};
+use rtr_units::prefixes::Ipv4Prefix;
+use rtr_units::unit::Unit;
 use std::cmp::Ordering;
 
 /// What units may not be, by the names of other units.
@@ -29,30 +31,51 @@ pub(crate) fn first_refused(these: &[u8], those: &[u8], rule: Rule) -> Option<us
             Some(first) => first,
             None => return None,
         };
-        let (order, after_second) = order_of(&first, those_rest);
+        let (is_there, left) = sought(&first, those_rest);
+        if breaks(rule, is_there, &first) {
+            return Some(these.len() - these_rest.len());
+        }
+        these_rest = after_first;
+        those_rest = left;
+    }
+}
+
+/// Whether a unit's name is among others, and what is left of them from there on. Each unit of
+/// these is viewed once.
+fn sought<'a>(first: &PayloadView<'_>, those: &'a [u8]) -> (bool, &'a [u8])
+    ensures { Seeks result.0 first.now result.1.now those.now }
+{
+    let mut rest = those;
+    'units: loop {
+        let (order, left) = order_of(first, rest);
         match order {
-            Ordering::Greater => those_rest = after_second,
-            Ordering::Less => {
-                if breaks(rule, false, &first) {
-                    return Some(these.len() - these_rest.len());
-                }
-                these_rest = after_first;
-            }
-            Ordering::Equal => {
-                if breaks(rule, true, &first) {
-                    return Some(these.len() - these_rest.len());
-                }
-                these_rest = after_first;
-            }
+            Ordering::Greater => rest = left,
+            Ordering::Less => return (false, rest),
+            Ordering::Equal => return (true, rest),
         }
     }
 }
 
 /// The order of the names of a unit and the first of others, whose end comes after all units, and
-/// what follows that one.
+/// what follows that one. Most units are of prefixes: the branch lets the compiler keep apart what
+/// it makes of these.
 #[inline(always)]
 fn order_of<'a>(first: &PayloadView<'_>, those: &'a [u8]) -> (Ordering, &'a [u8])
-    ensures { IsOrderOf result.0 first.now result.1.now those.now }
+    ensures order { IsOrderOf result.0 first.now result.1.now those.now }
+    ensures shorter { result.0 ≡ Ordering.Greater → length result.1.now < length those.now }
+{
+    if begins_with_type(those, Ipv4Prefix::PDU) {
+        order_of_next(first, those)
+    } else {
+        order_of_next(first, those)
+    }
+}
+
+/// The same.
+#[inline(always)]
+fn order_of_next<'a>(first: &PayloadView<'_>, those: &'a [u8]) -> (Ordering, &'a [u8])
+    ensures order { IsOrderOf result.0 first.now result.1.now those.now }
+    ensures shorter { result.0 ≡ Ordering.Greater → length result.1.now < length those.now }
 {
     match next_unit(those) {
         Some((second, left)) => (first.compare_names(&second), left),

@@ -4,6 +4,7 @@ use Rattle.rtr_base.specs.declared.action.Action.TheVariants.{Announce}
 use Rattle.rtr_units.specs.AnyEnd.{end_meaning}
 use Rattle.rtr_deltas.specs.PrivateChanges.{last_version}
 use Rattle.rtr_deltas.proofs.Checking.{end_misplaced, ends, refused, unit_misplaced}
+use Rattle.rtr_deltas.proofs.Passing.{all_checked}
 use Rattle.rtr_deltas.proofs.Running.{goes, starts}
 use Rattle.rtr_deltas.proofs.check.check_data.Goals as goal
 
@@ -23,8 +24,11 @@ pub items-preserved : goal.items-preserved
 items-preserved c =
     let next = rw c.in-Unit.is at c.in-Ok.ensures.item in
     let l = c.items in
-    goes Announce None c.args.input.now l.rest.now l.last (last_version l.last) l.invariant
-    c.in-Unit.view c.in-Ok.first.1.now next (c.goes_on.ensures.0 c.if-not-goes_on.false)
+    let (views, runs) = c.pass_prefixes-above.ensures.passed in
+    all_checked c.args.input.now views c.in-Unit.view c.in-Ok.first.1.now
+    c.pass_prefixes-above.result.0 c.pass_prefixes-above.result.1.now
+    (goes Announce None c.args.input.now l.rest.now l.last (last_version l.last) l.invariant
+    c.in-Unit.view c.in-Ok.first.1.now next (c.goes_on.ensures.0 c.if-not-goes_on.false)) runs
 
 pub returns-then-not-ends_after-clause-flaw : goal.returns-then-not-ends_after-clause-flaw
 returns-then-not-ends_after-clause-flaw c =

@@ -1,5 +1,6 @@
 use Rattle.rtr_deltas.proofs.Merging.{begins, data_item, finished, goes_equal, goes_greater}
 use Rattle.rtr_deltas.proofs.Merging.{goes_less, stops, well}
+use Rattle.rtr_deltas.proofs.Sharing.{shares}
 use Rattle.rtr_deltas.specs.declared.item.Item.TheVariants as items
 use Rattle.rtr_deltas.proofs.missing.place_missing.Goals as goal
 
@@ -7,6 +8,13 @@ pub units-init : goal.units-init
 units-init c =
     begins c.args.action c.args.these.now c.args.those.now c.args.output.now c.requires.these
     c.requires.those
+
+pub units-preserved-in-Some : goal.units-preserved-in-Some
+units-preserved-in-Some c =
+    let u = c.units in
+    shares c.args.action c.args.these.now c.args.those.now u.these_rest.now u.those_rest.now
+    c.args.output.now u.output u.written u.invariant c.in-Some.these_left.now
+    c.in-Some.those_left.now c.in-Some.ensures.shared
 
 pub next_of_data-item-requires : goal.next_of_data-item-requires
 next_of_data-item-requires c =
@@ -57,9 +65,9 @@ units-preserved-in-Less c =
     goes_less c.args.action c.args.these.now c.args.those.now u.these_rest.now u.those_rest.now
     c.args.output.now u.output u.written u.invariant c.in-Unit.view b
     c.next_of_data-item.result.1.now is parts c.next_of_data-second.result.0 b'
-    c.next_of_data-second.result.1.now is' parts' c.place_lacking.new.output c.in-Some.size
+    c.next_of_data-second.result.1.now is' parts' c.place_lacking.new.output c.in-Some-place_lacking.size
     c.order_of-order.result
-    c.order_of-order.ensures c.in-Less.is c.in-Some.ensures
+    c.order_of-order.ensures c.in-Less.is c.in-Some-place_lacking.ensures
 
 pub units-preserved-in-Equal : goal.units-preserved-in-Equal
 units-preserved-in-Equal c =
@@ -69,9 +77,9 @@ units-preserved-in-Equal c =
     goes_equal c.args.action c.args.these.now c.args.those.now u.these_rest.now u.those_rest.now
     c.args.output.now u.output u.written u.invariant c.in-Unit.view b
     c.next_of_data-item.result.1.now is parts c.next_of_data-second.result.0 b'
-    c.next_of_data-second.result.1.now is' parts' c.place_lacking.new.output c.in-Some.size
+    c.next_of_data-second.result.1.now is' parts' c.place_lacking.new.output c.in-Some-place_lacking.size
     c.order_of-order.result
-    c.order_of-order.ensures c.in-Equal.is c.in-Some.ensures
+    c.order_of-order.ensures c.in-Equal.is c.in-Some-place_lacking.ensures
 
 pub units-preserved : goal.units-preserved
 units-preserved c =
@@ -81,9 +89,9 @@ units-preserved c =
     goes_greater c.args.action c.args.these.now c.args.those.now u.these_rest.now u.those_rest.now
     c.args.output.now u.output u.written u.invariant c.in-Unit.view b
     c.next_of_data-item.result.1.now is parts c.next_of_data-second.result.0 b'
-    c.next_of_data-second.result.1.now is' parts' c.place_lacking.new.output c.in-Some.size
+    c.next_of_data-second.result.1.now is' parts' c.place_lacking.new.output c.in-Some-place_lacking.size
     c.order_of-order.result
-    c.order_of-order.ensures c.in-Greater.is c.in-Some.ensures
+    c.order_of-order.ensures c.in-Greater.is c.in-Some-place_lacking.ensures
 
 pub returns-in-End-clause-within : goal.returns-in-End-clause-within
 returns-in-End-clause-within c = c.units.invariant.fits
