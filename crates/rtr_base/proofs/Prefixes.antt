@@ -2,6 +2,8 @@
 use Rattle.std.proofs.Common.{◌≡◌, ℕ, Bool, true, false, refl, sym, ap, ◌∙◌, ◌↔◌, arith}
 use Rattle.std.proofs.Common.{◌+◌, ◌-◌, ◌*◌, ◌/◌, ◌%◌, ◌^◌, ◌≤◌}
 use Rattle.std.proofs.lemmas.Nat.{div-add-mod', mod-pow-add}
+use Rattle.std.proofs.Math.Nat.{mod-le}
+use Rattle.std.proofs.Math.Pow.{mod-mod-pow}
 use Rattle.std.specs.declared.cmp.Ordering.{Ordering}
 use Rattle.std.specs.declared.cmp.Ordering.TheVariants.{Less, Equal, Greater}
 use Rattle.std.specs.Ordering.{bool_cmp, nat_cmp, ordering_then}
@@ -68,3 +70,12 @@ first_half_cleared l a short =
     let both : a % 2 ^ (128 - l) ≡ (a / 2 ^ 64 % 2 ^ (64 - l)) * 2 ^ 64 + a % 2 ^ 64 =
     ap (λ (n : ℕ). a % 2 ^ n) (omega arith) ∙ mod-pow-add a (64 - l) 64 in
     omega (arith, both, div-add-mod' a (2 ^ 64))
+
+-- those in its second half alone
+pub second_half_cleared : (l a : ℕ) → 64 ≤ l → l ≤ 128 →
+    a / 2 ^ 64 * 2 ^ 64 + (a % 2 ^ 64 - a % 2 ^ 64 % 2 ^ (128 - l)) ≡ cleared 128 l a
+second_half_cleared l a long fits =
+    let parts : 64 ≡ (l - 64) + (128 - l) = omega arith in
+    let same : a % 2 ^ 64 % 2 ^ (128 - l) ≡ a % 2 ^ (128 - l) =
+    ap (λ (n : ℕ). a % 2 ^ n % 2 ^ (128 - l)) parts ∙ mod-mod-pow a (l - 64) (128 - l) in
+    omega (arith, same, div-add-mod' a (2 ^ 64), mod-le (a % 2 ^ 64) (2 ^ (128 - l)))

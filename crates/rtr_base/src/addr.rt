@@ -1,6 +1,7 @@
 //! Prefixes of IP addresses.
 
 ghost use Rattle.std.specs.Prelude.{◌≡◌, ◌≤◌, ◌<◌, ◌↔◌, Option, IfOk, IfErr, IsErrOf, IsOk};
+ghost use Rattle.std.specs.Prelude.{◌+◌, ◌*◌, ◌^◌};
 ghost use Rattle.std.specs.Prelude.{IfSome, None};
 ghost use Rattle.std.specs.Prelude.{IsSomeAnd, refl};
 ghost use Rattle.std.proofs.Common.{rules};
@@ -410,12 +411,31 @@ fn cleared_v6(bits: u128, len: u8) -> u128
     ensures { result ≡ cleared 128 len bits }
 {
     // Most prefixes of networks end in the first half: their second half is zero.
+    let high = (bits >> 64) as u64;
     if len <= 64 {
-        let high = (bits >> 64) as u64;
-        u128::from(cleared_half(high, len)) << 64
+        joined(cleared_half(high, len), 0)
     } else {
-        bits - bits % (1 << (128 - len))
+        let low = (bits % (1 << 64)) as u64;
+        joined(high, cleared_last(low, len))
     }
+}
+
+/// The second half of an address with all bits after the first `len` of the whole cleared.
+#[inline(always)]
+fn cleared_last(low: u64, len: u8) -> u64
+    requires long { 64 < len }
+    requires fits { len ≤ 128 }
+    ensures { result ≡ cleared 128 len low }
+{
+    low - low % (1 << (128 - len))
+}
+
+/// The address of these halves.
+#[inline(always)]
+fn joined(high: u64, low: u64) -> u128
+    ensures { result ≡ high * 2 ^ 64 + low }
+{
+    u128::from(high) * (1 << 64) + u128::from(low)
 }
 
 /// The first half of an address with all its bits after the first `len` cleared.
