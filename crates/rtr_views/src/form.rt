@@ -1,9 +1,11 @@
 //! Pieces of forms, as they are written.
 
-ghost use Rattle.std.specs.Prelude.{◌≡◌, ◌+◌, ◌<◌, ◌^◌, ◌∷◌, ◌++◌, length, IfErr};
-ghost use Rattle.rtr_base.specs.Actions.{flags_of};
+ghost use Rattle.std.specs.Prelude.{◌≡◌, ◌+◌, ◌≤◌, ◌<◌, ◌^◌, ◌∷◌, ◌++◌, length, IfErr};
+ghost use Rattle.std.specs.Prelude.{slice_index};
+ghost use Rattle.rtr_base.specs.Actions.{act, flags_of};
 ghost use Rattle.rtr_base.specs.Bytes.{be};
 ghost use Rattle.rtr_units.specs.AnyEnd.{end_bytes};
+ghost use Rattle.rtr_units.specs.Header.{version_field, type_field, length_field};
 ghost use Rattle.rtr_views.specs.Faults.{WritesPiece};
 
 use crate::fault::ViewFault;
@@ -40,10 +42,42 @@ pub fn put_flagged<W: Sink>(
 {
     let size = 8 + rest.len() as u32;
     let header = flagged_header(version, pdu, action.into_flags(), size);
-    match put_piece(writer, &header) {
-        Ok(()) => put_piece(writer, rest),
+    put_both(writer, &header, rest)
+}
+
+/// Writes a header, and then what follows it, `rest`.
+#[inline(always)]
+pub fn put_both<W: Sink>(writer: &mut W, header: &[u8], rest: &[u8]) -> Result<(), ViewFault>
+    ensures { WritesPiece W.Sink result writer.old writer.new (header.now ++ rest.now) }
+{
+    match put_piece(writer, header) {
+        Ok(()) => put_rest(writer, rest),
         Err(e) => Err(e),
     }
+}
+
+/// Writes what follows a header. It isn't always inlined, so that the compiler simplifies it first:
+/// else room for its answer is cleared at each unit.
+#[inline]
+fn put_rest<W: Sink>(writer: &mut W, rest: &[u8]) -> Result<(), ViewFault>
+    ensures { WritesPiece W.Sink result writer.old writer.new rest.now }
+{
+    put_piece(writer, rest)
+}
+
+/// The header of the form of a router key, made from the header of the unit itself: of what is free
+/// in it only the lowest bit of the flags is kept.
+#[inline(always)]
+pub fn cleared_header(unit: &[u8]) -> [u8; 8]
+    requires { 8 ≤ length unit.now }
+    ensures { result ≡ version_field unit.now ∷ type_field unit.now ∷
+        flags_of (act (slice_index unit.now 2)) ∷ 0 ∷ be (length_field unit.now) 4 }
+{
+    let mut header = [0; 8];
+    header.copy_from_slice(&unit[..8]);
+    header[2] = Action::from_flags(header[2]).into_flags();
+    header[3] = 0;
+    header
 }
 
 /// Writes the bytes of the end of data. It is out of line, so that the code that writes units stays

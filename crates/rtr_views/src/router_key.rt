@@ -12,9 +12,8 @@ ghost use Rattle.rtr_views.specs.PrivateFirst.{IsFirstUnit};
 ghost use Rattle.rtr_views.specs.Faults.{IsFirstFault, WritesPiece};
 
 use crate::fault::ViewFault;
-use crate::form::put_flagged;
+use crate::form::{cleared_header, put_both};
 use crate::front::{first_unit, size_at};
-use rtr_base::action::Action;
 use rtr_base::asn::Asn;
 use rtr_payload::pdu::RouterKey;
 use rtr_units::numbers::u32_at;
@@ -109,13 +108,6 @@ impl<'a> RouterKeyView<'a> {
         ensures { WritesPiece W.Sink result writer.old writer.new
             (form_of (meaning (key_unit (key_at self.now.unit.now)))) }
     {
-        let action = Action::from_flags(self.flags());
-        put_flagged(
-            writer,
-            self.version(),
-            RouterKey::PDU,
-            action,
-            &self.unit[8..],
-        )
+        put_both(writer, &cleared_header(self.unit), &self.unit[8..])
     }
 }
