@@ -420,16 +420,6 @@ fn cleared_v6(bits: u128, len: u8) -> u128
     }
 }
 
-/// The second half of an address with all bits after the first `len` of the whole cleared.
-#[inline(always)]
-fn cleared_last(low: u64, len: u8) -> u64
-    requires long { 64 < len }
-    requires fits { len ≤ 128 }
-    ensures { result ≡ cleared 128 len low }
-{
-    low - low % (1 << (128 - len))
-}
-
 /// The address of these halves.
 #[inline(always)]
 fn joined(high: u64, low: u64) -> u128
@@ -449,4 +439,14 @@ fn cleared_half(high: u64, len: u8) -> u64
     } else {
         high - high % (1 << (64 - len))
     }
+}
+
+/// The second half of an address with all bits after the first `len` of the whole cleared.
+#[inline(always)]
+fn cleared_last(low: u64, len: u8) -> u64
+    requires long { 64 < len }
+    requires fits { len ≤ 128 }
+    ensures { result ≡ cleared 128 len low }
+{
+    low - low % (1 << (128 - len))
 }

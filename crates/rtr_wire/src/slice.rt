@@ -75,8 +75,8 @@ fn step<'a, W: Sink>(rest: &'a [u8], writer: &mut W) -> Result<(bool, &'a [u8]),
 }
 
 /// The step for units of one type, or of any other: the type is named so that each has code of its
-/// own.
-#[inline(always)]
+/// own. It isn't always inlined, so that the compiler simplifies each before it puts them together.
+#[inline]
 fn view_step<'a, const TYPE: u8, W: Sink>(
     rest: &'a [u8],
     writer: &mut W,

@@ -1,4 +1,4 @@
-use Rattle.std.proofs.Common.{rules, ◌++◌, drop, ap, ◌∙◌}
+use Rattle.std.proofs.Common.{rules}
 use Rattle.std.proofs.lemmas.List.{take_rest}
 use Rattle.rtr_views.proofs.Forms.{key_form_cleared}
 use Rattle.rtr_views.proofs.Puts.{same_put}
