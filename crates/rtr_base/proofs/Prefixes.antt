@@ -1,6 +1,7 @@
 -- Prefixes that compare as equal are one, and their order as the code compares them.
 use Rattle.std.proofs.Common.{◌≡◌, ℕ, Bool, true, false, refl, sym, ap, ◌∙◌, ◌↔◌, arith}
-use Rattle.std.proofs.Common.{◌+◌, ◌-◌, ◌*◌, ◌/◌, ◌%◌, ◌^◌, ◌≤◌}
+use Rattle.std.proofs.Common.{◌+◌, ◌-◌, ◌*◌, ◌/◌, ◌%◌, ◌^◌, ◌≤◌, ◌<◌, inl, inr}
+use Rattle.std.proofs.lemmas.Bool.{cases_lt}
 use Rattle.std.proofs.lemmas.Nat.{div-add-mod', mod-pow-add}
 use Rattle.std.proofs.Math.Nat.{mod-le}
 use Rattle.std.proofs.Math.Pow.{mod-mod-pow}
@@ -79,3 +80,19 @@ second_half_cleared l a long fits =
     let same : a % 2 ^ 64 % 2 ^ (128 - l) ≡ a % 2 ^ (128 - l) =
     ap (λ (n : ℕ). a % 2 ^ n % 2 ^ (128 - l)) parts ∙ mod-mod-pow a (l - 64) (128 - l) in
     omega (arith, same, div-add-mod' a (2 ^ 64), mod-le (a % 2 ^ 64) (2 ^ (128 - l)))
+
+-- and those of any length, half by half
+pub halves_cleared : (l a h w : ℕ) → l ≤ 128 → (l ≤ 64 → h ≡ cleared 64 l (a / 2 ^ 64)) →
+    (64 < l → h ≡ a / 2 ^ 64) → (l ≤ 64 → w ≡ 0) → (64 < l → w ≡ cleared 128 l (a % 2 ^ 64)) →
+    h * 2 ^ 64 + w ≡ cleared 128 l a
+halves_cleared l a h w fits hs hl ws wl =
+    elim (cases_lt 64 l) [
+      | inl long ↦
+          ap (λ (n : ℕ). n * 2 ^ 64 + w) (hl long)
+          ∙ ap (λ (n : ℕ). a / 2 ^ 64 * 2 ^ 64 + n) (wl long)
+          ∙ second_half_cleared l a (omega arith) fits
+      | inr short ↦
+          ap (λ (n : ℕ). n * 2 ^ 64 + w) (hs short)
+          ∙ ap (λ (n : ℕ). cleared 64 l (a / 2 ^ 64) * 2 ^ 64 + n) (ws short)
+          ∙ omega (arith, first_half_cleared l a short)
+    ]

@@ -1,7 +1,7 @@
 //! Prefixes of IP addresses.
 
 ghost use Rattle.std.specs.Prelude.{◌≡◌, ◌≤◌, ◌<◌, ◌↔◌, Option, IfOk, IfErr, IsErrOf, IsOk};
-ghost use Rattle.std.specs.Prelude.{◌+◌, ◌*◌, ◌^◌};
+ghost use Rattle.std.specs.Prelude.{◌+◌, ◌-◌, ◌*◌, ◌%◌, ◌^◌};
 ghost use Rattle.std.specs.Prelude.{IfSome, None};
 ghost use Rattle.std.specs.Prelude.{IsSomeAnd, refl};
 ghost use Rattle.std.proofs.Common.{rules};
@@ -410,14 +410,8 @@ fn cleared_v6(bits: u128, len: u8) -> u128
     requires { len ≤ 128 }
     ensures { result ≡ cleared 128 len bits }
 {
-    // Most prefixes of networks end in the first half: their second half is zero.
-    let high = (bits >> 64) as u64;
-    if len <= 64 {
-        joined(cleared_half(high, len), 0)
-    } else {
-        let low = (bits % (1 << 64)) as u64;
-        joined(high, cleared_last(low, len))
-    }
+    let (high, low) = ((bits >> 64) as u64, (bits % (1 << 64)) as u64);
+    joined(cleared_first(high, len), cleared_last(low, len))
 }
 
 /// The address of these halves.
@@ -428,25 +422,52 @@ fn joined(high: u64, low: u64) -> u128
     u128::from(high) * (1 << 64) + u128::from(low)
 }
 
-/// The first half of an address with all its bits after the first `len` cleared.
+/// The first half of an address with all bits after the first `len` of the whole cleared. Here and
+/// in the second half the lengths choose between values that are there already: where they come in
+/// no order, a jump would often be predicted wrongly.
 #[inline(always)]
-fn cleared_half(high: u64, len: u8) -> u64
-    requires { len ≤ 64 }
-    ensures { result ≡ cleared 64 len high }
+fn cleared_first(high: u64, len: u8) -> u64
+    requires { len ≤ 128 }
+    ensures short { len ≤ 64 → result ≡ cleared 64 len high }
+    ensures long { 64 < len → result ≡ high }
 {
-    if len == 0 {
+    let part = without_last(high, bits_after(len));
+    if len > 64 {
+        high
+    } else if len == 0 {
         0
     } else {
-        high - high % (1 << (64 - len))
+        part
     }
 }
 
 /// The second half of an address with all bits after the first `len` of the whole cleared.
 #[inline(always)]
 fn cleared_last(low: u64, len: u8) -> u64
-    requires long { 64 < len }
-    requires fits { len ≤ 128 }
-    ensures { result ≡ cleared 128 len low }
+    requires { len ≤ 128 }
+    ensures short { len ≤ 64 → result ≡ 0 }
+    ensures long { 64 < len → result ≡ cleared 128 len low }
 {
-    low - low % (1 << (128 - len))
+    let part = without_last(low, bits_after(len));
+    if len > 64 { part } else { 0 }
+}
+
+/// How many bits come after the first `len` of an address in the half that these end in.
+#[inline(always)]
+fn bits_after(len: u8) -> u8
+    requires { len ≤ 128 }
+    ensures range { result < 64 }
+    ensures short { 0 < len → len ≤ 64 → result ≡ 64 - len }
+    ensures long { 64 < len → result ≡ 128 - len }
+{
+    (128 - len) % 64
+}
+
+/// Half of an address with its last bits cleared.
+#[inline(always)]
+fn without_last(half: u64, bits: u8) -> u64
+    requires { bits < 64 }
+    ensures { result ≡ half - half % 2 ^ bits }
+{
+    half - half % (1 << bits)
 }
