@@ -1,6 +1,6 @@
 -- Going over units that go on with data, one after the other.
 use Rattle.std.proofs.Common.{◌≤◌, ℕ, List, [], ◌∷◌, Some, None, length, refl, sym}
-use Rattle.std.proofs.Common.{ap, arith, subst}
+use Rattle.std.proofs.Common.{◌++◌, ap, arith, subst}
 use Rattle.std.proofs.lemmas.List.{length-append}
 use Rattle.rtr_base.specs.declared.action.Action.TheVariants.{Announce}
 use Rattle.rtr_deltas.specs.Items.{meant}
@@ -29,22 +29,30 @@ more (v ∷ views) last left last' left' (r, first, then, runs) view next at aft
     let (all, others) = more views v r last' left' runs view next at after in
     (v ∷ all, (r, first, then, others))
 
+pub runs_join : (xs ys : List PayloadView) (a : PayloadView) (l : List ℕ) (b : PayloadView)
+    (m : List ℕ) (c : PayloadView) (r : List ℕ) → RunsTo xs a l b m → RunsTo ys b m c r →
+    RunsTo (xs ++ ys) a l c r
+runs_join [] ys a l b m c r (same, is) h =
+    subst (λ x. RunsTo ys x l c r) (sym same) (subst (λ x. RunsTo ys b x c r) (sym is) h)
+runs_join (x ∷ xs) ys a l b m c r (n, first, then, runs) h =
+    (n, first, then, runs_join xs ys x n b m c r runs h)
+
 -- how far a loop went over units of prefixes
-pub record PassingOrigins (view : OriginView) (left : List ℕ) (last : OriginView)
+pub record PassingUnits (view : OriginView) (left : List ℕ) (last : OriginView)
     (rest : List ℕ) : Type 0 where
   pub fits : length rest ≤ length left
   pub views : List PayloadView
   pub runs : RunsTo views (kinds.Origin view) left (kinds.Origin last) rest
 
-pub origins_start : (view : OriginView) (left : List ℕ) → PassingOrigins view left view left
-origins_start view left =
+pub units_start : (view : OriginView) (left : List ℕ) → PassingUnits view left view left
+units_start view left =
     record { fits = omega arith; views = []; runs = (refl, refl) }
 
-pub origins_more : (view : OriginView) (left : List ℕ) (last : OriginView) (rest : List ℕ) →
-    PassingOrigins view left last rest → (then : OriginView) (next : List ℕ) →
+pub units_more : (view : OriginView) (left : List ℕ) (last : OriginView) (rest : List ℕ) →
+    PassingUnits view left last rest → (then : OriginView) (next : List ℕ) →
     IsNext (kinds.Origin then) next rest → RunsAfter (kinds.Origin last) (kinds.Origin then) →
-    PassingOrigins view left then next
-origins_more view left last rest p then next at after =
+    PassingUnits view left then next
+units_more view left last rest p then next at after =
     let (all, runs) = more p.views (kinds.Origin view) left (kinds.Origin last) rest p.runs
     (kinds.Origin then) next at after in
     record {

@@ -23,6 +23,25 @@ all_push P (x ∷ ps) p (f, h) g = (f, all_push P ps p h g)
 pub starts : (p : Payload) (those : List ℕ) → Passes p those those
 starts p those w ys j = record { passed = []; left = ys; all = refl; lower = tt; held = j }
 
+pub joins : (p : Payload) (rest middle those : List ℕ) → Passes p middle those →
+    Passes p rest middle → Passes p rest those
+joins p rest middle those h k w ys j =
+    let s = h w ys j in
+    let t = k w s.left s.held in
+    record {
+      passed = s.passed ++ t.passed;
+      left = t.left;
+      all =
+          s.all ∙ ap (λ l. s.passed ++ l) t.all ∙ sym (append_assoc s.passed t.passed t.left);
+      lower = all_join (λ y. name_cmp p y ≡ Greater) s.passed t.passed s.lower t.lower;
+      held = t.held;
+    }
+  where
+    all_join : (P : Payload → Type 0) (xs zs : List Payload) → AllByRecursion P xs →
+        AllByRecursion P zs → AllByRecursion P (xs ++ zs)
+    all_join P [] zs h k = k
+    all_join P (x ∷ xs) zs (g, h) k = (g, all_join P xs zs h k)
+
 -- the order of a unit and the next of others, where its name is there or not
 abbrev pub place : Bool → Ordering
 place true = Equal

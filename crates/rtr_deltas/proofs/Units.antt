@@ -1,6 +1,8 @@
 -- Units that announce or withdraw, at the front of a slice.
 use Rattle.std.proofs.Common.{◌≡◌, ℕ, List, [], ◌∷◌, ◌++◌, refl, sym, ap, subst, ◌∙◌}
-use Rattle.std.proofs.Common.{append-nil, append_assoc}
+use Rattle.std.proofs.Common.{append-nil, append_assoc, arith, length, true}
+use Rattle.std.proofs.lemmas.Bool.Decides.{nat_tests}
+use Rattle.std.specs.Bool.{◌==◌}
 use Rattle.std.specs.List.{AllByRecursion}
 use Rattle.std.specs.List.Sorted.{IsStrictlySortedBy}
 use Rattle.std.specs.declared.cmp.Ordering.TheVariants.{Less}
@@ -116,6 +118,19 @@ nothing a v input (p ∷ ps) none h =
     let (x, more, at, u, rest) = h.units in
     absurd (none (unit_of v (change a p)) x (more ++ h.rest) u
     (h.parts ∙ after h.bytes x more h.rest at))
+
+pub nothing_left : (l : List ℕ) → true ≡ (length l == 0) → l ≡ []
+nothing_left [] e = refl
+nothing_left (x ∷ l) e = absurd (grind (arith, nat_tests))
+
+-- the unit that is all of a front
+pub next_whole : (view : PayloadView) (after unit left input : List ℕ) → IsNext view after unit →
+    after ≡ [] → input ≡ unit ++ left → IsNext view left input
+next_whole view after unit left input (b, is, parts) none whole = (
+  b,
+  is,
+  whole ∙ ap (λ l. l ++ left) (parts ∙ ap (λ l. b ++ l) none ∙ append-nil b),
+)
 
 -- ---- names of changes
 

@@ -14,9 +14,9 @@ ghost use Rattle.rtr_deltas.specs.PrivateChanges.{RunsTo, last_version};
 ghost use Rattle.rtr_deltas.specs.declared.item.PayloadView.{PayloadView};
 
 use crate::fault::{Flaw, Reason};
-use crate::item::{Item, PayloadView, begins_with_type, next, next_unit};
+use crate::item::{Item, PayloadView, next, next_of_type};
 use rtr_units::end::EndOfData;
-use rtr_units::prefixes::Ipv4Prefix;
+use rtr_units::prefixes::{Ipv4Prefix, Ipv6Prefix};
 use rtr_units::unit::Unit;
 use rtr_views::origin::OriginView;
 
@@ -101,8 +101,8 @@ fn is_after(last: &PayloadView<'_>, view: &PayloadView<'_>) -> bool
 }
 
 /// The last of the prefix units that go on with data after a prefix unit, and what follows it; after
-/// another unit, that one. Most units are of prefixes: these are gone over in a loop of their own.
-#[inline(always)]
+/// another unit, that one. Most units are of prefixes, first those of IPv4.
+#[inline(never)]
 fn pass_prefixes<'a>(view: &PayloadView<'a>, left: &'a [u8]) -> (PayloadView<'a>, &'a [u8])
     ensures passed { (views : List PayloadView) ×
         RunsTo views view.now left.now result.0 result.1.now }
@@ -110,23 +110,31 @@ fn pass_prefixes<'a>(view: &PayloadView<'a>, left: &'a [u8]) -> (PayloadView<'a>
 {
     match view {
         PayloadView::Origin(origin) => {
-            let (last, rest) = pass_origins(origin, left);
-            (PayloadView::Origin(last), rest)
+            let (v4, after) = pass_family(origin, left, Ipv4Prefix::PDU, Ipv4Prefix::LENGTH);
+            let (v6, rest) = pass_family(&v4, after, Ipv6Prefix::PDU, Ipv6Prefix::LENGTH);
+            (PayloadView::Origin(v6), rest)
         }
         PayloadView::RouterKey(key) => (PayloadView::RouterKey(*key), left),
         PayloadView::Aspa(aspa) => (PayloadView::Aspa(*aspa), left),
     }
 }
 
-/// The last of the prefix units that go on with data after this one, and what follows it.
-fn pass_origins<'a>(view: &OriginView, left: &'a [u8]) -> (OriginView, &'a [u8])
+/// The last of the prefix units of this type and length that go on with data after this one, and
+/// what follows it.
+#[inline(always)]
+fn pass_family<'a>(
+    view: &OriginView,
+    left: &'a [u8],
+    kind: u8,
+    size: usize,
+) -> (OriginView, &'a [u8])
     ensures passed { (views : List PayloadView) × RunsTo views (PayloadView.Origin view.now)
         left.now (PayloadView.Origin result.0) result.1.now }
     ensures shorter { length result.1.now ≤ length left.now }
 {
     let (mut last, mut rest) = (*view, left);
     'units: loop {
-        match next_origin(&last, rest) {
+        match next_after(&last, rest, kind, size) {
             Some((view, left)) => {
                 last = view;
                 rest = left;
@@ -136,31 +144,21 @@ fn pass_origins<'a>(view: &OriginView, left: &'a [u8]) -> (OriginView, &'a [u8])
     }
 }
 
-/// The prefix unit at the front of the input, and what follows it, if it goes on with data after
-/// this one. The branch lets the compiler keep apart what it makes of the most frequent type.
+/// The prefix unit of this type and length at the front of the input, and what follows it, if it
+/// goes on with data after this one.
 #[inline(always)]
-fn next_origin<'a>(last: &OriginView, input: &'a [u8]) -> Option<(OriginView, &'a [u8])>
+fn next_after<'a>(
+    last: &OriginView,
+    input: &'a [u8],
+    kind: u8,
+    size: usize,
+) -> Option<(OriginView, &'a [u8])>
     ensures next { IfSome result (λ p. IsNext (PayloadView.Origin p.0) p.1.now input.now) }
     ensures after { IfSome result
         (λ p. RunsAfter (PayloadView.Origin last.now) (PayloadView.Origin p.0)) }
     ensures shorter { IfSome result (λ p. length p.1.now < length input.now) }
 {
-    if begins_with_type(input, Ipv4Prefix::PDU) {
-        origin_after(last, input)
-    } else {
-        origin_after(last, input)
-    }
-}
-
-/// The same.
-#[inline(always)]
-fn origin_after<'a>(last: &OriginView, input: &'a [u8]) -> Option<(OriginView, &'a [u8])>
-    ensures next { IfSome result (λ p. IsNext (PayloadView.Origin p.0) p.1.now input.now) }
-    ensures after { IfSome result
-        (λ p. RunsAfter (PayloadView.Origin last.now) (PayloadView.Origin p.0)) }
-    ensures shorter { IfSome result (λ p. length p.1.now < length input.now) }
-{
-    match next_unit(input) {
+    match next_of_type(input, kind, size) {
         Some((view, left)) => {
             if !is_after(&PayloadView::Origin(*last), &view) {
                 return None;

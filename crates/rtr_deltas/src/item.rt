@@ -74,6 +74,33 @@ pub(crate) fn next_unit<'a>(input: &'a [u8]) -> Option<(PayloadView<'a>, &'a [u8
     }
 }
 
+/// The unit at the front of the input, and what follows it, if its type and its length are these, as
+/// those of a prefix. Loops over the units of one family call it: where the type is known, the view
+/// takes few steps. Without an answer, any unit may be there.
+#[inline(always)]
+pub(crate) fn next_of_type<'a>(
+    input: &'a [u8],
+    kind: u8,
+    size: usize,
+) -> Option<(PayloadView<'a>, &'a [u8])>
+    ensures unit { IfSome result (λ p. IsNext p.0 p.1.now input.now) }
+    ensures shorter { IfSome result (λ p. length p.1.now < length input.now) }
+{
+    if !begins_with_type(input, kind) || input.len() < size {
+        return None;
+    }
+    let (unit, left) = input.split_at(size);
+    match next_unit(unit) {
+        Some((view, after)) => {
+            if !after.is_empty() {
+                return None;
+            }
+            Some((view, left))
+        }
+        None => None,
+    }
+}
+
 /// Whether the input begins with a header of this type.
 #[inline(always)]
 pub(crate) fn begins_with_type(input: &[u8], kind: u8) -> bool

@@ -2,10 +2,11 @@
 
 ghost use Rattle.std.specs.Prelude.{◌≡◌, ◌<◌, ◌≤◌, IfSome, length};
 ghost use Rattle.rtr_deltas.specs.Items.{meant};
-ghost use Rattle.rtr_deltas.specs.PrivateChanges.{FindsRefused, IsOrderOf, Seeks, is_against};
+ghost use Rattle.rtr_deltas.specs.PrivateChanges.{FindsRefused, IsOrderOf, Passes, Seeks};
+ghost use Rattle.rtr_deltas.specs.PrivateChanges.{is_against};
 
-use crate::item::{PayloadView, begins_with_type, next_unit};
-use rtr_units::prefixes::Ipv4Prefix;
+use crate::item::{PayloadView, next_of_type, next_unit};
+use rtr_units::prefixes::{Ipv4Prefix, Ipv6Prefix};
 use rtr_units::unit::Unit;
 use std::cmp::Ordering;
 
@@ -40,12 +41,24 @@ pub(crate) fn first_refused(these: &[u8], those: &[u8], rule: Rule) -> Option<us
     }
 }
 
-/// Whether a unit's name is among others, and what is left of them from there on. Each unit of
-/// these is viewed once.
+/// Whether a unit's name is among others, and what is left of them from there on. Most of them are
+/// of prefixes, first those of IPv4.
+#[inline(never)]
 fn sought<'a>(first: &PayloadView<'_>, those: &'a [u8]) -> (bool, &'a [u8])
     ensures { Seeks result.0 first.now result.1.now those.now }
 {
-    let mut rest = those;
+    let after_v4 = pass_family(first, those, Ipv4Prefix::PDU, Ipv4Prefix::LENGTH);
+    let after_v6 = pass_family(first, after_v4, Ipv6Prefix::PDU, Ipv6Prefix::LENGTH);
+    sought_in_rest(first, those, after_v6)
+}
+
+/// The same, where those before the rest are below the unit.
+#[inline(always)]
+fn sought_in_rest<'a>(first: &PayloadView<'_>, those: &'a [u8], from: &'a [u8]) -> (bool, &'a [u8])
+    requires { Passes (meant first.now).payload from.now those.now }
+    ensures { Seeks result.0 first.now result.1.now those.now }
+{
+    let mut rest = from;
     'units: loop {
         let (order, left) = order_of(first, rest);
         match order {
@@ -56,24 +69,47 @@ fn sought<'a>(first: &PayloadView<'_>, those: &'a [u8]) -> (bool, &'a [u8])
     }
 }
 
-/// The order of the names of a unit and the first of others, whose end comes after all units, and
-/// what follows that one. Most units are of prefixes: the branch lets the compiler keep apart what
-/// it makes of these.
+/// What is left of others after the units of this type and length that are below the unit.
 #[inline(always)]
-fn order_of<'a>(first: &PayloadView<'_>, those: &'a [u8]) -> (Ordering, &'a [u8])
-    ensures order { IsOrderOf result.0 first.now result.1.now those.now }
-    ensures shorter { result.0 ≡ Ordering.Greater → length result.1.now < length those.now }
+fn pass_family<'a>(first: &PayloadView<'_>, those: &'a [u8], kind: u8, size: usize) -> &'a [u8]
+    ensures { Passes (meant first.now).payload result.now those.now }
 {
-    if begins_with_type(those, Ipv4Prefix::PDU) {
-        order_of_next(first, those)
-    } else {
-        order_of_next(first, those)
+    let mut rest = those;
+    'units: loop {
+        match next_below(first, rest, kind, size) {
+            Some(left) => rest = left,
+            None => return rest,
+        }
     }
 }
 
-/// The same.
+/// What follows the unit of this type and length at the front of others, if it is below the
+/// unit.
 #[inline(always)]
-fn order_of_next<'a>(first: &PayloadView<'_>, those: &'a [u8]) -> (Ordering, &'a [u8])
+fn next_below<'a>(
+    first: &PayloadView<'_>,
+    those: &'a [u8],
+    kind: u8,
+    size: usize,
+) -> Option<&'a [u8]>
+    ensures below { IfSome result
+        (λ left. IsOrderOf Ordering.Greater first.now left.now those.now) }
+    ensures shorter { IfSome result (λ left. length left.now < length those.now) }
+{
+    match next_of_type(those, kind, size) {
+        Some((second, left)) => match first.compare_names(&second) {
+            Ordering::Greater => Some(left),
+            Ordering::Less => None,
+            Ordering::Equal => None,
+        },
+        None => None,
+    }
+}
+
+/// The order of the names of a unit and the first of others, whose end comes after all units, and
+/// what follows that one.
+#[inline(always)]
+fn order_of<'a>(first: &PayloadView<'_>, those: &'a [u8]) -> (Ordering, &'a [u8])
     ensures order { IsOrderOf result.0 first.now result.1.now those.now }
     ensures shorter { result.0 ≡ Ordering.Greater → length result.1.now < length those.now }
 {

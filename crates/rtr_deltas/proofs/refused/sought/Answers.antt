@@ -1,22 +1,9 @@
-use Rattle.std.proofs.Common.{false, true}
 use Rattle.rtr_deltas.specs.Items.{meant}
-use Rattle.rtr_deltas.proofs.Seeking.{finds, passes, starts}
+use Rattle.rtr_deltas.proofs.Seeking.{joins}
 use Rattle.rtr_deltas.proofs.refused.sought.Goals as goal
 
-pub units-init : goal.units-init
-units-init c = starts (meant c.args.first.now).payload c.args.those.now
-
-pub units-preserved : goal.units-preserved
-units-preserved c =
-    passes c.args.first.now c.args.those.now c.units.rest.now c.units.invariant
-    c.order_of-order.result.1.now c.order_of-order.result.0 c.order_of-order.ensures.order c.in-Greater.is
-
-pub returns-in-Less : goal.returns-in-Less
-returns-in-Less c =
-    finds c.args.first.now c.args.those.now c.units.rest.now c.units.invariant
-    c.order_of-order.result.1.now c.order_of-order.result.0 false c.order_of-order.ensures.order c.in-Less.is
-
-pub returns-in-Equal : goal.returns-in-Equal
-returns-in-Equal c =
-    finds c.args.first.now c.args.those.now c.units.rest.now c.units.invariant
-    c.order_of-order.result.1.now c.order_of-order.result.0 true c.order_of-order.ensures.order c.in-Equal.is
+pub sought_in_rest-requires : goal.sought_in_rest-requires
+sought_in_rest-requires c =
+    joins (meant c.args.first.now).payload c.pass_family-after_v6.result.now
+    c.pass_family-after_v4.result.now c.args.those.now c.pass_family-after_v4.ensures
+    c.pass_family-after_v6.ensures

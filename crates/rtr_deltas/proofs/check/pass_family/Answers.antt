@@ -1,13 +1,13 @@
-use Rattle.rtr_deltas.proofs.Passing.{origins_more, origins_start}
-use Rattle.rtr_deltas.proofs.check.pass_origins.Goals as goal
+use Rattle.rtr_deltas.proofs.Passing.{units_more, units_start}
+use Rattle.rtr_deltas.proofs.check.pass_family.Goals as goal
 
 pub units-init : goal.units-init
-units-init c = origins_start c.args.view.now c.args.left.now
+units-init c = units_start c.args.view.now c.args.left.now
 
 pub units-preserved : goal.units-preserved
 units-preserved c =
     let u = c.units in
-    origins_more c.args.view.now c.args.left.now u.last u.rest.now u.invariant c.in-Some.view
+    units_more c.args.view.now c.args.left.now u.last u.rest.now u.invariant c.in-Some.view
     c.in-Some.left.now c.in-Some.ensures.next c.in-Some.ensures.after
 
 pub returns-in-None-clause-passed : goal.returns-in-None-clause-passed

@@ -1,0 +1,21 @@
+use Rattle.std.proofs.Common.{false, true}
+use Rattle.rtr_deltas.proofs.Seeking.{finds, passes}
+use Rattle.rtr_deltas.proofs.refused.sought_in_rest.Goals as goal
+
+pub units-init : goal.units-init
+units-init c = c.requires
+
+pub units-preserved : goal.units-preserved
+units-preserved c =
+    passes c.args.first.now c.args.those.now c.units.rest.now c.units.invariant
+    c.order_of-order.result.1.now c.order_of-order.result.0 c.order_of-order.ensures.order c.in-Greater.is
+
+pub returns-in-Less : goal.returns-in-Less
+returns-in-Less c =
+    finds c.args.first.now c.args.those.now c.units.rest.now c.units.invariant
+    c.order_of-order.result.1.now c.order_of-order.result.0 false c.order_of-order.ensures.order c.in-Less.is
+
+pub returns-in-Equal : goal.returns-in-Equal
+returns-in-Equal c =
+    finds c.args.first.now c.args.those.now c.units.rest.now c.units.invariant
+    c.order_of-order.result.1.now c.order_of-order.result.0 true c.order_of-order.ensures.order c.in-Equal.is
