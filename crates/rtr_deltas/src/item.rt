@@ -86,10 +86,13 @@ pub(crate) fn next_of_type<'a>(
     ensures unit { IfSome result (λ p. IsNext p.0 p.1.now input.now) }
     ensures shorter { IfSome result (λ p. length p.1.now < length input.now) }
 {
-    if !begins_with_type(input, kind) || input.len() < size {
+    if input.len() < size || size < 8 {
         return None;
     }
     let (unit, left) = input.split_at(size);
+    if unit[1] != kind {
+        return None;
+    }
     match next_unit(unit) {
         Some((view, after)) => {
             if !after.is_empty() {
