@@ -8,10 +8,8 @@ ghost use Rattle.rtr_deltas.specs.PrivateChanges.{IsAfterWithdrawal, IsBound, Is
 ghost use Rattle.rtr_deltas.specs.PrivateChanges.{LeastOf, NothingLeft};
 ghost use Rattle.rtr_deltas.specs.PrivateChanges.{PlacesApplied};
 
-use crate::item::{PayloadView, next_of_type, next_unit};
+use crate::item::{PayloadView, Wanted, next_unit, next_wanted};
 use crate::placing::place_unit;
-use rtr_units::prefixes::{Ipv4Prefix, Ipv6Prefix};
-use rtr_units::unit::Unit;
 use std::cmp::Ordering;
 
 /// The first of data and of announcements.
@@ -43,12 +41,7 @@ pub(crate) fn place_applied(
     let (mut withdrawn_rest, mut written) = (withdrawn, 0);
     let mut bound = next_change(announced, withdrawn);
     'units: loop {
-        if let Some((view, left)) = next_under(
-            old_rest,
-            &bound,
-            Ipv4Prefix::PDU,
-            Ipv4Prefix::LENGTH,
-        ) {
+        if let Some((view, left)) = next_under(old_rest, &bound, Wanted::Ipv4) {
             match place_unit(&view, &mut output[written..]) {
                 Some(size) => written += size,
                 None => return None,
@@ -56,12 +49,7 @@ pub(crate) fn place_applied(
             old_rest = left;
             continue 'units;
         }
-        if let Some((view, left)) = next_under(
-            old_rest,
-            &bound,
-            Ipv6Prefix::PDU,
-            Ipv6Prefix::LENGTH,
-        ) {
+        if let Some((view, left)) = next_under(old_rest, &bound, Wanted::Ipv6) {
             match place_unit(&view, &mut output[written..]) {
                 Some(size) => written += size,
                 None => return None,
@@ -106,20 +94,19 @@ fn next_change<'a>(new: &'a [u8], withdrawn: &'a [u8]) -> Option<PayloadView<'a>
     }
 }
 
-/// The unit of this type and length at the front of the data, and what follows it, if it
-/// comes before the change: it stays as it is.
+/// The wanted unit at the front of the data, and what follows it, if it comes before the change: it
+/// stays as it is.
 #[inline(always)]
 fn next_under<'a>(
     old: &'a [u8],
     bound: &Option<PayloadView<'_>>,
-    kind: u8,
-    size: usize,
+    wanted: Wanted,
 ) -> Option<(PayloadView<'a>, &'a [u8])>
     ensures unit { IfSome result (λ p. IsNext p.0 p.1.now old.now) }
     ensures under { IfSome result (λ p. IsUnder p.0 bound.now) }
     ensures shorter { IfSome result (λ p. length p.1.now < length old.now) }
 {
-    match next_of_type(old, kind, size) {
+    match next_wanted(old, wanted) {
         Some((view, left)) => {
             if !is_under(&view, bound) {
                 return None;

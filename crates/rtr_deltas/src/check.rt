@@ -14,10 +14,8 @@ ghost use Rattle.rtr_deltas.specs.PrivateChanges.{RunsTo, last_version};
 ghost use Rattle.rtr_deltas.specs.declared.item.PayloadView.{PayloadView};
 
 use crate::fault::{Flaw, Reason};
-use crate::item::{Item, PayloadView, next, next_of_type};
+use crate::item::{Item, PayloadView, Wanted, next, next_wanted};
 use rtr_units::end::EndOfData;
-use rtr_units::prefixes::{Ipv4Prefix, Ipv6Prefix};
-use rtr_units::unit::Unit;
 use rtr_views::origin::OriginView;
 
 /// The end of the data that the input begins with, or why there is no data there. No memory is
@@ -110,8 +108,8 @@ fn pass_prefixes<'a>(view: &PayloadView<'a>, left: &'a [u8]) -> (PayloadView<'a>
 {
     match view {
         PayloadView::Origin(origin) => {
-            let (v4, after) = pass_family(origin, left, Ipv4Prefix::PDU, Ipv4Prefix::LENGTH);
-            let (v6, rest) = pass_family(&v4, after, Ipv6Prefix::PDU, Ipv6Prefix::LENGTH);
+            let (v4, after) = pass_wanted(origin, left, Wanted::Ipv4);
+            let (v6, rest) = pass_wanted(&v4, after, Wanted::Ipv6);
             (PayloadView::Origin(v6), rest)
         }
         PayloadView::RouterKey(key) => (PayloadView::RouterKey(*key), left),
@@ -119,22 +117,16 @@ fn pass_prefixes<'a>(view: &PayloadView<'a>, left: &'a [u8]) -> (PayloadView<'a>
     }
 }
 
-/// The last of the prefix units of this type and length that go on with data after this one, and
-/// what follows it.
+/// The last of the wanted units that go on with data after this one, and what follows it.
 #[inline(always)]
-fn pass_family<'a>(
-    view: &OriginView,
-    left: &'a [u8],
-    kind: u8,
-    size: usize,
-) -> (OriginView, &'a [u8])
+fn pass_wanted<'a>(view: &OriginView, left: &'a [u8], wanted: Wanted) -> (OriginView, &'a [u8])
     ensures passed { (views : List PayloadView) × RunsTo views (PayloadView.Origin view.now)
         left.now (PayloadView.Origin result.0) result.1.now }
     ensures shorter { length result.1.now ≤ length left.now }
 {
     let (mut last, mut rest) = (*view, left);
     'units: loop {
-        match next_after(&last, rest, kind, size) {
+        match next_after(&last, rest, wanted) {
             Some((view, left)) => {
                 last = view;
                 rest = left;
@@ -144,21 +136,20 @@ fn pass_family<'a>(
     }
 }
 
-/// The prefix unit of this type and length at the front of the input, and what follows it, if it
-/// goes on with data after this one.
+/// The wanted unit at the front of the input, and what follows it, if it goes on with data after this
+/// one.
 #[inline(always)]
 fn next_after<'a>(
     last: &OriginView,
     input: &'a [u8],
-    kind: u8,
-    size: usize,
+    wanted: Wanted,
 ) -> Option<(OriginView, &'a [u8])>
     ensures next { IfSome result (λ p. IsNext (PayloadView.Origin p.0) p.1.now input.now) }
     ensures after { IfSome result
         (λ p. RunsAfter (PayloadView.Origin last.now) (PayloadView.Origin p.0)) }
     ensures shorter { IfSome result (λ p. length p.1.now < length input.now) }
 {
-    match next_of_type(input, kind, size) {
+    match next_wanted(input, wanted) {
         Some((view, left)) => {
             if !is_after(&PayloadView::Origin(*last), &view) {
                 return None;

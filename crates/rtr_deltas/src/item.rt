@@ -13,6 +13,8 @@ ghost use Rattle.rtr_deltas.specs.PrivateChanges.{IsNext, NoUnit};
 
 use rtr_base::action::Action;
 use rtr_units::end::EndOfData;
+use rtr_units::prefixes::{Ipv4Prefix, Ipv6Prefix};
+use rtr_units::unit::Unit;
 use rtr_views::aspa::AspaView;
 use rtr_views::fault::ViewFault;
 use rtr_views::origin::OriginView;
@@ -74,15 +76,34 @@ pub(crate) fn next_unit<'a>(input: &'a [u8]) -> Option<(PayloadView<'a>, &'a [u8
     }
 }
 
-/// The unit at the front of the input, and what follows it, if its type and its length are these, as
-/// those of a prefix. Loops over the units of one family call it: where the type is known, the view
-/// takes few steps. Without an answer, any unit may be there.
+/// Which units of prefixes a loop goes over. Where the type is known, a view takes few steps.
+#[derive(Clone, Copy)]
+pub(crate) enum Wanted {
+    /// Those of IPv4.
+    Ipv4,
+    /// Those of IPv6.
+    Ipv6,
+}
+
+/// The unit at the front of the input, and what follows it, if it is wanted. Without an answer
+/// another unit may be there.
 #[inline(always)]
-pub(crate) fn next_of_type<'a>(
+pub(crate) fn next_wanted<'a>(
     input: &'a [u8],
-    kind: u8,
-    size: usize,
+    wanted: Wanted,
 ) -> Option<(PayloadView<'a>, &'a [u8])>
+    ensures unit { IfSome result (λ p. IsNext p.0 p.1.now input.now) }
+    ensures shorter { IfSome result (λ p. length p.1.now < length input.now) }
+{
+    match wanted {
+        Wanted::Ipv4 => next_of_type(input, Ipv4Prefix::PDU, Ipv4Prefix::LENGTH),
+        Wanted::Ipv6 => next_of_type(input, Ipv6Prefix::PDU, Ipv6Prefix::LENGTH),
+    }
+}
+
+/// The unit at the front of the input, and what follows it, if its type and its length are these.
+#[inline(always)]
+fn next_of_type<'a>(input: &'a [u8], kind: u8, size: usize) -> Option<(PayloadView<'a>, &'a [u8])>
     ensures unit { IfSome result (λ p. IsNext p.0 p.1.now input.now) }
     ensures shorter { IfSome result (λ p. length p.1.now < length input.now) }
 {

@@ -5,9 +5,7 @@ ghost use Rattle.rtr_deltas.specs.Items.{meant};
 ghost use Rattle.rtr_deltas.specs.PrivateChanges.{FindsRefused, IsOrderOf, Passes, Seeks};
 ghost use Rattle.rtr_deltas.specs.PrivateChanges.{is_against};
 
-use crate::item::{PayloadView, next_of_type, next_unit};
-use rtr_units::prefixes::{Ipv4Prefix, Ipv6Prefix};
-use rtr_units::unit::Unit;
+use crate::item::{PayloadView, Wanted, next_unit, next_wanted};
 use std::cmp::Ordering;
 
 /// What units may not be, by the names of other units.
@@ -47,8 +45,8 @@ pub(crate) fn first_refused(these: &[u8], those: &[u8], rule: Rule) -> Option<us
 fn sought<'a>(first: &PayloadView<'_>, those: &'a [u8]) -> (bool, &'a [u8])
     ensures { Seeks result.0 first.now result.1.now those.now }
 {
-    let after_v4 = pass_family(first, those, Ipv4Prefix::PDU, Ipv4Prefix::LENGTH);
-    let after_v6 = pass_family(first, after_v4, Ipv6Prefix::PDU, Ipv6Prefix::LENGTH);
+    let after_v4 = pass_wanted(first, those, Wanted::Ipv4);
+    let after_v6 = pass_wanted(first, after_v4, Wanted::Ipv6);
     sought_in_rest(first, those, after_v6)
 }
 
@@ -69,34 +67,28 @@ fn sought_in_rest<'a>(first: &PayloadView<'_>, those: &'a [u8], from: &'a [u8]) 
     }
 }
 
-/// What is left of others after the units of this type and length that are below the unit.
+/// What is left of others after the wanted units that are below the unit.
 #[inline(always)]
-fn pass_family<'a>(first: &PayloadView<'_>, those: &'a [u8], kind: u8, size: usize) -> &'a [u8]
+fn pass_wanted<'a>(first: &PayloadView<'_>, those: &'a [u8], wanted: Wanted) -> &'a [u8]
     ensures { Passes (meant first.now).payload result.now those.now }
 {
     let mut rest = those;
     'units: loop {
-        match next_below(first, rest, kind, size) {
+        match next_below(first, rest, wanted) {
             Some(left) => rest = left,
             None => return rest,
         }
     }
 }
 
-/// What follows the unit of this type and length at the front of others, if it is below the
-/// unit.
+/// What follows the wanted unit at the front of others, if it is below the unit.
 #[inline(always)]
-fn next_below<'a>(
-    first: &PayloadView<'_>,
-    those: &'a [u8],
-    kind: u8,
-    size: usize,
-) -> Option<&'a [u8]>
+fn next_below<'a>(first: &PayloadView<'_>, those: &'a [u8], wanted: Wanted) -> Option<&'a [u8]>
     ensures below { IfSome result
         (λ left. IsOrderOf Ordering.Greater first.now left.now those.now) }
     ensures shorter { IfSome result (λ left. length left.now < length those.now) }
 {
-    match next_of_type(those, kind, size) {
+    match next_wanted(those, wanted) {
         Some((second, left)) => match first.compare_names(&second) {
             Ordering::Greater => Some(left),
             Ordering::Less => None,

@@ -5,8 +5,8 @@ use Rattle.rtr_deltas.proofs.check.pass_prefixes.Goals as goal
 
 pub returns-in-Origin-clause-passed : goal.returns-in-Origin-clause-passed
 returns-in-Origin-clause-passed c =
-    let first = c.pass_family-v4 in
-    let then = c.pass_family-v6 in
+    let first = c.pass_wanted-v4 in
+    let then = c.pass_wanted-v6 in
     rw c.in-Origin.is (
       first.ensures.passed.0 ++ then.ensures.passed.0,
       runs_join first.ensures.passed.0 then.ensures.passed.0 (kinds.Origin c.in-Origin.origin)

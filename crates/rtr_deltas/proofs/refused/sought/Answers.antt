@@ -4,6 +4,6 @@ use Rattle.rtr_deltas.proofs.refused.sought.Goals as goal
 
 pub sought_in_rest-requires : goal.sought_in_rest-requires
 sought_in_rest-requires c =
-    joins (meant c.args.first.now).payload c.pass_family-after_v6.result.now
-    c.pass_family-after_v4.result.now c.args.those.now c.pass_family-after_v4.ensures
-    c.pass_family-after_v6.ensures
+    joins (meant c.args.first.now).payload c.pass_wanted-after_v6.result.now
+    c.pass_wanted-after_v4.result.now c.args.those.now c.pass_wanted-after_v4.ensures
+    c.pass_wanted-after_v6.ensures

@@ -1,5 +1,5 @@
 use Rattle.rtr_deltas.proofs.Passing.{units_more, units_start}
-use Rattle.rtr_deltas.proofs.check.pass_family.Goals as goal
+use Rattle.rtr_deltas.proofs.check.pass_wanted.Goals as goal
 
 pub units-init : goal.units-init
 units-init c = units_start c.args.view.now c.args.left.now

@@ -2,7 +2,7 @@ use Rattle.std.proofs.Common.{refl}
 use Rattle.std.specs.declared.cmp.Ordering.TheVariants.{Greater}
 use Rattle.rtr_deltas.specs.Items.{meant}
 use Rattle.rtr_deltas.proofs.Seeking.{passes, starts}
-use Rattle.rtr_deltas.proofs.refused.pass_family.Goals as goal
+use Rattle.rtr_deltas.proofs.refused.pass_wanted.Goals as goal
 
 pub units-init : goal.units-init
 units-init c = starts (meant c.args.first.now).payload c.args.those.now
