@@ -98,8 +98,8 @@ fn is_after(last: &PayloadView<'_>, view: &PayloadView<'_>) -> bool
         && last.compare_names(view).is_lt()
 }
 
-/// The last of the prefix units that go on with data after a prefix unit, and what follows it; after
-/// another unit, that one. Most units are of prefixes, first those of IPv4.
+/// The last of the prefix units that go on with data after a prefix unit, and what follows it;
+/// after another unit, that one. Most units are of prefixes, first those of IPv4.
 #[inline(never)]
 fn pass_prefixes<'a>(view: &PayloadView<'a>, left: &'a [u8]) -> (PayloadView<'a>, &'a [u8])
     ensures passed { (views : List PayloadView) ×
@@ -136,8 +136,8 @@ fn pass_wanted<'a>(view: &OriginView, left: &'a [u8], wanted: Wanted) -> (Origin
     }
 }
 
-/// The wanted unit at the front of the input, and what follows it, if it goes on with data after this
-/// one.
+/// The wanted unit at the front of the input, and what follows it, if it goes on with data after
+/// this one.
 #[inline(always)]
 fn next_after<'a>(
     last: &OriginView,

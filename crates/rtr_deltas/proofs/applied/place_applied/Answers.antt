@@ -2,7 +2,10 @@ use Rattle.std.proofs.Common.{refl, true}
 use Rattle.rtr_deltas.proofs.Applying.{begins, ended, passes, stops, writes}
 use Rattle.rtr_deltas.proofs.Leasts.{under_least, under_stays}
 use Rattle.rtr_deltas.proofs.applied.place_applied.Goals as goal
-use Rattle.rtr_deltas.proofs.applied.place_applied.Goals.{in-Some-after_withdrawal, in-None-after_withdrawal+in-Some-place_unit-3}
+use Rattle.rtr_deltas.proofs.applied.place_applied.Goals.{in-Some-after_withdrawal}
+use Rattle.rtr_deltas.proofs.applied.place_applied.Goals.{
+  in-None-after_withdrawal+in-Some-place_unit-3,
+}
 
 pub units-init : goal.units-init
 units-init c =
@@ -48,30 +51,32 @@ returns-in-None-clause-bytes c =
 pub units-preserved-in-Some-next_under : goal.units-preserved-in-Some-next_under
 units-preserved-in-Some-next_under c =
     let u = c.units in
-    let v = c.in-Some-next_under.view in
-    let left = c.in-Some-next_under.left.now in
+    let next = c.in-Some-next_under in
+    let v = next.view in
+    let left = next.left.now in
     writes c.args.old.now c.args.announced.now c.args.withdrawn.now u.old_rest.now u.new_rest.now
     u.withdrawn_rest.now c.args.output.now u.output u.written u.bound u.invariant v true left
     u.new_rest.now
-    (under_least u.old_rest.now u.new_rest.now u.withdrawn_rest.now v left c.in-Some-next_under.ensures.unit
-    u.bound u.invariant.bounds c.in-Some-next_under.ensures.under)
-    (under_stays u.old_rest.now u.new_rest.now u.withdrawn_rest.now v left c.in-Some-next_under.ensures.unit
-    u.bound u.invariant.bounds c.in-Some-next_under.ensures.under)
-    c.place_unit-in-Some-next_under.new.output u.bound u.invariant.bounds c.in-Some-place_unit-2.size
-    c.in-Some-place_unit-2.ensures
+    (under_least u.old_rest.now u.new_rest.now u.withdrawn_rest.now v left next.ensures.unit
+    u.bound u.invariant.bounds next.ensures.under)
+    (under_stays u.old_rest.now u.new_rest.now u.withdrawn_rest.now v left next.ensures.unit
+    u.bound u.invariant.bounds next.ensures.under)
+    c.place_unit-in-Some-next_under.new.output u.bound u.invariant.bounds
+    c.in-Some-place_unit-2.size c.in-Some-place_unit-2.ensures
 
 pub returns-in-None-place_unit-clause-bytes : goal.returns-in-None-place_unit-clause-bytes
 returns-in-None-place_unit-clause-bytes c =
     let u = c.units in
-    let v = c.in-Some-next_under.view in
-    let left = c.in-Some-next_under.left.now in
+    let next = c.in-Some-next_under in
+    let v = next.view in
+    let left = next.left.now in
     stops c.args.old.now c.args.announced.now c.args.withdrawn.now u.old_rest.now u.new_rest.now
     u.withdrawn_rest.now c.args.output.now u.output u.written u.bound u.invariant v true left
     u.new_rest.now
-    (under_least u.old_rest.now u.new_rest.now u.withdrawn_rest.now v left c.in-Some-next_under.ensures.unit
-    u.bound u.invariant.bounds c.in-Some-next_under.ensures.under)
-    (under_stays u.old_rest.now u.new_rest.now u.withdrawn_rest.now v left c.in-Some-next_under.ensures.unit
-    u.bound u.invariant.bounds c.in-Some-next_under.ensures.under)
+    (under_least u.old_rest.now u.new_rest.now u.withdrawn_rest.now v left next.ensures.unit
+    u.bound u.invariant.bounds next.ensures.under)
+    (under_stays u.old_rest.now u.new_rest.now u.withdrawn_rest.now v left next.ensures.unit
+    u.bound u.invariant.bounds next.ensures.under)
     c.place_unit-in-Some-next_under.new.output c.in-None-place_unit.ensures
 
 pub units-preserved : goal.units-preserved

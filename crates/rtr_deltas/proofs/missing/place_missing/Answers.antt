@@ -65,9 +65,8 @@ units-preserved-in-Less c =
     goes_less c.args.action c.args.these.now c.args.those.now u.these_rest.now u.those_rest.now
     c.args.output.now u.output u.written u.invariant c.in-Unit.view b
     c.next_of_data-item.result.1.now is parts c.next_of_data-second.result.0 b'
-    c.next_of_data-second.result.1.now is' parts' c.place_lacking.new.output c.in-Some-place_lacking.size
-    c.order_of-order.result
-    c.order_of-order.ensures c.in-Less.is c.in-Some-place_lacking.ensures
+    c.next_of_data-second.result.1.now is' parts' c.place_lacking.new.output
+    c.in-Some-place_lacking.size c.order_of-order.result c.order_of-order.ensures c.in-Less.is c.in-Some-place_lacking.ensures
 
 pub units-preserved-in-Equal : goal.units-preserved-in-Equal
 units-preserved-in-Equal c =
@@ -77,9 +76,8 @@ units-preserved-in-Equal c =
     goes_equal c.args.action c.args.these.now c.args.those.now u.these_rest.now u.those_rest.now
     c.args.output.now u.output u.written u.invariant c.in-Unit.view b
     c.next_of_data-item.result.1.now is parts c.next_of_data-second.result.0 b'
-    c.next_of_data-second.result.1.now is' parts' c.place_lacking.new.output c.in-Some-place_lacking.size
-    c.order_of-order.result
-    c.order_of-order.ensures c.in-Equal.is c.in-Some-place_lacking.ensures
+    c.next_of_data-second.result.1.now is' parts' c.place_lacking.new.output
+    c.in-Some-place_lacking.size c.order_of-order.result c.order_of-order.ensures c.in-Equal.is c.in-Some-place_lacking.ensures
 
 pub units-preserved : goal.units-preserved
 units-preserved c =
@@ -89,9 +87,8 @@ units-preserved c =
     goes_greater c.args.action c.args.these.now c.args.those.now u.these_rest.now u.those_rest.now
     c.args.output.now u.output u.written u.invariant c.in-Unit.view b
     c.next_of_data-item.result.1.now is parts c.next_of_data-second.result.0 b'
-    c.next_of_data-second.result.1.now is' parts' c.place_lacking.new.output c.in-Some-place_lacking.size
-    c.order_of-order.result
-    c.order_of-order.ensures c.in-Greater.is c.in-Some-place_lacking.ensures
+    c.next_of_data-second.result.1.now is' parts' c.place_lacking.new.output
+    c.in-Some-place_lacking.size c.order_of-order.result c.order_of-order.ensures c.in-Greater.is c.in-Some-place_lacking.ensures
 
 pub returns-in-End-clause-within : goal.returns-in-End-clause-within
 returns-in-End-clause-within c = c.units.invariant.fits

@@ -16,13 +16,13 @@ returns-then-breaks-clause-found c =
     let u = c.units in
     stop c.args.rule c.args.these.now c.args.those.now u.these_rest.now u.those_rest.now
     u.invariant c.in-Some.first.0 c.in-Some.first.1.now c.in-Some.ensures.unit
-    c.sought-is_there.result.0 c.sought-is_there.result.1.now c.sought-is_there.ensures c.breaks.result c.breaks.ensures
-    c.if-breaks.true
+    c.sought-is_there.result.0 c.sought-is_there.result.1.now c.sought-is_there.ensures
+    c.breaks.result c.breaks.ensures c.if-breaks.true
 
 pub units-preserved : goal.units-preserved
 units-preserved c =
     let u = c.units in
     advance c.args.rule c.args.these.now c.args.those.now u.these_rest.now u.those_rest.now
     u.invariant c.in-Some.first.0 c.in-Some.first.1.now c.in-Some.ensures.unit
-    c.sought-is_there.result.0 c.sought-is_there.result.1.now c.sought-is_there.ensures c.breaks.result c.breaks.ensures
-    c.if-breaks.false
+    c.sought-is_there.result.0 c.sought-is_there.result.1.now c.sought-is_there.ensures
+    c.breaks.result c.breaks.ensures c.if-breaks.false

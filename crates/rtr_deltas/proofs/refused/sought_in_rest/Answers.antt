@@ -8,14 +8,17 @@ units-init c = c.requires
 pub units-preserved : goal.units-preserved
 units-preserved c =
     passes c.args.first.now c.args.those.now c.units.rest.now c.units.invariant
-    c.order_of-order.result.1.now c.order_of-order.result.0 c.order_of-order.ensures.order c.in-Greater.is
+    c.order_of-order.result.1.now c.order_of-order.result.0
+    c.order_of-order.ensures.order c.in-Greater.is
 
 pub returns-in-Less : goal.returns-in-Less
 returns-in-Less c =
     finds c.args.first.now c.args.those.now c.units.rest.now c.units.invariant
-    c.order_of-order.result.1.now c.order_of-order.result.0 false c.order_of-order.ensures.order c.in-Less.is
+    c.order_of-order.result.1.now c.order_of-order.result.0 false
+    c.order_of-order.ensures.order c.in-Less.is
 
 pub returns-in-Equal : goal.returns-in-Equal
 returns-in-Equal c =
     finds c.args.first.now c.args.those.now c.units.rest.now c.units.invariant
-    c.order_of-order.result.1.now c.order_of-order.result.0 true c.order_of-order.ensures.order c.in-Equal.is
+    c.order_of-order.result.1.now c.order_of-order.result.0 true
+    c.order_of-order.ensures.order c.in-Equal.is
