@@ -1,7 +1,7 @@
 //! Units at the front of a slice.
 
 ghost use Rattle.std.specs.Prelude.{◌≡◌, ◌++◌, ◌<◌, ◌≤◌, ℕ, List, length, IfOk, IfErr, IfSome};
-ghost use Rattle.std.specs.Prelude.{IsTrue, None};
+ghost use Rattle.std.specs.Prelude.{◌↔◌, IsTrue, None};
 ghost use Rattle.rtr_data.specs.Data.{name_cmp, takes_place};
 ghost use Rattle.rtr_units.specs.Header.{type_field};
 ghost use Rattle.rtr_views.specs.Faults.{IsFirstFault};
@@ -128,7 +128,7 @@ fn next_of_type<'a>(input: &'a [u8], kind: u8, size: usize) -> Option<(PayloadVi
 /// Whether the input begins with a header of this type.
 #[inline(always)]
 pub(crate) fn begins_with_type(input: &[u8], kind: u8) -> bool
-    ensures { IsTrue result → (8 ≤ length input.now) × (type_field input.now ≡ kind) }
+    ensures { IsTrue result ↔ ((8 ≤ length input.now) × (type_field input.now ≡ kind)) }
 {
     input.len() >= 8 && input[1] == kind
 }
