@@ -10,7 +10,7 @@ use Rattle.rtr_payload.specs.Payloads.{Meaning, Payload}
 use Rattle.rtr_data.specs.Data.{has_name, name_cmp}
 use Rattle.rtr_data.proofs.Names.{absent, above, below, below_all}
 use Rattle.rtr_deltas.specs.Items.{meant}
-use Rattle.rtr_deltas.specs.PrivateChanges.{IsOrderOf, Passes}
+use Rattle.rtr_deltas.specs.PrivateChanges.{GoesPast, IsOrderOf}
 use Rattle.rtr_deltas.specs.PrivateChanges.{Seeks}
 use Rattle.rtr_deltas.specs.declared.item.PayloadView.{PayloadView}
 use Rattle.rtr_deltas.proofs.Units.{Head, head, nothing}
@@ -20,11 +20,11 @@ pub all_push : (P : Payload → Type 0) (ps : List Payload) (p : Payload) → Al
 all_push P [] p h g = (g, tt)
 all_push P (x ∷ ps) p (f, h) g = (f, all_push P ps p h g)
 
-pub starts : (p : Payload) (those : List ℕ) → Passes p those those
+pub starts : (p : Payload) (those : List ℕ) → GoesPast p those those
 starts p those w ys j = record { passed = []; left = ys; all = refl; lower = tt; held = j }
 
-pub joins : (p : Payload) (rest middle those : List ℕ) → Passes p middle those →
-    Passes p rest middle → Passes p rest those
+pub joins : (p : Payload) (rest middle those : List ℕ) → GoesPast p middle those →
+    GoesPast p rest middle → GoesPast p rest those
 joins p rest middle those h k w ys j =
     let s = h w ys j in
     let t = k w s.left s.held in
@@ -47,13 +47,13 @@ abbrev pub place : Bool → Ordering
 place true = Equal
 place false = Less
 
-module _ (first : PayloadView) (those rest : List ℕ) (h : Passes (meant first).payload rest those)
+module _ (first : PayloadView) (those rest : List ℕ) (h : GoesPast (meant first).payload rest those)
     (right : List ℕ) (o : Ordering) where
   abbrev p : Payload
   p = (meant first).payload
 
   -- the next is below the unit
-  pub passes : IsOrderOf o first right rest → o ≡ Greater → Passes p right those
+  pub passes : IsOrderOf o first right rest → o ≡ Greater → GoesPast p right those
   passes (inl (none, is)) e w ys j = absurd (let no = sym is ∙ e in cc)
   passes (inr (second, at, is)) e w ys j =
       let s = h w ys j in

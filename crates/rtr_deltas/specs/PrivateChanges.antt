@@ -182,8 +182,8 @@ pub record Passed (p : Payload) (w : ℕ) (rest : List ℕ) (ys : List Payload) 
   pub lower : AllByRecursion (λ y. name_cmp p y ≡ Greater) passed
   pub held : HoldsUnits Announce w rest left
 
-abbrev pub Passes : Payload → (rest those : List ℕ) → Type 0
-Passes p rest those = (w : ℕ) (ys : List Payload) → HoldsUnits Announce w those ys →
+abbrev pub GoesPast : Payload → (rest those : List ℕ) → Type 0
+GoesPast p rest those = (w : ℕ) (ys : List Payload) → HoldsUnits Announce w those ys →
     Passed p w rest ys
 
 -- whether what is left has the unit's name

@@ -2,7 +2,7 @@
 
 ghost use Rattle.std.specs.Prelude.{◌≡◌, ◌<◌, ◌≤◌, IfSome, length};
 ghost use Rattle.rtr_deltas.specs.Items.{meant};
-ghost use Rattle.rtr_deltas.specs.PrivateChanges.{FindsRefused, IsOrderOf, Passes, Seeks};
+ghost use Rattle.rtr_deltas.specs.PrivateChanges.{FindsRefused, GoesPast, IsOrderOf, Seeks};
 ghost use Rattle.rtr_deltas.specs.PrivateChanges.{is_against};
 
 use crate::item::{PayloadView, Wanted, next_unit, next_wanted};
@@ -53,7 +53,7 @@ fn sought<'a>(first: &PayloadView<'_>, those: &'a [u8]) -> (bool, &'a [u8])
 /// The same, where those before the rest are below the unit.
 #[inline(always)]
 fn sought_in_rest<'a>(first: &PayloadView<'_>, those: &'a [u8], from: &'a [u8]) -> (bool, &'a [u8])
-    requires { Passes (meant first.now).payload from.now those.now }
+    requires { GoesPast (meant first.now).payload from.now those.now }
     ensures { Seeks result.0 first.now result.1.now those.now }
 {
     let mut rest = from;
@@ -70,7 +70,7 @@ fn sought_in_rest<'a>(first: &PayloadView<'_>, those: &'a [u8], from: &'a [u8]) 
 /// What is left of others after the wanted units that are below the unit.
 #[inline(always)]
 fn pass_wanted<'a>(first: &PayloadView<'_>, those: &'a [u8], wanted: Wanted) -> &'a [u8]
-    ensures { Passes (meant first.now).payload result.now those.now }
+    ensures { GoesPast (meant first.now).payload result.now those.now }
 {
     let mut rest = those;
     'units: loop {

@@ -1,10 +1,10 @@
 use Rattle.std.proofs.Common.{length}
 use Rattle.rtr_deltas.specs.Items.{meant}
-use Rattle.rtr_deltas.specs.PrivateChanges.{Passes}
+use Rattle.rtr_deltas.specs.PrivateChanges.{GoesPast}
 use Rattle.rtr_deltas.proofs.refused.pass_wanted.Given as goal
 
 abbrev pub invariant-units : goal.invariant-units
-invariant-units l = Passes (meant l.first).payload l.rest l.fn.those
+invariant-units l = GoesPast (meant l.first).payload l.rest l.fn.those
 
 abbrev pub decreases-units : goal.decreases-units
 decreases-units l = length l.rest
