@@ -11,6 +11,7 @@ use rtr_wire::payload::{Action, Payload};
 use rtr_wire::pdu;
 use rtr_wire::pdu::{Counted, ErrorCode, Fault, Header, Unit, ViewFault};
 use rtr_wire::state::{Serial, State};
+use std::process::Abort;
 use std::test::Fail;
 use std::{fs, io};
 
@@ -50,6 +51,11 @@ const END: &[u8] = &[
     0, 0, 0x0e, 0x10, 0, 0, 0x02, 0x58, 0, 0, 0x1c, 0x20,
 ];
 
+/// Asserts that this holds. A test that calls this is proved faster than one that uses the macro.
+fn expect(rt: &impl Abort, holds: bool) {
+    assert!(rt; holds);
+}
+
 /// The units, one after the other.
 fn joined(rt: &HostRuntime, units: &[&[u8]]) -> Result<Vec<u8>, Fail> {
     let mut bytes = Vec::new(rt.alloc());
@@ -65,12 +71,15 @@ fn a_response_is_taken(rt: HostRuntime) -> Result<(), Fail> {
     let mut reader = Counted::new(input.as_slice());
     let mut writer = Counted::new(Vec::new(rt.alloc()));
     let taken = take_response(rt.alloc(), &mut reader, &mut writer)?;
-    assert!(rt; taken == (0x1234, 1));
-    assert!(rt; reader.into_inner() == RESPONSE);
+    expect(&rt, taken == (0x1234, 1));
+    expect(&rt, reader.into_inner() == RESPONSE);
     let form = writer.into_inner();
-    assert_eq!(rt; form.len(), ORIGIN.len() + END.len());
+    expect(&rt, form.len() == ORIGIN.len() + END.len());
     let sequence = joined(&rt, &[ORIGIN, END])?;
-    assert!(rt; compare(rt.alloc(), form.as_slice(), sequence.as_slice())?);
+    expect(
+        &rt,
+        compare(rt.alloc(), form.as_slice(), sequence.as_slice())?,
+    );
     Ok(())
 }
 
@@ -82,23 +91,26 @@ fn a_file_is_normalised(rt: HostRuntime) -> Result<(), Fail> {
     let form = fs::read(&rt, "form.bin")?;
     fs::remove_file(&rt, "sequence.bin")?;
     fs::remove_file(&rt, "form.bin")?;
-    assert_eq!(rt; count, 1);
-    assert_eq!(rt; form.len(), sequence.len());
-    assert!(rt; compare(rt.alloc(), form.as_slice(), sequence.as_slice())?);
+    expect(&rt, count == 1);
+    expect(&rt, form.len() == sequence.len());
+    expect(
+        &rt,
+        compare(rt.alloc(), form.as_slice(), sequence.as_slice())?,
+    );
     Ok(())
 }
 
 #[test]
 fn a_missing_file_is_a_fault_of_reading(rt: HostRuntime) -> Result<(), Fail> {
     let missing = normalise_file(&rt, "missing.bin", "unwritten.bin");
-    assert!(rt; matches!(&missing, Err(Fault::Reader(_))));
+    expect(&rt, matches!(&missing, Err(Fault::Reader(_))));
     assert!(rt; fs::read(&rt, "unwritten.bin").is_err());
     Ok(())
 }
 
 #[test]
 fn words_begin_with_the_name(rt: HostRuntime) -> Result<(), Fail> {
-    assert!(rt; !words(&rt)?.is_empty());
+    expect(&rt, !words(&rt)?.is_empty());
     Ok(())
 }
 
@@ -107,13 +119,13 @@ fn a_report_is_taken(rt: HostRuntime) -> Result<(), Fail> {
     let input = joined(&rt, &[RESPONSE, REPORT, ORIGIN])?;
     let mut reader = Counted::new(input.as_slice());
     match response_or_code(&mut reader)? {
-        Ok(response) => assert_eq!(rt; response.session(), 0x1234),
+        Ok(response) => expect(&rt, response.session() == 0x1234),
         Err(code) => assert_eq!(rt; code, ErrorCode(65535), "no response"),
     }
     let code = response_or_code(&mut reader)?.err();
-    assert_eq!(rt; code, Some(ErrorCode::NO_DATA_AVAILABLE));
+    expect(&rt, code == Some(ErrorCode::NO_DATA_AVAILABLE));
     let refused = response_or_code(&mut reader);
-    assert!(rt; matches!(&refused, Err(Fault::UnitType(4))));
+    expect(&rt, matches!(&refused, Err(Fault::UnitType(4))));
     Ok(())
 }
 
@@ -121,10 +133,13 @@ fn a_report_is_taken(rt: HostRuntime) -> Result<(), Fail> {
 fn recordings_are_compared(rt: HostRuntime) -> Result<(), Fail> {
     let left = joined(&rt, &[ORIGIN, ASPA, END])?;
     let right = joined(&rt, &[ORIGIN, OTHER_ASPA, END])?;
-    assert!(rt; compare(rt.alloc(), left.as_slice(), left.as_slice())?);
-    assert!(rt; !compare(rt.alloc(), left.as_slice(), right.as_slice())?);
+    expect(&rt, compare(rt.alloc(), left.as_slice(), left.as_slice())?);
+    expect(
+        &rt,
+        !compare(rt.alloc(), left.as_slice(), right.as_slice())?,
+    );
     let cut = compare(rt.alloc(), left.as_slice(), ORIGIN);
-    assert!(rt; matches!(&cut, Err(Fault::Short)));
+    expect(&rt, matches!(&cut, Err(Fault::Short)));
     Ok(())
 }
 
@@ -134,13 +149,16 @@ fn data_follow_their_cache(rt: HostRuntime) -> Result<(), Fail> {
     let mut data = Data::new(alloc);
     let first = joined(&rt, &[ORIGIN, ASPA, END])?;
     let end = update(alloc, &mut data, &mut Counted::new(first.as_slice()));
-    assert!(rt; end.map(|end| end.serial()) == Ok(Serial(5)));
+    expect(&rt, end.map(|end| end.serial()) == Ok(Serial(5)));
     let known = Payload::from(origin("192.0.2.0/23-26", 65551)?);
-    assert!(rt; data.len() == 2 && data.contains(&known.as_ref()));
+    expect(&rt, data.len() == 2 && data.contains(&known.as_ref()));
 
     let second = joined(&rt, &[WITHDRAWN, OTHER_ASPA, END])?;
-    assert!(rt; update(alloc, &mut data, &mut Counted::new(second.as_slice())).is_ok());
-    assert!(rt; data.len() == 1 && !data.contains(&known.as_ref()));
+    expect(
+        &rt,
+        update(alloc, &mut data, &mut Counted::new(second.as_slice())).is_ok(),
+    );
+    expect(&rt, data.len() == 1 && !data.contains(&known.as_ref()));
     Ok(())
 }
 
@@ -150,7 +168,10 @@ fn data_stay_as_they_were(rt: HostRuntime) -> Result<(), Fail> {
     let alloc = rt.alloc();
     let mut data = Data::new(alloc);
     let first = joined(&rt, &[ORIGIN, ASPA, END])?;
-    assert!(rt; update(alloc, &mut data, &mut Counted::new(first.as_slice())).is_ok());
+    expect(
+        &rt,
+        update(alloc, &mut data, &mut Counted::new(first.as_slice())).is_ok(),
+    );
     let duplicate = joined(&rt, &[ASPA_WITHDRAWN, ORIGIN, END])?;
     let unknown = joined(&rt, &[WITHDRAWN, WITHDRAWN, END])?;
     let wrong = joined(&rt, &[WITHDRAWN, &[2, 0, 0, 0, 0, 0, 0, 8]])?;
@@ -173,7 +194,10 @@ fn reset_queries_are_answered(rt: HostRuntime) -> Result<(), Fail> {
     let alloc = rt.alloc();
     let mut data = Data::new(alloc);
     let input = joined(&rt, &[ORIGIN, ASPA, END])?;
-    assert!(rt; update(alloc, &mut data, &mut Counted::new(input.as_slice())).is_ok());
+    expect(
+        &rt,
+        update(alloc, &mut data, &mut Counted::new(input.as_slice())).is_ok(),
+    );
     #[rattlefmt::skip]
     let answers: [(u8, usize); 3] = [(0, 8 + 20 + 12), (1, 8 + 20 + 24), (2, 8 + 20 + 16 + 24)];
     for (version, size) in answers {
@@ -188,10 +212,10 @@ fn reset_queries_are_answered(rt: HostRuntime) -> Result<(), Fail> {
         )?;
         let answer = writer.into_inner();
         assert_eq!(rt; answer.len(), size, "at version {version}");
-        assert!(rt; answer.iter().take(2).eq([version, 3].iter()));
+        expect(&rt, answer.iter().take(2).eq([version, 3].iter()));
         if version == 2 {
             let sequence = answer.as_slice().get(8..).ok_or("no sequence")?;
-            assert!(rt; compare(alloc, sequence, input.as_slice())?);
+            expect(&rt, compare(alloc, sequence, input.as_slice())?);
         }
     }
     Ok(())
@@ -209,8 +233,8 @@ fn queries_of_other_versions(rt: HostRuntime) -> Result<(), Fail> {
         &data,
         state,
     );
-    assert!(rt; matches!(&refused, Err(Fault::UnitVersion(3))));
-    assert!(rt; writer.into_inner().is_empty());
+    expect(&rt, matches!(&refused, Err(Fault::UnitVersion(3))));
+    expect(&rt, writer.into_inner().is_empty());
     Ok(())
 }
 
@@ -224,10 +248,10 @@ fn an_aspa_is_withdrawn(rt: HostRuntime) -> Result<(), Fail> {
         return Err(Fail::new("no ASPA"));
     };
     let unit = withdrawal(alloc, &aspa)?;
-    assert!(rt; unit.action() == Action::Withdraw);
+    expect(&rt, unit.action() == Action::Withdraw);
     let mut writer = Counted::new(Vec::new(alloc));
     unit.write(&mut writer)?;
-    assert!(rt; writer.into_inner().as_slice() == ASPA_WITHDRAWN);
+    expect(&rt, writer.into_inner().as_slice() == ASPA_WITHDRAWN);
     Ok(())
 }
 
@@ -241,16 +265,31 @@ fn peers_are_told(rt: HostRuntime) -> Result<(), Fail> {
         b'w', b'a', b's', b' ', b'r', b'e', b'f', b'u', b's', b'e', b'd',
     ];
     let mut output = [0; 44];
-    assert!(rt; report_on(1, header, &Fault::UnitType(5), &mut output[..43]) == Reply::NoRoom);
-    assert!(rt; output == [0; 44]);
-    assert!(rt; report_on(1, header, &Fault::Memory, &mut output) == Reply::Nothing);
+    expect(
+        &rt,
+        report_on(1, header, &Fault::UnitType(5), &mut output[..43]) == Reply::NoRoom,
+    );
+    expect(&rt, output == [0; 44]);
+    expect(
+        &rt,
+        report_on(1, header, &Fault::Memory, &mut output) == Reply::Nothing,
+    );
     let report = Header::new(1, 10, 0, 65536);
-    assert!(rt; report_on(1, report, &Fault::UnitType(10), &mut output) == Reply::Nothing);
-    assert!(rt; report_on(1, report, &Fault::TooLong, &mut output) == Reply::Nothing);
-    assert!(rt; output == [0; 44]);
-    assert!(rt; report_on(1, header, &Fault::UnitType(5), &mut output) == Reply::Report(44));
-    assert!(rt; output.as_slice() == want);
-    assert!(rt; Fault::Short.code() == Some(ErrorCode::CORRUPT_DATA));
+    expect(
+        &rt,
+        report_on(1, report, &Fault::UnitType(10), &mut output) == Reply::Nothing,
+    );
+    expect(
+        &rt,
+        report_on(1, report, &Fault::TooLong, &mut output) == Reply::Nothing,
+    );
+    expect(&rt, output == [0; 44]);
+    expect(
+        &rt,
+        report_on(1, header, &Fault::UnitType(5), &mut output) == Reply::Report(44),
+    );
+    expect(&rt, output.as_slice() == want);
+    expect(&rt, Fault::Short.code() == Some(ErrorCode::CORRUPT_DATA));
     Ok(())
 }
 
@@ -263,11 +302,11 @@ fn sequences_are_listed(rt: HostRuntime) -> Result<(), Fail> {
         Err(_) => assert!(rt; false, "refused"),
     }
     let want: &[u8] = b"192.0.2.0/23-26 AS65551\nASPA of AS64496\nserial 5\n";
-    assert!(rt; lines.as_slice() == want);
+    expect(&rt, lines.as_slice() == want);
 
     let cut = list(ORIGIN, &mut io::sink());
-    assert!(rt; matches!(&cut, Err(Unlisted::Unit(ViewFault::Short))));
+    expect(&rt, matches!(&cut, Err(Unlisted::Unit(ViewFault::Short))));
     let none = list(&[], &mut io::sink());
-    assert!(rt; matches!(&none, Err(Unlisted::Unit(ViewFault::Short))));
+    expect(&rt, matches!(&none, Err(Unlisted::Unit(ViewFault::Short))));
     Ok(())
 }
