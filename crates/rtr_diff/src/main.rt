@@ -2,6 +2,7 @@
 #![tactic(auto)]
 
 use rtr_differences::{asked, run, usage};
+use rtr_units::buffered::BufferedSource;
 use rtr_units::source::Counted;
 use std::fs::File;
 use std::io::{BufReader, BufWriter, Read, Stderr, Stdin, Stdout, Write};
@@ -39,13 +40,13 @@ fn buffered(rt: &HostRuntime, input: Input) -> io::Result<BufReader<Input>> {
 }
 
 /// The file of this name, or standard input.
-fn opened(rt: &HostRuntime, name: &str) -> io::Result<Counted<BufReader<Input>>> {
+fn opened(rt: &HostRuntime, name: &str) -> io::Result<BufferedSource<Input>> {
     let input = if name == STANDARD_INPUT {
         Input::Standard(rt.stdin())
     } else {
         Input::Opened(File::open(rt, name)?)
     };
-    Ok(Counted::new(buffered(rt, input)?))
+    Ok(BufferedSource::new(buffered(rt, input)?))
 }
 
 /// Standard output, unbuffered if there is no memory for a buffer.

@@ -3,6 +3,7 @@
 #![tactic(auto)]
 
 use rtr_tables::program;
+use rtr_units::buffered::BufferedSource;
 use rtr_units::source::Counted;
 use std::env;
 use std::io::{BufReader, BufWriter, Stderr, Stdin, Stdout};
@@ -34,7 +35,7 @@ fn words(rt: &HostRuntime) -> Option<Vec<String>> {
 }
 
 fn main(rt: HostRuntime) -> ExitCode {
-    let mut input = Counted::new(buffered_input(&rt));
+    let mut input = BufferedSource::new(buffered_input(&rt));
     let mut output = Counted::new(buffered_output(&rt));
     let mut faults: Stderr = rt.stderr();
     program(rt.alloc(), words(&rt), &mut input, &mut output, &mut faults)

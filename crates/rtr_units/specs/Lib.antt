@@ -16,3 +16,4 @@ pub mod Stream
 pub mod Calls
 pub mod CountedFailures
 pub mod HeaderBytes
+pub mod PrivateBuffered

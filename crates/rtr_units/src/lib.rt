@@ -2,6 +2,7 @@
 //! the readers and writers that they pass through.
 #![tactic(auto)]
 
+pub mod buffered;
 pub mod cells;
 mod copying;
 pub mod end;

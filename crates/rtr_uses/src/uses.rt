@@ -7,8 +7,8 @@ use rtr_session::answering::{Reply, reply_to_fault};
 use rtr_wire::base::{Asn, MaxLenPrefix, ParseMaxLenPrefixError};
 use rtr_wire::payload::{Action, Aspa, Payload, RouteOrigin, Timing};
 use rtr_wire::pdu::{
-    CacheResponse, Counted, EndOfData, Error, ErrorCode, Fault, Header, LAST_VERSION, ResetQuery,
-    Sink, Source, Unit, UnitView, ViewFault,
+    BufferedSink, BufferedSource, CacheResponse, EndOfData, Error, ErrorCode, Fault, Header,
+    LAST_VERSION, ResetQuery, Sink, Source, Unit, UnitView, ViewFault,
 };
 use rtr_wire::state::State;
 use rtr_wire::{normalise, pdu, same_meaning};
@@ -36,8 +36,8 @@ pub fn normalise_file(rt: &HostRuntime, from: &str, to: &str) -> Result<u64, Fau
     let output = File::create(rt, to).map_err(Fault::Writer)?;
     let input = BufReader::with_capacity(rt.alloc(), BUFFER_SIZE, input).map_err(Fault::Reader)?;
     let output = BufWriter::with_capacity(rt.alloc(), BUFFER_SIZE, output).map_err(Fault::Writer)?;
-    let mut reader = Counted::new(input);
-    let mut writer = Counted::new(output);
+    let mut reader = BufferedSource::new(input);
+    let mut writer = BufferedSink::new(output);
     let count = normalise(rt.alloc(), &mut reader, &mut writer, MOST_UNITS)?;
     writer.flush().map_err(Fault::Writer)?;
     Ok(count)

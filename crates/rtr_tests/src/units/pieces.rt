@@ -1,9 +1,18 @@
-//! What passes through `Counted`.
+//! What passes through `Counted`, `BufferedSource` and `BufferedSink`.
 
 use crate::expect::expect_equal;
-use crate::support::Recorder;
-use rtr_units::source::{Counted, Sink};
+use crate::support::{ONES, Pieces, Recorder, STEPS, WHOLE, filler};
+use rtr_units::buffered::{BufferedSink, BufferedSource};
+use rtr_units::piece::{fill, put};
+use rtr_units::source::{Counted, Sink, Source};
+use std::io::{BufReader, BufWriter, ErrorKind};
 use std::test::Fail;
+
+/// Capacities of buffers, each with the most bytes that the reader in it gives in turn.
+const BUFFERS: &[(usize, &[usize])] = &[(0, STEPS), (1, WHOLE), (7, STEPS), (8, ONES), (64, WHOLE)];
+
+/// The sizes of pieces, 58 bytes in all.
+const SIZES: &[usize] = &[8, 12, 0, 24, 1, 3, 8, 2];
 
 #[test]
 fn flushes_reach_the_writer(rt: HostRuntime) -> Result<(), Fail> {
@@ -11,5 +20,92 @@ fn flushes_reach_the_writer(rt: HostRuntime) -> Result<(), Fail> {
     writer.flush()?;
     expect_equal(&rt, Sink::failures(&writer), 0);
     expect_equal(&rt, writer.into_inner().flushes(), 1);
+    Ok(())
+}
+
+#[test]
+fn pieces_of_a_buffer_come_in_order(rt: HostRuntime) -> Result<(), Fail> {
+    let bytes = filler(rt.alloc(), 58)?;
+    for (capacity, sizes) in BUFFERS {
+        let buffer = BufReader::with_capacity(rt.alloc(), *capacity, Pieces::new(&bytes, sizes))?;
+        let mut reader = BufferedSource::new(buffer);
+        let mut rest = bytes.as_slice();
+        for size in SIZES {
+            let mut room = [0; 24];
+            let piece = &mut room[..*size];
+            fill(&mut reader, piece)?;
+            let (wanted, after) = rest.split_at(*size);
+            expect_equal(&rt, &*piece, wanted);
+            rest = after;
+        }
+        expect_equal(&rt, reader.read(&mut [0])?, 0);
+        expect_equal(&rt, Source::failures(&reader), 0);
+        expect_equal(&rt, reader.into_inner().into_inner().taken(), 58);
+    }
+    Ok(())
+}
+
+#[test]
+fn an_error_loses_no_byte_of_a_buffer(rt: HostRuntime) -> Result<(), Fail> {
+    let bytes = filler(rt.alloc(), 7)?;
+    let failing = Pieces::failing(&bytes, WHOLE, 2);
+    let buffer = BufReader::with_capacity(rt.alloc(), 4, failing)?;
+    let mut reader = BufferedSource::new(buffer);
+    let mut piece = [9; 3];
+    expect_equal(&rt, reader.read(&mut piece)?, 3);
+    expect_equal(&rt, piece, [0, 1, 2]);
+    expect_equal(&rt, reader.read(&mut piece)?, 1);
+    expect_equal(&rt, piece, [3, 1, 2]);
+    let error = reader.read(&mut piece).err().map(|e| e.kind());
+    expect_equal(&rt, error, Some(ErrorKind::Interrupted));
+    expect_equal(&rt, Source::failures(&reader), 1);
+    expect_equal(&rt, reader.read(&mut piece)?, 3);
+    expect_equal(&rt, piece, [4, 5, 6]);
+    Ok(())
+}
+
+#[test]
+fn pieces_for_a_buffer_are_written_in_order(rt: HostRuntime) -> Result<(), Fail> {
+    let bytes = filler(rt.alloc(), 58)?;
+    for capacity in [0, 1, 8, 20, 64] {
+        let buffer = BufWriter::with_capacity(rt.alloc(), capacity, Recorder::new(rt.alloc(), 5))?;
+        let mut writer = BufferedSink::new(buffer);
+        let mut rest = bytes.as_slice();
+        for size in SIZES {
+            let (piece, after) = rest.split_at(*size);
+            put(&mut writer, piece)?;
+            rest = after;
+        }
+        writer.flush()?;
+        expect_equal(&rt, Sink::failures(&writer), 0);
+        let written = writer
+            .into_inner()
+            .into_inner()
+            .ok()
+            .map(Recorder::into_held);
+        expect_equal(&rt, written.as_deref(), Some(bytes.as_slice()));
+    }
+    Ok(())
+}
+
+#[test]
+fn an_error_loses_no_byte_of_a_buffered_writer(rt: HostRuntime) -> Result<(), Fail> {
+    let stopping = Recorder::stopping(rt.alloc(), 8, 1);
+    let mut writer = BufferedSink::new(BufWriter::with_capacity(rt.alloc(), 4, stopping)?);
+    expect_equal(&rt, writer.write(&[1, 2, 3])?, 3);
+    let error = writer.write(&[4, 5, 6, 7]).err().map(|e| e.kind());
+    expect_equal(&rt, error, Some(ErrorKind::WriteZero));
+    expect_equal(&rt, Sink::failures(&writer), 1);
+    expect_equal(&rt, writer.write(&[4, 5, 6, 7])?, 4);
+    let written = writer
+        .into_inner()
+        .into_inner()
+        .ok()
+        .map(Recorder::into_held);
+    expect_equal(
+        &rt,
+        written.as_deref(),
+        Some([1, 2, 3, 4, 5, 6, 7].as_slice()),
+    );
     Ok(())
 }

@@ -1,0 +1,186 @@
+//! Buffered readers and writers that count their failures, and for which short pieces are cheap.
+
+ghost use Rattle.std.specs.Prelude.{◌≡◌, ◌<◌, Some, None};
+ghost use Rattle.std.specs.Io.Buffered.{reader_remaining, writer_contents};
+ghost use Rattle.std.specs.IoError.{error_kind};
+ghost use Rattle.rtr_units.specs.PrivateBuffered.{ReadsCounted, WritesCounted};
+
+use crate::copying::copy;
+use crate::source::{Counted, Sink, Source};
+use std::io;
+use std::io::{BufRead, BufReader, BufWriter, Read, Write};
+use std::marker::Model;
+
+/// A buffered reader that counts its errors. It gives what a `Counted` of it gives, but a piece
+/// that lies whole in the buffer is copied where it is asked for, without a call.
+#[derive(Debug, Drop)]
+pub struct BufferedSource<R> {
+    counted: Counted<BufReader<R>>,
+}
+
+impl<R> Model for BufferedSource<R> {
+    ghost use Rattle.std.specs.declared.alloc.Global.{Global};
+    ghost use Rattle.std.specs.declared.io.buffered.BufReader.{BufReader};
+    ghost use Rattle.rtr_units.specs.CountedFailures.{Tally};
+
+    ghost Value = { Tally (BufReader R Global) };
+
+    ghost view = { λ s. s.counted };
+}
+
+impl<R> BufferedSource<R> {
+    /// Wraps the reader, with no failure yet.
+    pub fn new(inner: BufReader<R>) -> Self
+        ensures { result ≡ record { inner = inner; failed = 0; last = None } }
+    {
+        BufferedSource {
+            counted: Counted::new(inner),
+        }
+    }
+
+    /// Gives back the reader.
+    pub fn into_inner(self) -> BufReader<R>
+        ensures { result ≡ self.inner }
+    {
+        self.counted.into_inner()
+    }
+}
+
+impl<R: Read> BufferedSource<R> {
+    /// Reads as `Counted` does, in a call of its own.
+    #[cold]
+    #[inline(never)]
+    fn read_on(&mut self, piece: &mut [u8]) -> io::Result<usize>
+        ensures { ReadsCounted (reader_remaining R.remaining) result self.old self.new piece.new }
+    {
+        self.counted.read(piece)
+    }
+
+    /// The same. A function clears room for the answer of each call where it begins, so this one
+    /// stands apart, and wraps the answer again: a piece that is copied then needs no such room.
+    #[inline(always)]
+    fn read_apart(&mut self, piece: &mut [u8]) -> io::Result<usize>
+        ensures { ReadsCounted (reader_remaining R.remaining) result self.old self.new piece.new }
+    {
+        match self.read_on(piece) {
+            Ok(n) => Ok(n),
+            Err(e) => Err(e),
+        }
+    }
+}
+
+impl<R: Read> Source for BufferedSource<R> {
+    ghost state = { λ s. record {
+      left = reader_remaining R.remaining s.inner;
+      failed = s.failed;
+    } };
+
+    ghost fails = { λ s e. s.last ≡ Some (error_kind e) };
+
+    #[inline]
+    fn read(&mut self, piece: &mut [u8]) -> io::Result<usize> {
+        let held = self.counted.inner.buffer();
+        let taken = piece.len();
+        if taken <= held.len() {
+            let (front, _) = held.split_at(taken);
+            copy(piece, front);
+            self.counted.inner.consume(taken);
+            return Ok(taken);
+        }
+        self.read_apart(piece)
+    }
+
+    fn failures(&self) -> u64 {
+        Source::failures(&self.counted)
+    }
+}
+
+/// A buffered writer that counts its failures. It takes what a `Counted` of it takes, but a piece
+/// for which the buffer has room is copied there, without a call.
+#[derive(Drop)]
+pub struct BufferedSink<W: Write + Drop> {
+    counted: Counted<BufWriter<W>>,
+}
+
+impl<W: Write + Drop> Model for BufferedSink<W> {
+    ghost use Rattle.std.specs.declared.alloc.Global.{Global};
+    ghost use Rattle.std.specs.declared.io.buffered.BufWriter.{BufWriter};
+    ghost use Rattle.rtr_units.specs.CountedFailures.{Tally};
+
+    ghost Value = { Tally (BufWriter W Global) };
+
+    ghost view = { λ s. s.counted };
+}
+
+impl<W: Write + Drop> BufferedSink<W> {
+    /// Wraps the writer, with no failure yet.
+    pub fn new(inner: BufWriter<W>) -> Self
+        ensures { result ≡ record { inner = inner; failed = 0; last = None } }
+    {
+        BufferedSink {
+            counted: Counted::new(inner),
+        }
+    }
+
+    /// Gives back the writer, which may hold bytes that aren't written yet.
+    pub fn into_inner(self) -> BufWriter<W>
+        ensures { result ≡ self.inner }
+    {
+        self.counted.into_inner()
+    }
+
+    /// Whether the buffer has room for so many bytes, and more.
+    #[inline(always)]
+    fn has_room(&self, size: usize) -> bool {
+        let writer = &self.counted.inner;
+        let held = writer.buffer().len();
+        held <= writer.capacity() && size < writer.capacity() - held
+    }
+
+    /// Writes as `Counted` does, in a call of its own.
+    #[cold]
+    #[inline(never)]
+    fn write_on(&mut self, piece: &[u8]) -> io::Result<usize>
+        ensures { WritesCounted (writer_contents W.contents) result self.old self.new piece.now }
+    {
+        self.counted.write(piece)
+    }
+
+    /// The same, apart as `read_apart` of `BufferedSource`.
+    #[inline(always)]
+    fn write_apart(&mut self, piece: &[u8]) -> io::Result<usize>
+        ensures { WritesCounted (writer_contents W.contents) result self.old self.new piece.now }
+    {
+        match self.write_on(piece) {
+            Ok(n) => Ok(n),
+            Err(e) => Err(e),
+        }
+    }
+}
+
+impl<W: Write + Drop> Sink for BufferedSink<W> {
+    ghost state = { λ s. record {
+      held = writer_contents W.contents s.inner;
+      failed = s.failed;
+    } };
+
+    ghost fails = { λ s e. s.last ≡ Some (error_kind e) };
+
+    ghost stalls = { λ s. (0 < s.failed) × (s.last ≡ None) };
+
+    #[inline]
+    fn write(&mut self, piece: &[u8]) -> io::Result<usize> {
+        if self.has_room(piece.len()) {
+            return self.counted.write(piece);
+        }
+        self.write_apart(piece)
+    }
+
+    fn flush(&mut self) -> io::Result<()> {
+        self.counted.flush()
+    }
+
+    fn failures(&self) -> u64 {
+        Sink::failures(&self.counted)
+    }
+}
