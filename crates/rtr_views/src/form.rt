@@ -26,8 +26,7 @@ pub fn put_piece<W: Sink>(writer: &mut W, piece: &[u8]) -> Result<(), ViewFault>
     }
 }
 
-/// Writes a router key or an ASPA unit: a header made from the fields, and then what follows it,
-/// `rest`.
+/// Writes a unit with flags: a header made from the fields, and then what follows it, `rest`.
 #[inline(always)]
 pub fn put_flagged<W: Sink>(
     writer: &mut W,
