@@ -1,6 +1,9 @@
 -- Readers and writers whose failures are counted, which is this library's own.
-use Rattle.std.specs.Prelude.{ℕ, Option}
+use Rattle.std.specs.Prelude.{◌≡◌, ◌<◌, ℕ, Option, Some, None, List}
+use Rattle.std.specs.IoError.{error_kind}
+use Rattle.std.specs.declared.io.Error.{Error}
 use Rattle.std.specs.declared.io.ErrorKind.{ErrorKind}
+use Rattle.rtr_units.specs.StopCauses.{ReaderState, WriterState}
 
 -- The reader or writer, how many failures there were, and the kind of the error that came last:
 -- none where nothing has failed, or where a write that took nothing came after it.
@@ -8,3 +11,19 @@ pub record Tally (T : Type 0) : Type 0 where
   pub inner : T
   pub failed : ℕ
   pub last : Option ErrorKind
+
+-- what is seen of a reader whose bytes are known by `left`
+abbrev pub reader_state : {T : Type 0} → (T → Option (List ℕ)) → Tally T → ReaderState
+reader_state left t = record { left = left t.inner; failed = t.failed }
+
+-- what is seen of a writer whose bytes are known by `held`
+abbrev pub writer_state : {T : Type 0} → (T → Option (List ℕ)) → Tally T → WriterState
+writer_state held t = record { held = held t.inner; failed = t.failed }
+
+-- the last failure was an error of this one's kind
+abbrev pub FailedWith : {T : Type 0} → Tally T → Error → Type 0
+FailedWith t e = t.last ≡ Some (error_kind e)
+
+-- something has failed, and the last failure was a write that took nothing
+abbrev pub Stalled : {T : Type 0} → Tally T → Type 0
+Stalled t = (0 < t.failed) × (t.last ≡ None)

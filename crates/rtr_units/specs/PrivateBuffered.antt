@@ -1,12 +1,11 @@
 -- Calls of readers and writers that count their failures: this library's own. Only contracts of
 -- private functions cite these.
-use Rattle.std.specs.Prelude.{◌≡◌, ◌<◌, ℕ, Option, Some, None, List, length, Result, IfOk, IfErr}
+use Rattle.std.specs.Prelude.{◌≡◌, ◌<◌, ℕ, Option, List, length, Result, IfOk, IfErr}
 use Rattle.std.specs.Prelude.{is_ok}
 use Rattle.std.specs.Io.{ReadsAtMost, WritesAtMost}
-use Rattle.std.specs.Io.KnownBytes.{ReadConsumes, WriteAppends}
-use Rattle.std.specs.IoError.{error_kind}
+use Rattle.std.specs.Io.KnownBytes.{ReadConsumes, WriteAppends, Keeps}
 use Rattle.std.specs.declared.io.Error.{Error}
-use Rattle.rtr_units.specs.CountedFailures.{Tally}
+use Rattle.rtr_units.specs.CountedFailures.{Tally, FailedWith, Stalled}
 use Rattle.rtr_units.specs.StopCauses.{count_after}
 use Rattle.rtr_units.specs.Stream.{count_after_write}
 
@@ -15,7 +14,7 @@ abbrev pub ReadsCounted : {T : Type 0} → (T → Option (List ℕ)) → Result 
     Tally T → Tally T → List ℕ → Type 0
 ReadsCounted left answer old new piece =
     ReadsAtMost answer piece × ReadConsumes (left old.inner) (left new.inner) answer piece
-    × IfErr answer (λ e. new.last ≡ Some (error_kind e))
+    × IfErr answer (FailedWith new)
     × (new.failed ≡ count_after old.failed (is_ok answer))
 
 -- a write of a piece to a writer whose bytes are known by `held`
@@ -23,6 +22,13 @@ abbrev pub WritesCounted : {T : Type 0} → (T → Option (List ℕ)) → Result
     Tally T → Tally T → List ℕ → Type 0
 WritesCounted held answer old new piece =
     WritesAtMost answer piece × WriteAppends (held old.inner) (held new.inner) answer piece
-    × IfErr answer (λ e. new.last ≡ Some (error_kind e))
-    × IfOk answer (λ n. n ≡ 0 → 0 < length piece → (0 < new.failed) × (new.last ≡ None))
+    × IfErr answer (FailedWith new)
+    × IfOk answer (λ n. n ≡ 0 → 0 < length piece → Stalled new)
     × (new.failed ≡ count_after_write old.failed answer piece)
+
+-- a flush of a writer whose bytes are known by `held`
+abbrev pub FlushesCounted : {T U : Type 0} → (T → Option (List ℕ)) → Result U Error →
+    Tally T → Tally T → Type 0
+FlushesCounted held answer old new =
+    Keeps (held old.inner) (held new.inner) × IfErr answer (FailedWith new)
+    × (new.failed ≡ count_after old.failed (is_ok answer))

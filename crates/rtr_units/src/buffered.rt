@@ -1,9 +1,9 @@
 //! Buffered readers and writers that count their failures, and for which short pieces are cheap.
 
-ghost use Rattle.std.specs.Prelude.{◌≡◌, ◌<◌, Some, None};
-ghost use Rattle.std.specs.Io.Buffered.{reader_remaining, writer_contents};
-ghost use Rattle.std.specs.IoError.{error_kind};
-ghost use Rattle.rtr_units.specs.PrivateBuffered.{ReadsCounted, WritesCounted};
+ghost use Rattle.std.specs.Prelude.{◌≡◌, OnOk, None, []};
+ghost use Rattle.std.specs.Io.Buffered.{reader_remaining, writer_buffer, writer_contents};
+ghost use Rattle.rtr_units.specs.CountedFailures.{reader_state, writer_state, FailedWith, Stalled};
+ghost use Rattle.rtr_units.specs.PrivateBuffered.{ReadsCounted, WritesCounted, FlushesCounted};
 
 use crate::copying::copy;
 use crate::source::{Counted, Sink, Source};
@@ -70,12 +70,9 @@ impl<R: Read> BufferedSource<R> {
 }
 
 impl<R: Read> Source for BufferedSource<R> {
-    ghost state = { λ s. record {
-      left = reader_remaining R.remaining s.inner;
-      failed = s.failed;
-    } };
+    ghost state = { reader_state (reader_remaining R.remaining) };
 
-    ghost fails = { λ s e. s.last ≡ Some (error_kind e) };
+    ghost fails = { FailedWith };
 
     #[inline]
     fn read(&mut self, piece: &mut [u8]) -> io::Result<usize> {
@@ -97,7 +94,7 @@ impl<R: Read> Source for BufferedSource<R> {
 
 /// A buffered writer that counts its failures. It takes what a `Counted` of it takes, but a piece
 /// for which the buffer has room is copied there, without a call.
-#[derive(Drop)]
+#[derive(Debug, Drop)]
 pub struct BufferedSink<W: Write + Drop> {
     counted: Counted<BufWriter<W>>,
 }
@@ -159,14 +156,11 @@ impl<W: Write + Drop> BufferedSink<W> {
 }
 
 impl<W: Write + Drop> Sink for BufferedSink<W> {
-    ghost state = { λ s. record {
-      held = writer_contents W.contents s.inner;
-      failed = s.failed;
-    } };
+    ghost state = { writer_state (writer_contents W.contents) };
 
-    ghost fails = { λ s e. s.last ≡ Some (error_kind e) };
+    ghost fails = { FailedWith };
 
-    ghost stalls = { λ s. (0 < s.failed) × (s.last ≡ None) };
+    ghost stalls = { Stalled };
 
     #[inline]
     fn write(&mut self, piece: &[u8]) -> io::Result<usize> {
@@ -176,8 +170,15 @@ impl<W: Write + Drop> Sink for BufferedSink<W> {
         self.write_apart(piece)
     }
 
-    fn flush(&mut self) -> io::Result<()> {
-        self.counted.flush()
+    fn flush(&mut self) -> io::Result<()>
+        ensures counted { FlushesCounted (writer_contents W.contents) result self.old self.new }
+        // Then nothing waits in the buffer.
+        ensures empty { OnOk result (writer_buffer self.new.inner ≡ []) }
+    {
+        match self.counted.inner.flush() {
+            Ok(()) => Ok(()),
+            Err(e) => Err(self.counted.failed(e)),
+        }
     }
 
     fn failures(&self) -> u64 {

@@ -2,14 +2,16 @@
 
 ghost use Rattle.std.specs.Prelude.{◌≡◌, ◌≤◌, length};
 
-/// The longest piece whose first four bytes are copied separately.
-const SHORT: usize = 64;
+/// The bytes of a header.
+const HEADER: usize = 8;
+
+/// The bytes that follow the header of an IPv4 prefix.
+const IPV4_REST: usize = 12;
 
 /// The bytes that follow the header of an IPv6 prefix.
 const IPV6_REST: usize = 24;
 
-/// Copies all bytes; the first four separately if the piece is longer than a header, but short, and
-/// what follows the header of an IPv6 prefix in words.
+/// Copies all bytes: a header, and what follows it in a prefix, in words, and all else at once.
 ///
 /// A prefix unit has a word of four bytes after its header, and then an address and an ASN. This
 /// way the address is stored as it is loaded. Else its load would wait for two stores, which takes
@@ -19,32 +21,46 @@ pub(crate) fn copy(piece: &mut [u8], bytes: &[u8])
     requires { length piece.old ≡ length bytes.now }
     ensures { piece.new ≡ bytes.now }
 {
-    if piece.len() <= 8 || piece.len() > SHORT {
-        piece.copy_from_slice(bytes);
-        return;
-    }
-    let (word, rest) = piece.split_at_mut(4);
-    let (word_bytes, rest_bytes) = bytes.split_at(4);
-    word.copy_from_slice(word_bytes);
-    if bytes.len() == IPV6_REST {
-        copy_halves(rest, rest_bytes);
-    } else {
-        rest.copy_from_slice(rest_bytes);
+    match bytes.len() {
+        HEADER => copy_word::<8>(piece, bytes),
+        IPV4_REST => {
+            let (word, rest) = piece.split_at_mut(4);
+            let (word_bytes, rest_bytes) = bytes.split_at(4);
+            copy_word::<4>(word, word_bytes);
+            copy_word::<8>(rest, rest_bytes);
+        }
+        IPV6_REST => copy_ipv6_rest(piece, bytes),
+        _ => piece.copy_from_slice(bytes),
     }
 }
 
-/// Copies an IPv6 address, each half separately, and what follows it.
+/// Copies what follows the header of an IPv6 prefix: a word, each half of the address, and the ASN.
 #[inline(always)]
-fn copy_halves(piece: &mut [u8], bytes: &[u8])
-    requires same { length piece.old ≡ length bytes.now }
-    requires size { 16 ≤ length bytes.now }
+fn copy_ipv6_rest(piece: &mut [u8], bytes: &[u8])
+    requires piece { length piece.old ≡ 24 }
+    requires bytes { length bytes.now ≡ 24 }
     ensures { piece.new ≡ bytes.now }
 {
-    let (high, rest) = piece.split_at_mut(8);
-    let (high_bytes, rest_bytes) = bytes.split_at(8);
-    let (low, last) = rest.split_at_mut(8);
-    let (low_bytes, last_bytes) = rest_bytes.split_at(8);
-    high.copy_from_slice(high_bytes);
-    low.copy_from_slice(low_bytes);
-    last.copy_from_slice(last_bytes);
+    let (front, back) = piece.split_at_mut(12);
+    let (front_bytes, back_bytes) = bytes.split_at(12);
+    let (word, high) = front.split_at_mut(4);
+    let (word_bytes, high_bytes) = front_bytes.split_at(4);
+    let (low, asn) = back.split_at_mut(8);
+    let (low_bytes, asn_bytes) = back_bytes.split_at(8);
+    copy_word::<4>(word, word_bytes);
+    copy_word::<8>(high, high_bytes);
+    copy_word::<8>(low, low_bytes);
+    copy_word::<4>(asn, asn_bytes);
+}
+
+/// Copies as many bytes as this in one move.
+#[inline(always)]
+fn copy_word<const SIZE: usize>(piece: &mut [u8], bytes: &[u8])
+    requires piece { length piece.old ≡ SIZE }
+    requires bytes { length bytes.now ≡ SIZE }
+    ensures { piece.new ≡ bytes.now }
+{
+    if let (Some(word), Some(given)) = (piece.as_mut_array::<SIZE>(), bytes.as_array::<SIZE>()) {
+        *word = *given;
+    }
 }
