@@ -13,6 +13,8 @@ sources; with --fresh it isn't picked. The script prints the programs of these n
 import functools
 import hashlib
 import os
+import shutil
+import subprocess
 import sys
 
 TOP = os.path.realpath(os.path.join(os.path.dirname(os.path.abspath(__file__)), ".."))
@@ -83,6 +85,20 @@ def needed(name, only_fresh=False):
 def program(name):
     """The path of the program as LLVM builds it."""
     return needed(name)[0]
+
+
+def compiler():
+    """The C compiler of the kit, or where that isn't here the machine's."""
+    if not shutil.which("rt"):
+        return "cc"
+    page = subprocess.run(["rt", "doc"], capture_output=True, text=True, check=True).stdout.strip()
+    return os.path.join(os.path.dirname(page), "toolchain", "bin", "clang")
+
+
+def compile_library(source, to):
+    """Compiles a C file of this folder as a library to load into programs."""
+    file = os.path.join(TOP, ".ci", source)
+    subprocess.run([compiler(), "-shared", "-fPIC", "-O1", "-o", to, file], check=True)
 
 
 def main():

@@ -5,12 +5,9 @@
 mod clean;
 mod flushing;
 mod run;
-#[cfg(test)]
-mod tests;
 mod wanted;
 
-use rtr_units::buffered::BufferedSource;
-use rtr_units::source::Counted;
+use rtr_units::buffered::{BufferedSink, BufferedSource};
 use std::env;
 use std::io::{BufReader, BufWriter, Stderr, Stdin, Stdout};
 use std::process::ExitCode;
@@ -42,7 +39,7 @@ fn words(rt: &HostRuntime) -> Option<Vec<String>> {
 
 fn main(rt: HostRuntime) -> ExitCode {
     let mut input = BufferedSource::new(buffered_input(&rt));
-    let mut output = Counted::new(buffered_output(&rt));
+    let mut output = BufferedSink::new(buffered_output(&rt));
     let mut faults: Stderr = rt.stderr();
     run::program(rt.alloc(), words(&rt), &mut input, &mut output, &mut faults)
 }

@@ -76,12 +76,10 @@ fn pieces_for_a_buffer_are_written_in_order(rt: HostRuntime) -> Result<(), Fail>
         }
         writer.flush()?;
         expect_equal(&rt, Sink::failures(&writer), 0);
-        let written = writer
-            .into_inner()
-            .into_inner()
-            .ok()
-            .map(Recorder::into_held);
-        expect_equal(&rt, written.as_deref(), Some(bytes.as_slice()));
+        let recorder = writer.into_inner().into_inner().ok();
+        let recorder = recorder.ok_or("bytes that aren't written")?;
+        expect_equal(&rt, recorder.flushes(), 1);
+        expect_equal(&rt, recorder.held(), bytes.as_slice());
     }
     Ok(())
 }

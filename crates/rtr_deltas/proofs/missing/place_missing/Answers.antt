@@ -66,7 +66,8 @@ units-preserved-in-Less c =
     c.args.output.now u.output u.written u.invariant c.in-Unit.view b
     c.next_of_data-item.result.1.now is parts c.next_of_data-second.result.0 b'
     c.next_of_data-second.result.1.now is' parts' c.place_lacking.new.output
-    c.in-Some-place_lacking.size c.order_of-order.result c.order_of-order.ensures c.in-Less.is c.in-Some-place_lacking.ensures
+    c.in-Some-place_lacking.size c.order_of-order.result c.order_of-order.ensures c.in-Less.is
+    c.in-Some-place_lacking.ensures
 
 pub units-preserved-in-Equal : goal.units-preserved-in-Equal
 units-preserved-in-Equal c =
@@ -77,7 +78,8 @@ units-preserved-in-Equal c =
     c.args.output.now u.output u.written u.invariant c.in-Unit.view b
     c.next_of_data-item.result.1.now is parts c.next_of_data-second.result.0 b'
     c.next_of_data-second.result.1.now is' parts' c.place_lacking.new.output
-    c.in-Some-place_lacking.size c.order_of-order.result c.order_of-order.ensures c.in-Equal.is c.in-Some-place_lacking.ensures
+    c.in-Some-place_lacking.size c.order_of-order.result c.order_of-order.ensures c.in-Equal.is
+    c.in-Some-place_lacking.ensures
 
 pub units-preserved : goal.units-preserved
 units-preserved c =
@@ -88,7 +90,8 @@ units-preserved c =
     c.args.output.now u.output u.written u.invariant c.in-Unit.view b
     c.next_of_data-item.result.1.now is parts c.next_of_data-second.result.0 b'
     c.next_of_data-second.result.1.now is' parts' c.place_lacking.new.output
-    c.in-Some-place_lacking.size c.order_of-order.result c.order_of-order.ensures c.in-Greater.is c.in-Some-place_lacking.ensures
+    c.in-Some-place_lacking.size c.order_of-order.result c.order_of-order.ensures c.in-Greater.is
+    c.in-Some-place_lacking.ensures
 
 pub returns-in-End-clause-within : goal.returns-in-End-clause-within
 returns-in-End-clause-within c = c.units.invariant.fits
