@@ -12,7 +12,7 @@ use std::io::{BufRead, BufReader, BufWriter, Read, Write};
 use std::marker::Model;
 
 /// A buffered reader that counts its errors. It gives what a `Counted` of it gives, but a piece
-/// that lies whole in the buffer is copied where it is asked for, without a call.
+/// that lies whole in the buffer is copied where it is asked for, without a call of the reader.
 #[derive(Debug, Drop)]
 pub struct BufferedSource<R> {
     counted: Counted<BufReader<R>>,
@@ -74,7 +74,7 @@ impl<R: Read> Source for BufferedSource<R> {
 
     ghost fails = { FailedWith };
 
-    #[inline]
+    // It has no hint: so it is inlined where the size of the piece is known, and only there.
     fn read(&mut self, piece: &mut [u8]) -> io::Result<usize> {
         let held = self.counted.inner.buffer();
         let taken = piece.len();
@@ -93,7 +93,7 @@ impl<R: Read> Source for BufferedSource<R> {
 }
 
 /// A buffered writer that counts its failures. It takes what a `Counted` of it takes, but a piece
-/// for which the buffer has room is copied there, without a call.
+/// for which the buffer has room is copied there, without a call of the writer.
 #[derive(Debug, Drop)]
 pub struct BufferedSink<W: Write + Drop> {
     counted: Counted<BufWriter<W>>,
@@ -162,7 +162,7 @@ impl<W: Write + Drop> Sink for BufferedSink<W> {
 
     ghost stalls = { Stalled };
 
-    #[inline]
+    #[inline(always)]
     fn write(&mut self, piece: &[u8]) -> io::Result<usize> {
         if self.has_room(piece.len()) {
             return self.counted.write(piece);
