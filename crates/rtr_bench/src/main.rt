@@ -90,7 +90,9 @@ fn time_slice(rt: &HostRuntime, input: &[u8]) -> io::Result<Result<Best, ViewFau
     }))
 }
 
-/// Prints what was measured for a way.
+/// Prints what was measured for a way; apart, so that it takes no registers from what is timed.
+#[cold]
+#[inline(never)]
 fn print(rt: &HostRuntime, way: &str, best: &Best) -> io::Result<()> {
     let nanos = best.nanos;
     writeln!(
