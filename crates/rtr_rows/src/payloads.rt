@@ -104,8 +104,9 @@ fn lent(row: &Row<'_>) -> Answer {
         return row.no_unit();
     };
     row.ready();
+    let bytes = unit.as_partial_slice();
     let mut seen = row.answer();
-    seen.bytes(unit.as_partial_slice());
+    seen.bytes(bytes);
     seen
 }
 

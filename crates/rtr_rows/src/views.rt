@@ -17,10 +17,14 @@ pub fn answer(row: &Row<'_>, way: Way) -> Option<Answer> {
 /// `UnitView::first`: what the view shows, and the unit's length.
 fn first(row: &Row<'_>) -> Answer {
     row.ready();
+    let answer = UnitView::first(&row.left);
     let mut seen = row.answer();
-    match UnitView::first(&row.left) {
+    match answer {
         Ok((view, size)) => {
             tell_view(&mut seen, &view);
+            if row.left.first() != Some(&view.version()) {
+                seen.word("of another version");
+            }
             seen.word("size");
             seen.word(size);
         }
