@@ -16,6 +16,8 @@ import os
 import shutil
 import subprocess
 import sys
+from importlib.machinery import SourceFileLoader
+from importlib.util import module_from_spec, spec_from_loader
 
 TOP = os.path.realpath(os.path.join(os.path.dirname(os.path.abspath(__file__)), ".."))
 ENDINGS = ("", ".by-rattle")
@@ -85,6 +87,14 @@ def needed(name, only_fresh=False):
 def program(name):
     """The path of the program as LLVM builds it."""
     return needed(name)[0]
+
+
+def script(name):
+    """A script of this folder as a module, for another that uses what it has."""
+    loader = SourceFileLoader(name, os.path.join(TOP, ".ci", name))
+    module = module_from_spec(spec_from_loader(name, loader))
+    loader.exec_module(module)
+    return module
 
 
 def compiler():
