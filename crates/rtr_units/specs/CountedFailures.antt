@@ -1,9 +1,10 @@
 -- Readers and writers whose failures are counted, which is this library's own.
-use Rattle.std.specs.Prelude.{◌≡◌, ◌<◌, ℕ, Option, Some, None, List}
+use Rattle.std.specs.Prelude.{◌≡◌, ◌<◌, ℕ, Option, Some, None, List, Result, IfErr, is_ok}
+use Rattle.std.specs.Io.KnownBytes.{Keeps}
 use Rattle.std.specs.IoError.{error_kind}
 use Rattle.std.specs.declared.io.Error.{Error}
 use Rattle.std.specs.declared.io.ErrorKind.{ErrorKind}
-use Rattle.rtr_units.specs.StopCauses.{ReaderState, WriterState}
+use Rattle.rtr_units.specs.StopCauses.{ReaderState, WriterState, count_after}
 
 -- The reader or writer, how many failures there were, and the kind of the error that came last:
 -- none where nothing has failed, or where a write that took nothing came after it.
@@ -27,3 +28,10 @@ FailedWith t e = t.last ≡ Some (error_kind e)
 -- something has failed, and the last failure was a write that took nothing
 abbrev pub Stalled : {T : Type 0} → Tally T → Type 0
 Stalled t = (0 < t.failed) × (t.last ≡ None)
+
+-- a flush of a writer whose bytes are known by `held`
+abbrev pub FlushesCounted : {T U : Type 0} → (T → Option (List ℕ)) → Result U Error →
+    Tally T → Tally T → Type 0
+FlushesCounted held answer old new =
+    Keeps (held old.inner) (held new.inner) × IfErr answer (FailedWith new)
+    × (new.failed ≡ count_after old.failed (is_ok answer))

@@ -3,7 +3,7 @@
 use Rattle.std.specs.Prelude.{◌≡◌, ◌<◌, ℕ, Option, List, length, Result, IfOk, IfErr}
 use Rattle.std.specs.Prelude.{is_ok}
 use Rattle.std.specs.Io.{ReadsAtMost, WritesAtMost}
-use Rattle.std.specs.Io.KnownBytes.{ReadConsumes, WriteAppends, Keeps}
+use Rattle.std.specs.Io.KnownBytes.{ReadConsumes, WriteAppends}
 use Rattle.std.specs.declared.io.Error.{Error}
 use Rattle.rtr_units.specs.CountedFailures.{Tally, FailedWith, Stalled}
 use Rattle.rtr_units.specs.StopCauses.{count_after}
@@ -25,10 +25,3 @@ WritesCounted held answer old new piece =
     × IfErr answer (FailedWith new)
     × IfOk answer (λ n. n ≡ 0 → 0 < length piece → Stalled new)
     × (new.failed ≡ count_after_write old.failed answer piece)
-
--- a flush of a writer whose bytes are known by `held`
-abbrev pub FlushesCounted : {T U : Type 0} → (T → Option (List ℕ)) → Result U Error →
-    Tally T → Tally T → Type 0
-FlushesCounted held answer old new =
-    Keeps (held old.inner) (held new.inner) × IfErr answer (FailedWith new)
-    × (new.failed ≡ count_after old.failed (is_ok answer))

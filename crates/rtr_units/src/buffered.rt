@@ -2,8 +2,9 @@
 
 ghost use Rattle.std.specs.Prelude.{◌≡◌, OnOk, None, []};
 ghost use Rattle.std.specs.Io.Buffered.{reader_remaining, writer_buffer, writer_contents};
-ghost use Rattle.rtr_units.specs.CountedFailures.{reader_state, writer_state, FailedWith, Stalled};
-ghost use Rattle.rtr_units.specs.PrivateBuffered.{ReadsCounted, WritesCounted, FlushesCounted};
+ghost use Rattle.rtr_units.specs.CountedFailures.{reader_state, writer_state};
+ghost use Rattle.rtr_units.specs.CountedFailures.{FailedWith, Stalled, FlushesCounted};
+ghost use Rattle.rtr_units.specs.PrivateBuffered.{ReadsCounted, WritesCounted};
 
 use crate::copying::copy;
 use crate::source::{Counted, Sink, Source};
