@@ -18,4 +18,6 @@ pub mod support;
 #[cfg(test)]
 mod units;
 #[cfg(test)]
+mod uses;
+#[cfg(test)]
 mod wire;

@@ -1,9 +1,6 @@
 //! Counts the payload units of a sequence on standard input.
 #![tactic(auto)]
 
-#[cfg(test)]
-mod uses;
-
 use rtr_wire::normalise;
 use rtr_wire::pdu::{Counted, Fault};
 use std::io::{self, BufReader};
