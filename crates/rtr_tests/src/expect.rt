@@ -6,6 +6,11 @@ use std::fmt::{Debug, Display};
 use std::hash::Hash;
 use std::process::Abort;
 
+/// Asserts that this holds. A test that calls this is proved faster than one that uses the macro.
+pub fn expect(rt: &impl Abort, holds: bool) {
+    assert!(rt; holds);
+}
+
 /// Asserts that the two are equal. A test that calls this is proved faster than one that uses the
 /// macro.
 pub fn expect_equal<T: PartialEq + Debug + Drop>(rt: &impl Abort, left: T, right: T) {
@@ -14,7 +19,7 @@ pub fn expect_equal<T: PartialEq + Debug + Drop>(rt: &impl Abort, left: T, right
 
 /// Asserts that the two are equal, and have equal hashes.
 pub fn expect_same<T: Eq + Hash>(rt: &impl Abort, left: &T, right: &T) {
-    assert!(rt; left == right);
+    expect(rt, left == right);
     expect_equal(rt, hash_of(left), hash_of(right));
 }
 

@@ -2,6 +2,7 @@
 
 use rtr_base::state::{Serial, State};
 use std::alloc::Global;
+use std::process::Abort;
 use std::test::Fail;
 
 /// A serial notify.
@@ -63,22 +64,24 @@ pub fn state() -> State {
     State::from_parts(0x1234, Serial(0xdeadbeef))
 }
 
-/// The bytes of the texts, one text after the other: pairs of hex digits between spaces.
+/// The bytes of the text: pairs of hex digits between spaces.
+pub fn decoded(alloc: Global, text: &str) -> Option<Vec<u8>> {
+    let mut all = Vec::new(alloc);
+    for word in text.split_ascii_whitespace() {
+        let piece = hex::decode(alloc, word).ok()?;
+        all.extend_from_slice(&piece).ok()?;
+    }
+    Some(all)
+}
+
+/// The bytes of the texts, one text after the other.
 pub fn bytes(alloc: Global, texts: &[&str]) -> Result<Vec<u8>, Fail> {
     let mut all = Vec::new(alloc);
     for text in texts {
-        add(alloc, &mut all, text)?;
-    }
-    Ok(all)
-}
-
-/// Appends the bytes of the text.
-fn add(alloc: Global, all: &mut Vec<u8>, text: &str) -> Result<(), Fail> {
-    for word in text.split_ascii_whitespace() {
-        let piece = hex::decode(alloc, word)?;
+        let piece = decoded(alloc, text).ok_or("a text that stands for no bytes")?;
         all.extend_from_slice(&piece)?;
     }
-    Ok(())
+    Ok(all)
 }
 
 /// The first bytes, at most this many.
@@ -87,26 +90,22 @@ pub fn front(bytes: &[u8], count: usize) -> &[u8] {
     front
 }
 
-/// Fails at the first row of a table, `INPUT -> ANSWER`, whose input gets another answer or none.
-pub fn check_rows(
+/// Asserts that each row of a table, `INPUT -> ANSWER`, has an input that gets this answer.
+pub fn expect_rows(
+    rt: &impl Abort,
     alloc: Global,
     rows: &str,
     answer: fn(Global, &str) -> Option<String>,
-) -> Result<(), Fail>
+)
     requires { IsAlwaysCallable answer }
 {
     for row in rows.lines() {
         let (input, want) = row.split_once(" -> ").unwrap_or((row, ""));
-        check_row(row, answer(alloc, input), want)?;
+        expect_row(rt, row, answer(alloc, input), want);
     }
-    Ok(())
 }
 
-/// Fails if the input of a row gets another answer or none.
-fn check_row(row: &str, answer: Option<String>, want: &str) -> Result<(), Fail> {
-    match answer {
-        Some(text) if text.as_str() == want => Ok(()),
-        Some(text) => Err(Fail::new(format_args!("at {row}: {text}"))),
-        None => Err(Fail::new(format_args!("at {row}: no answer"))),
-    }
+/// Asserts that the answer is the one in its row.
+fn expect_row(rt: &impl Abort, row: &str, answer: Option<String>, want: &str) {
+    assert!(rt; answer.as_deref() == Some(want), "at {row}: {answer:?}");
 }

@@ -2,7 +2,7 @@
 
 use crate::base::rows::named;
 use crate::expect::expect_equal;
-use crate::samples::check_rows;
+use crate::samples::expect_rows;
 use crate::support::hash_of;
 use rtr_base::addr::{MaxLenError, MaxLenPrefix, Prefix, PrefixError};
 use std::alloc::Global;
@@ -72,9 +72,9 @@ fn relaxed(alloc: Global, text: &str) -> Option<String> {
 }
 
 #[test]
-fn prefixes(rt: HostRuntime) -> Result<(), Fail> {
-    check_rows(rt.alloc(), STRICT, strict)?;
-    check_rows(rt.alloc(), RELAXED, relaxed)
+fn prefixes(rt: HostRuntime) {
+    expect_rows(&rt, rt.alloc(), STRICT, strict);
+    expect_rows(&rt, rt.alloc(), RELAXED, relaxed);
 }
 
 /// The IPv4 prefix at an address.
@@ -113,7 +113,7 @@ fn expect_parts(rt: &impl Abort, prefix: Prefix, max_len: Option<u8>, resolved: 
     expect_equal(rt, made.max_len(), max_len);
     expect_equal(rt, made.prefix(), prefix);
     expect_equal(rt, made.prefix_len(), prefix.len());
-    assert!(rt; made.addr() == prefix.addr());
+    expect_equal(rt, made.addr(), prefix.addr());
 }
 
 #[test]
@@ -175,8 +175,8 @@ fn compared(left: Prefix, right: Prefix) -> Option<Ordering> {
 }
 
 #[test]
-fn prefixes_ascend(rt: HostRuntime) -> Result<(), Fail> {
-    check_rows(rt.alloc(), ORDERS, order)
+fn prefixes_ascend(rt: HostRuntime) {
+    expect_rows(&rt, rt.alloc(), ORDERS, order);
 }
 
 #[test]

@@ -1,13 +1,12 @@
 //! Serial numbers and states.
 
 use crate::base::rows::named;
-use crate::expect::expect_equal;
-use crate::samples::check_rows;
+use crate::expect::{expect, expect_equal};
+use crate::samples::expect_rows;
 use crate::support::hash_of;
 use rtr_base::laws;
 use rtr_base::state::{Serial, State};
 use std::alloc::Global;
-use std::test::Fail;
 
 const ORDERS: &str = "\
 12 and 12 -> Some(Equal)
@@ -37,14 +36,14 @@ fn order(alloc: Global, text: &str) -> Option<String> {
 }
 
 #[test]
-fn serials_compare(rt: HostRuntime) -> Result<(), Fail> {
-    check_rows(rt.alloc(), ORDERS, order)
+fn serials_compare(rt: HostRuntime) {
+    expect_rows(&rt, rt.alloc(), ORDERS, order);
 }
 
 #[test]
 fn equal_serials(rt: HostRuntime) {
-    assert!(rt; Serial(12) == Serial(12));
-    assert!(rt; Serial(12) != Serial(112));
+    expect(&rt, Serial(12) == Serial(12));
+    expect(&rt, Serial(12) != Serial(112));
     expect_equal(&rt, hash_of(&Serial(12)), hash_of(&Serial(12)));
     laws::serial_reversed();
     laws::serial_half_circle();
@@ -61,7 +60,7 @@ fn serials_add(rt: HostRuntime) {
 fn serials_convert(rt: HostRuntime) {
     let serial = Serial::from_be_bytes([0xde, 0xad, 0xbe, 0xef]);
     expect_equal(&rt, serial, Serial(0xdeadbeef));
-    assert!(rt; serial.to_be_bytes() == [0xde, 0xad, 0xbe, 0xef]);
+    expect(&rt, serial.to_be_bytes() == [0xde, 0xad, 0xbe, 0xef]);
     expect_equal(&rt, Serial::from(17), Serial(17));
     expect_equal(&rt, u32::from(Serial(17)), 17);
     expect_equal(&rt, Serial::default(), Serial(0));

@@ -2,7 +2,7 @@
 
 use crate::base::rows::read;
 use crate::expect::{expect_equal, expect_text, written};
-use crate::samples::check_rows;
+use crate::samples::{IDENTIFIER, expect_rows};
 use rtr_base::action::Action;
 use rtr_base::addr::{MaxLenError, MaxLenPrefix, Prefix, PrefixError};
 use rtr_base::afi::Afi;
@@ -14,7 +14,6 @@ use rtr_base::state::Serial;
 use std::alloc::Global;
 use std::error::Error;
 use std::process::Abort;
-use std::test::Fail;
 
 const WRITTEN_AS_NUMBERS: &str = "\
 0 -> AS0
@@ -52,9 +51,9 @@ fn read_as_number(alloc: Global, text: &str) -> Option<String> {
 }
 
 #[test]
-fn as_numbers(rt: HostRuntime) -> Result<(), Fail> {
-    check_rows(rt.alloc(), WRITTEN_AS_NUMBERS, as_number)?;
-    check_rows(rt.alloc(), READ_AS_NUMBERS, read_as_number)
+fn as_numbers(rt: HostRuntime) {
+    expect_rows(&rt, rt.alloc(), WRITTEN_AS_NUMBERS, as_number);
+    expect_rows(&rt, rt.alloc(), READ_AS_NUMBERS, read_as_number);
 }
 
 const SERIALS: &str = "\
@@ -99,9 +98,9 @@ fn code(alloc: Global, number: &str) -> Option<String> {
 }
 
 #[test]
-fn serials_and_codes(rt: HostRuntime) -> Result<(), Fail> {
-    check_rows(rt.alloc(), SERIALS, read_serial)?;
-    check_rows(rt.alloc(), CODES, code)
+fn serials_and_codes(rt: HostRuntime) {
+    expect_rows(&rt, rt.alloc(), SERIALS, read_serial);
+    expect_rows(&rt, rt.alloc(), CODES, code);
 }
 
 const PREFIXES: &str = "\
@@ -160,9 +159,9 @@ fn read_prefix(alloc: Global, text: &str) -> Option<String> {
 }
 
 #[test]
-fn prefixes(rt: HostRuntime) -> Result<(), Fail> {
-    check_rows(rt.alloc(), PREFIXES, rewritten)?;
-    check_rows(rt.alloc(), NO_PREFIXES, read_prefix)
+fn prefixes(rt: HostRuntime) {
+    expect_rows(&rt, rt.alloc(), PREFIXES, rewritten);
+    expect_rows(&rt, rt.alloc(), NO_PREFIXES, read_prefix);
 }
 
 const MAX_LENS: &str = "\
@@ -187,12 +186,12 @@ fn read_max_len(alloc: Global, text: &str) -> Option<String> {
 }
 
 #[test]
-fn prefixes_with_max_len(rt: HostRuntime) -> Result<(), Fail> {
-    let given: MaxLenPrefix = "192.0.2.0/23-23".parse()?;
+fn prefixes_with_max_len(rt: HostRuntime) {
+    let given: MaxLenPrefix = "192.0.2.0/23-23".parse().expect(&rt, "a prefix");
     expect_equal(&rt, given.max_len(), Some(23));
-    let alone: MaxLenPrefix = "192.0.2.0/23".parse()?;
+    let alone: MaxLenPrefix = "192.0.2.0/23".parse().expect(&rt, "a prefix");
     expect_equal(&rt, alone.max_len(), None);
-    check_rows(rt.alloc(), MAX_LENS, read_max_len)
+    expect_rows(&rt, rt.alloc(), MAX_LENS, read_max_len);
 }
 
 const REFUSALS: &str = "\
@@ -210,8 +209,8 @@ fn refusal(alloc: Global, text: &str) -> Option<String> {
 }
 
 #[test]
-fn texts_of_refusals(rt: HostRuntime) -> Result<(), Fail> {
-    check_rows(rt.alloc(), REFUSALS, refusal)
+fn texts_of_refusals(rt: HostRuntime) {
+    expect_rows(&rt, rt.alloc(), REFUSALS, refusal);
 }
 
 /// Asserts the text of an error.
@@ -269,16 +268,10 @@ fn read_key(alloc: Global, text: &str) -> Option<String> {
 }
 
 #[test]
-fn key_identifiers(rt: HostRuntime) -> Result<(), Fail> {
-    let mut bytes = [0; 20];
-    bytes[0] = 0x5a;
-    bytes[1] = 0xf0;
-    bytes[19] = 0x0f;
-    let key = KeyIdentifier::from(bytes);
-    let text = "5af000000000000000000000000000000000000f";
+fn key_identifiers(rt: HostRuntime) {
+    let key = KeyIdentifier::from(IDENTIFIER);
+    let text = "0102030405060708090a0b0c0d0e0f1011121314";
     expect_text(&rt, rt.alloc(), key, text);
     expect_equal(&rt, text.parse(), Ok(key));
-    let upper = "5AF000000000000000000000000000000000000F";
-    expect_equal(&rt, upper.parse(), Ok(key));
-    check_rows(rt.alloc(), KEYS, read_key)
+    expect_rows(&rt, rt.alloc(), KEYS, read_key);
 }

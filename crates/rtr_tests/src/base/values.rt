@@ -1,6 +1,6 @@
 //! ASNs, keys, actions, families, timings and error codes.
 
-use crate::expect::expect_equal;
+use crate::expect::{expect, expect_equal};
 use crate::support::hash_of;
 use rtr_base::action::Action;
 use rtr_base::afi::Afi;
@@ -13,7 +13,7 @@ use rtr_base::timing::Timing;
 fn numbers(rt: HostRuntime) {
     expect_equal(&rt, Asn::from_u32(65551).into_u32(), 65551);
     expect_equal(&rt, Asn::from(65551), Asn::from_u32(65551));
-    assert!(rt; Asn::from_u32(2) < Asn::from_u32(256));
+    expect(&rt, Asn::from_u32(2) < Asn::from_u32(256));
     expect_equal(&rt, hash_of(&Asn::from_u32(7)), hash_of(&Asn::from_u32(7)));
 }
 
@@ -23,7 +23,7 @@ fn keys(rt: HostRuntime) {
     bytes[0] = 1;
     let key = KeyIdentifier::from(bytes);
     let back: [u8; 20] = key.into();
-    assert!(rt; back == bytes);
+    expect(&rt, back == bytes);
     expect_equal(&rt, hash_of(&key), hash_of(&KeyIdentifier::from(back)));
 }
 
@@ -34,8 +34,8 @@ fn keys_ascend(rt: HostRuntime) {
     let key = KeyIdentifier::from(bytes);
     bytes[19] = 1;
     let next = KeyIdentifier::from(bytes);
-    assert!(rt; key < next);
-    assert!(rt; key != next);
+    expect(&rt, key < next);
+    expect(&rt, key != next);
 }
 
 #[test]
@@ -50,17 +50,17 @@ fn actions(rt: HostRuntime) {
 
 #[test]
 fn announce_and_withdraw(rt: HostRuntime) {
-    assert!(rt; Action::Announce < Action::Withdraw);
-    assert!(rt; Action::Announce.is_announce());
-    assert!(rt; !Action::Announce.is_withdraw());
-    assert!(rt; Action::Withdraw.is_withdraw());
-    assert!(rt; !Action::Withdraw.is_announce());
+    expect(&rt, Action::Announce < Action::Withdraw);
+    expect(&rt, Action::Announce.is_announce());
+    expect(&rt, !Action::Announce.is_withdraw());
+    expect(&rt, Action::Withdraw.is_withdraw());
+    expect(&rt, !Action::Withdraw.is_announce());
 }
 
 #[test]
 fn families(rt: HostRuntime) {
-    assert!(rt; Afi::ipv6().is_ipv6());
-    assert!(rt; !Afi::ipv6().is_ipv4());
+    expect(&rt, Afi::ipv6().is_ipv6());
+    expect(&rt, !Afi::ipv6().is_ipv4());
     expect_equal(&rt, Afi::from_u8(1), Afi::ipv6());
 }
 
@@ -68,10 +68,10 @@ fn families(rt: HostRuntime) {
 #[test]
 fn other_families(rt: HostRuntime) {
     let other = Afi::from_u8(2);
-    assert!(rt; other != Afi::ipv4());
-    assert!(rt; Afi::ipv6() < other);
-    assert!(rt; other.is_ipv4());
-    assert!(rt; !other.is_ipv6());
+    expect(&rt, other != Afi::ipv4());
+    expect(&rt, Afi::ipv6() < other);
+    expect(&rt, other.is_ipv4());
+    expect(&rt, !other.is_ipv6());
     expect_equal(&rt, other.into_u8(), 2);
 }
 
@@ -110,7 +110,7 @@ fn error_codes(rt: HostRuntime) {
     for (code, number) in codes {
         expect_equal(&rt, code, ErrorCode(number));
     }
-    assert!(rt; ErrorCode::CORRUPT_DATA < ErrorCode::INTERNAL_ERROR);
+    expect(&rt, ErrorCode::CORRUPT_DATA < ErrorCode::INTERNAL_ERROR);
     expect_equal(
         &rt,
         hash_of(&ErrorCode(3)),

@@ -6,7 +6,6 @@ use crate::support::hash_of;
 use rtr_payload::payload::Payload;
 use std::cmp::Ordering;
 use std::process::Abort;
-use std::test::Fail;
 
 /// How two values compare, by `cmp`, `partial_cmp` and `==`.
 fn compared<T: Ord>(left: &T, right: &T) -> (Ordering, Option<Ordering>, bool) {
@@ -24,11 +23,10 @@ fn expect_place(rt: &impl Abort, payloads: &[Payload], i: usize, left: &Payload)
 }
 
 #[test]
-fn payloads_ascend(rt: HostRuntime) -> Result<(), Fail> {
-    let payloads = payloads(rt.alloc(), ASCENDING)?;
+fn payloads_ascend(rt: HostRuntime) {
+    let payloads = payloads(rt.alloc(), ASCENDING).expect(&rt, "payloads");
     for (i, left) in payloads.iter().enumerate() {
         expect_place(&rt, &payloads, i, left);
-        assert_eq!(rt; hash_of(left), hash_of(&left.as_ref()), "at {i}");
+        expect_equal(&rt, hash_of(left), hash_of(&left.as_ref()));
     }
-    Ok(())
 }

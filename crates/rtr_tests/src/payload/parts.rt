@@ -1,7 +1,7 @@
 //! Parts of payloads, borrowed and cloned.
 
-use crate::expect::{expect_at, expect_equal, expect_same};
-use crate::payload::made::{ASCENDING, aspa, key, origin, payload, payloads};
+use crate::expect::{expect, expect_equal, expect_same};
+use crate::payload::made::{ASCENDING, aspa, key, origin, payloads};
 use rtr_payload::payload::{Aspa, Payload, PayloadRef, PayloadType, RouteOrigin, RouterKey};
 use std::process::Abort;
 use std::test::Fail;
@@ -16,22 +16,18 @@ fn lent(payload: &Payload) -> PayloadRef<'_> {
 }
 
 #[test]
-fn parts_are_lent(rt: HostRuntime) -> Result<(), Fail> {
-    for text in "origin 65551 192.0.2.0 23 26\nkey 9 1 15\naspa 1 2 3".lines() {
-        let one = payload(rt.alloc(), text)?;
-        let same = payload(rt.alloc(), text)?;
-        expect_at(&rt, text, lent(&one) == same.as_ref());
+fn parts_are_lent(rt: HostRuntime) {
+    for payload in &payloads(rt.alloc(), ASCENDING).expect(&rt, "payloads") {
+        expect(&rt, lent(payload) == payload.as_ref());
     }
-    Ok(())
 }
 
 #[test]
-fn origins_are_lent(rt: HostRuntime) -> Result<(), Fail> {
-    let origin = origin("65551 192.0.2.0 23 26")?;
+fn origins_are_lent(rt: HostRuntime) {
+    let origin = origin("65551 192.0.2.0 23 26").expect(&rt, "an origin");
     let payload = Payload::from(origin);
-    assert!(rt; PayloadRef::from(origin) == payload.as_ref());
-    assert!(rt; PayloadRef::from(&origin) == payload.as_ref());
-    Ok(())
+    expect(&rt, PayloadRef::from(origin) == payload.as_ref());
+    expect(&rt, PayloadRef::from(&origin) == payload.as_ref());
 }
 
 /// Asserts the type of a payload, and the one part that it has.
@@ -44,22 +40,21 @@ fn expect_parts(
     aspa: Option<&Aspa>,
 ) {
     expect_equal(rt, payload.payload_type(), kind);
-    assert!(rt; payload.to_origin() == origin);
-    assert!(rt; payload.as_router_key() == key);
-    assert!(rt; payload.as_aspa() == aspa);
+    expect(rt, payload.to_origin() == origin);
+    expect(rt, payload.as_router_key() == key);
+    expect(rt, payload.as_aspa() == aspa);
 }
 
 #[test]
-fn parts_of_an_origin(rt: HostRuntime) -> Result<(), Fail> {
-    let origin = origin("65551 192.0.2.0 23 26")?;
+fn parts_of_an_origin(rt: HostRuntime) {
+    let origin = origin("65551 192.0.2.0 23 26").expect(&rt, "an origin");
     let payload = Payload::origin(origin.prefix, origin.asn);
     expect_parts(&rt, &payload, PayloadType::Origin, Some(origin), None, None);
-    Ok(())
 }
 
 #[test]
 fn parts_of_a_key(rt: HostRuntime) -> Result<(), Fail> {
-    let key = key(rt.alloc(), "65551 1 15161718")?;
+    let key = key(rt.alloc(), "65551 1 15161718").expect(&rt, "a key");
     let same = key.clone()?;
     let payload = Payload::router_key(same.key_identifier, same.asn, same.key_info);
     expect_parts(
@@ -75,7 +70,7 @@ fn parts_of_a_key(rt: HostRuntime) -> Result<(), Fail> {
 
 #[test]
 fn parts_of_an_aspa(rt: HostRuntime) -> Result<(), Fail> {
-    let aspa = aspa(rt.alloc(), "65551 65549 65550")?;
+    let aspa = aspa(rt.alloc(), "65551 65549 65550").expect(&rt, "an ASPA");
     let same = aspa.clone()?;
     let payload = Payload::aspa(same.customer, same.providers);
     expect_parts(&rt, &payload, PayloadType::Aspa, None, None, Some(&aspa));
@@ -84,7 +79,7 @@ fn parts_of_an_aspa(rt: HostRuntime) -> Result<(), Fail> {
 
 #[test]
 fn clones_are_equal(rt: HostRuntime) -> Result<(), Fail> {
-    for payload in &payloads(rt.alloc(), ASCENDING)? {
+    for payload in &payloads(rt.alloc(), ASCENDING).expect(&rt, "payloads") {
         expect_same(&rt, &payload.clone()?, payload);
     }
     Ok(())
@@ -92,7 +87,7 @@ fn clones_are_equal(rt: HostRuntime) -> Result<(), Fail> {
 
 #[test]
 fn withdrawals(rt: HostRuntime) -> Result<(), Fail> {
-    let aspa = aspa(rt.alloc(), "65551 65549 65550")?;
+    let aspa = aspa(rt.alloc(), "65551 65549 65550").expect(&rt, "an ASPA");
     let withdrawn = aspa.withdraw(rt.alloc())?;
     expect_equal(&rt, withdrawn.key(), aspa.key());
     expect_equal(&rt, withdrawn.customer.into_u32(), 65551);

@@ -1,13 +1,13 @@
 //! Providers of ASPA units.
 
-use crate::expect::{expect_at, expect_equal};
+use crate::base::rows::named;
+use crate::expect::{expect, expect_equal, expect_text};
 use crate::payload::made::providers;
+use crate::samples::expect_rows;
 use rtr_base::asn::Asn;
 use rtr_payload::pdu::{ProviderAsns, ProviderIterError};
 use std::alloc::Global;
 use std::cell::Cell;
-use std::cmp::Ordering;
-use std::test::Fail;
 
 /// An iterator over this many ASNs, which counts how many were taken. Its size hint is their
 /// number.
@@ -38,110 +38,101 @@ impl<'a> Iterator for Asns<'a> {
     }
 }
 
-/// The providers made from this many ASNs: their number, or the text of the error.
-fn count_answer(alloc: Global, asns: Asns<'_>) -> Result<String, Fail> {
-    match ProviderAsns::try_from_iter(alloc, asns) {
-        Ok(made) => Ok(made.asn_count().to_string(alloc)?),
-        Err(error) => Ok(error.to_string(alloc)?),
-    }
+/// Numbers of ASNs, the number of providers made from them or the error, and how often the next
+/// one was asked for.
+const COUNTS: &str = "\
+0 -> 0 by 1
+16379 -> 16379 by 16380
+16380 -> 16380 by 16381
+16381 -> provider ASNs size overflow by 16381
+4294967295 -> provider ASNs size overflow by 16381
+";
+
+fn provider_count(alloc: Global, left: &str) -> Option<String> {
+    let left = left.parse().ok()?;
+    let asked = &Cell::new(0);
+    let made = ProviderAsns::try_from_iter(alloc, Asns { left, asked });
+    let answer = match made {
+        Ok(made) => made.asn_count().to_string(alloc),
+        Err(error) => error.to_string(alloc),
+    };
+    let asked = asked.get();
+    format!(in alloc; "{} by {asked}", answer.ok()?).ok()
 }
 
 #[test]
-fn provider_count(rt: HostRuntime) -> Result<(), Fail> {
-    let alloc = rt.alloc();
-    let overflow = "provider ASNs size overflow";
-    let rows: &[(u32, &str, u32)] = &[
-        (0, "0", 1),
-        (16379, "16379", 16380),
-        (16380, "16380", 16381),
-        (16381, overflow, 16381),
-        (4294967295, overflow, 16381),
-    ];
-    for (left, want, asks) in rows {
-        let asked = Cell::new(0);
-        let answer = count_answer(
-            alloc,
-            Asns {
-                left: *left,
-                asked: &asked,
-            },
-        )?;
-        expect_equal(&rt, answer.as_str(), *want);
-        expect_equal(&rt, asked.get(), *asks);
-    }
+fn provider_counts(rt: HostRuntime) {
     expect_equal(&rt, ProviderAsns::MAX_COUNT, 16380);
-    Ok(())
+    expect_rows(&rt, rt.alloc(), COUNTS, provider_count);
 }
 
 #[test]
-fn providers_in_their_order(rt: HostRuntime) -> Result<(), Fail> {
-    let named = providers(rt.alloc(), "7 5 7")?;
-    let mut each = named.iter();
+fn providers_in_their_order(rt: HostRuntime) {
+    let some = providers(rt.alloc(), "7 5 7").expect(&rt, "providers");
+    let mut each = some.iter();
     for asn in [7, 5, 7] {
         expect_equal(&rt, each.next(), Some(Asn::from_u32(asn)));
     }
-    assert!(rt; each.next().is_none());
-    assert!(rt; each.next().is_none());
-    Ok(())
+    expect(&rt, each.next().is_none());
+    expect(&rt, each.next().is_none());
 }
 
 #[test]
-fn providers_debug(rt: HostRuntime) -> Result<(), Fail> {
-    let alloc = rt.alloc();
-    let named = providers(alloc, "7 5 7")?;
-    let shown = format!(in alloc; "{named:?}")?;
-    expect_equal(&rt, shown.as_str(), "[Asn(7), Asn(5), Asn(7)]");
-    Ok(())
+fn providers_debug(rt: HostRuntime) {
+    let shown = named(
+        rt.alloc(),
+        &providers(rt.alloc(), "7 5 7").expect(&rt, "providers"),
+    );
+    expect_equal(&rt, shown.as_deref(), Some("[Asn(7), Asn(5), Asn(7)]"));
 }
 
-/// The debug texts of providers with these numbers, and of an iterator over them.
-fn texts_of_many(alloc: Global, count: u32) -> Result<(String, String), Fail> {
-    let named = ProviderAsns::try_from_iter(alloc, (0..count).map(|i| Asn::from_u32(i)))?;
-    let shown = format!(in alloc; "{named:?}")?;
-    let left = format!(in alloc; "{:?}", named.iter())?;
-    Ok((shown, left))
+/// The debug text of providers with these numbers, if it is that of an iterator over them.
+fn text_of_many(alloc: Global, count: u32) -> Option<String> {
+    let asns = (0..count).map(|i| Asn::from_u32(i));
+    let providers = ProviderAsns::try_from_iter(alloc, asns).ok()?;
+    let shown = named(alloc, &providers)?;
+    (named(alloc, &providers.iter())? == shown).then_some(shown)
 }
 
 /// The debug text of a list of these numbers.
-fn text_of_list(alloc: Global, count: u32) -> Result<String, Fail> {
+fn text_of_list(alloc: Global, count: u32) -> Option<String> {
     let mut items = Vec::new(alloc);
     for i in 0..count {
-        items.push(Asn::from_u32(i))?;
+        items.push(Asn::from_u32(i)).ok()?;
     }
-    Ok(format!(in alloc; "{:?}", items.as_slice())?)
+    named(alloc, &items.as_slice())
 }
 
 /// The text is that of a list of all items.
 #[test]
-fn many_providers_debug(rt: HostRuntime) -> Result<(), Fail> {
+fn many_providers_debug(rt: HostRuntime) {
     for count in [8, 9, 20, 101, 16380] {
-        let (shown, left) = texts_of_many(rt.alloc(), count)?;
-        let wanted = text_of_list(rt.alloc(), count)?;
-        expect_equal(&rt, shown.as_str(), wanted.as_str());
-        expect_equal(&rt, left, wanted);
+        let wanted = text_of_list(rt.alloc(), count);
+        expect(&rt, wanted.is_some());
+        expect_equal(&rt, text_of_many(rt.alloc(), count), wanted);
     }
-    Ok(())
+}
+
+const ORDERS: &str = "\
+1 and 1 0 -> Less
+1 0 and 256 -> Less
+256 and 1 -> Greater
+7 5 and 7 5 -> Equal
+";
+
+fn order(alloc: Global, text: &str) -> Option<String> {
+    let (left, right) = text.split_once(" and ")?;
+    let left = providers(alloc, left)?;
+    let right = providers(alloc, right)?;
+    named(alloc, &left.cmp(&right))
 }
 
 #[test]
-fn provider_lists_ascend(rt: HostRuntime) -> Result<(), Fail> {
-    let rows = [
-        ("1", "1 0", Ordering::Less),
-        ("1 0", "256", Ordering::Less),
-        ("256", "1", Ordering::Greater),
-        ("7 5", "7 5", Ordering::Equal),
-    ];
-    for (left, right, order) in rows {
-        let named = providers(rt.alloc(), left)?;
-        let other = providers(rt.alloc(), right)?;
-        expect_at(&rt, left, named.cmp(&other) == order);
-    }
-    Ok(())
+fn provider_lists_ascend(rt: HostRuntime) {
+    expect_rows(&rt, rt.alloc(), ORDERS, order);
 }
 
 #[test]
-fn providers_without_memory(rt: HostRuntime) -> Result<(), Fail> {
-    let text = ProviderIterError::Memory.to_string(rt.alloc())?;
-    expect_equal(&rt, text.as_str(), "out of memory");
-    Ok(())
+fn providers_without_memory(rt: HostRuntime) {
+    expect_text(&rt, rt.alloc(), ProviderIterError::Memory, "out of memory");
 }

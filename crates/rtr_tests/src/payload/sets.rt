@@ -40,40 +40,43 @@ fn lent_members<'a, T, K: Ord + Hash + Drop + From<&'a T>>(
 }
 
 /// The keys that are written in these lines.
-fn keys(alloc: Global, lines: &str) -> Result<Vec<RouterKey>, Fail> {
+fn keys(alloc: Global, lines: &str) -> Option<Vec<RouterKey>> {
     let mut keys = Vec::new(alloc);
     for line in lines.lines() {
-        keys.push(key(alloc, line)?)?;
+        keys.push(key(alloc, line)?).ok()?;
     }
-    Ok(keys)
+    Some(keys)
 }
 
 /// The ASPAs that are written in these lines.
-fn aspas(alloc: Global, lines: &str) -> Result<Vec<Aspa>, Fail> {
+fn aspas(alloc: Global, lines: &str) -> Option<Vec<Aspa>> {
     let mut aspas = Vec::new(alloc);
     for line in lines.lines() {
-        aspas.push(aspa(alloc, line)?)?;
+        aspas.push(aspa(alloc, line)?).ok()?;
     }
-    Ok(aspas)
+    Some(aspas)
 }
 
 #[test]
-fn no_max_length_is_the_prefix_length(rt: HostRuntime) -> Result<(), Fail> {
-    let plain = origin("65551 192.0.2.0 24")?;
-    let given = origin("65551 192.0.2.0 24 24")?;
+fn no_max_length_is_the_prefix_length(rt: HostRuntime) {
+    let plain = origin("65551 192.0.2.0 24").expect(&rt, "an origin");
+    let given = origin("65551 192.0.2.0 24 24").expect(&rt, "an origin");
     expect_same(&rt, &plain, &given);
     expect_equal(&rt, plain.prefix.max_len(), None);
     expect_equal(&rt, given.prefix.max_len(), Some(24));
     expect_equal(&rt, plain.is_v4(), true);
-    expect_equal(&rt, origin("0 :: 0")?.is_v4(), false);
-    Ok(())
+    expect_equal(
+        &rt,
+        origin("0 :: 0").expect(&rt, "an origin").is_v4(),
+        false,
+    );
 }
 
 #[test]
 fn origins_in_sets(rt: HostRuntime) -> Result<(), Fail> {
-    let plain = origin("65551 192.0.2.0 24")?;
-    let given = origin("65551 192.0.2.0 24 24")?;
-    let longer = origin("65551 192.0.2.0 24 25")?;
+    let plain = origin("65551 192.0.2.0 24").expect(&rt, "an origin");
+    let given = origin("65551 192.0.2.0 24 24").expect(&rt, "an origin");
+    let longer = origin("65551 192.0.2.0 24 25").expect(&rt, "an origin");
     let one = vec![in rt.alloc(); plain, given]?;
     expect_equal(&rt, members(rt.alloc(), one.clone()?, one)?, (1, 1));
     let two = vec![in rt.alloc(); plain, longer]?;
@@ -86,31 +89,31 @@ fn origins_in_sets(rt: HostRuntime) -> Result<(), Fail> {
 #[test]
 fn equal_payloads_in_sets(rt: HostRuntime) -> Result<(), Fail> {
     let lines = "origin 65551 192.0.2.0 24\norigin 65551 192.0.2.0 24 24";
-    let for_tree = payloads(rt.alloc(), lines)?;
-    let for_table = payloads(rt.alloc(), lines)?;
+    let for_tree = payloads(rt.alloc(), lines).expect(&rt, "payloads");
+    let for_table = payloads(rt.alloc(), lines).expect(&rt, "payloads");
     expect_equal(&rt, members(rt.alloc(), for_tree, for_table)?, (1, 1));
     Ok(())
 }
 
 #[test]
 fn keys_in_sets(rt: HostRuntime) -> Result<(), Fail> {
-    let same = keys(rt.alloc(), "9 1 15\n9 1 15")?;
-    let other = keys(rt.alloc(), "9 1 15\n9 1 16")?;
+    let same = keys(rt.alloc(), "9 1 15\n9 1 15").expect(&rt, "keys");
+    let other = keys(rt.alloc(), "9 1 15\n9 1 16").expect(&rt, "keys");
     expect_equal(&rt, members(rt.alloc(), same, other)?, (1, 2));
     Ok(())
 }
 
 #[test]
 fn aspas_in_sets(rt: HostRuntime) -> Result<(), Fail> {
-    let other = aspas(rt.alloc(), "1 2 3\n1 3 2")?;
-    let same = aspas(rt.alloc(), "1 2 3\n1 2 3")?;
+    let other = aspas(rt.alloc(), "1 2 3\n1 3 2").expect(&rt, "ASPAs");
+    let same = aspas(rt.alloc(), "1 2 3\n1 2 3").expect(&rt, "ASPAs");
     expect_equal(&rt, members(rt.alloc(), other, same)?, (2, 1));
     Ok(())
 }
 
 #[test]
 fn payloads_in_sets(rt: HostRuntime) -> Result<(), Fail> {
-    let payloads = payloads(rt.alloc(), ASCENDING)?;
+    let payloads = payloads(rt.alloc(), ASCENDING).expect(&rt, "payloads");
     let mut tree = BTreeSet::new(rt.alloc());
     let mut table = HashSet::new(rt.alloc());
     for payload in &payloads {
@@ -126,7 +129,7 @@ fn payloads_in_sets(rt: HostRuntime) -> Result<(), Fail> {
 
 #[test]
 fn lent_keys_in_sets(rt: HostRuntime) -> Result<(), Fail> {
-    let keys = keys(rt.alloc(), "9 1 15\n9 1 16\n9 1 15")?;
+    let keys = keys(rt.alloc(), "9 1 15\n9 1 16\n9 1 15").expect(&rt, "keys");
     let lent = lent_members::<RouterKey, PayloadRef<'_>>(rt.alloc(), &keys)?;
     expect_equal(&rt, lent, (2, 2));
     Ok(())
@@ -134,7 +137,7 @@ fn lent_keys_in_sets(rt: HostRuntime) -> Result<(), Fail> {
 
 #[test]
 fn lent_aspas_in_sets(rt: HostRuntime) -> Result<(), Fail> {
-    let aspas = aspas(rt.alloc(), "1 2 3\n1 2 3\n1 3 2")?;
+    let aspas = aspas(rt.alloc(), "1 2 3\n1 2 3\n1 3 2").expect(&rt, "ASPAs");
     let lent = lent_members::<Aspa, PayloadRef<'_>>(rt.alloc(), &aspas)?;
     expect_equal(&rt, lent, (2, 2));
     Ok(())

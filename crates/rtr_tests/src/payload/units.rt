@@ -1,6 +1,6 @@
 //! Router keys and ASPA units.
 
-use crate::expect::{expect_equal, expect_same};
+use crate::expect::{expect, expect_equal, expect_same};
 use crate::payload::keys::{INFO, INFO_TEXT};
 use crate::payload::made::{key_info, providers};
 use crate::samples::{ASPA, ASPA_BARE, IDENTIFIER, KEY, bytes};
@@ -14,13 +14,13 @@ use std::process::Abort;
 use std::test::Fail;
 
 fn key(alloc: Global, flags: u8) -> Result<RouterKey, Fail> {
-    let info = key_info(alloc, INFO_TEXT)?;
+    let info = key_info(alloc, INFO_TEXT).ok_or("no key info")?;
     let asn = Asn::from_u32(65551);
     Ok(RouterKey::new(1, flags, IDENTIFIER, asn, info))
 }
 
 fn aspa(alloc: Global, flags: u8) -> Result<Aspa, Fail> {
-    let named = providers(alloc, "65549 65550")?;
+    let named = providers(alloc, "65549 65550").ok_or("no providers")?;
     Ok(Aspa::new(2, flags, Asn::from_u32(65551), named))
 }
 
@@ -113,7 +113,7 @@ fn made_and_not_read_back(rt: HostRuntime) -> Result<(), Fail> {
     let written = written_key(rt.alloc(), &unit)?;
     let mut reader = SliceSource::new(&written);
     let answer = RouterKey::read(rt.alloc(), &mut reader);
-    assert!(rt; matches!(answer, Err(Fault::TooLong)));
+    expect(&rt, matches!(answer, Err(Fault::TooLong)));
     expect_equal(&rt, reader.rest().len(), 65528);
     Ok(())
 }
@@ -133,6 +133,6 @@ fn key_info_outlives_its_input(rt: HostRuntime) -> Result<(), Fail> {
     let info = read_key_info(alloc)?;
     let rest = filler(alloc, 65527)?;
     expect_equal(&rt, info.len(), 65503);
-    assert!(rt; rest.as_slice().ends_with(info.as_slice()));
+    expect(&rt, rest.as_slice().ends_with(info.as_slice()));
     Ok(())
 }

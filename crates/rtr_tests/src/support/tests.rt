@@ -1,6 +1,6 @@
 //! What the readers and writers of tests give and take.
 
-use crate::expect::expect_equal;
+use crate::expect::{expect, expect_equal};
 use crate::samples::bytes;
 use crate::support::{Pieces, Recorder, STEPS, filler};
 use std::io::{Read, Write};
@@ -14,7 +14,7 @@ fn pieces(rt: HostRuntime) -> Result<(), Fail> {
     for count in [1, 2, 3, 1] {
         expect_equal(&rt, reader.read(&mut buffer)?, count);
     }
-    assert!(rt; reader.read(&mut buffer).is_err());
+    expect(&rt, reader.read(&mut buffer).is_err());
     expect_equal(&rt, reader.read(&mut buffer)?, 0);
     expect_equal(
         &rt,
@@ -31,7 +31,7 @@ fn recorder(rt: HostRuntime) -> Result<(), Fail> {
     for count in [2, 2] {
         expect_equal(&rt, writer.write(&input)?, count);
     }
-    assert!(rt; writer.write(&input).is_err());
+    expect(&rt, writer.write(&input).is_err());
     writer.flush()?;
     expect_equal(&rt, writer.held(), [1, 2, 1, 2].as_slice());
     expect_equal(&rt, (writer.calls(), writer.flushes()), (3, 1));

@@ -59,13 +59,12 @@ fn ends_of_stray_versions(rt: HostRuntime) -> Result<(), Fail> {
 }
 
 #[test]
-fn ends_of_changed_versions(rt: HostRuntime) -> Result<(), Fail> {
+fn ends_of_changed_versions(rt: HostRuntime) {
     let timing = Timing::default();
     let mut unit = EndOfDataV1::new(1, state(), timing);
     unit.as_mut()[0] = 0;
     let end = EndOfData::V1(unit);
     expect_equal(&rt, (end.version(), end.timing()), (0, Some(timing)));
-    Ok(())
 }
 
 /// Asserts that the end of data of a version has the first and the last byte that are put there.

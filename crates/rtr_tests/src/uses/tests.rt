@@ -4,6 +4,7 @@ use super::{
     Unlisted, answer_reset, compare, list, normalise_file, origin, report_on, response_or_code,
     take_response, update, withdrawal, words,
 };
+use crate::expect::{expect, expect_equal};
 use rtr_data::Data;
 use rtr_session::answering::Reply;
 use rtr_wire::base::Asn;
@@ -11,7 +12,6 @@ use rtr_wire::payload::{Action, Payload};
 use rtr_wire::pdu;
 use rtr_wire::pdu::{Counted, ErrorCode, Fault, Header, Unit, ViewFault};
 use rtr_wire::state::{Serial, State};
-use std::process::Abort;
 use std::test::Fail;
 use std::{fs, io};
 
@@ -50,11 +50,6 @@ const END: &[u8] = &[
     2, 7, 0x12, 0x34, 0, 0, 0, 24, 0, 0, 0, 5,
     0, 0, 0x0e, 0x10, 0, 0, 0x02, 0x58, 0, 0, 0x1c, 0x20,
 ];
-
-/// Asserts that this holds. A test that calls this is proved faster than one that uses the macro.
-fn expect(rt: &impl Abort, holds: bool) {
-    assert!(rt; holds);
-}
 
 /// The units, one after the other.
 fn joined(rt: &HostRuntime, units: &[&[u8]]) -> Result<Vec<u8>, Fail> {
@@ -101,11 +96,10 @@ fn a_file_is_normalised(rt: HostRuntime) -> Result<(), Fail> {
 }
 
 #[test]
-fn a_missing_file_is_a_fault_of_reading(rt: HostRuntime) -> Result<(), Fail> {
+fn a_missing_file_is_a_fault_of_reading(rt: HostRuntime) {
     let missing = normalise_file(&rt, "missing.bin", "unwritten.bin");
     expect(&rt, matches!(&missing, Err(Fault::Reader(_))));
-    assert!(rt; fs::read(&rt, "unwritten.bin").is_err());
-    Ok(())
+    expect(&rt, fs::read(&rt, "unwritten.bin").is_err());
 }
 
 #[test]
@@ -118,10 +112,8 @@ fn words_begin_with_the_name(rt: HostRuntime) -> Result<(), Fail> {
 fn a_report_is_taken(rt: HostRuntime) -> Result<(), Fail> {
     let input = joined(&rt, &[RESPONSE, REPORT, ORIGIN])?;
     let mut reader = Counted::new(input.as_slice());
-    match response_or_code(&mut reader)? {
-        Ok(response) => expect(&rt, response.session() == 0x1234),
-        Err(code) => assert_eq!(rt; code, ErrorCode(65535), "no response"),
-    }
+    let response = response_or_code(&mut reader)?;
+    expect_equal(&rt, response.map(|response| response.session()), Ok(0x1234));
     let code = response_or_code(&mut reader)?.err();
     expect(&rt, code == Some(ErrorCode::NO_DATA_AVAILABLE));
     let refused = response_or_code(&mut reader);
@@ -183,8 +175,8 @@ fn data_stay_as_they_were(rt: HostRuntime) -> Result<(), Fail> {
         (&cut, ErrorCode::CORRUPT_DATA),
     ] {
         let refused = update(alloc, &mut data, &mut Counted::new(input.as_slice()));
-        assert!(rt; refused.err() == Some(Some(code)), "code {code}");
-        assert_eq!(rt; data.len(), 2, "after code {code}");
+        expect_equal(&rt, refused.err(), Some(Some(code)));
+        expect_equal(&rt, data.len(), 2);
     }
     Ok(())
 }
@@ -211,7 +203,7 @@ fn reset_queries_are_answered(rt: HostRuntime) -> Result<(), Fail> {
             state,
         )?;
         let answer = writer.into_inner();
-        assert_eq!(rt; answer.len(), size, "at version {version}");
+        expect_equal(&rt, answer.len(), size);
         expect(&rt, answer.iter().take(2).eq([version, 3].iter()));
         if version == 2 {
             let sequence = answer.as_slice().get(8..).ok_or("no sequence")?;
@@ -222,7 +214,7 @@ fn reset_queries_are_answered(rt: HostRuntime) -> Result<(), Fail> {
 }
 
 #[test]
-fn queries_of_other_versions(rt: HostRuntime) -> Result<(), Fail> {
+fn queries_of_other_versions(rt: HostRuntime) {
     let query = [3, 2, 0, 0, 0, 0, 0, 8];
     let mut writer = Counted::new(Vec::new(rt.alloc()));
     let state = State::from_parts(0x1234, Serial(5));
@@ -235,7 +227,6 @@ fn queries_of_other_versions(rt: HostRuntime) -> Result<(), Fail> {
     );
     expect(&rt, matches!(&refused, Err(Fault::UnitVersion(3))));
     expect(&rt, writer.into_inner().is_empty());
-    Ok(())
 }
 
 #[test]
@@ -256,7 +247,7 @@ fn an_aspa_is_withdrawn(rt: HostRuntime) -> Result<(), Fail> {
 }
 
 #[test]
-fn peers_are_told(rt: HostRuntime) -> Result<(), Fail> {
+fn peers_are_told(rt: HostRuntime) {
     let header = Header::new(1, 5, 0, 8);
     #[rattlefmt::skip]
     let want: &[u8] = &[
@@ -290,17 +281,13 @@ fn peers_are_told(rt: HostRuntime) -> Result<(), Fail> {
     );
     expect(&rt, output.as_slice() == want);
     expect(&rt, Fault::Short.code() == Some(ErrorCode::CORRUPT_DATA));
-    Ok(())
 }
 
 #[test]
 fn sequences_are_listed(rt: HostRuntime) -> Result<(), Fail> {
     let input = joined(&rt, &[ORIGIN, ASPA, END])?;
     let mut lines = Vec::new(rt.alloc());
-    match list(input.as_slice(), &mut lines) {
-        Ok(()) => {}
-        Err(_) => assert!(rt; false, "refused"),
-    }
+    expect(&rt, list(input.as_slice(), &mut lines).is_ok());
     let want: &[u8] = b"192.0.2.0/23-26 AS65551\nASPA of AS64496\nserial 5\n";
     expect(&rt, lines.as_slice() == want);
 

@@ -1,6 +1,6 @@
 //! Units of a fixed size, made, written and read with what the crate exports.
 
-use crate::expect::expect_equal;
+use crate::expect::{expect, expect_equal};
 use crate::samples::{QUERY, bytes, state};
 use rtr_wire::pdu::{
     Counted, Header, SerialNotify, SerialQuery, SerialQueryPayload, SliceSource, Unit,
@@ -12,14 +12,14 @@ use std::test::Fail;
 fn state_of_a_notify(rt: HostRuntime) {
     let notify = SerialNotify::new(1, state());
     expect_equal(&rt, notify.serial().into_u32(), 0xdeadbeef);
-    assert!(rt; notify.state() == state());
+    expect(&rt, notify.state() == state());
 }
 
 #[test]
 fn state_of_a_query(rt: HostRuntime) {
     let query = SerialQuery::new(1, state());
     expect_equal(&rt, query.serial().into_u32(), 0xdeadbeef);
-    assert!(rt; query.state() == state());
+    expect(&rt, query.state() == state());
 }
 
 #[test]

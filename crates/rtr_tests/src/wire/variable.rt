@@ -1,7 +1,7 @@
 //! Router keys, ASPA units and payload units of any kind, made, written and read with what the
 //! crate exports.
 
-use crate::expect::expect_equal;
+use crate::expect::{expect, expect_equal};
 use crate::samples::{ASPA, IDENTIFIER, IPV4, KEY, bytes};
 use rtr_wire::base::{Asn, KeyIdentifier, MaxLenPrefix, Prefix};
 use rtr_wire::payload;
@@ -40,10 +40,10 @@ fn reads(
     input: &[u8],
 ) -> Result<(), Fail> {
     let read = crate::wire::unit(Payload::read(alloc, &mut SliceSource::new(input))?)?;
-    assert!(rt; read == *unit);
+    expect(rt, read == *unit);
     expect_equal(rt, read.action(), action);
     let (_, meaning) = read.to_payload(alloc)?;
-    assert!(rt; meaning == *payload);
+    expect(rt, meaning == *payload);
     Ok(())
 }
 
