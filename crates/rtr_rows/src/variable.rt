@@ -1,105 +1,77 @@
 //! Router keys and ASPA units.
 
 use crate::answer::Answer;
-use crate::fixed::{header, tell_taken};
+use crate::fixed::{header, tell_taken, told_put};
 use crate::row::{Row, Way};
+use rtr_payload::pdu::{Aspa, Body, ProviderAsns, RouterKey, RouterKeyInfo, VariableUnit};
 use rtr_tests::support::Recorder;
-use rtr_wire::pdu::{Aspa, Counted, Fault, RouterKey, SliceSource};
+use rtr_wire::pdu::{Counted, Fault, SliceSource};
 
-/// Makes the call of a row if it is one of these.
+/// Makes the call of a row if it is one of these, `TYPE::read`, `TYPE::read_payload`, `TYPE::clone`
+/// or `TYPE::write`.
 pub fn answer(row: &Row<'_>, way: Way) -> Option<Answer> {
-    match row.call {
-        "RouterKey::read" => Some(read_key(row, way)),
-        "RouterKey::read_payload" => Some(read_key_after(row, way)),
-        "RouterKey::clone" => Some(clone_key(row)),
-        "RouterKey::write" => Some(write_key(row, way)),
-        "Aspa::read" => Some(read_aspa(row, way)),
-        "Aspa::read_payload" => Some(read_aspa_after(row, way)),
-        "Aspa::clone" => Some(clone_aspa(row)),
-        "Aspa::write" => Some(write_aspa(row, way)),
+    let (kind, call) = row.call.split_once("::")?;
+    match kind {
+        "RouterKey" => unit::<{ RouterKey::FIXED }, RouterKeyInfo>(row, way, call),
+        "Aspa" => unit::<{ Aspa::FIXED }, ProviderAsns>(row, way, call),
         _ => None,
     }
 }
 
-/// Appends a router key: its size and bytes, or the fault.
-fn tell_key(seen: &mut Answer, row: &Row<'_>, answer: &Result<RouterKey, Fault>) {
+/// Makes a call of a unit.
+fn unit<const FIXED: usize, B: Body<FIXED>>(row: &Row<'_>, way: Way, call: &str) -> Option<Answer> {
+    match call {
+        "read" => Some(read::<FIXED, B>(row, way)),
+        "read_payload" => Some(read_payload::<FIXED, B>(row, way)),
+        "clone" => Some(clone::<FIXED, B>(row)),
+        "write" => Some(write::<FIXED, B>(row, way)),
+        _ => None,
+    }
+}
+
+/// Appends a unit: its size and bytes, or the fault.
+fn tell<const FIXED: usize, B: Body<FIXED>>(
+    seen: &mut Answer,
+    row: &Row<'_>,
+    answer: &Result<VariableUnit<FIXED, B>, Fault>,
+) {
     match answer {
         Ok(unit) => {
             seen.word(unit.size());
             let mut writer = Counted::new(Recorder::new(row.alloc, usize::MAX));
-            match unit.write(&mut writer) {
-                Ok(()) => seen.bytes(writer.into_inner().held()),
-                Err(fault) => seen.fault(&fault),
-            }
+            let outcome = unit.write(&mut writer);
+            seen.written(&outcome, &writer.into_inner());
         }
         Err(fault) => seen.fault(fault),
     }
 }
 
-/// Appends an ASPA unit: its size and bytes, or the fault.
-fn tell_aspa(seen: &mut Answer, row: &Row<'_>, answer: &Result<Aspa, Fault>) {
-    match answer {
-        Ok(unit) => {
-            seen.word(unit.size());
-            let mut writer = Counted::new(Recorder::new(row.alloc, usize::MAX));
-            match unit.write(&mut writer) {
-                Ok(()) => seen.bytes(writer.into_inner().held()),
-                Err(fault) => seen.fault(&fault),
-            }
-        }
-        Err(fault) => seen.fault(fault),
-    }
-}
-
-/// `RouterKey::read`, and how many bytes were taken.
-fn read_key(row: &Row<'_>, way: Way) -> Answer {
+/// `read`, and how many bytes were taken.
+fn read<const FIXED: usize, B: Body<FIXED>>(row: &Row<'_>, way: Way) -> Answer {
     let mut reader = Counted::new(row.reader(way));
     row.ready();
-    let answer = RouterKey::read(row.alloc, &mut reader);
+    let answer = VariableUnit::<FIXED, B>::read(row.alloc, &mut reader);
     let mut seen = row.answer();
-    tell_key(&mut seen, row, &answer);
+    tell(&mut seen, row, &answer);
     tell_taken(&mut seen, &reader.into_inner());
     seen
 }
 
-/// `RouterKey::read_payload` after the header that the row says, and how many bytes were taken.
-fn read_key_after(row: &Row<'_>, way: Way) -> Answer {
-    let header = header(row);
+/// `read_payload` after the header that the row says, and how many bytes were taken.
+fn read_payload<const FIXED: usize, B: Body<FIXED>>(row: &Row<'_>, way: Way) -> Answer {
     let mut reader = Counted::new(row.reader(way));
     row.ready();
-    let answer = RouterKey::read_payload(row.alloc, header, &mut reader);
+    let answer = VariableUnit::<FIXED, B>::read_payload(row.alloc, header(row), &mut reader);
     let mut seen = row.answer();
-    tell_key(&mut seen, row, &answer);
+    tell(&mut seen, row, &answer);
     tell_taken(&mut seen, &reader.into_inner());
     seen
 }
 
-/// `Aspa::read`, and how many bytes were taken.
-fn read_aspa(row: &Row<'_>, way: Way) -> Answer {
-    let mut reader = Counted::new(row.reader(way));
-    row.ready();
-    let answer = Aspa::read(row.alloc, &mut reader);
-    let mut seen = row.answer();
-    tell_aspa(&mut seen, row, &answer);
-    tell_taken(&mut seen, &reader.into_inner());
-    seen
-}
-
-/// `Aspa::read_payload` after the header that the row says, and how many bytes were taken.
-fn read_aspa_after(row: &Row<'_>, way: Way) -> Answer {
-    let header = header(row);
-    let mut reader = Counted::new(row.reader(way));
-    row.ready();
-    let answer = Aspa::read_payload(row.alloc, header, &mut reader);
-    let mut seen = row.answer();
-    tell_aspa(&mut seen, row, &answer);
-    tell_taken(&mut seen, &reader.into_inner());
-    seen
-}
-
-/// `RouterKey::clone`, and the unit as it is then.
-fn clone_key(row: &Row<'_>) -> Answer {
-    let Ok(unit) = RouterKey::read(row.alloc, &mut SliceSource::new(&row.left)) else {
+/// `clone`, and the unit as it is then.
+fn clone<const FIXED: usize, B: Body<FIXED>>(row: &Row<'_>) -> Answer {
+    let read = VariableUnit::<FIXED, B>::read(row.alloc, &mut SliceSource::new(&row.left));
+    let Ok(unit) = read else {
         return row.no_unit();
     };
     row.ready();
@@ -110,53 +82,22 @@ fn clone_key(row: &Row<'_>) -> Answer {
             if copy != unit {
                 seen.word("another");
             }
-            tell_key(&mut seen, row, &Ok(copy));
+            tell(&mut seen, row, &Ok(copy));
         }
         Err(_) => seen.word("Memory"),
     }
     seen.word("of");
-    tell_key(&mut seen, row, &Ok(unit));
+    tell(&mut seen, row, &Ok(unit));
     seen
 }
 
-/// `Aspa::clone`, and the unit as it is then.
-fn clone_aspa(row: &Row<'_>) -> Answer {
-    let Ok(unit) = Aspa::read(row.alloc, &mut SliceSource::new(&row.left)) else {
-        return row.no_unit();
-    };
-    row.ready();
-    let copy = unit.clone();
-    let mut seen = row.answer();
-    match copy {
-        Ok(copy) => {
-            if copy != unit {
-                seen.word("another");
-            }
-            tell_aspa(&mut seen, row, &Ok(copy));
-        }
-        Err(_) => seen.word("Memory"),
-    }
-    seen.word("of");
-    tell_aspa(&mut seen, row, &Ok(unit));
-    seen
-}
-
-/// `RouterKey::write`: `Ok` or the fault, and what was written.
-fn write_key(row: &Row<'_>, way: Way) -> Answer {
-    let Ok(unit) = RouterKey::read(row.alloc, &mut SliceSource::new(&row.left)) else {
+/// `write`: `Ok` or the fault, and what was written.
+fn write<const FIXED: usize, B: Body<FIXED>>(row: &Row<'_>, way: Way) -> Answer {
+    let read = VariableUnit::<FIXED, B>::read(row.alloc, &mut SliceSource::new(&row.left));
+    let Ok(unit) = read else {
         return row.no_unit();
     };
     let mut writer = Counted::new(row.writer(way));
     let answer = unit.write(&mut writer);
-    crate::fixed::told_put(row, &answer, &writer.into_inner())
-}
-
-/// `Aspa::write`: `Ok` or the fault, and what was written.
-fn write_aspa(row: &Row<'_>, way: Way) -> Answer {
-    let Ok(unit) = Aspa::read(row.alloc, &mut SliceSource::new(&row.left)) else {
-        return row.no_unit();
-    };
-    let mut writer = Counted::new(row.writer(way));
-    let answer = unit.write(&mut writer);
-    crate::fixed::told_put(row, &answer, &writer.into_inner())
+    told_put(row, &answer, &writer.into_inner())
 }
