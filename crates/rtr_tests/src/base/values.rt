@@ -25,13 +25,6 @@ fn keys(rt: HostRuntime) {
     let back: [u8; 20] = key.into();
     expect(&rt, back == bytes);
     expect_equal(&rt, hash_of(&key), hash_of(&KeyIdentifier::from(back)));
-}
-
-#[test]
-fn keys_ascend(rt: HostRuntime) {
-    let mut bytes = [0; 20];
-    bytes[0] = 1;
-    let key = KeyIdentifier::from(bytes);
     bytes[19] = 1;
     let next = KeyIdentifier::from(bytes);
     expect(&rt, key < next);
@@ -46,10 +39,6 @@ fn actions(rt: HostRuntime) {
     expect_equal(&rt, Action::from_flags(255), Action::Announce);
     expect_equal(&rt, Action::Announce.into_flags(), 1);
     expect_equal(&rt, Action::Withdraw.into_flags(), 0);
-}
-
-#[test]
-fn announce_and_withdraw(rt: HostRuntime) {
     expect(&rt, Action::Announce < Action::Withdraw);
     expect(&rt, Action::Announce.is_announce());
     expect(&rt, !Action::Announce.is_withdraw());
@@ -62,11 +51,7 @@ fn families(rt: HostRuntime) {
     expect(&rt, Afi::ipv6().is_ipv6());
     expect(&rt, !Afi::ipv6().is_ipv4());
     expect_equal(&rt, Afi::from_u8(1), Afi::ipv6());
-}
-
-/// Whatever isn't 1 is IPv4, but keeps its number.
-#[test]
-fn other_families(rt: HostRuntime) {
+    // Whatever isn't 1 is IPv4, but keeps its number.
     let other = Afi::from_u8(2);
     expect(&rt, other != Afi::ipv4());
     expect(&rt, Afi::ipv6() < other);

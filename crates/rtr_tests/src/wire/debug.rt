@@ -36,18 +36,13 @@ fn plain_values(rt: HostRuntime) -> Result<(), Fail> {
 }
 
 #[test]
-fn states_and_codes(rt: HostRuntime) {
+fn states_codes_and_errors(rt: HostRuntime) {
     let alloc = rt.alloc();
     expect_shown(&rt, alloc, &State::from_parts(1, Serial(2)));
     expect_shown(&rt, alloc, &Timing::default());
     expect_shown(&rt, alloc, &(Action::Announce, Afi::ipv4()));
     expect_shown(&rt, alloc, &ErrorCode::CORRUPT_DATA);
     expect_shown(&rt, alloc, &PayloadType::Aspa);
-}
-
-#[test]
-fn errors_and_faults(rt: HostRuntime) {
-    let alloc = rt.alloc();
     expect_shown(&rt, alloc, &KeyInfoError);
     expect_shown(&rt, alloc, &KeyInfoVecError::Memory);
     expect_shown(&rt, alloc, &ProviderIterError::Memory);
@@ -64,11 +59,6 @@ fn units_of_a_fixed_size(rt: HostRuntime) {
     expect_shown(&rt, alloc, &SerialQueryPayload::default());
     expect_shown(&rt, alloc, &EndOfData::new(0, state, Timing::default()));
     expect_shown(&rt, alloc, &EndOfData::new(1, state, Timing::default()));
-}
-
-#[test]
-fn units_without_a_state(rt: HostRuntime) {
-    let alloc = rt.alloc();
     expect_shown(&rt, alloc, &ResetQuery::new(1));
     expect_shown(&rt, alloc, &CacheReset::new(1));
     expect_shown(&rt, alloc, &Header::default());

@@ -9,14 +9,10 @@ use rtr_wire::state::Serial;
 use std::test::Fail;
 
 #[test]
-fn state_of_a_notify(rt: HostRuntime) {
+fn states_of_a_notify_and_a_query(rt: HostRuntime) {
     let notify = SerialNotify::new(1, state());
     expect_equal(&rt, notify.serial().into_u32(), 0xdeadbeef);
     expect(&rt, notify.state() == state());
-}
-
-#[test]
-fn state_of_a_query(rt: HostRuntime) {
     let query = SerialQuery::new(1, state());
     expect_equal(&rt, query.serial().into_u32(), 0xdeadbeef);
     expect(&rt, query.state() == state());
