@@ -23,11 +23,6 @@ pub fn expect_same<T: Eq + Hash>(rt: &impl Abort, left: &T, right: &T) {
     expect_equal(rt, hash_of(left), hash_of(right));
 }
 
-/// Asserts that this holds at a row of a table.
-pub fn expect_at(rt: &impl Abort, row: &str, holds: bool) {
-    assert!(rt; holds, "at {row}");
-}
-
 /// The text of a value, if it is the same with any width and padding.
 pub fn written<T: Display>(alloc: Global, value: &T) -> Option<String> {
     let plain = format!(in alloc; "{value}").ok()?;

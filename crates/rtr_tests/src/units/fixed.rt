@@ -3,9 +3,9 @@
 ghost use Rattle.std.specs.Prelude.{refl};
 ghost use Rattle.std.proofs.Common.{rules};
 
-use crate::expect::{expect_at, expect_equal};
+use crate::expect::{expect_equal, expect_same};
 use crate::samples::{END_0, END_1, IPV4_STRAY, IPV6_STRAY, NOTIFY, QUERY, bytes, state};
-use crate::support::{Recorder, hash_of};
+use crate::support::Recorder;
 use rtr_base::asn::Asn;
 use rtr_base::state::Serial;
 use rtr_base::timing::Timing;
@@ -33,13 +33,12 @@ fn passes<U: Unit + Eq + Hash>(
 ) -> Result<(), Fail> {
     let want = bytes(alloc, &[text])?;
     expect_equal(rt, unit.as_ref(), want.as_slice());
-    expect_at(rt, text, U::size() as usize == want.len());
+    expect_equal(rt, U::size() as usize, want.len());
     let mut writer = Counted::new(Recorder::new(alloc, 5));
     unit.write(&mut writer)?;
     expect_equal(rt, writer.into_inner().held(), want.as_slice());
     let again = U::read(&mut SliceSource::new(&want))?;
-    expect_at(rt, text, again == unit);
-    expect_equal(rt, hash_of(&again), hash_of(&unit));
+    expect_same(rt, &again, &unit);
     Ok(())
 }
 
