@@ -1,6 +1,5 @@
 //! Answers as text.
 
-use rtr_tests::support::Recorder;
 use rtr_wire::pdu::{Fault, PrefixRule, ViewFault};
 use std::alloc::{AllocError, Global};
 use std::fmt::Display;
@@ -69,22 +68,6 @@ impl Answer {
             return Err(AllocError);
         }
         Ok(self.text)
-    }
-
-    /// Appends `Ok`, or the name of the fault.
-    pub fn outcome(&mut self, outcome: &Result<(), Fault>) {
-        match outcome {
-            Ok(()) => self.word("Ok"),
-            Err(fault) => self.fault(fault),
-        }
-    }
-
-    /// Appends what was written, or the name of the fault.
-    pub fn written(&mut self, outcome: &Result<(), Fault>, writer: &Recorder) {
-        match outcome {
-            Ok(()) => self.bytes(writer.held()),
-            Err(fault) => self.fault(fault),
-        }
     }
 
     /// Appends the name of a fault. The errors of readers and writers are interruptions, since the

@@ -110,7 +110,10 @@ fn read_payload<U: Unit>(row: &Row<'_>, way: Way) -> Answer {
 /// Appends `Ok` or the fault, and what was written.
 pub fn told_put(row: &Row<'_>, answer: &Result<(), Fault>, writer: &Recorder) -> Answer {
     let mut seen = row.answer();
-    seen.outcome(answer);
+    match answer {
+        Ok(()) => seen.word("Ok"),
+        Err(fault) => seen.fault(fault),
+    }
     seen.bytes(writer.held());
     seen
 }

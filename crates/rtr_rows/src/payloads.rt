@@ -1,7 +1,6 @@
 //! Payload units of any kind.
 
 use crate::answer::Answer;
-use crate::fixed::{alter, told_put};
 use crate::row::{Row, Way};
 use crate::views::tell_end;
 use rtr_tests::support::{Recorder, hash_of};
@@ -33,7 +32,7 @@ pub fn read(row: &Row<'_>) -> Option<Payload> {
     let mut unit = unit_of(row, &row.left)?;
     if row.setting("set").is_some() {
         let place = row.place("set");
-        alter(&mut unit, place, &row.right);
+        crate::fixed::alter(&mut unit, place, &row.right);
     }
     Some(unit)
 }
@@ -48,8 +47,10 @@ pub fn tell_unit(seen: &mut Answer, row: &Row<'_>, unit: &Payload) {
     };
     seen.word(format_args!("{kind} {} {}", unit.version(), unit.flags()));
     let mut writer = Counted::new(Recorder::new(row.alloc, usize::MAX));
-    let outcome = unit.write(&mut writer);
-    seen.written(&outcome, &writer.into_inner());
+    match unit.write(&mut writer) {
+        Ok(()) => seen.bytes(writer.into_inner().held()),
+        Err(fault) => seen.fault(&fault),
+    }
 }
 
 /// `pdu::Payload::read`: the unit or the end of data, or the fault, and how many bytes were taken.
@@ -117,7 +118,13 @@ fn write(row: &Row<'_>, way: Way) -> Answer {
     let mut writer = Counted::new(row.writer(way));
     row.ready();
     let answer = unit.write(&mut writer);
-    told_put(row, &answer, &writer.into_inner())
+    let mut seen = row.answer();
+    match answer {
+        Ok(()) => seen.word("Ok"),
+        Err(fault) => seen.fault(&fault),
+    }
+    seen.bytes(writer.into_inner().held());
+    seen
 }
 
 /// Whether the units of both sides are equal.

@@ -51,8 +51,10 @@ fn tell_any(seen: &mut Answer, row: &Row<'_>, answer: &Result<AnyUnit, Fault>) {
             let (version, size) = (unit.version(), unit.size());
             seen.word(format_args!("{} {version} {size}", kind(unit)));
             let mut writer = Counted::new(Recorder::new(row.alloc, usize::MAX));
-            let outcome = unit.write(&mut writer);
-            seen.written(&outcome, &writer.into_inner());
+            match unit.write(&mut writer) {
+                Ok(()) => seen.bytes(writer.into_inner().held()),
+                Err(fault) => seen.fault(&fault),
+            }
         }
         Err(fault) => seen.fault(fault),
     }

@@ -1,77 +1,105 @@
 //! Router keys and ASPA units.
 
 use crate::answer::Answer;
-use crate::fixed::{header, tell_taken, told_put};
+use crate::fixed::{header, tell_taken};
 use crate::row::{Row, Way};
-use rtr_payload::pdu::{Aspa, Body, ProviderAsns, RouterKey, RouterKeyInfo, VariableUnit};
 use rtr_tests::support::Recorder;
-use rtr_wire::pdu::{Counted, Fault, SliceSource};
+use rtr_wire::pdu::{Aspa, Counted, Fault, RouterKey, SliceSource};
 
-/// Makes the call of a row if it is one of these, `TYPE::read`, `TYPE::read_payload`, `TYPE::clone`
-/// or `TYPE::write`.
+/// Makes the call of a row if it is one of these.
 pub fn answer(row: &Row<'_>, way: Way) -> Option<Answer> {
-    let (kind, call) = row.call.split_once("::")?;
-    match kind {
-        "RouterKey" => unit::<{ RouterKey::FIXED }, RouterKeyInfo>(row, way, call),
-        "Aspa" => unit::<{ Aspa::FIXED }, ProviderAsns>(row, way, call),
+    match row.call {
+        "RouterKey::read" => Some(read_key(row, way)),
+        "RouterKey::read_payload" => Some(read_key_after(row, way)),
+        "RouterKey::clone" => Some(clone_key(row)),
+        "RouterKey::write" => Some(write_key(row, way)),
+        "Aspa::read" => Some(read_aspa(row, way)),
+        "Aspa::read_payload" => Some(read_aspa_after(row, way)),
+        "Aspa::clone" => Some(clone_aspa(row)),
+        "Aspa::write" => Some(write_aspa(row, way)),
         _ => None,
     }
 }
 
-/// Makes a call of a unit.
-fn unit<const FIXED: usize, B: Body<FIXED>>(row: &Row<'_>, way: Way, call: &str) -> Option<Answer> {
-    match call {
-        "read" => Some(read::<FIXED, B>(row, way)),
-        "read_payload" => Some(read_payload::<FIXED, B>(row, way)),
-        "clone" => Some(clone::<FIXED, B>(row)),
-        "write" => Some(write::<FIXED, B>(row, way)),
-        _ => None,
-    }
-}
-
-/// Appends a unit: its size and bytes, or the fault.
-fn tell<const FIXED: usize, B: Body<FIXED>>(
-    seen: &mut Answer,
-    row: &Row<'_>,
-    answer: &Result<VariableUnit<FIXED, B>, Fault>,
-) {
+/// Appends a router key: its size and bytes, or the fault.
+fn tell_key(seen: &mut Answer, row: &Row<'_>, answer: &Result<RouterKey, Fault>) {
     match answer {
         Ok(unit) => {
             seen.word(unit.size());
             let mut writer = Counted::new(Recorder::new(row.alloc, usize::MAX));
-            let outcome = unit.write(&mut writer);
-            seen.written(&outcome, &writer.into_inner());
+            match unit.write(&mut writer) {
+                Ok(()) => seen.bytes(writer.into_inner().held()),
+                Err(fault) => seen.fault(&fault),
+            }
         }
         Err(fault) => seen.fault(fault),
     }
 }
 
-/// `read`, and how many bytes were taken.
-fn read<const FIXED: usize, B: Body<FIXED>>(row: &Row<'_>, way: Way) -> Answer {
+/// Appends an ASPA unit: its size and bytes, or the fault.
+fn tell_aspa(seen: &mut Answer, row: &Row<'_>, answer: &Result<Aspa, Fault>) {
+    match answer {
+        Ok(unit) => {
+            seen.word(unit.size());
+            let mut writer = Counted::new(Recorder::new(row.alloc, usize::MAX));
+            match unit.write(&mut writer) {
+                Ok(()) => seen.bytes(writer.into_inner().held()),
+                Err(fault) => seen.fault(&fault),
+            }
+        }
+        Err(fault) => seen.fault(fault),
+    }
+}
+
+/// `RouterKey::read`, and how many bytes were taken.
+fn read_key(row: &Row<'_>, way: Way) -> Answer {
     let mut reader = Counted::new(row.reader(way));
     row.ready();
-    let answer = VariableUnit::<FIXED, B>::read(row.alloc, &mut reader);
+    let answer = RouterKey::read(row.alloc, &mut reader);
     let mut seen = row.answer();
-    tell(&mut seen, row, &answer);
+    tell_key(&mut seen, row, &answer);
     tell_taken(&mut seen, &reader.into_inner());
     seen
 }
 
-/// `read_payload` after the header that the row says, and how many bytes were taken.
-fn read_payload<const FIXED: usize, B: Body<FIXED>>(row: &Row<'_>, way: Way) -> Answer {
+/// `RouterKey::read_payload` after the header that the row says, and how many bytes were taken.
+fn read_key_after(row: &Row<'_>, way: Way) -> Answer {
+    let header = header(row);
     let mut reader = Counted::new(row.reader(way));
     row.ready();
-    let answer = VariableUnit::<FIXED, B>::read_payload(row.alloc, header(row), &mut reader);
+    let answer = RouterKey::read_payload(row.alloc, header, &mut reader);
     let mut seen = row.answer();
-    tell(&mut seen, row, &answer);
+    tell_key(&mut seen, row, &answer);
     tell_taken(&mut seen, &reader.into_inner());
     seen
 }
 
-/// `clone`, and the unit as it is then.
-fn clone<const FIXED: usize, B: Body<FIXED>>(row: &Row<'_>) -> Answer {
-    let read = VariableUnit::<FIXED, B>::read(row.alloc, &mut SliceSource::new(&row.left));
-    let Ok(unit) = read else {
+/// `Aspa::read`, and how many bytes were taken.
+fn read_aspa(row: &Row<'_>, way: Way) -> Answer {
+    let mut reader = Counted::new(row.reader(way));
+    row.ready();
+    let answer = Aspa::read(row.alloc, &mut reader);
+    let mut seen = row.answer();
+    tell_aspa(&mut seen, row, &answer);
+    tell_taken(&mut seen, &reader.into_inner());
+    seen
+}
+
+/// `Aspa::read_payload` after the header that the row says, and how many bytes were taken.
+fn read_aspa_after(row: &Row<'_>, way: Way) -> Answer {
+    let header = header(row);
+    let mut reader = Counted::new(row.reader(way));
+    row.ready();
+    let answer = Aspa::read_payload(row.alloc, header, &mut reader);
+    let mut seen = row.answer();
+    tell_aspa(&mut seen, row, &answer);
+    tell_taken(&mut seen, &reader.into_inner());
+    seen
+}
+
+/// `RouterKey::clone`, and the unit as it is then.
+fn clone_key(row: &Row<'_>) -> Answer {
+    let Ok(unit) = RouterKey::read(row.alloc, &mut SliceSource::new(&row.left)) else {
         return row.no_unit();
     };
     row.ready();
@@ -82,22 +110,53 @@ fn clone<const FIXED: usize, B: Body<FIXED>>(row: &Row<'_>) -> Answer {
             if copy != unit {
                 seen.word("another");
             }
-            tell(&mut seen, row, &Ok(copy));
+            tell_key(&mut seen, row, &Ok(copy));
         }
         Err(_) => seen.word("Memory"),
     }
     seen.word("of");
-    tell(&mut seen, row, &Ok(unit));
+    tell_key(&mut seen, row, &Ok(unit));
     seen
 }
 
-/// `write`: `Ok` or the fault, and what was written.
-fn write<const FIXED: usize, B: Body<FIXED>>(row: &Row<'_>, way: Way) -> Answer {
-    let read = VariableUnit::<FIXED, B>::read(row.alloc, &mut SliceSource::new(&row.left));
-    let Ok(unit) = read else {
+/// `Aspa::clone`, and the unit as it is then.
+fn clone_aspa(row: &Row<'_>) -> Answer {
+    let Ok(unit) = Aspa::read(row.alloc, &mut SliceSource::new(&row.left)) else {
+        return row.no_unit();
+    };
+    row.ready();
+    let copy = unit.clone();
+    let mut seen = row.answer();
+    match copy {
+        Ok(copy) => {
+            if copy != unit {
+                seen.word("another");
+            }
+            tell_aspa(&mut seen, row, &Ok(copy));
+        }
+        Err(_) => seen.word("Memory"),
+    }
+    seen.word("of");
+    tell_aspa(&mut seen, row, &Ok(unit));
+    seen
+}
+
+/// `RouterKey::write`: `Ok` or the fault, and what was written.
+fn write_key(row: &Row<'_>, way: Way) -> Answer {
+    let Ok(unit) = RouterKey::read(row.alloc, &mut SliceSource::new(&row.left)) else {
         return row.no_unit();
     };
     let mut writer = Counted::new(row.writer(way));
     let answer = unit.write(&mut writer);
-    told_put(row, &answer, &writer.into_inner())
+    crate::fixed::told_put(row, &answer, &writer.into_inner())
+}
+
+/// `Aspa::write`: `Ok` or the fault, and what was written.
+fn write_aspa(row: &Row<'_>, way: Way) -> Answer {
+    let Ok(unit) = Aspa::read(row.alloc, &mut SliceSource::new(&row.left)) else {
+        return row.no_unit();
+    };
+    let mut writer = Counted::new(row.writer(way));
+    let answer = unit.write(&mut writer);
+    crate::fixed::told_put(row, &answer, &writer.into_inner())
 }
