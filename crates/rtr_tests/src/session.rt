@@ -7,20 +7,15 @@ mod reports;
 mod units;
 
 use rtr_session::AnyUnit;
-use rtr_units::fault::Fault;
+use rtr_units::source::Source;
 use std::alloc::Global;
-use std::test::Fail;
 
-/// The text of the fault.
-fn said(alloc: Global, fault: &Fault) -> Result<String, Fail> {
-    Ok(format!(in alloc; "{fault}")?)
-}
-
-/// The answer of a call that reads a unit, as a name or the text of the fault.
-fn outcome(alloc: Global, answer: Result<Option<AnyUnit>, Fault>) -> Result<String, Fail> {
-    match answer {
-        Ok(Some(_)) => Ok(String::from_str(alloc, "a unit")?),
-        Ok(None) => Ok(String::from_str(alloc, "an end")?),
-        Err(fault) => said(alloc, &fault),
+/// What comes of reading the next unit: a name, or the text of the fault.
+fn next<R: Source>(alloc: Global, reader: &mut R) -> Option<String> {
+    let answer = AnyUnit::read(alloc, reader);
+    match &answer {
+        Ok(Some(_)) => String::from_str(alloc, "a unit").ok(),
+        Ok(None) => String::from_str(alloc, "an end").ok(),
+        Err(fault) => fault.to_string(alloc).ok(),
     }
 }

@@ -7,14 +7,11 @@ mod shown;
 mod texts;
 mod variable;
 
-use rtr_wire::pdu::{EndOfData, Payload};
-use std::test::Fail;
+use rtr_wire::pdu::{Payload, SliceSource};
+use std::alloc::Global;
 
-/// The unit that was read.
-fn unit(read: Result<Option<Payload>, EndOfData>) -> Result<Payload, Fail> {
-    match read {
-        Ok(Some(unit)) => Ok(unit),
-        Ok(None) => Err(Fail::new("no unit")),
-        Err(_) => Err(Fail::new("an end of data")),
-    }
+/// The payload unit that these bytes begin with.
+fn unit(alloc: Global, bytes: &[u8]) -> Option<Payload> {
+    let answer = Payload::read(alloc, &mut SliceSource::new(bytes));
+    answer.ok()?.ok()?
 }

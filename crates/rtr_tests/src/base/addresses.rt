@@ -109,11 +109,9 @@ fn lengths_that_are_too_large(rt: HostRuntime) {
 /// Asserts the parts of a prefix with a max length that is allowed.
 fn expect_parts(rt: &impl Abort, prefix: Prefix, max_len: Option<u8>, resolved: u8) {
     let made = MaxLenPrefix::new(prefix, max_len).expect(rt, "an allowed max length");
-    expect_equal(rt, made.resolved_max_len(), resolved);
-    expect_equal(rt, made.max_len(), max_len);
-    expect_equal(rt, made.prefix(), prefix);
-    expect_equal(rt, made.prefix_len(), prefix.len());
-    expect_equal(rt, made.addr(), prefix.addr());
+    expect_equal(rt, (made.prefix(), made.max_len()), (prefix, max_len));
+    let shown = (made.addr(), made.prefix_len(), made.resolved_max_len());
+    expect_equal(rt, shown, (prefix.addr(), prefix.len(), resolved));
 }
 
 #[test]

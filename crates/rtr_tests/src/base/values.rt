@@ -1,7 +1,6 @@
 //! ASNs, keys, actions, families, timings and error codes.
 
-use crate::expect::{expect, expect_equal};
-use crate::support::hash_of;
+use crate::expect::{expect, expect_equal, expect_same};
 use rtr_base::action::Action;
 use rtr_base::afi::Afi;
 use rtr_base::asn::Asn;
@@ -11,10 +10,10 @@ use rtr_base::timing::Timing;
 
 #[test]
 fn numbers(rt: HostRuntime) {
-    expect_equal(&rt, Asn::from_u32(65551).into_u32(), 65551);
-    expect_equal(&rt, Asn::from(65551), Asn::from_u32(65551));
+    let number = Asn::from_u32(65551);
+    expect_equal(&rt, number.into_u32(), 65551);
+    expect_same(&rt, &Asn::from(65551), &number);
     expect(&rt, Asn::from_u32(2) < Asn::from_u32(256));
-    expect_equal(&rt, hash_of(&Asn::from_u32(7)), hash_of(&Asn::from_u32(7)));
 }
 
 #[test]
@@ -24,40 +23,44 @@ fn keys(rt: HostRuntime) {
     let key = KeyIdentifier::from(bytes);
     let back: [u8; 20] = key.into();
     expect(&rt, back == bytes);
-    expect_equal(&rt, hash_of(&key), hash_of(&KeyIdentifier::from(back)));
+    expect_same(&rt, &key, &KeyIdentifier::from(back));
     bytes[19] = 1;
     let next = KeyIdentifier::from(bytes);
-    expect(&rt, key < next);
-    expect(&rt, key != next);
+    expect(&rt, key < next && key != next);
 }
 
 #[test]
 fn actions(rt: HostRuntime) {
-    expect_equal(&rt, Action::from_flags(0), Action::Withdraw);
-    expect_equal(&rt, Action::from_flags(1), Action::Announce);
-    expect_equal(&rt, Action::from_flags(128), Action::Withdraw);
-    expect_equal(&rt, Action::from_flags(255), Action::Announce);
-    expect_equal(&rt, Action::Announce.into_flags(), 1);
-    expect_equal(&rt, Action::Withdraw.into_flags(), 0);
+    let flags = [
+        (0, Action::Withdraw),
+        (1, Action::Announce),
+        (128, Action::Withdraw),
+        (255, Action::Announce),
+    ];
+    for (flags, action) in flags {
+        expect_equal(&rt, Action::from_flags(flags), action);
+    }
+    for (action, flags) in [(Action::Withdraw, 0), (Action::Announce, 1)] {
+        let shown = (
+            action.into_flags(),
+            action.is_announce(),
+            action.is_withdraw(),
+        );
+        expect_equal(&rt, shown, (flags, flags == 1, flags == 0));
+    }
     expect(&rt, Action::Announce < Action::Withdraw);
-    expect(&rt, Action::Announce.is_announce());
-    expect(&rt, !Action::Announce.is_withdraw());
-    expect(&rt, Action::Withdraw.is_withdraw());
-    expect(&rt, !Action::Withdraw.is_announce());
 }
 
 #[test]
 fn families(rt: HostRuntime) {
-    expect(&rt, Afi::ipv6().is_ipv6());
-    expect(&rt, !Afi::ipv6().is_ipv4());
     expect_equal(&rt, Afi::from_u8(1), Afi::ipv6());
     // Whatever isn't 1 is IPv4, but keeps its number.
     let other = Afi::from_u8(2);
-    expect(&rt, other != Afi::ipv4());
-    expect(&rt, Afi::ipv6() < other);
-    expect(&rt, other.is_ipv4());
-    expect(&rt, !other.is_ipv6());
-    expect_equal(&rt, other.into_u8(), 2);
+    expect(&rt, other != Afi::ipv4() && Afi::ipv6() < other);
+    for (family, number) in [(Afi::ipv6(), 1), (other, 2)] {
+        let shown = (family.into_u8(), family.is_ipv6(), family.is_ipv4());
+        expect_equal(&rt, shown, (number, number == 1, number == 2));
+    }
 }
 
 #[test]
@@ -96,9 +99,5 @@ fn error_codes(rt: HostRuntime) {
         expect_equal(&rt, code, ErrorCode(number));
     }
     expect(&rt, ErrorCode::CORRUPT_DATA < ErrorCode::INTERNAL_ERROR);
-    expect_equal(
-        &rt,
-        hash_of(&ErrorCode(3)),
-        hash_of(&ErrorCode::INVALID_REQUEST),
-    );
+    expect_same(&rt, &ErrorCode(3), &ErrorCode::INVALID_REQUEST);
 }

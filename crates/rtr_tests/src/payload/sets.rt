@@ -2,7 +2,7 @@
 
 use crate::expect::{expect_equal, expect_same};
 use crate::payload::made::{ASCENDING, aspa, key, origin, payloads};
-use rtr_payload::payload::{Aspa, PayloadRef, RouteOrigin, RouterKey};
+use rtr_payload::payload::{Aspa, Payload, PayloadRef, RouteOrigin, RouterKey};
 use std::alloc::Global;
 use std::collections::{BTreeSet, HashSet};
 use std::hash::Hash;
@@ -62,14 +62,17 @@ fn no_max_length_is_the_prefix_length(rt: HostRuntime) {
     let plain = origin("65551 192.0.2.0 24").expect(&rt, "an origin");
     let given = origin("65551 192.0.2.0 24 24").expect(&rt, "an origin");
     expect_same(&rt, &plain, &given);
-    expect_equal(&rt, plain.prefix.max_len(), None);
-    expect_equal(&rt, given.prefix.max_len(), Some(24));
-    expect_equal(&rt, plain.is_v4(), true);
-    expect_equal(
-        &rt,
-        origin("0 :: 0").expect(&rt, "an origin").is_v4(),
-        false,
-    );
+    let lengths = (plain.prefix.max_len(), given.prefix.max_len());
+    expect_equal(&rt, lengths, (None, Some(24)));
+    let long = origin("0 :: 0").expect(&rt, "an origin");
+    expect_equal(&rt, (plain.is_v4(), long.is_v4()), (true, false));
+}
+
+/// How many members sets of these origins have.
+fn origin_members(alloc: Global, origins: &[RouteOrigin]) -> Result<(usize, usize), Fail> {
+    let for_tree = Vec::from_slice(alloc, origins)?;
+    let for_table = Vec::from_slice(alloc, origins)?;
+    members(alloc, for_tree, for_table)
 }
 
 #[test]
@@ -77,10 +80,8 @@ fn origins_in_sets(rt: HostRuntime) -> Result<(), Fail> {
     let plain = origin("65551 192.0.2.0 24").expect(&rt, "an origin");
     let given = origin("65551 192.0.2.0 24 24").expect(&rt, "an origin");
     let longer = origin("65551 192.0.2.0 24 25").expect(&rt, "an origin");
-    let one = vec![in rt.alloc(); plain, given]?;
-    expect_equal(&rt, members(rt.alloc(), one.clone()?, one)?, (1, 1));
-    let two = vec![in rt.alloc(); plain, longer]?;
-    expect_equal(&rt, members(rt.alloc(), two.clone()?, two)?, (2, 2));
+    expect_equal(&rt, origin_members(rt.alloc(), &[plain, given])?, (1, 1));
+    expect_equal(&rt, origin_members(rt.alloc(), &[plain, longer])?, (2, 2));
     let lent = lent_members::<RouteOrigin, PayloadRef<'_>>(rt.alloc(), &[plain, given])?;
     expect_equal(&rt, lent, (1, 1));
     Ok(())
@@ -111,19 +112,35 @@ fn aspas_in_sets(rt: HostRuntime) -> Result<(), Fail> {
     Ok(())
 }
 
+/// Whether the payload is new to the tree, and whether it is to the table.
+fn insert(
+    tree: &mut BTreeSet<Payload>,
+    table: &mut HashSet<Payload>,
+    payload: &Payload,
+) -> Result<(bool, bool), Fail> {
+    let is_new = tree.insert(payload.clone()?)?;
+    Ok((is_new, table.insert(payload.clone()?)?))
+}
+
 #[test]
 fn payloads_in_sets(rt: HostRuntime) -> Result<(), Fail> {
     let payloads = payloads(rt.alloc(), ASCENDING).expect(&rt, "payloads");
     let mut tree = BTreeSet::new(rt.alloc());
     let mut table = HashSet::new(rt.alloc());
     for payload in &payloads {
-        expect_equal(&rt, tree.insert(payload.clone()?)?, true);
-        expect_equal(&rt, tree.insert(payload.clone()?)?, false);
-        expect_equal(&rt, table.insert(payload.clone()?)?, true);
-        expect_equal(&rt, table.insert(payload.clone()?)?, false);
+        for is_new in [true, false] {
+            expect_equal(
+                &rt,
+                insert(&mut tree, &mut table, payload)?,
+                (is_new, is_new),
+            );
+        }
     }
-    expect_equal(&rt, tree.len(), payloads.len());
-    expect_equal(&rt, table.len(), payloads.len());
+    expect_equal(
+        &rt,
+        (tree.len(), table.len()),
+        (payloads.len(), payloads.len()),
+    );
     Ok(())
 }
 

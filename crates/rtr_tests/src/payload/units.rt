@@ -70,10 +70,9 @@ fn withdrawal_without_providers(rt: HostRuntime) -> Result<(), Fail> {
 #[test]
 fn router_key_fields(rt: HostRuntime) -> Result<(), Fail> {
     let unit = key(rt.alloc(), 1)?;
-    expect_equal(&rt, unit.version(), 1);
-    expect_equal(&rt, unit.size(), 36);
+    let numbers = (unit.version(), unit.size(), unit.asn().into_u32());
+    expect_equal(&rt, numbers, (1, 36, 65551));
     expect_equal(&rt, unit.key_identifier(), IDENTIFIER);
-    expect_equal(&rt, unit.asn().into_u32(), 65551);
     expect_equal(&rt, unit.key_info().as_slice(), INFO);
     expect_equal(&rt, RouterKey::max_key_info_size(), 4294967263);
     expect_equal(&rt, unit.into_key_info().as_slice(), INFO);
@@ -83,9 +82,8 @@ fn router_key_fields(rt: HostRuntime) -> Result<(), Fail> {
 #[test]
 fn aspa_fields(rt: HostRuntime) -> Result<(), Fail> {
     let unit = aspa(rt.alloc(), 1)?;
-    expect_equal(&rt, unit.version(), 2);
-    expect_equal(&rt, unit.size(), 20);
-    expect_equal(&rt, unit.customer().into_u32(), 65551);
+    let numbers = (unit.version(), unit.size(), unit.customer().into_u32());
+    expect_equal(&rt, numbers, (2, 20, 65551));
     expect_equal(&rt, unit.providers().asn_count(), 2);
     expect_equal(&rt, unit.into_providers().len(), 8);
     Ok(())

@@ -42,21 +42,22 @@ fn words(alloc: Global, text: &str) -> Option<Vec<String>> {
     (!words.is_empty()).then_some(words)
 }
 
+/// The numbers of the read and of the write that fail.
+fn failing(text: &str) -> Option<(usize, usize)> {
+    let (reading, writing) = text.split_once(' ')?;
+    Some((reading.parse().ok()?, writing.parse().ok()?))
+}
+
 fn flushes(alloc: Global, run: &str) -> Option<String> {
     let (text, rest) = run.split_once("; ")?;
     let (fails, input) = rest.split_once(';')?;
-    let (reading, writing) = fails.split_once(' ')?;
+    let (reading, writing) = failing(fails)?;
     let input = decoded(alloc, input)?;
-    let mut reader = Counted::new(Pieces::failing(&input, ONES, reading.parse().ok()?));
-    let mut output = Counted::new(Recorder::failing(alloc, 7, writing.parse().ok()?));
+    let mut reader = Counted::new(Pieces::failing(&input, ONES, reading));
+    let mut output = Counted::new(Recorder::failing(alloc, 7, writing));
     let mut faults = Recorder::new(alloc, usize::MAX);
-    let _ = program(
-        alloc,
-        words(alloc, text),
-        &mut reader,
-        &mut output,
-        &mut faults,
-    );
+    let words = words(alloc, text);
+    let _ = program(alloc, words, &mut reader, &mut output, &mut faults);
     output.into_inner().flushes().to_string(alloc).ok()
 }
 

@@ -36,12 +36,23 @@ fn part(alloc: Global, part: Option<&[u8]>) -> Option<String> {
     }
 }
 
+/// The report of these bytes.
+fn read(alloc: Global, bytes: &[u8]) -> Option<Report> {
+    Report::read(alloc, &mut SliceSource::new(bytes)).ok()
+}
+
+/// Whether a report is read again from its own bytes.
+fn is_read_again(alloc: Global, report: &Report) -> bool {
+    match read(alloc, report.as_ref()) {
+        Some(again) => again == *report && hash_of(&again) == hash_of(report),
+        None => false,
+    }
+}
+
 /// What a report says, if it is read again from its own bytes.
 fn parts(alloc: Global, text: &str) -> Option<String> {
-    let input = decoded(alloc, text)?;
-    let report = Report::read(alloc, &mut SliceSource::new(&input)).ok()?;
-    let again = Report::read(alloc, &mut SliceSource::new(report.as_ref())).ok()?;
-    if again != report || hash_of(&again) != hash_of(&report) {
+    let report = read(alloc, &decoded(alloc, text)?)?;
+    if !is_read_again(alloc, &report) {
         return None;
     }
     let (version, code) = (report.version(), report.code().0);

@@ -4,7 +4,7 @@ use crate::expect::expect_equal;
 use crate::samples::{
     ASPA, END_0, END_1, IPV4_STRAY, IPV6_STRAY, KEY, NOTIFY, QUERY, REPORT, bytes, front,
 };
-use crate::session::outcome;
+use crate::session::next;
 use crate::support::{ONES, Pieces, Recorder, STEPS, WHOLE};
 use rtr_payload::pdu::Payload;
 use rtr_session::AnyUnit;
@@ -69,10 +69,13 @@ fn expect_row(
     unit: &AnyUnit,
     input: &[u8],
 ) -> Result<(), Fail> {
-    expect_equal(rt, kind(unit), row.kind);
-    expect_equal(rt, unit.version(), row.version);
-    expect_equal(rt, unit.session(), row.session);
-    expect_equal(rt, unit.size() as usize, input.len());
+    let shown = (
+        kind(unit),
+        unit.version(),
+        unit.session(),
+        unit.size() as usize,
+    );
+    expect_equal(rt, shown, (row.kind, row.version, row.session, input.len()));
     let mut writer = Counted::new(Recorder::new(alloc, usize::MAX));
     unit.write(&mut writer)?;
     expect_equal(rt, writer.into_inner().held(), input);
@@ -98,14 +101,9 @@ fn read_row(rt: &impl Abort, alloc: Global, row: &Row, sizes: &[usize]) -> Resul
     let input = bytes(alloc, &[row.unit])?;
     let mut reader = Counted::new(Pieces::new(&input, sizes));
     read_unit(rt, alloc, row, &input, &mut reader)?;
-    expect_equal(
-        rt,
-        outcome(alloc, AnyUnit::read(alloc, &mut reader))?.as_str(),
-        "an end",
-    );
+    expect_equal(rt, next(alloc, &mut reader).as_deref(), Some("an end"));
     let reader = reader.into_inner();
-    expect_equal(rt, reader.taken(), input.len());
-    expect_equal(rt, reader.ends(), 1);
+    expect_equal(rt, (reader.taken(), reader.ends()), (input.len(), 1));
     Ok(())
 }
 
@@ -162,27 +160,24 @@ fn wanted(left: usize, cut: usize, end: usize) -> &'static str {
 
 /// Reads all units of a session that is cut: those that are whole, and then a clean end if the cut
 /// lies between two units.
-fn read_cut(rt: &impl Abort, alloc: Global, cut: &[u8], ends: &[usize]) -> Result<(), Fail> {
+fn read_cut(rt: &impl Abort, alloc: Global, cut: &[u8], ends: &[usize]) {
     let mut reader = SliceSource::new(cut);
     for end in ends {
         let want = wanted(reader.rest().len(), cut.len(), *end);
-        let answer = outcome(alloc, AnyUnit::read(alloc, &mut reader))?;
-        expect_equal(rt, answer.as_str(), want);
+        expect_equal(rt, next(alloc, &mut reader).as_deref(), Some(want));
         expect_equal(rt, reader.rest().len(), cut.len().saturating_sub(*end));
         if cut.len() < *end {
-            return Ok(());
+            return;
         }
     }
-    let answer = outcome(alloc, AnyUnit::read(alloc, &mut reader))?;
-    expect_equal(rt, answer.as_str(), "an end");
-    Ok(())
+    expect_equal(rt, next(alloc, &mut reader).as_deref(), Some("an end"));
 }
 
 #[test]
 fn session_cut_at_every_byte(rt: HostRuntime) -> Result<(), Fail> {
     let (all, ends) = session(rt.alloc())?;
     for count in 0..=all.len() {
-        read_cut(&rt, rt.alloc(), front(&all, count), &ends)?;
+        read_cut(&rt, rt.alloc(), front(&all, count), &ends);
     }
     Ok(())
 }

@@ -38,12 +38,8 @@ fn ends_of_later_versions(rt: HostRuntime) -> Result<(), Fail> {
     let third = bytes(alloc, &["03", END_REST])?;
     expect_equal(&rt, written.as_slice(), third.as_slice());
     expect_equal(&rt, (later.version(), later.timing()), (3, Some(timing)));
-    expect_equal(
-        &rt,
-        (later.session(), later.serial()),
-        (0x1234, Serial(0xdeadbeef)),
-    );
-    expect_equal(&rt, later.state(), state());
+    let parts = (later.session(), later.serial(), later.state());
+    expect_equal(&rt, parts, (0x1234, Serial(0xdeadbeef), state()));
     Ok(())
 }
 

@@ -1,21 +1,23 @@
 //! The texts of faults.
 
-use crate::expect::expect_equal;
+use crate::expect::expect_text;
 use rtr_units::error::Error;
 use rtr_units::fault::Fault;
 use std::io;
 use std::io::ErrorKind;
-use std::test::Fail;
 
 fn is_error<E: std::error::Error>(_: &E) {}
 
+fn interrupted() -> io::Error {
+    io::Error::from(ErrorKind::Interrupted)
+}
+
 #[test]
-fn texts_of_faults(rt: HostRuntime) -> Result<(), Fail> {
+fn texts_of_faults(rt: HostRuntime) {
     let alloc = rt.alloc();
-    let error = || io::Error::from(ErrorKind::Interrupted);
     let table = [
-        (Fault::Reader(error()), "read failed"),
-        (Fault::Writer(error()), "write failed"),
+        (Fault::Reader(interrupted()), "read failed"),
+        (Fault::Writer(interrupted()), "write failed"),
         (Fault::Short, "unexpected end of input"),
         (Fault::UnitType(10), "unit type 10 is not allowed here"),
         (Fault::UnitLength, "invalid unit length"),
@@ -31,8 +33,6 @@ fn texts_of_faults(rt: HostRuntime) -> Result<(), Fail> {
     ];
     for (fault, want) in table {
         is_error(&fault);
-        let text = format!(in alloc; "{fault}")?;
-        expect_equal(&rt, text.as_str(), want);
+        expect_text(&rt, alloc, fault, want);
     }
-    Ok(())
 }

@@ -87,8 +87,11 @@ fn ipv4_prefix(rt: HostRuntime) -> Result<(), Fail> {
     passes(&rt, rt.alloc(), unit, IPV4_STRAY)?;
     expect_equal(&rt, unit.prefix(), address);
     let lengths = (unit.prefix_len(), unit.max_len());
-    expect_equal(&rt, lengths, (23, 26));
-    expect_equal(&rt, (unit.flags(), unit.asn().into_u32()), (1, 65551));
+    expect_equal(
+        &rt,
+        (unit.flags(), lengths, unit.asn().into_u32()),
+        (1, (23, 26), 65551),
+    );
     Ok(())
 }
 
@@ -99,8 +102,11 @@ fn ipv6_prefix(rt: HostRuntime) -> Result<(), Fail> {
     passes(&rt, rt.alloc(), unit, IPV6_STRAY)?;
     expect_equal(&rt, unit.prefix(), address);
     let lengths = (unit.prefix_len(), unit.max_len());
-    expect_equal(&rt, lengths, (23, 26));
-    expect_equal(&rt, (unit.flags(), unit.asn().into_u32()), (1, 65551));
+    expect_equal(
+        &rt,
+        (unit.flags(), lengths, unit.asn().into_u32()),
+        (1, (23, 26), 65551),
+    );
     Ok(())
 }
 
@@ -133,12 +139,9 @@ fn headers(rt: HostRuntime) -> Result<(), Fail> {
     let input = bytes(alloc, &[text])?;
     let mut header = Header::read(&mut SliceSource::new(&input))?;
     expect_equal(&rt, header, Header::new(2, 11, 0x1234, 0x01020304));
-    expect_equal(&rt, (header.version(), header.pdu()), (2, 11));
-    expect_equal(
-        &rt,
-        (header.session(), header.length()),
-        (0x1234, 0x01020304),
-    );
+    let (version, pdu) = (header.version(), header.pdu());
+    let fields = (version, pdu, header.session(), header.length());
+    expect_equal(&rt, fields, (2, 11, 0x1234, 0x01020304));
     expect_equal(&rt, header.pdu_len()?, 0x01020304);
     let mut writer = Counted::new(Recorder::new(alloc, 3));
     header.write(&mut writer)?;

@@ -9,9 +9,10 @@ use rtr_data::Data;
 use rtr_session::answering::Reply;
 use rtr_wire::base::Asn;
 use rtr_wire::payload::{Action, Payload};
-use rtr_wire::pdu;
-use rtr_wire::pdu::{Counted, ErrorCode, Fault, Header, Unit, ViewFault};
+use rtr_wire::pdu::{Counted, EndOfData, ErrorCode, Fault, Header, Unit, ViewFault};
 use rtr_wire::state::{Serial, State};
+use rtr_wire::{payload, pdu};
+use std::alloc::Global;
 use std::test::Fail;
 use std::{fs, io};
 
@@ -43,6 +44,9 @@ const ASPA_WITHDRAWN: &[u8] = &[2, 11, 0, 0, 0, 0, 0, 12, 0, 0, 0xfb, 0xf0];
 /// Reports that there are no data: no unit, and the text "no".
 #[rattlefmt::skip]
 const REPORT: &[u8] = &[2, 10, 0, 2, 0, 0, 0, 18, 0, 0, 0, 0, 0, 0, 0, 2, b'n', b'o'];
+
+/// The header of a serial notify of a wrong length.
+const NOTIFY: &[u8] = &[2, 0, 0, 0, 0, 0, 0, 8];
 
 /// An end of data with serial number 5 and the recommended timings.
 #[rattlefmt::skip]
@@ -135,21 +139,25 @@ fn recordings_are_compared(rt: HostRuntime) -> Result<(), Fail> {
     Ok(())
 }
 
+/// What comes of the changes of these units to the data.
+fn updated(
+    rt: &HostRuntime,
+    data: &mut Data,
+    units: &[&[u8]],
+) -> Result<Result<EndOfData, Option<ErrorCode>>, Fail> {
+    let input = joined(rt, units)?;
+    Ok(update(rt.alloc(), data, &mut Counted::new(input.as_slice())))
+}
+
 #[test]
 fn data_follow_their_cache(rt: HostRuntime) -> Result<(), Fail> {
-    let alloc = rt.alloc();
-    let mut data = Data::new(alloc);
-    let first = joined(&rt, &[ORIGIN, ASPA, END])?;
-    let end = update(alloc, &mut data, &mut Counted::new(first.as_slice()));
-    expect(&rt, end.map(|end| end.serial()) == Ok(Serial(5)));
+    let mut data = Data::new(rt.alloc());
     let known = Payload::from(origin("192.0.2.0/23-26", 65551)?);
+    let end = updated(&rt, &mut data, &[ORIGIN, ASPA, END])?;
+    expect(&rt, end.map(|end| end.serial()) == Ok(Serial(5)));
     expect(&rt, data.len() == 2 && data.contains(&known.as_ref()));
-
-    let second = joined(&rt, &[WITHDRAWN, OTHER_ASPA, END])?;
-    expect(
-        &rt,
-        update(alloc, &mut data, &mut Counted::new(second.as_slice())).is_ok(),
-    );
+    let end = updated(&rt, &mut data, &[WITHDRAWN, OTHER_ASPA, END])?;
+    expect(&rt, end.is_ok());
     expect(&rt, data.len() == 1 && !data.contains(&known.as_ref()));
     Ok(())
 }
@@ -157,59 +165,59 @@ fn data_follow_their_cache(rt: HostRuntime) -> Result<(), Fail> {
 /// What is owed for a sequence that isn't allowed after ORIGIN and ASPA, with the data as it was.
 #[test]
 fn data_stay_as_they_were(rt: HostRuntime) -> Result<(), Fail> {
-    let alloc = rt.alloc();
-    let mut data = Data::new(alloc);
-    let first = joined(&rt, &[ORIGIN, ASPA, END])?;
-    expect(
-        &rt,
-        update(alloc, &mut data, &mut Counted::new(first.as_slice())).is_ok(),
-    );
-    let duplicate = joined(&rt, &[ASPA_WITHDRAWN, ORIGIN, END])?;
-    let unknown = joined(&rt, &[WITHDRAWN, WITHDRAWN, END])?;
-    let wrong = joined(&rt, &[WITHDRAWN, &[2, 0, 0, 0, 0, 0, 0, 8]])?;
-    let cut = joined(&rt, &[WITHDRAWN, ASPA_WITHDRAWN])?;
-    for (input, code) in [
-        (&duplicate, ErrorCode::DUPLICATE_ANNOUNCEMENT_RECEIVED),
-        (&unknown, ErrorCode::WITHDRAWAL_OF_UNKNOWN_RECORD),
-        (&wrong, ErrorCode::UNSUPPORTED_PDU_TYPE),
-        (&cut, ErrorCode::CORRUPT_DATA),
-    ] {
-        let refused = update(alloc, &mut data, &mut Counted::new(input.as_slice()));
-        expect_equal(&rt, refused.err(), Some(Some(code)));
-        expect_equal(&rt, data.len(), 2);
+    let mut data = Data::new(rt.alloc());
+    expect(&rt, updated(&rt, &mut data, &[ORIGIN, ASPA, END])?.is_ok());
+    let refused: [(&[&[u8]], ErrorCode); 4] = [
+        (
+            &[ASPA_WITHDRAWN, ORIGIN, END],
+            ErrorCode::DUPLICATE_ANNOUNCEMENT_RECEIVED,
+        ),
+        (
+            &[WITHDRAWN, WITHDRAWN, END],
+            ErrorCode::WITHDRAWAL_OF_UNKNOWN_RECORD,
+        ),
+        (&[WITHDRAWN, NOTIFY], ErrorCode::UNSUPPORTED_PDU_TYPE),
+        (&[WITHDRAWN, ASPA_WITHDRAWN], ErrorCode::CORRUPT_DATA),
+    ];
+    for (units, code) in refused {
+        let outcome = updated(&rt, &mut data, units)?;
+        expect_equal(&rt, (outcome.err(), data.len()), (Some(Some(code)), 2));
+    }
+    Ok(())
+}
+
+/// The answer to a reset query of this version.
+fn answer(rt: &HostRuntime, data: &Data, version: u8) -> Result<Vec<u8>, Fault> {
+    let query = [version, 2, 0, 0, 0, 0, 0, 8];
+    let mut reader = Counted::new(query.as_slice());
+    let mut writer = Counted::new(Vec::new(rt.alloc()));
+    let state = State::from_parts(0x1234, Serial(5));
+    answer_reset(&mut reader, &mut writer, data, state)?;
+    Ok(writer.into_inner())
+}
+
+#[test]
+fn reset_queries_are_answered(rt: HostRuntime) -> Result<(), Fail> {
+    let mut data = Data::new(rt.alloc());
+    expect(&rt, updated(&rt, &mut data, &[ORIGIN, ASPA, END])?.is_ok());
+    #[rattlefmt::skip]
+    let sizes: [(u8, usize); 3] = [(0, 8 + 20 + 12), (1, 8 + 20 + 24), (2, 8 + 20 + 16 + 24)];
+    for (version, size) in sizes {
+        let answer = answer(&rt, &data, version)?;
+        expect_equal(&rt, answer.len(), size);
+        expect(&rt, answer.as_slice().starts_with(&[version, 3]));
     }
     Ok(())
 }
 
 #[test]
-fn reset_queries_are_answered(rt: HostRuntime) -> Result<(), Fail> {
-    let alloc = rt.alloc();
-    let mut data = Data::new(alloc);
+fn all_data_are_announced(rt: HostRuntime) -> Result<(), Fail> {
+    let mut data = Data::new(rt.alloc());
+    expect(&rt, updated(&rt, &mut data, &[ORIGIN, ASPA, END])?.is_ok());
+    let answer = answer(&rt, &data, 2)?;
+    let sequence = answer.as_slice().get(8..).ok_or("no sequence")?;
     let input = joined(&rt, &[ORIGIN, ASPA, END])?;
-    expect(
-        &rt,
-        update(alloc, &mut data, &mut Counted::new(input.as_slice())).is_ok(),
-    );
-    #[rattlefmt::skip]
-    let answers: [(u8, usize); 3] = [(0, 8 + 20 + 12), (1, 8 + 20 + 24), (2, 8 + 20 + 16 + 24)];
-    for (version, size) in answers {
-        let query = [version, 2, 0, 0, 0, 0, 0, 8];
-        let mut writer = Counted::new(Vec::new(alloc));
-        let state = State::from_parts(0x1234, Serial(5));
-        answer_reset(
-            &mut Counted::new(query.as_slice()),
-            &mut writer,
-            &data,
-            state,
-        )?;
-        let answer = writer.into_inner();
-        expect_equal(&rt, answer.len(), size);
-        expect(&rt, answer.iter().take(2).eq([version, 3].iter()));
-        if version == 2 {
-            let sequence = answer.as_slice().get(8..).ok_or("no sequence")?;
-            expect(&rt, compare(alloc, sequence, input.as_slice())?);
-        }
-    }
+    expect(&rt, compare(rt.alloc(), sequence, input.as_slice())?);
     Ok(())
 }
 
@@ -229,15 +237,21 @@ fn queries_of_other_versions(rt: HostRuntime) {
     expect(&rt, writer.into_inner().is_empty());
 }
 
+/// The ASPA that `ASPA` announces.
+fn aspa(alloc: Global) -> Option<payload::Aspa> {
+    let unit = pdu::Payload::read(alloc, &mut Counted::new(ASPA))
+        .ok()?
+        .ok()??;
+    match unit.into_payload(alloc).ok()? {
+        (_, Payload::Aspa(aspa)) => Some(aspa),
+        _ => None,
+    }
+}
+
 #[test]
 fn an_aspa_is_withdrawn(rt: HostRuntime) -> Result<(), Fail> {
     let alloc = rt.alloc();
-    let Ok(Some(unit)) = pdu::Payload::read(alloc, &mut Counted::new(ASPA))? else {
-        return Err(Fail::new("no ASPA"));
-    };
-    let (_, Payload::Aspa(aspa)) = unit.into_payload(alloc)? else {
-        return Err(Fail::new("no ASPA"));
-    };
+    let aspa = aspa(alloc).ok_or("no ASPA")?;
     let unit = withdrawal(alloc, &aspa)?;
     expect(&rt, unit.action() == Action::Withdraw);
     let mut writer = Counted::new(Vec::new(alloc));

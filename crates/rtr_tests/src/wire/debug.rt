@@ -1,14 +1,15 @@
 //! Debug texts: all types of values have one. Only those of units of no fixed size are compared.
 
+use crate::base::rows::named;
 use crate::expect::expect_equal;
-use crate::samples::{ASPA_NAMED, IPV4, IPV6, KEY, bytes};
+use crate::samples::{ASPA_NAMED, IPV4, IPV6, KEY, decoded};
 use crate::wire::unit;
 use rtr_wire::base::{Asn, KeyIdentifier, MaxLenPrefix, Prefix};
 use rtr_wire::payload::{Action, Afi, PayloadType, RouteOrigin, Timing};
 use rtr_wire::pdu::{
     CacheReset, CacheResponse, Counted, EndOfData, Error, ErrorCode, Fault, Header, KeyInfoError,
-    KeyInfoVecError, Payload, ProviderAsns, ProviderIterError, ResetQuery, SerialNotify,
-    SerialQuery, SerialQueryPayload, SliceSource,
+    KeyInfoVecError, ProviderAsns, ProviderIterError, ResetQuery, SerialNotify, SerialQuery,
+    SerialQueryPayload, SliceSource,
 };
 use rtr_wire::state::{Serial, State};
 use std::alloc::Global;
@@ -65,21 +66,19 @@ fn units_of_a_fixed_size(rt: HostRuntime) {
 }
 
 /// Asserts that the unit of these bytes has a debug text, and that its meaning has one.
-fn expect_unit_shown(rt: &impl Abort, alloc: Global, text: &str) -> Result<(), Fail> {
-    let input = bytes(alloc, &[text])?;
-    let read = Payload::read(alloc, &mut SliceSource::new(&input))?;
-    expect_shown(rt, alloc, &read);
-    let meaning = unit(read)?.to_payload(alloc)?;
+fn expect_unit_shown(rt: &impl Abort, alloc: Global, text: &str) {
+    let input = decoded(alloc, text).expect(rt, "bytes");
+    let unit = unit(alloc, &input).expect(rt, "a unit");
+    expect_shown(rt, alloc, &unit);
+    let meaning = unit.to_payload(alloc).ok().expect(rt, "a meaning");
     expect_shown(rt, alloc, &meaning);
-    Ok(())
 }
 
 #[test]
-fn payload_units_and_their_meanings(rt: HostRuntime) -> Result<(), Fail> {
+fn payload_units_and_their_meanings(rt: HostRuntime) {
     for text in [IPV4, IPV6, KEY, ASPA_NAMED] {
-        expect_unit_shown(&rt, rt.alloc(), text)?;
+        expect_unit_shown(&rt, rt.alloc(), text);
     }
-    Ok(())
 }
 
 /// Units of no fixed size, and their debug texts: the names of the type and of its fields, and all
@@ -98,15 +97,18 @@ const TEXTS: &[(&str, &str)] = &[
     ),
 ];
 
+/// The debug text of the unit of these bytes.
+fn shown(alloc: Global, text: &str) -> Option<String> {
+    let unit = unit(alloc, &decoded(alloc, text)?)?;
+    named(alloc, &unit)
+}
+
 #[test]
-fn texts_of_units_of_no_fixed_size(rt: HostRuntime) -> Result<(), Fail> {
+fn texts_of_units_of_no_fixed_size(rt: HostRuntime) {
     for (input, want) in TEXTS {
-        let input = bytes(rt.alloc(), &[*input])?;
-        let unit = unit(Payload::read(rt.alloc(), &mut SliceSource::new(&input))?)?;
-        let text = format!(in rt.alloc(); "{unit:?}")?;
-        expect_equal(&rt, text.as_str(), *want);
+        let text = shown(rt.alloc(), input);
+        expect_equal(&rt, text.as_deref(), Some(*want));
     }
-    Ok(())
 }
 
 #[test]
