@@ -1,5 +1,6 @@
 //! Answers as text.
 
+use rtr_tests::support::Recorder;
 use rtr_wire::pdu::{Fault, PrefixRule, ViewFault};
 use std::alloc::{AllocError, Global};
 use std::fmt::Display;
@@ -35,6 +36,11 @@ impl Answer {
         }
     }
 
+    /// Appends the name of a kind of unit, the unit's version, and what comes next of it.
+    pub fn unit<D: Display + Drop>(&mut self, name: &str, version: u8, next: D) {
+        self.word(format_args!("{name} {version} {next}"))
+    }
+
     /// Appends bytes.
     pub fn bytes(&mut self, bytes: &[u8]) {
         if bytes.is_empty() {
@@ -68,6 +74,22 @@ impl Answer {
             return Err(AllocError);
         }
         Ok(self.text)
+    }
+
+    /// Appends `Ok`, or the name of the fault.
+    pub fn outcome(&mut self, outcome: &Result<(), Fault>) {
+        match outcome {
+            Ok(()) => self.word("Ok"),
+            Err(fault) => self.fault(fault),
+        }
+    }
+
+    /// Appends what was written, or the name of the fault.
+    pub fn written(&mut self, outcome: &Result<(), Fault>, writer: &Recorder) {
+        match outcome {
+            Ok(()) => self.bytes(writer.held()),
+            Err(fault) => self.fault(fault),
+        }
     }
 
     /// Appends the name of a fault. The errors of readers and writers are interruptions, since the

@@ -7,18 +7,19 @@ use crate::{
     views,
 };
 
-/// Makes the call of a row in one way, and answers its result, if there is such a call.
+/// Makes the call of a row in one way, and answers its result, if there is such a call. All modules
+/// are asked, and those that don't have it do nothing.
 pub fn call(row: &Row<'_>, way: Way) -> Option<Answer> {
     sequences::answer(row, way)
-        .or_else(|| into::answer(row))
-        .or_else(|| views::answer(row, way))
-        .or_else(|| payloads::answer(row, way))
-        .or_else(|| meanings::answer(row))
-        .or_else(|| data::answer(row, way))
-        .or_else(|| deltas::answer(row))
-        .or_else(|| variable::answer(row, way))
-        .or_else(|| session::answer(row, way))
-        .or_else(|| placing::answer(row))
-        .or_else(|| parts::answer(row, way))
-        .or_else(|| fixed::answer(row, way))
+        .or(into::answer(row))
+        .or(views::answer(row, way))
+        .or(payloads::answer(row, way))
+        .or(meanings::answer(row))
+        .or(data::answer(row, way))
+        .or(deltas::answer(row))
+        .or(variable::answer(row, way))
+        .or(session::answer(row, way))
+        .or(placing::answer(row))
+        .or(parts::answer(row, way))
+        .or(fixed::answer(row, way))
 }

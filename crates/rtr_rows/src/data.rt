@@ -23,15 +23,18 @@ pub fn answer(row: &Row<'_>, way: Way) -> Option<Answer> {
     }
 }
 
+/// The action and the payload of the next unit, if it is a payload unit that means one.
+fn next(row: &Row<'_>, source: &mut SliceSource<'_>) -> Option<(Action, payload::Payload)> {
+    let unit = Payload::read(row.alloc, source).ok()?.ok()??;
+    unit.into_payload(row.alloc).ok()
+}
+
 /// The actions and payloads of the units that these bytes begin with.
 fn changes_of(row: &Row<'_>, bytes: &[u8]) -> Vec<(Action, payload::Payload)> {
     let mut changes = Vec::new(row.alloc);
     let mut source = SliceSource::new(bytes);
     for _most in 0..bytes.len() {
-        let Ok(Ok(Some(unit))) = Payload::read(row.alloc, &mut source) else {
-            return changes;
-        };
-        let Ok(change) = unit.into_payload(row.alloc) else {
+        let Some(change) = next(row, &mut source) else {
             return changes;
         };
         if changes.push(change).is_err() {
@@ -142,10 +145,7 @@ fn tell_cause(seen: &mut Answer, cause: &ApplyCause) {
 
 /// Appends `Ok` or the fault, and what was written.
 fn tell(seen: &mut Answer, answer: &Result<(), Fault>, writer: &Recorder) {
-    match answer {
-        Ok(()) => seen.word("Ok"),
-        Err(fault) => seen.fault(fault),
-    }
+    seen.outcome(answer);
     seen.word(":");
     seen.bytes(writer.held());
 }

@@ -55,8 +55,9 @@ pub fn tell_taken(seen: &mut Answer, reader: &Pieces<'_>) {
 fn tell<U: Unit>(seen: &mut Answer, answer: &Result<U, Fault>) {
     match answer {
         Ok(unit) => {
-            let (version, session) = (unit.version(), unit.session());
-            seen.word(format_args!("{version} {session} {}", U::size()));
+            seen.word(unit.version());
+            seen.word(unit.session());
+            seen.word(U::size());
             seen.bytes(unit.as_ref())
         }
         Err(fault) => seen.fault(fault),
@@ -110,10 +111,7 @@ fn read_payload<U: Unit>(row: &Row<'_>, way: Way) -> Answer {
 /// Appends `Ok` or the fault, and what was written.
 pub fn told_put(row: &Row<'_>, answer: &Result<(), Fault>, writer: &Recorder) -> Answer {
     let mut seen = row.answer();
-    match answer {
-        Ok(()) => seen.word("Ok"),
-        Err(fault) => seen.fault(fault),
-    }
+    seen.outcome(answer);
     seen.bytes(writer.held());
     seen
 }
@@ -171,9 +169,10 @@ fn read_header(row: &Row<'_>, way: Way) -> Answer {
     let mut seen = row.answer();
     match Header::read(&mut reader) {
         Ok(header) => {
-            let (version, pdu) = (header.version(), header.pdu());
-            let (session, length) = (header.session(), header.length());
-            seen.word(format_args!("{version} {pdu} {session} {length}"));
+            seen.word(header.version());
+            seen.word(header.pdu());
+            seen.word(header.session());
+            seen.word(header.length());
             seen.bytes(header.as_ref());
         }
         Err(fault) => seen.fault(&fault),

@@ -46,20 +46,28 @@ fn mark(rt: &HostRuntime) -> Result<usize, Fail> {
     }
 }
 
+/// Goes through a line, and prints what there is to print for it. Answers whether it is met.
+fn is_met(rt: &HostRuntime, table: &mut Table, line: &str) -> Result<bool, Fail> {
+    let Some(seen) = table.line(line)? else {
+        return Ok(true);
+    };
+    println!(rt; "{}", seen.text)?;
+    if seen.is_other {
+        println!(rt; "    of {line}")?;
+    }
+    Ok(!seen.is_other)
+}
+
 fn main(rt: HostRuntime) -> Result<ExitCode, Fail> {
     let mut input = Vec::new(rt.alloc());
     rt.stdin().read_to_end(&mut input)?;
     let text = String::from_utf8(input)?;
     let mut table = Table::new(rt.alloc(), mark(&rt)?);
-    let mut differs = 0u64;
+    let mut code = ExitCode::SUCCESS;
     for line in text.lines() {
-        if let Some(seen) = table.line(line)? {
-            println!(rt; "{}", seen.text)?;
-            if seen.is_other {
-                println!(rt; "    of {line}")?;
-                differs = differs.saturating_add(1);
-            }
+        if !is_met(&rt, &mut table, line)? {
+            code = ExitCode::FAILURE;
         }
     }
-    Ok(ExitCode::from(if differs == 0 { 0 } else { 1 }))
+    Ok(code)
 }

@@ -54,10 +54,7 @@ fn written(row: &Row<'_>, way: Way) -> Answer {
     let mut writer = Counted::new(row.writer(way));
     let answer = put(&mut writer, &row.left);
     let mut seen = row.answer();
-    match answer {
-        Ok(()) => seen.word("Ok"),
-        Err(fault) => seen.fault(&fault),
-    }
+    seen.outcome(&answer);
     let writer = writer.into_inner();
     seen.bytes(writer.held());
     seen.word(format_args!("calls {}", writer.calls()));
@@ -69,10 +66,7 @@ fn skipped(row: &Row<'_>, way: Way) -> Answer {
     let mut reader = Counted::new(row.reader(way));
     let answer = Error::skip_payload(header(row), &mut reader);
     let mut seen = row.answer();
-    match answer {
-        Ok(()) => seen.word("Ok"),
-        Err(fault) => seen.fault(&fault),
-    }
+    seen.outcome(&answer);
     tell_taken(&mut seen, &reader.into_inner());
     seen
 }
@@ -145,10 +139,7 @@ fn write_report(row: &Row<'_>, way: Way) -> Answer {
     let mut writer = Counted::new(row.writer(way));
     let mut seen = row.answer();
     match report {
-        Some(report) => match report.write(&mut writer) {
-            Ok(()) => seen.word("Ok"),
-            Err(fault) => seen.fault(&fault),
-        },
+        Some(report) => seen.outcome(&report.write(&mut writer)),
         None => seen.word("Memory"),
     }
     let writer = writer.into_inner();

@@ -1,6 +1,7 @@
 //! Payload units of any kind.
 
 use crate::answer::Answer;
+use crate::fixed::{alter, told_put};
 use crate::row::{Row, Way};
 use crate::views::tell_end;
 use rtr_tests::support::{Recorder, hash_of};
@@ -32,7 +33,7 @@ pub fn read(row: &Row<'_>) -> Option<Payload> {
     let mut unit = unit_of(row, &row.left)?;
     if row.setting("set").is_some() {
         let place = row.place("set");
-        crate::fixed::alter(&mut unit, place, &row.right);
+        alter(&mut unit, place, &row.right);
     }
     Some(unit)
 }
@@ -45,12 +46,10 @@ pub fn tell_unit(seen: &mut Answer, row: &Row<'_>, unit: &Payload) {
         Payload::RouterKey(_) => "RouterKey",
         Payload::Aspa(_) => "Aspa",
     };
-    seen.word(format_args!("{kind} {} {}", unit.version(), unit.flags()));
+    seen.unit(kind, unit.version(), unit.flags());
     let mut writer = Counted::new(Recorder::new(row.alloc, usize::MAX));
-    match unit.write(&mut writer) {
-        Ok(()) => seen.bytes(writer.into_inner().held()),
-        Err(fault) => seen.fault(&fault),
-    }
+    let outcome = unit.write(&mut writer);
+    seen.written(&outcome, &writer.into_inner());
 }
 
 /// `pdu::Payload::read`: the unit or the end of data, or the fault, and how many bytes were taken.
@@ -118,20 +117,19 @@ fn write(row: &Row<'_>, way: Way) -> Answer {
     let mut writer = Counted::new(row.writer(way));
     row.ready();
     let answer = unit.write(&mut writer);
-    let mut seen = row.answer();
-    match answer {
-        Ok(()) => seen.word("Ok"),
-        Err(fault) => seen.fault(&fault),
-    }
-    seen.bytes(writer.into_inner().held());
-    seen
+    told_put(row, &answer, &writer.into_inner())
 }
 
 /// Whether the units of both sides are equal.
+fn is_same(row: &Row<'_>) -> Option<bool> {
+    let left = unit_of(row, &row.left)?;
+    Some(unit_of(row, &row.right)? == left)
+}
+
+/// `pdu::Payload::eq` of the units of both sides.
 fn compared(row: &Row<'_>) -> Answer {
-    let is_same = match (unit_of(row, &row.left), unit_of(row, &row.right)) {
-        (Some(left), Some(right)) => left == right,
-        _ => return row.no_unit(),
+    let Some(is_same) = is_same(row) else {
+        return row.no_unit();
     };
     let mut seen = row.answer();
     seen.word(is_same);

@@ -1,14 +1,12 @@
 //! Units, forms and reports that are written into a slice, and answers to faults.
 
 use crate::answer::Answer;
+use crate::into::{output, tell_output};
 use crate::row::Row;
 use rtr_session::answering::{Reply, reply_to_fault, reply_to_view_fault, reply_with_code};
 use rtr_session::placing::{place_report, place_unit};
 use rtr_session::{AnyUnit, SessionView};
 use rtr_wire::pdu::{EndOfData, ErrorCode, Payload, SliceSource};
-
-/// What the output holds before a call.
-const FILL: u8 = 0xee;
 
 /// Makes the call of a row if it is one of these. The setting `room` says how many bytes the
 /// output has; without it, more than enough. The versions and codes of reports are settings, their
@@ -25,17 +23,10 @@ pub fn answer(row: &Row<'_>) -> Option<Answer> {
     }
 }
 
-/// An output of as many bytes as the row says, each `FILL`.
-fn output(row: &Row<'_>) -> Option<Vec<u8>> {
-    let room = match row.setting("room") {
-        Some(_) => row.place("room"),
-        None => row
-            .left
-            .len()
-            .saturating_add(row.right.len())
-            .saturating_add(40),
-    };
-    Vec::from_elem(row.alloc, FILL, room).ok()
+/// An output of as many bytes as the row says.
+fn room(row: &Row<'_>) -> Option<Vec<u8>> {
+    let both = row.left.len().saturating_add(row.right.len());
+    output(row, both.saturating_add(40))
 }
 
 /// Appends how many bytes were placed and these, or that there was no room; and `spoilt` if another
@@ -45,14 +36,7 @@ fn tell_placed(seen: &mut Answer, size: Option<usize>, output: &[u8]) {
         Some(size) => seen.word(format_args!("{size} :")),
         None => seen.word("NoRoom"),
     }
-    let Some((placed, rest)) = output.split_at_checked(size.unwrap_or(0)) else {
-        seen.word("outside");
-        return;
-    };
-    seen.bytes(placed);
-    if rest.iter().any(|byte| *byte != FILL) {
-        seen.word("spoilt");
-    }
+    tell_output(seen, size.unwrap_or(0), output)
 }
 
 /// Appends a reply as `tell_placed`, or `Nothing`.
@@ -62,10 +46,24 @@ fn tell_reply(seen: &mut Answer, reply: Reply, output: &[u8]) {
         Reply::NoRoom => tell_placed(seen, None, output),
         Reply::Nothing => {
             seen.word("Nothing");
-            if output.iter().any(|byte| *byte != FILL) {
-                seen.word("spoilt");
-            }
+            tell_output(seen, 0, output)
         }
+    }
+}
+
+/// `place_unit`, if the unit is of a fixed size.
+fn placed(unit: &AnyUnit, output: &mut [u8]) -> Option<Option<usize>> {
+    match unit {
+        AnyUnit::SerialNotify(unit) => Some(place_unit(unit, output)),
+        AnyUnit::SerialQuery(unit) => Some(place_unit(unit, output)),
+        AnyUnit::ResetQuery(unit) => Some(place_unit(unit, output)),
+        AnyUnit::CacheResponse(unit) => Some(place_unit(unit, output)),
+        AnyUnit::CacheReset(unit) => Some(place_unit(unit, output)),
+        AnyUnit::Payload(Payload::V4(unit)) => Some(place_unit(unit, output)),
+        AnyUnit::Payload(Payload::V6(unit)) => Some(place_unit(unit, output)),
+        AnyUnit::EndOfData(EndOfData::V0(unit)) => Some(place_unit(unit, output)),
+        AnyUnit::EndOfData(EndOfData::V1(unit)) => Some(place_unit(unit, output)),
+        _ => None,
     }
 }
 
@@ -74,21 +72,12 @@ fn unit(row: &Row<'_>) -> Answer {
     let Ok(Some(unit)) = AnyUnit::read(row.alloc, &mut SliceSource::new(&row.left)) else {
         return row.no_unit();
     };
-    let Some(mut output) = output(row) else {
+    let Some(mut output) = room(row) else {
         return row.no_unit();
     };
     row.ready();
-    let size = match &unit {
-        AnyUnit::SerialNotify(unit) => place_unit(unit, &mut output),
-        AnyUnit::SerialQuery(unit) => place_unit(unit, &mut output),
-        AnyUnit::ResetQuery(unit) => place_unit(unit, &mut output),
-        AnyUnit::CacheResponse(unit) => place_unit(unit, &mut output),
-        AnyUnit::CacheReset(unit) => place_unit(unit, &mut output),
-        AnyUnit::Payload(Payload::V4(unit)) => place_unit(unit, &mut output),
-        AnyUnit::Payload(Payload::V6(unit)) => place_unit(unit, &mut output),
-        AnyUnit::EndOfData(EndOfData::V0(unit)) => place_unit(unit, &mut output),
-        AnyUnit::EndOfData(EndOfData::V1(unit)) => place_unit(unit, &mut output),
-        _ => return row.no_unit(),
+    let Some(size) = placed(&unit, &mut output) else {
+        return row.no_unit();
     };
     let mut seen = row.answer();
     tell_placed(&mut seen, size, &output);
@@ -100,7 +89,7 @@ fn form(row: &Row<'_>) -> Answer {
     let Ok((view, _)) = SessionView::first(&row.left) else {
         return row.no_unit();
     };
-    let Some(mut output) = output(row) else {
+    let Some(mut output) = room(row) else {
         return row.no_unit();
     };
     row.ready();
@@ -113,7 +102,7 @@ fn form(row: &Row<'_>) -> Answer {
 /// `place_report`.
 fn report(row: &Row<'_>) -> Answer {
     let (version, code) = (row.byte("version", 0), ErrorCode(row.short("code")));
-    let Some(mut output) = output(row) else {
+    let Some(mut output) = room(row) else {
         return row.no_unit();
     };
     row.ready();
@@ -128,7 +117,7 @@ fn reply(row: &Row<'_>) -> Answer {
     let Err(fault) = AnyUnit::read(row.alloc, &mut SliceSource::new(&row.left)) else {
         return row.no_unit();
     };
-    let Some(mut output) = output(row) else {
+    let Some(mut output) = room(row) else {
         return row.no_unit();
     };
     row.ready();
@@ -144,7 +133,7 @@ fn view_reply(row: &Row<'_>) -> Answer {
     let Err(fault) = SessionView::first(&row.left) else {
         return row.no_unit();
     };
-    let Some(mut output) = output(row) else {
+    let Some(mut output) = room(row) else {
         return row.no_unit();
     };
     row.ready();
@@ -158,7 +147,7 @@ fn view_reply(row: &Row<'_>) -> Answer {
 /// `reply_with_code` of the setting `code`, or of none.
 fn code_reply(row: &Row<'_>) -> Answer {
     let code = row.setting("code").map(|_| ErrorCode(row.short("code")));
-    let Some(mut output) = output(row) else {
+    let Some(mut output) = room(row) else {
         return row.no_unit();
     };
     row.ready();

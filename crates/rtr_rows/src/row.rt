@@ -11,20 +11,46 @@ pub struct Setting<'a> {
     pub value: &'a str,
 }
 
+/// The keys of settings that are numbers, and the greatest number of each.
+const NUMBERS: &[(&str, u64)] = &[
+    ("breaks", u64::MAX),
+    ("code", 65535),
+    ("count", 4294967295),
+    ("fails", u64::MAX),
+    ("flags", 255),
+    ("length", 4294967295),
+    ("limit", u64::MAX),
+    ("room", u64::MAX),
+    ("session", 65535),
+    ("set", u64::MAX),
+    ("size", u64::MAX),
+    ("stops", u64::MAX),
+    ("type", 255),
+    ("version", 255),
+];
+
 impl Setting<'_> {
     /// Whether calls know a setting of this key, and its value is of the right kind.
     pub fn is_known(&self) -> bool {
-        let most = match self.key {
-            "by" => return matches!(self.value, "1" | "123" | "whole"),
-            "to" => return matches!(self.value, "1" | "7" | "whole"),
-            "empty" | "endless" => return self.value == "1",
-            "flags" | "type" | "version" => u64::from(u8::MAX),
-            "code" | "session" => u64::from(u16::MAX),
-            "count" | "length" => u64::from(u32::MAX),
-            "breaks" | "fails" | "limit" | "room" | "set" | "size" | "stops" => u64::MAX,
-            _ => return false,
+        match self.key {
+            "by" => matches!(self.value, "1" | "123" | "whole"),
+            "to" => matches!(self.value, "1" | "7" | "whole"),
+            "empty" | "endless" => self.value == "1",
+            _ => self.is_number(),
+        }
+    }
+
+    /// Whether this is one of `NUMBERS`, and not too great.
+    fn is_number(&self) -> bool {
+        let Ok(number) = self.value.parse::<u64>() else {
+            return false;
         };
-        self.value.parse::<u64>().is_ok_and(|number| number <= most)
+        for (key, most) in NUMBERS {
+            if self.key == *key {
+                return number <= *most;
+            }
+        }
+        false
     }
 }
 
@@ -100,9 +126,6 @@ impl<'a> Row<'a> {
 
     /// The sizes of the readers that the row is run with: that of `by`, or all.
     pub fn readers(&self) -> &'static [&'static [usize]] {
-        if self.mark > 0 {
-            return &[WHOLE];
-        }
         match self.setting("by") {
             Some("1") => &[ONES],
             Some("123") => &[STEPS],
@@ -113,9 +136,6 @@ impl<'a> Row<'a> {
 
     /// The sizes of the writers that the row is run with: that of `to`, or all.
     pub fn writers(&self) -> &'static [usize] {
-        if self.mark > 0 {
-            return &[usize::MAX];
-        }
         match self.setting("to") {
             Some("1") => &[1],
             Some("7") => &[7],

@@ -44,28 +44,21 @@ fn kind(unit: &AnyUnit) -> &'static str {
     }
 }
 
-/// Appends a unit of any type: its kind, version, size and bytes, or the fault.
-fn tell_any(seen: &mut Answer, row: &Row<'_>, answer: &Result<AnyUnit, Fault>) {
-    match answer {
-        Ok(unit) => {
-            let (version, size) = (unit.version(), unit.size());
-            seen.word(format_args!("{} {version} {size}", kind(unit)));
-            let mut writer = Counted::new(Recorder::new(row.alloc, usize::MAX));
-            match unit.write(&mut writer) {
-                Ok(()) => seen.bytes(writer.into_inner().held()),
-                Err(fault) => seen.fault(&fault),
-            }
-        }
-        Err(fault) => seen.fault(fault),
-    }
+/// Appends a unit of any type: its kind, version, size and bytes.
+fn tell_any(seen: &mut Answer, row: &Row<'_>, unit: &AnyUnit) {
+    seen.unit(kind(unit), unit.version(), unit.size());
+    let mut writer = Counted::new(Recorder::new(row.alloc, usize::MAX));
+    let outcome = unit.write(&mut writer);
+    seen.written(&outcome, &writer.into_inner());
 }
 
 /// Appends an error report: its version, code, size and bytes, or the fault.
 fn tell_report(seen: &mut Answer, answer: &Result<Report, Fault>) {
     match answer {
         Ok(report) => {
-            let (version, size) = (report.version(), report.size());
-            seen.word(format_args!("{version} {} {size}", report.code().0));
+            seen.word(report.version());
+            seen.word(report.code().0);
+            seen.word(report.size());
             seen.bytes(report.as_ref());
         }
         Err(fault) => seen.fault(fault),
@@ -78,10 +71,10 @@ fn read_any(row: &Row<'_>, way: Way) -> Answer {
     row.ready();
     let answer = AnyUnit::read(row.alloc, &mut reader);
     let mut seen = row.answer();
-    match answer {
-        Ok(Some(unit)) => tell_any(&mut seen, row, &Ok(unit)),
+    match &answer {
+        Ok(Some(unit)) => tell_any(&mut seen, row, unit),
         Ok(None) => seen.word("None"),
-        Err(fault) => seen.fault(&fault),
+        Err(fault) => seen.fault(fault),
     }
     tell_taken(&mut seen, &reader.into_inner());
     seen
@@ -94,7 +87,10 @@ fn read_any_after(row: &Row<'_>, way: Way) -> Answer {
     row.ready();
     let answer = AnyUnit::read_payload(row.alloc, header, &mut reader);
     let mut seen = row.answer();
-    tell_any(&mut seen, row, &answer);
+    match &answer {
+        Ok(unit) => tell_any(&mut seen, row, unit),
+        Err(fault) => seen.fault(fault),
+    }
     tell_taken(&mut seen, &reader.into_inner());
     seen
 }
@@ -185,22 +181,22 @@ fn first(row: &Row<'_>) -> Answer {
 fn tell_session_view(seen: &mut Answer, view: &SessionView<'_>) {
     match view {
         SessionView::SerialNotify(unit) => {
-            seen.word(format_args!("SerialNotify {} {}", unit.version(), unit.session()));
+            seen.unit("SerialNotify", unit.version(), unit.session());
             seen.word(unit.serial());
         }
         SessionView::SerialQuery(unit) => {
-            seen.word(format_args!("SerialQuery {} {}", unit.version(), unit.session()));
+            seen.unit("SerialQuery", unit.version(), unit.session());
             seen.word(unit.serial());
         }
         SessionView::ResetQuery(unit) => {
-            seen.word(format_args!("ResetQuery {} {}", unit.version(), unit.session()));
+            seen.unit("ResetQuery", unit.version(), unit.session());
         }
         SessionView::CacheResponse(unit) => {
-            seen.word(format_args!("CacheResponse {} {}", unit.version(), unit.session()));
+            seen.unit("CacheResponse", unit.version(), unit.session());
         }
         SessionView::Data(view) => tell_view(seen, view),
         SessionView::CacheReset(unit) => {
-            seen.word(format_args!("CacheReset {} {}", unit.version(), unit.session()));
+            seen.unit("CacheReset", unit.version(), unit.session());
         }
         SessionView::Error(view) => tell_report_view(seen, view),
     }
@@ -209,8 +205,8 @@ fn tell_session_view(seen: &mut Answer, view: &SessionView<'_>) {
 /// Appends an error report: its version, code and size, the unit that it is about and its text, or
 /// that its lengths don't fit.
 fn tell_report_view(seen: &mut Answer, view: &ReportView<'_>) {
-    let (version, size) = (view.version(), view.size());
-    seen.word(format_args!("Error {version} {} {size}", view.code().0));
+    seen.unit("Error", view.version(), view.code().0);
+    seen.word(view.size());
     match (view.pdu(), view.text()) {
         (Some(pdu), Some(text)) => {
             seen.word("about");

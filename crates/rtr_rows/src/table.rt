@@ -3,7 +3,7 @@
 use crate::answer::Answer;
 use crate::call::call;
 use crate::row::{Row, Setting, Way};
-use rtr_tests::support::filler;
+use rtr_tests::support::{WHOLE, filler};
 use std::alloc::{AllocError, Global};
 use std::test::Fail;
 
@@ -65,13 +65,15 @@ impl Table {
         Ok(None)
     }
 
+    /// A text to print.
+    fn seen(&self, text: &str, is_other: bool) -> Result<Option<Seen>, Fail> {
+        let text = String::from_str(self.alloc, text)?;
+        Ok(Some(Seen { text, is_other }))
+    }
+
     /// A text that differs from what a row expects.
     fn other(&self, text: &str) -> Result<Option<Seen>, Fail> {
-        let text = String::from_str(self.alloc, text)?;
-        Ok(Some(Seen {
-            text,
-            is_other: true,
-        }))
+        self.seen(text, true)
     }
 
     /// Gives bytes a name. Between quotes they are a text.
@@ -144,20 +146,29 @@ impl Table {
         for word in words.split_ascii_whitespace() {
             if word == "|" {
                 is_right = true;
-            } else if let Some((key, value)) = word.split_once("=") {
-                row.settings.push(setting(key, value)?)?;
             } else {
-                let is_known = if is_right {
-                    self.append(word, &mut row.right)?
-                } else {
-                    self.append(word, &mut row.left)?
-                };
-                if !is_known {
-                    return Err(Fail::new(format_args!("{word} stands for no bytes")));
-                }
+                self.add(&mut row, word, is_right)?;
             }
         }
         Ok(row)
+    }
+
+    /// Adds a setting, or the bytes of a word to a side.
+    fn add<'a>(&self, row: &mut Row<'a>, word: &'a str, is_right: bool) -> Result<(), Fail> {
+        if let Some((key, value)) = word.split_once("=") {
+            row.settings.push(setting(key, value)?)?;
+            return Ok(());
+        }
+        let side = if is_right {
+            &mut row.right
+        } else {
+            &mut row.left
+        };
+        if self.append(word, side)? {
+            Ok(())
+        } else {
+            Err(Fail::new(format_args!("{word} stands for no bytes")))
+        }
     }
 
     /// An answer, with each word that stands for bytes replaced by hex.
@@ -174,22 +185,35 @@ impl Table {
         Ok(spelled.into_text()?)
     }
 
-    /// Makes a row's call in each of its ways, until an answer isn't the expected one.
+    /// Makes a row's call, and finds its answer among those of the row.
     fn row(&self, given: &str, answers: &str) -> Result<Option<Seen>, Fail> {
         let (whole, refused) = answers.split_once("=>").unwrap_or((answers, ""));
         let whole = self.spelled(whole)?;
         let row = self.given(given)?;
+        if self.mark > 0 {
+            self.refused(&row, whole.as_str(), refused.trim())
+        } else {
+            self.compared(&row, whole.as_str())
+        }
+    }
+
+    /// What a row's call answers in one way, if there is such a call.
+    fn answered(&self, row: &Row<'_>, way: Way) -> Result<Option<String>, Fail> {
+        match call(row, way) {
+            Some(seen) => Ok(Some(self.spelled(seen.into_text()?.as_str())?)),
+            None => Ok(None),
+        }
+    }
+
+    /// Makes a row's call in each of its ways, until an answer isn't the expected one.
+    fn compared(&self, row: &Row<'_>, whole: &str) -> Result<Option<Seen>, Fail> {
         for sizes in row.readers() {
             for size in row.writers() {
                 let way = Way { sizes, size: *size };
-                let Some(seen) = call(&row, way) else {
+                let Some(seen) = self.answered(row, way)? else {
                     return self.other("no such call");
                 };
-                let seen = self.spelled(seen.into_text()?.as_str())?;
-                if self.mark > 0 {
-                    return self.refused(seen, whole, refused.trim());
-                }
-                if seen != whole {
+                if seen.as_str() != whole {
                     return self.other(seen.as_str());
                 }
             }
@@ -197,22 +221,22 @@ impl Table {
         Ok(None)
     }
 
-    /// Which of the answers the call gave, if an allocation may have failed.
-    fn refused(&self, seen: String, whole: String, refused: &str) -> Result<Option<Seen>, Fail> {
-        if seen == whole {
-            let text = String::from_str(self.alloc, "whole")?;
-            return Ok(Some(Seen {
-                text,
-                is_other: false,
-            }));
+    /// Makes a row's call in one way, in which an allocation may fail, and finds its answer.
+    fn refused(&self, row: &Row<'_>, whole: &str, refused: &str) -> Result<Option<Seen>, Fail> {
+        let way = Way {
+            sizes: WHOLE,
+            size: usize::MAX,
+        };
+        let Some(seen) = self.answered(row, way)? else {
+            return self.other("no such call");
+        };
+        if seen.as_str() == whole {
+            return self.seen("whole", false);
         }
         for (place, answer) in refused.split(';').enumerate() {
             if self.spelled(answer)? == seen {
                 let text = format!(in self.alloc; "refused {place}")?;
-                return Ok(Some(Seen {
-                    text,
-                    is_other: false,
-                }));
+                return self.seen(text.as_str(), false);
             }
         }
         self.other(seen.as_str())

@@ -45,14 +45,14 @@ pub fn tell_view(seen: &mut Answer, view: &UnitView<'_>) {
 
 /// Appends a prefix: version, flags, origin.
 fn tell_origin_view(seen: &mut Answer, view: &OriginView) {
-    seen.word(format_args!("Origin {} {}", view.version(), view.flags()));
+    seen.unit("Origin", view.version(), view.flags());
     tell_origin(seen, &view.origin())
 }
 
 /// Appends a router key: version, flags, ASN, identifier, key info.
 fn tell_key_view(seen: &mut Answer, view: &RouterKeyView<'_>) {
-    let (version, flags) = (view.version(), view.flags());
-    seen.word(format_args!("RouterKey {version} {flags} {}", view.asn().into_u32()));
+    seen.unit("RouterKey", view.version(), view.flags());
+    seen.word(view.asn().into_u32());
     seen.bytes(view.key_identifier().as_slice());
     seen.word("info");
     seen.bytes(view.key_info())
@@ -60,22 +60,23 @@ fn tell_key_view(seen: &mut Answer, view: &RouterKeyView<'_>) {
 
 /// Appends an ASPA unit: version, flags, customer, providers.
 fn tell_aspa_view(seen: &mut Answer, view: &AspaView<'_>) {
-    let (version, flags) = (view.version(), view.flags());
-    seen.word(format_args!("Aspa {version} {flags} {}", view.customer().into_u32()));
+    seen.unit("Aspa", view.version(), view.flags());
+    seen.word(view.customer().into_u32());
     seen.bytes(view.providers())
 }
 
 /// Appends an end of data: version, session, serial number, and its timings or none.
 pub fn tell_end(seen: &mut Answer, end: &EndOfData) {
-    let (version, session) = (end.version(), end.session());
-    seen.word(format_args!("End {version} {session} {}", end.serial()));
-    if end.state().session() != session || end.state().serial() != end.serial() {
+    seen.unit("End", end.version(), end.session());
+    seen.word(end.serial());
+    if end.state().session() != end.session() || end.state().serial() != end.serial() {
         seen.word("another state");
     }
     match end.timing() {
         Some(timing) => {
-            let (retry, expire) = (timing.retry, timing.expire);
-            seen.word(format_args!("{} {retry} {expire}", timing.refresh))
+            seen.word(timing.refresh);
+            seen.word(timing.retry);
+            seen.word(timing.expire);
         }
         None => seen.word("untimed"),
     }
