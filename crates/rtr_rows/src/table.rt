@@ -159,12 +159,12 @@ impl Table {
             row.settings.push(setting(key, value)?)?;
             return Ok(());
         }
-        let side = if is_right {
-            &mut row.right
+        let is_known = if is_right {
+            self.append(word, &mut row.right)?
         } else {
-            &mut row.left
+            self.append(word, &mut row.left)?
         };
-        if self.append(word, side)? {
+        if is_known {
             Ok(())
         } else {
             Err(Fail::new(format_args!("{word} stands for no bytes")))

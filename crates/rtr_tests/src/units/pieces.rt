@@ -5,6 +5,7 @@ use crate::support::{ONES, Pieces, Recorder, STEPS, WHOLE, filler};
 use rtr_units::buffered::{BufferedSink, BufferedSource};
 use rtr_units::piece::{fill, put};
 use rtr_units::source::{Counted, Sink, Source};
+use std::alloc::Global;
 use std::io::{BufReader, BufWriter, ErrorKind};
 use std::test::Fail;
 
@@ -23,23 +24,30 @@ fn flushes_reach_the_writer(rt: HostRuntime) -> Result<(), Fail> {
     Ok(())
 }
 
+/// The bytes of pieces of these sizes.
+fn filled<R: Source>(alloc: Global, reader: &mut R) -> Result<Vec<u8>, Fail> {
+    let mut all = Vec::new(alloc);
+    for size in SIZES {
+        let mut room = [0; 24];
+        let piece = room.get_mut(..*size).ok_or("no room")?;
+        fill(reader, piece)?;
+        all.extend_from_slice(piece)?;
+    }
+    Ok(all)
+}
+
 #[test]
 fn pieces_of_a_buffer_come_in_order(rt: HostRuntime) -> Result<(), Fail> {
     let bytes = filler(rt.alloc(), 58)?;
     for (capacity, sizes) in BUFFERS {
         let buffer = BufReader::with_capacity(rt.alloc(), *capacity, Pieces::new(&bytes, sizes))?;
         let mut reader = BufferedSource::new(buffer);
-        let mut all = Vec::new(rt.alloc());
-        for size in SIZES {
-            let mut room = [0; 24];
-            let piece = room.get_mut(..*size).ok_or("no room")?;
-            fill(&mut reader, piece)?;
-            all.extend_from_slice(piece)?;
-        }
+        let all = filled(rt.alloc(), &mut reader)?;
         expect_equal(&rt, all.as_slice(), bytes.as_slice());
         expect_equal(&rt, reader.read(&mut [0])?, 0);
-        expect_equal(&rt, Source::failures(&reader), 0);
-        expect_equal(&rt, reader.into_inner().into_inner().taken(), 58);
+        let failures = Source::failures(&reader);
+        let taken = reader.into_inner().into_inner().taken();
+        expect_equal(&rt, (failures, taken), (0, 58));
     }
     Ok(())
 }
@@ -65,17 +73,23 @@ fn an_error_loses_no_byte_of_a_buffer(rt: HostRuntime) -> Result<(), Fail> {
     Ok(())
 }
 
+/// Puts the bytes in pieces of these sizes.
+fn put_all<W: Sink>(writer: &mut W, bytes: &[u8]) -> Result<(), Fail> {
+    let mut rest = bytes;
+    for size in SIZES {
+        put(writer, rest.get(..*size).ok_or("too few bytes")?)?;
+        rest = rest.get(*size..).ok_or("too few bytes")?;
+    }
+    Ok(())
+}
+
 #[test]
 fn pieces_for_a_buffer_are_written_in_order(rt: HostRuntime) -> Result<(), Fail> {
     let bytes = filler(rt.alloc(), 58)?;
     for capacity in [0, 1, 8, 20, 64] {
         let buffer = BufWriter::with_capacity(rt.alloc(), capacity, Recorder::new(rt.alloc(), 5))?;
         let mut writer = BufferedSink::new(buffer);
-        let mut rest = bytes.as_slice();
-        for size in SIZES {
-            put(&mut writer, rest.get(..*size).ok_or("too few bytes")?)?;
-            rest = rest.get(*size..).ok_or("too few bytes")?;
-        }
+        put_all(&mut writer, &bytes)?;
         writer.flush()?;
         expect_equal(&rt, Sink::failures(&writer), 0);
         let recorder = writer.into_inner().into_inner().ok();
