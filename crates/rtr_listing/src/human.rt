@@ -8,6 +8,7 @@ ghost use Rattle.rtr_units.specs.FixedUnits.{fixed_bytes};
 ghost use Rattle.rtr_units.specs.PrefixUnits.{prefix_at};
 ghost use Rattle.rtr_payload.specs.AspaUnits.{aspa_at};
 ghost use Rattle.rtr_payload.specs.KeyUnits.{key_at};
+ghost use Rattle.rtr_payload.specs.PayloadTexts.{each_text};
 ghost use Rattle.rtr_payload.specs.UnitBytes.{unit_fields};
 ghost use Rattle.rtr_session.specs.AnyFields.{end_of_data};
 ghost use Rattle.rtr_session.specs.declared.any_unit.AnyUnit.TheVariants.{Error};
@@ -24,11 +25,10 @@ ghost use Rattle.rtr_listing.specs.TextLines.{unit_text, timing_words};
 use crate::fields;
 use crate::fields::parts;
 use crate::line::Line;
-use hex::encode;
 use rtr_base::action::Action;
 use rtr_base::asn::Asn;
 use rtr_base::timing::Timing;
-use rtr_payload::pdu::{Aspa, Payload, RouterKey};
+use rtr_payload::pdu::{Aspa, Payload, ProviderAsns, RouterKey};
 use rtr_session::{AnyUnit, Report};
 use rtr_units::end::EndOfData;
 use rtr_units::prefixes::{Ipv4Prefix, Ipv6Prefix};
@@ -206,7 +206,7 @@ fn describe_key(alloc: Global, line: &mut Line, unit: &RouterKey) -> Result<(), 
     ensures { OnOk result (line.new ≡ line.old ++ key_words (key_at unit.now).key) }
 {
     line.text(" ")?;
-    line.text(encode(alloc, unit.key_identifier().as_slice())?.as_str())?;
+    line.hex(alloc, unit.key_identifier().as_slice())?;
     asn(line, unit.asn())?;
     line.text(" ")?;
     line.text(unit.key_info().to_text(alloc)?.as_str())
@@ -217,7 +217,14 @@ fn describe_aspa(line: &mut Line, unit: &Aspa) -> Result<(), AllocError>
 {
     asn(line, unit.customer())?;
     line.text(" providers")?;
-    for provider in unit.providers().iter() {
+    describe_each(line, unit.providers())
+}
+
+/// Writes each provider.
+fn describe_each(line: &mut Line, providers: &ProviderAsns) -> Result<(), AllocError>
+    ensures { OnOk result (line.new ≡ line.old ++ each_text providers.now) }
+{
+    for provider in providers.iter() {
         asn(line, provider)?;
     }
     Ok(())
@@ -262,7 +269,7 @@ fn describe_both(alloc: Global, line: &mut Line, pdu: &[u8], text: &[u8]) -> Res
     ensures { OnOk result (line.new ≡ line.old ++ report_words (Some (pdu.now, text.now))) }
 {
     line.text(" pdu \"")?;
-    line.text(encode(alloc, pdu)?.as_str())?;
+    line.hex(alloc, pdu)?;
     line.text("\" text \"")?;
     line.escaped(text)?;
     line.text("\"")

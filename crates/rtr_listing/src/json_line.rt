@@ -2,6 +2,7 @@
 
 ghost use Rattle.std.specs.Prelude.{◌≡◌, ◌++◌, [], ◌∷◌, IfOk, OnOk, Some, None, codes};
 ghost use Rattle.std.specs.Prelude.{string_bytes};
+ghost use Rattle.hex.specs.Hex.{encode_lower};
 ghost use Rattle.rtr_base.specs.Addresses.{v4, v6};
 ghost use Rattle.rtr_base.specs.PlainTexts.{action_text, address_text};
 ghost use Rattle.rtr_units.specs.AnyEnd.{end_meaning};
@@ -266,8 +267,12 @@ fn origin_fields(
 fn key_fields(alloc: Global, out: &mut Writer, unit: &RouterKey) -> Result<(), AllocError>
     ensures { Adds result out.old out.new (key_tokens (key_at unit.now).key) }
 {
-    let identifier = encode(alloc, unit.key_identifier().as_slice())?;
-    text(out, "subject_key_identifier", identifier.as_str())?;
+    hex(
+        alloc,
+        out,
+        "subject_key_identifier",
+        unit.key_identifier().as_slice(),
+    )?;
     number(out, "asn", u64::from(unit.asn().into_u32()))?;
     let info = unit.key_info().to_text(alloc)?;
     text(out, "subject_public_key_info", info.as_str())
@@ -326,8 +331,8 @@ fn report_fields(alloc: Global, out: &mut Writer, report: &Report) -> Result<(),
 fn both_parts(alloc: Global, out: &mut Writer, pdu: &[u8], shown: &[u8]) -> Result<(), AllocError>
     ensures { Adds result out.old out.new (report_tokens (Some (pdu.now, shown.now))) }
 {
-    text(out, "erroneous_pdu", encode(alloc, pdu)?.as_str())?;
-    text(out, "error_text_bytes", encode(alloc, shown)?.as_str())?;
+    hex(alloc, out, "erroneous_pdu", pdu)?;
+    hex(alloc, out, "error_text_bytes", shown)?;
     out.key("error_text")?;
     text_or_null(out, shown)
 }
@@ -363,6 +368,13 @@ pub(crate) fn text(out: &mut Writer, key: &str, value: &str) -> Result<(), Alloc
 {
     out.key(key)?;
     out.string(value)
+}
+
+/// A field of bytes in hex.
+fn hex(alloc: Global, out: &mut Writer, key: &str, bytes: &[u8]) -> Result<(), AllocError>
+    ensures { Adds result out.old out.new (text_field key.now (encode_lower bytes.now)) }
+{
+    text(out, key, encode(alloc, bytes)?.as_str())
 }
 
 fn null(out: &mut Writer, key: &str) -> Result<(), AllocError>

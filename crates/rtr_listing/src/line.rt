@@ -4,10 +4,12 @@ ghost use Rattle.std.specs.Prelude.{◌≡◌, ◌≢◌, ◌∷◌, ◌++◌, [
 ghost use Rattle.std.specs.Prelude.{max};
 ghost use Rattle.std.specs.Char.Escape.{escape_ascii};
 ghost use Rattle.std.specs.Fmt.{AppendsText};
+ghost use Rattle.hex.specs.Hex.{encode_lower};
 ghost use Rattle.rtr_units.specs.StopCauses.{by_cause, by_reader};
 ghost use Rattle.rtr_listing.specs.Lines.{written_line};
 ghost use Rattle.rtr_listing.specs.PrivateLines.{PutsLine};
 
+use hex::encode;
 use itoa::Buffer;
 use rtr_units::fault::Fault;
 use rtr_units::piece::put;
@@ -93,6 +95,13 @@ impl Line {
     {
         self.text(label)?;
         self.number(number)
+    }
+
+    /// Adds bytes in hex.
+    pub(crate) fn hex(&mut self, alloc: Global, bytes: &[u8]) -> Result<(), AllocError>
+        ensures { OnOk result (self.new ≡ self.old ++ encode_lower bytes.now) }
+    {
+        self.text(encode(alloc, bytes)?.as_str())
     }
 
     /// Adds a byte.

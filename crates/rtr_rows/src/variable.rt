@@ -27,10 +27,8 @@ fn tell_key(seen: &mut Answer, row: &Row<'_>, answer: &Result<RouterKey, Fault>)
         Ok(unit) => {
             seen.word(unit.size());
             let mut writer = Counted::new(Recorder::new(row.alloc, usize::MAX));
-            match unit.write(&mut writer) {
-                Ok(()) => seen.bytes(writer.into_inner().held()),
-                Err(fault) => seen.fault(&fault),
-            }
+            let outcome = unit.write(&mut writer);
+            seen.written(&outcome, &writer.into_inner());
         }
         Err(fault) => seen.fault(fault),
     }
@@ -42,10 +40,8 @@ fn tell_aspa(seen: &mut Answer, row: &Row<'_>, answer: &Result<Aspa, Fault>) {
         Ok(unit) => {
             seen.word(unit.size());
             let mut writer = Counted::new(Recorder::new(row.alloc, usize::MAX));
-            match unit.write(&mut writer) {
-                Ok(()) => seen.bytes(writer.into_inner().held()),
-                Err(fault) => seen.fault(&fault),
-            }
+            let outcome = unit.write(&mut writer);
+            seen.written(&outcome, &writer.into_inner());
         }
         Err(fault) => seen.fault(fault),
     }

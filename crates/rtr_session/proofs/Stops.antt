@@ -52,15 +52,16 @@ module _ (v g n : ℕ) where
   of_payload t (inr (inr (inr (inl e)))) = rw e refl
   of_payload t (inr (inr (inr (inr e)))) = rw e refl
 
+  pub of_others : (t : ℕ) → ¬ (t ≡ 0) → ¬ (t ≡ 1) → ¬ (t ≡ 2) → ¬ (t ≡ 3) → ¬ (t ≡ 8) → ¬ (t ≡ 10) →
+      any_header_fault v t g n ≡ header_fault v t g n
+  unfolding any_header_fault
+  of_others t n0 n1 n2 n3 n8 n10 = grind (arith, nat_tests)
+
 named : (u : List ℕ) (k : ℕ) → type_field u ≡ k →
     session_unit.fault u ≡ any_header_fault (version_field u) k (get_or u 2 0) (length_field u)
 named u k kind = ap (λ t. any_header_fault (version_field u) t (get_or u 2 0) (length_field u)) kind
 
 -- ---- a kind is read as any is, after a header of its type
-
-alike_trans : (a b c : Kind) (h : List ℕ) → AlikeAfter a b h → AlikeAfter b c h → AlikeAfter a c h
-alike_trans a b c h x y =
-    record { fault = λ t. x.fault t ∙ y.fault t; asks = λ t asks. y.asks t (x.asks t asks) }
 
 more_ask : (t n : ℕ) → IsTrue ((t == 9) || (t == 11)) →
     IsTrue ((t == 9) || (t == 11) || ((t == 10) && (n == 8)))
@@ -92,16 +93,16 @@ module _ (h : List ℕ) (long : 8 ≤ length h) (k : ℕ) (kind : type_field h �
     asks = λ t asks. absurd cc;
   }
 
-  payload_alike : (k ≡ 4) ⊎ ((k ≡ 6) ⊎ ((k ≡ 7) ⊎ ((k ≡ 9) ⊎ (k ≡ 11)))) →
+  pub others_alike : ¬ (k ≡ 0) → ¬ (k ≡ 1) → ¬ (k ≡ 2) → ¬ (k ≡ 3) → ¬ (k ≡ 8) → ¬ (k ≡ 10) →
       AlikeAfter payload_unit session_unit h
-  payload_alike e = record {
+  others_alike n0 n1 n2 n3 n8 n10 = record {
     fault = λ t.
         let u = h ++ t in
         let v = version_field u in
         let g = get_or u 2 0 in
         let n = length_field u in
         ap (λ t. header_fault v t g n) (kind_after t)
-        ∙ sym (named u k (kind_after t) ∙ of_payload v g n k e);
+        ∙ sym (named u k (kind_after t) ∙ of_others v g n k n0 n1 n2 n3 n8 n10);
     asks = λ t asks. more_ask (type_field (h ++ t)) (length (h ++ t)) asks;
   }
 
@@ -115,31 +116,6 @@ module _ (h : List ℕ) (long : 8 ≤ length h) where
         ∙ sym (named u 10 is ∙ of_ten (version_field u) (get_or u 2 0) (length_field u));
     asks = λ t eight. report_asks _ _ (kind_after h long 10 kind t) eight;
   }
-
-  pub ipv4_any : type_field h ≡ 4 → AlikeAfter (of_size 20) session_unit h
-  ipv4_any kind =
-      alike_trans (of_size 20) payload_unit session_unit h (prefix_alike h long v4 kind)
-      (payload_alike h long 4 kind (inl refl))
-
-  pub ipv6_any : type_field h ≡ 6 → AlikeAfter (of_size 32) session_unit h
-  ipv6_any kind =
-      alike_trans (of_size 32) payload_unit session_unit h (prefix_alike h long v6 kind)
-      (payload_alike h long 6 kind (inr (inl refl)))
-
-  pub end_any : type_field h ≡ 7 → AlikeAfter end_unit session_unit h
-  end_any kind =
-      alike_trans end_unit payload_unit session_unit h (end_alike h long kind)
-      (payload_alike h long 7 kind (inr (inr (inl refl))))
-
-  pub key_any : type_field h ≡ 9 → AlikeAfter (variable_unit 9) session_unit h
-  key_any kind =
-      alike_trans (variable_unit 9) payload_unit session_unit h (key_alike h long kind)
-      (payload_alike h long 9 kind (inr (inr (inr (inl refl)))))
-
-  pub aspa_any : type_field h ≡ 11 → AlikeAfter (variable_unit 11) session_unit h
-  aspa_any kind =
-      alike_trans (variable_unit 11) payload_unit session_unit h (aspa_alike h long kind)
-      (payload_alike h long 11 kind (inr (inr (inr (inr refl)))))
 
 -- ---- reading stopped
 
@@ -189,16 +165,6 @@ pub unknown_header : (v t g n : ℕ) → ¬ (t ≡ 0) → ¬ (t ≡ 1) → ¬ (t
     any_header_fault v t g n ≡ Some (unit_type t)
 unfolding any_header_fault header_fault
 unknown_header v t g n n0 n1 n2 n3 n4 n6 n7 n8 n9 n10 n11 = grind (arith, nat_tests)
-
-pub unknown_type : (h : List ℕ) (t : ℕ) → length h ≡ 8 → type_field h ≡ t → ¬ (t ≡ 0) → ¬ (t ≡ 1) →
-    ¬ (t ≡ 2) → ¬ (t ≡ 3) → ¬ (t ≡ 4) → ¬ (t ≡ 6) → ¬ (t ≡ 7) → ¬ (t ≡ 8) → ¬ (t ≡ 9) → ¬ (t ≡ 10) →
-    ¬ (t ≡ 11) →
-    (length (h ++ []) ≡ 8) × (session_unit.fault (h ++ []) ≡ Some (unit_type t))
-unknown_type h t l kind n0 n1 n2 n3 n4 n6 n7 n8 n9 n10 n11 =
-    at_header session_unit (unit_type t) h l
-    (named h t kind
-    ∙ unknown_header (version_field h) t (get_or h 2 0) (length_field h) n0 n1 n2 n3 n4 n6 n7 n8 n9
-    n10 n11)
 
 -- ---- inside a header
 

@@ -17,7 +17,7 @@ use Rattle.rtr_units.specs.StopCauses.{ReaderState}
 use Rattle.rtr_units.proofs.UnitsRead.{sized_from}
 use Rattle.rtr_units.specs.HeaderBytes.{AreBytes}
 use Rattle.rtr_units.proofs.Headers.{header_read, header_bytes, same_header, session_fits}
-use Rattle.rtr_payload.specs.UnitKinds.{variable_unit}
+use Rattle.rtr_payload.specs.UnitKinds.{payload_unit}
 use Rattle.rtr_payload.specs.UnitFields.{Fields, prefix_unit, HasFields}
 use Rattle.rtr_payload.proofs.FieldsRead.{prefix_has}
 use Rattle.rtr_session.specs.AnyFields.{AnyFields, serial_notify, serial_query, reset_query}
@@ -135,27 +135,12 @@ pub payload_has : (u : List ℕ) (f : Fields) → HasFields u f → HasAnyFields
 payload_has u f has =
     record { fits = (has.fits, has.limits); bytes = has.bytes; are_bytes = has.are_bytes }
 
-pub prefix_reads : (f : Family) (h u : List ℕ) (old new : ReaderState) →
-    type_field h ≡ prefix_type f → ReadsAfter (of_size (prefix_size f)) h (Ok u) old new →
-    (Takes old.left new.left (λ t. u ≡ h ++ t)
-    × HasAnyFields u (payload (prefix_unit (prefix_at f u))))
-    × (new.failed ≡ old.failed)
-prefix_reads f h u old new kind r =
-    let s = rest_sized (prefix_size f) (prefix_type f) h u old new kind r in (
-      (
-        taken_rest (of_size (prefix_size f)) h u old new r,
-        payload_has u (prefix_unit (prefix_at f u))
-            (prefix_has f u s.bytes.1 s.bytes.0 s.kind s.size),
-      ),
-      r.1.1,
-    )
-
-pub variable_reads : (k : ℕ) (h u : List ℕ) (old new : ReaderState) (f : Fields) →
-    ReadsAfter (variable_unit k) h (Ok u) old new → HasFields u f →
+pub payload_reads : (h u : List ℕ) (old new : ReaderState) (f : Fields) →
+    ReadsAfter payload_unit h (Ok u) old new → HasFields u f →
     (Takes old.left new.left (λ t. u ≡ h ++ t) × HasAnyFields u (payload f))
     × (new.failed ≡ old.failed)
-variable_reads k h u old new f r has =
-    ((taken_rest (variable_unit k) h u old new r, payload_has u f has), r.1.1)
+payload_reads h u old new f r has =
+    ((taken_rest payload_unit h u old new r, payload_has u f has), r.1.1)
 
 -- ---- ends of data
 
@@ -183,12 +168,12 @@ end_has b e is =
     record { fits = is.fits; bytes = is.bytes; are_bytes = bytes }
 
 pub end_reads : (h : List ℕ) (e : EndOfData) (old new : ReaderState) →
-    ReadsAfter end_unit h (Ok (end_bytes e)) old new → IsEnd (end_bytes e) (end_meaning e) →
+    ReadsAfter payload_unit h (Ok (end_bytes e)) old new → IsEnd (end_bytes e) (end_meaning e) →
     (Takes old.left new.left (λ t. end_bytes e ≡ h ++ t)
     × HasAnyFields (end_bytes e) (end_of_data (end_meaning e)))
     × (new.failed ≡ old.failed)
 end_reads h e old new r end = (
-  (taken_rest end_unit h (end_bytes e) old new r, end_has (end_bytes e) (end_meaning e) end),
+  (taken_rest payload_unit h (end_bytes e) old new r, end_has (end_bytes e) (end_meaning e) end),
   r.1.1,
 )
 

@@ -9,12 +9,11 @@ ghost use Rattle.rtr_session.specs.AnyFields.{any_session};
 ghost use Rattle.rtr_session.specs.PrivateHeaders.{ReadsHeader};
 
 use crate::report::Report;
-use rtr_payload::pdu::{Aspa, Payload, RouterKey};
+use rtr_payload::pdu::Payload;
 use rtr_units::end::EndOfData;
 use rtr_units::fault::Fault;
 use rtr_units::header::Header;
 use rtr_units::piece::fill;
-use rtr_units::prefixes::{Ipv4Prefix, Ipv6Prefix};
 use rtr_units::queries::{CacheReset, CacheResponse, ResetQuery, SerialNotify, SerialQuery};
 use rtr_units::source::{Sink, Source};
 use rtr_units::unit::Unit;
@@ -91,24 +90,13 @@ impl AnyUnit {
             CacheResponse::PDU => {
                 Ok(AnyUnit::CacheResponse(CacheResponse::read_payload(header, reader)?))
             }
-            Ipv4Prefix::PDU => {
-                Ok(AnyUnit::Payload(Payload::V4(Ipv4Prefix::read_payload(header, reader)?)))
-            }
-            Ipv6Prefix::PDU => {
-                Ok(AnyUnit::Payload(Payload::V6(Ipv6Prefix::read_payload(header, reader)?)))
-            }
-            EndOfData::PDU => Ok(AnyUnit::EndOfData(EndOfData::read_payload(header, reader)?)),
             CacheReset::PDU => Ok(AnyUnit::CacheReset(CacheReset::read_payload(header, reader)?)),
-            RouterKey::PDU => {
-                let unit = RouterKey::read_payload(alloc, header, reader)?;
-                Ok(AnyUnit::Payload(Payload::RouterKey(unit)))
-            }
             Report::PDU => Ok(AnyUnit::Error(Report::read_payload(alloc, header, reader)?)),
-            Aspa::PDU => {
-                let unit = Aspa::read_payload(alloc, header, reader)?;
-                Ok(AnyUnit::Payload(Payload::Aspa(unit)))
-            }
-            pdu => Err(Fault::UnitType(pdu)),
+            _ => match Payload::read_payload(alloc, header, reader)? {
+                Ok(Some(unit)) => Ok(AnyUnit::Payload(unit)),
+                Ok(None) => unreachable!(),
+                Err(end) => Ok(AnyUnit::EndOfData(end)),
+            },
         }
     }
 

@@ -6,6 +6,6 @@ pub returns : goal.returns
 returns c =
     rest_added _ _ _ _ _ _
     (both_added _ _ _ _ _
-    (text_is _ _ (codes "subject_key_identifier") _ _ (search rules) c.in_ok-text.ensures)
+    (text_is _ _ (codes "subject_key_identifier") _ _ (search rules) c.in_ok-hex.ensures)
     (number_is _ _ (codes "asn") _ _ (search rules) c.in_ok-number.ensures))
-    (text_named _ _ _ (codes "subject_public_key_info") _ _ (search rules) c.text-2.ensures)
+    (text_named _ _ _ (codes "subject_public_key_info") _ _ (search rules) c.text.ensures)

@@ -31,3 +31,11 @@ returns-in_err-fill-in-Ok-clause-bytes g c =
       ),
       search rules,
     )
+
+pub returns-in-Ok-eq0-clause-bytes : goal.returns-in-Ok-eq0-clause-bytes
+returns-in-Ok-eq0-clause-bytes g c =
+    let left = rw c.in-Ok-eq0.field-0-test at c.in-Ok-eq0.ensures.bytes.0 in
+    let long : length c.read.new.piece ≡ 8 = c.read.auto.piece ∙ c.as_mut-bytes.ensures.size in (
+      (left, c.in-Ok-eq0.ensures.bytes.1 c.in-Ok-eq0.field-0-test (omega (arith, long))),
+      c.in-Ok-eq0.ensures.count,
+    )

@@ -1,4 +1,4 @@
-use Rattle.std.proofs.Common.{◌≡◌, ◌∙◌, ◌+◌, ◌-◌, ◌++◌, length, arith, rules, None, ap}
+use Rattle.std.proofs.Common.{◌≡◌, ◌∙◌, ◌+◌, ◌-◌, ◌++◌, length, arith, rules, None, ap, refl}
 use Rattle.rtr_base.proofs.Numbers.{IsBytes-append}
 use Rattle.rtr_units.specs.Header.{length_field}
 use Rattle.rtr_units.specs.Reading.{of_size}
@@ -26,3 +26,6 @@ returns-clause-bytes g c =
           c.fill.result _ piece _ _ (IsBytes-append h piece is.1 c.fill.ensures.range) all whole
           c.fill.ensures.bytes,
     )
+
+pub returns-then-length-LENGTH-clause-left : goal.returns-then-length-LENGTH-clause-left
+returns-then-length-LENGTH-clause-left g c = refl

@@ -1,8 +1,10 @@
 use Rattle.std.proofs.Common.{◌≡◌, ◌+◌, take, drop, refl, ap, ◌∙◌}
 use Rattle.std.proofs.lemmas.List.{take_rest}
 use Rattle.rtr_base.specs.Bytes.{value}
-use Rattle.rtr_units.specs.PrefixUnits.{address_bytes}
+use Rattle.rtr_units.specs.PrefixUnits.{address_bytes, prefix_at}
+use Rattle.rtr_payload.specs.UnitFields.{prefix_unit}
 use Rattle.rtr_payload.proofs.Origins.{asn_place}
+use Rattle.rtr_payload.proofs.Rests.{agree_from}
 use Rattle.rtr_payload.specs.declared.payload.RouteOrigin.{RouteOrigin}
 use Rattle.rtr_views.proofs.origin.OriginView.of.Goals as goal
 
@@ -22,3 +24,10 @@ returns-in-Ok-clause-view g c =
       ap (λ (o : RouteOrigin). o.prefix.max_len) origin,
       ap (λ (o : RouteOrigin). o.asn) origin,
     )
+
+pub returns-in-Err-clause-rule : goal.returns-in-Err-clause-rule
+returns-in-Err-clause-rule g c = c.in-Err.ensures.broken
+
+pub returns-in-Ok-clause-lengths : goal.returns-in-Ok-clause-lengths
+returns-in-Ok-clause-lengths g c =
+    agree_from (prefix_unit (prefix_at g.U.PrefixUnit.family c.args.unit.now)) c.in-Ok.ensures.kept
