@@ -1,25 +1,22 @@
 -- Where reading a unit of any type stops, by what reading one of its type says.
-use Rattle.std.proofs.Common.{◌≡◌, ℕ, ◌<◌, ◌≤◌, ◌⊎◌, List, [], ◌++◌, length, get_or, Option, Some}
+use Rattle.std.proofs.Common.{◌≡◌, ℕ, ◌<◌, ◌≤◌, ◌⊎◌, List, ◌++◌, length, get_or, Option, Some}
 use Rattle.std.proofs.Common.{Err, refl, sym, ap, ◌∙◌, arith, inl, inr, length-append}
 use Rattle.std.specs.Prelude.{IsTrue, ◌==◌, ◌&&◌, ◌||◌}
 use Rattle.std.proofs.lemmas.Bool.Decides.{nat_tests}
-use Rattle.rtr_base.specs.Addresses.{v4, v6}
 use Rattle.rtr_units.specs.StopCauses.{short, unit_type, unit_version, too_long, unit_length}
 use Rattle.rtr_units.specs.StopCauses.{empty_providers, refused, Cause, by_reader, by_writer}
 use Rattle.rtr_units.specs.StopCauses.{too_many}
 use Rattle.rtr_units.specs.StopCauses.{no_memory, wrong, cause_of}
 use Rattle.rtr_units.specs.declared.fault.Fault.{Fault}
-use Rattle.rtr_units.specs.AnyEnd.{end_unit}
 use Rattle.rtr_units.specs.Header.{version_field, type_field, length_field}
 use Rattle.rtr_units.specs.Reading.{Kind, exact_length, least_length}
 use Rattle.rtr_units.specs.Reading.{of_size, ReadsAfter, Stops}
 use Rattle.rtr_units.specs.Stream.{FallsShort}
 use Rattle.rtr_units.specs.StopCauses.{ReaderState}
 use Rattle.rtr_units.proofs.Headers.{same_header}
-use Rattle.rtr_units.proofs.UnitsRead.{AlikeAfter, alike_stops, header_stops, at_header, typed_is}
+use Rattle.rtr_units.proofs.UnitsRead.{AlikeAfter, alike_stops, header_stops, typed_is}
 use Rattle.rtr_payload.specs.FirstFault.{header_fault}
-use Rattle.rtr_payload.specs.UnitKinds.{variable_unit, payload_unit}
-use Rattle.rtr_payload.proofs.Reading.{prefix_alike, end_alike, key_alike, aspa_alike}
+use Rattle.rtr_payload.specs.UnitKinds.{payload_unit}
 use Rattle.rtr_session.specs.SessionKinds.{any_header_fault, session_unit, report_unit}
 use Rattle.rtr_session.specs.SessionKinds.{report_sized}
 use Rattle.rtr_session.specs.AnyReading.{ReadsAnyAfter, StopsInAny}

@@ -2,15 +2,13 @@
 use Rattle.std.proofs.Common.{◌≡◌, ℕ, ◌+◌, ◌<◌, List, [], ◌++◌, length, drop, Option, Some, None}
 use Rattle.std.proofs.Common.{Ok, refl, sym, ap, subst, ◌∙◌, arith, inl, inr, length-drop}
 use Rattle.rtr_base.specs.declared.timing.Timing.{Timing}
-use Rattle.rtr_base.specs.Addresses.{Family}
 use Rattle.rtr_base.specs.Bytes.{be, IsBytes}
 use Rattle.rtr_base.proofs.Cuts.{cut_number, cut_end, number_fits}
 use Rattle.rtr_base.proofs.Numbers.{IsBytes-append, IsBytes-be}
 use Rattle.rtr_units.specs.End.{EndMeaning, IsEnd, HasTimingOf, timed_list}
-use Rattle.rtr_units.specs.AnyEnd.{end_bytes, end_meaning, end_unit}
+use Rattle.rtr_units.specs.AnyEnd.{end_bytes, end_meaning}
 use Rattle.rtr_units.specs.declared.end.EndOfData.{EndOfData}
 use Rattle.rtr_units.specs.Queries.{bare_list, serial_list, serial_field}
-use Rattle.rtr_units.specs.PrefixUnits.{prefix_type, prefix_size, prefix_at}
 use Rattle.rtr_units.specs.Header.{header, version_field, type_field, session_field, length_field}
 use Rattle.rtr_units.specs.Reading.{Kind, of_size, Takes, ReadsAfter}
 use Rattle.rtr_units.specs.StopCauses.{ReaderState}
@@ -18,8 +16,7 @@ use Rattle.rtr_units.proofs.UnitsRead.{sized_from}
 use Rattle.rtr_units.specs.HeaderBytes.{AreBytes}
 use Rattle.rtr_units.proofs.Headers.{header_read, header_bytes, same_header, session_fits}
 use Rattle.rtr_payload.specs.UnitKinds.{payload_unit}
-use Rattle.rtr_payload.specs.UnitFields.{Fields, prefix_unit, HasFields}
-use Rattle.rtr_payload.proofs.FieldsRead.{prefix_has}
+use Rattle.rtr_payload.specs.UnitFields.{Fields, HasFields}
 use Rattle.rtr_session.specs.AnyFields.{AnyFields, serial_notify, serial_query, reset_query}
 use Rattle.rtr_session.specs.AnyFields.{cache_response, payload, end_of_data, cache_reset}
 use Rattle.rtr_session.specs.AnyFields.{error_report, HasAnyFields}

@@ -1,6 +1,5 @@
 use Rattle.std.proofs.Common.{◌≡◌, ◌∙◌, ap}
 use Rattle.rtr_base.specs.Actions.{act}
-use Rattle.rtr_base.specs.declared.action.Action.TheVariants.{Announce, Withdraw}
 use Rattle.rtr_payload.specs.AspaUnits.{aspa_at, meant_providers}
 use Rattle.rtr_payload.specs.Payloads.{aspa}
 use Rattle.rtr_payload.proofs.pdu.payload_unit.AspaPayloadUnit.into_meaning.Goals as goal
