@@ -3,7 +3,7 @@
 use crate::answer::Answer;
 use crate::row::{Row, Way};
 use crate::views::tell_end;
-use rtr_data::{ApplyCause, ApplyError, ChangeError, Data};
+use rtr_data::{ApplyCause, ChangeError, Data};
 use rtr_tests::support::{Pieces, Recorder};
 use rtr_wire::payload;
 use rtr_wire::payload::Action;
@@ -89,35 +89,25 @@ fn writer(row: &Row<'_>, size: usize) -> Recorder {
     writer
 }
 
-/// Makes the changes, and appends the name of what came of each to a list that has room for it.
-fn make(data: &mut Data, changes: Vec<(Action, payload::Payload)>, names: &mut Vec<&'static str>) {
-    for (action, payload) in changes {
-        let _ = names.push(name(change(data, action, payload)));
-    }
-}
-
-/// Appends the units that announce what there is.
-fn tell_data(seen: &mut Answer, row: &Row<'_>, data: &Data) {
-    let mut writer = Counted::new(writer(row, usize::MAX));
-    let answer = data.write_all(2, &mut writer);
-    tell(seen, &answer, &writer.into_inner());
-}
-
 /// The units as changes, one after the other, of data without payloads: what came of each, how many
 /// payloads there are then, and the units that announce them.
 fn changed(row: &Row<'_>) -> Answer {
     let changes = changes_of(row, &row.left);
-    let mut names = Vec::new(row.alloc);
-    let _ = names.reserve(changes.len());
+    let mut outcomes = Vec::new(row.alloc);
+    let _ = outcomes.reserve(changes.len());
     let mut data = Data::new(row.alloc);
     row.ready();
-    make(&mut data, changes, &mut names);
+    for (action, payload) in changes {
+        let _ = outcomes.push(name(change(&mut data, action, payload)));
+    }
     let mut seen = row.answer();
-    for name in names {
-        seen.word(name);
+    for outcome in outcomes {
+        seen.word(outcome);
     }
     seen.word(data.len());
-    tell_data(&mut seen, row, &data);
+    let mut writer = Counted::new(writer(row, usize::MAX));
+    let answer = data.write_all(2, &mut writer);
+    tell(&mut seen, &answer, &writer.into_inner());
     seen
 }
 
@@ -128,22 +118,26 @@ fn applied(row: &Row<'_>, way: Way) -> Answer {
     let limit = row.number("limit", LIMIT);
     let mut data = data_of(row, &row.left);
     let mut reader = Counted::new(Pieces::failing(&row.right, way.sizes, row.place("fails")));
+    let mut writer = Counted::new(writer(row, usize::MAX));
     row.ready();
     let answer = data.apply(row.alloc, &mut reader, limit);
     let mut seen = row.answer();
     match &answer {
         Ok(end) => tell_end(&mut seen, end),
-        Err(error) => tell_error(&mut seen, error),
+        Err(error) => {
+            seen.word(error.units);
+            tell_cause(&mut seen, &error.cause);
+        }
     }
     seen.word(reader.into_inner().taken());
-    tell_data(&mut seen, row, &data);
+    let written = data.write_all(2, &mut writer);
+    tell(&mut seen, &written, &writer.into_inner());
     seen
 }
 
-/// Appends how many units came before a sequence wasn't applied, and why.
-fn tell_error(seen: &mut Answer, error: &ApplyError) {
-    seen.word(error.units);
-    match &error.cause {
+/// Appends why a sequence wasn't applied.
+fn tell_cause(seen: &mut Answer, cause: &ApplyCause) {
+    match cause {
         ApplyCause::Read(fault) => seen.fault(fault),
         ApplyCause::Change(error) => seen.word(error_name(*error)),
     }

@@ -1,5 +1,5 @@
 use Rattle.std.proofs.lemmas.Result.{err_from_is_err_and}
-use Rattle.std.proofs.Common.{◌++◌, Ok, Err, sym, ◌∙◌}
+use Rattle.std.proofs.Common.{◌++◌, Ok, Err, refl, sym, ◌∙◌}
 use Rattle.rtr_units.specs.StopCauses.{cause_of}
 use Rattle.rtr_units.specs.HeaderBytes.{header_bytes}
 use Rattle.rtr_units.proofs.UnitsRead.{read_on}
@@ -76,3 +76,34 @@ returns-in_err-put_parts-clause-bytes g c is before took =
     (read_on payload_unit h (Ok u) before _ _ took reads.1.0) (in_version v m) some
     (c.form_parts.result.0 ++ c.form_parts.result.1.now) c.form_parts.ensures
     c.in_err-put_parts.field-0.0 _ _ c.in_err-put_parts.ensures.bytes.0)
+
+-- ---- the counts of failures, and the errors
+
+pub returns-then-not-writes-clause-reads : goal.returns-then-not-writes-clause-reads
+returns-then-not-writes-clause-reads g c = c.in_ok-unit.ensures.bytes.1.1
+
+pub returns-then-not-writes-clause-writes : goal.returns-then-not-writes-clause-writes
+returns-then-not-writes-clause-writes g c = refl
+
+pub returns-then-not-writes-clause-errors : goal.returns-then-not-writes-clause-errors
+returns-then-not-writes-clause-errors g c = record { read_error = tt; write_error = tt }
+
+pub returns-clause-reads : goal.returns-clause-reads
+returns-clause-reads g c = c.in_ok-unit.ensures.bytes.1.1
+
+pub returns-clause-writes : goal.returns-clause-writes
+returns-clause-writes g c = c.in_ok-put_parts.ensures.bytes.1
+
+pub returns-clause-errors : goal.returns-clause-errors
+returns-clause-errors g c = record { read_error = tt; write_error = tt }
+
+pub returns-in_err-unit-clause-reads : goal.returns-in_err-unit-clause-reads
+returns-in_err-unit-clause-reads g c =
+    let p = err_from_is_err_and c.from_residual.result c.from_residual.ensures.1 in
+    rw (p.1, p.2) c.in_err-unit.ensures.bytes.1.1
+
+pub returns-in_err-put_parts-clause-writes : goal.returns-in_err-put_parts-clause-writes
+returns-in_err-put_parts-clause-writes g c =
+    let p = err_from_is_err_and c.from_residual-in_err-put_parts.result
+    c.from_residual-in_err-put_parts.ensures.1 in
+    rw (p.1, p.2) c.in_err-put_parts.ensures.bytes.1
