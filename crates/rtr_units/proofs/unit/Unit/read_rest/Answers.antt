@@ -29,3 +29,9 @@ returns-clause-bytes g c =
 
 pub returns-then-length-LENGTH-clause-left : goal.returns-then-length-LENGTH-clause-left
 returns-then-length-LENGTH-clause-left g c = refl
+
+pub returns-then-length-LENGTH-clause-error : goal.returns-then-length-LENGTH-clause-error
+returns-then-length-LENGTH-clause-error g c = tt
+
+pub returns-clause-error : goal.returns-clause-error
+returns-clause-error g c = c.fill.ensures.error

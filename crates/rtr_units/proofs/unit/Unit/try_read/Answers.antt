@@ -30,3 +30,24 @@ returns-in_err-read_payload-clause-bytes g c =
         λ _ ten. c.if-pdu-eq-PDU.false (c.pdu.ensures.value ∙ sym same ∙ ten),
       ),
     )
+
+-- ---- the counts of failures, and the errors
+
+pub returns-clause-count : goal.returns-clause-count
+returns-clause-count g c =
+    c.in_ok-read_payload.ensures.bytes.1.1 ∙ c.in_ok-header.ensures.bytes.1
+
+pub returns-clause-error : goal.returns-clause-error
+returns-clause-error g c = tt
+
+pub returns-then-pdu-PDU-clause-count : goal.returns-then-pdu-PDU-clause-count
+returns-then-pdu-PDU-clause-count g c = c.in_ok-header.ensures.bytes.1
+
+pub returns-then-pdu-PDU-clause-error : goal.returns-then-pdu-PDU-clause-error
+returns-then-pdu-PDU-clause-error g c = tt
+
+pub returns-then-pdu-eq-PDU-clause-count : goal.returns-then-pdu-eq-PDU-clause-count
+returns-then-pdu-eq-PDU-clause-count g c = c.in_ok-header.ensures.bytes.1
+
+pub returns-then-pdu-eq-PDU-clause-error : goal.returns-then-pdu-eq-PDU-clause-error
+returns-then-pdu-eq-PDU-clause-error g c = tt
