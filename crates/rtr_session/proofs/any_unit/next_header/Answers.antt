@@ -39,3 +39,9 @@ returns-in-Ok-eq0-clause-bytes g c =
       (left, c.in-Ok-eq0.ensures.bytes.1 c.in-Ok-eq0.field-0-test (omega (arith, long))),
       c.in-Ok-eq0.ensures.count,
     )
+
+pub returns-in-Ok-eq0-clause-error : goal.returns-in-Ok-eq0-clause-error
+returns-in-Ok-eq0-clause-error g c = tt
+
+pub returns-in_ok-fill-in-Ok-clause-error : goal.returns-in_ok-fill-in-Ok-clause-error
+returns-in_ok-fill-in-Ok-clause-error g c = tt

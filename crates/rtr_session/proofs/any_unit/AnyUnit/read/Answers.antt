@@ -19,3 +19,9 @@ returns-in_err-read_payload-clause-bytes g c =
       counts
           ∙ ap (reader_count {T = AnyUnit} (Err (cause_of c.in_err-read_payload.field-0.0))) same,
     )
+
+pub returns-in_default-clause-error : goal.returns-in_default-clause-error
+returns-in_default-clause-error g c = tt
+
+pub returns-clause-error : goal.returns-clause-error
+returns-clause-error g c = tt

@@ -135,3 +135,27 @@ returns-in-Err-clause-bytes g c =
     let read = rw c.in-Err.is at c.in_ok-unit-in_default.ensures.bytes in
     let fields = rw c.in-Err.is at c.in_ok-unit-in_default.ensures.fields in
     end_reads (header_bytes c.args.header) c.in-Err.end _ _ read fields
+
+pub returns-in_ok-read_payload-in-0-clause-error : goal.returns-in_ok-read_payload-in-0-clause-error
+returns-in_ok-read_payload-in-0-clause-error g c = tt
+
+pub returns-in_ok-read_payload-in-1-clause-error : goal.returns-in_ok-read_payload-in-1-clause-error
+returns-in_ok-read_payload-in-1-clause-error g c = tt
+
+pub returns-in_ok-read_payload-in-2-clause-error : goal.returns-in_ok-read_payload-in-2-clause-error
+returns-in_ok-read_payload-in-2-clause-error g c = tt
+
+pub returns-in_ok-read_payload-in-3-clause-error : goal.returns-in_ok-read_payload-in-3-clause-error
+returns-in_ok-read_payload-in-3-clause-error g c = tt
+
+pub returns-in_ok-read_payload-in-8-clause-error : goal.returns-in_ok-read_payload-in-8-clause-error
+returns-in_ok-read_payload-in-8-clause-error g c = tt
+
+pub returns-in_ok-read_payload-in-10-clause-error : goal.returns-in_ok-read_payload-in-10-clause-error
+returns-in_ok-read_payload-in-10-clause-error g c = tt
+
+pub returns-in-Ok-Some-clause-error : goal.returns-in-Ok-Some-clause-error
+returns-in-Ok-Some-clause-error g c = tt
+
+pub returns-in-Err-clause-error : goal.returns-in-Err-clause-error
+returns-in-Err-clause-error g c = tt

@@ -23,3 +23,12 @@ pub returns-in_default-clause-bytes : goal.returns-in_default-clause-bytes
 returns-in_default-clause-bytes g c =
     none_after (header_bytes c.args.header) c.pdu.result _ c.pdu.ensures.header
     (sym c.pdu.ensures.value) (omega arith) (omega arith) (omega arith) (omega arith) (omega arith)
+
+pub returns-in_ok-read_payload-in-7-clause-error : goal.returns-in_ok-read_payload-in-7-clause-error
+returns-in_ok-read_payload-in-7-clause-error g c = tt
+
+pub returns-in_default-clause-fields : goal.returns-in_default-clause-fields
+returns-in_default-clause-fields g c = tt
+
+pub returns-in_default-clause-error : goal.returns-in_default-clause-error
+returns-in_default-clause-error g c = tt

@@ -24,3 +24,12 @@ returns-in-Ok-clause-ok g c =
     (fields ∙ ap (λ l. prefix_unit (prefix_at family l)) (sym c.as_ref-bytes.ensures.bytes))
     (c.new.ensures ∙ (λ i. record { prefix = prefix i; asn = asn i }))
     c.in-Ok.ensures.kept)
+
+pub returns-in-Ok-clause-err : goal.returns-in-Ok-clause-err
+returns-in-Ok-clause-err g c = tt
+
+pub returns-in-Err-clause-ok : goal.returns-in-Err-clause-ok
+returns-in-Err-clause-ok g c = tt
+
+pub returns-in-Err-clause-family : goal.returns-in-Err-clause-family
+returns-in-Err-clause-family g c = tt

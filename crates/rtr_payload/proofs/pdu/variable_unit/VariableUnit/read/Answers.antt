@@ -14,3 +14,9 @@ returns-clause-bytes g c =
     sym c.pdu-pdu.ensures.value ∙ c.if-pdu-PDU.false ∙ c.PDU.ensures in
     read_both p (variable_unit p) h (by_bytes (λ u. u) c.read_payload.result) _ _ _ kind
     c.in_ok-header.ensures.bytes c.read_payload.ensures.bytes
+
+pub returns-then-pdu-PDU-clause-fields : goal.returns-then-pdu-PDU-clause-fields
+returns-then-pdu-PDU-clause-fields g c = tt
+
+pub returns-then-pdu-PDU-clause-error : goal.returns-then-pdu-PDU-clause-error
+returns-then-pdu-PDU-clause-error g c = tt

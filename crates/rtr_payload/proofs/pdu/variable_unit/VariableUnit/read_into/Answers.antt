@@ -134,3 +134,18 @@ returns-clause-fields g c kind =
 
 pub returns-clause-least : goal.returns-clause-least
 returns-clause-least g c = (c.in_ok-check_header.ensures.whole (u g c) (whole g c)).0
+
+pub returns-then-is_err-clause-fields : goal.returns-then-is_err-clause-fields
+returns-then-is_err-clause-fields g c = tt
+
+pub returns-then-is_err-clause-least : goal.returns-then-is_err-clause-least
+returns-then-is_err-clause-least g c = tt
+
+pub returns-then-is_err-clause-most : goal.returns-then-is_err-clause-most
+returns-then-is_err-clause-most g c = tt
+
+pub returns-then-is_err-clause-error : goal.returns-then-is_err-clause-error
+returns-then-is_err-clause-error g c = tt
+
+pub returns-clause-error : goal.returns-clause-error
+returns-clause-error g c = tt
