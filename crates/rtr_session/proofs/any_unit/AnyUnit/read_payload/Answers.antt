@@ -151,7 +151,8 @@ returns-in_ok-read_payload-in-3-clause-error g c = tt
 pub returns-in_ok-read_payload-in-8-clause-error : goal.returns-in_ok-read_payload-in-8-clause-error
 returns-in_ok-read_payload-in-8-clause-error g c = tt
 
-pub returns-in_ok-read_payload-in-10-clause-error : goal.returns-in_ok-read_payload-in-10-clause-error
+pub returns-in_ok-read_payload-in-10-clause-error :
+    goal.returns-in_ok-read_payload-in-10-clause-error
 returns-in_ok-read_payload-in-10-clause-error g c = tt
 
 pub returns-in-Ok-Some-clause-error : goal.returns-in-Ok-Some-clause-error

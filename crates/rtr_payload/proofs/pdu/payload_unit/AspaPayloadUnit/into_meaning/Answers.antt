@@ -7,9 +7,9 @@ use Rattle.rtr_payload.proofs.pdu.payload_unit.AspaPayloadUnit.into_meaning.Goal
 pub returns-clause-ok : goal.returns-clause-ok
 returns-clause-ok c =
     let unit = aspa_at c.args.self in
+    let named = unit.aspa.providers in
     let action : c.from_flags-action.result ≡ act unit.flags = cc in
-    let providers : c.match-action.providers
-    ≡ meant_providers c.from_flags-action.result unit.aspa.providers =
+    let providers : c.match-action.providers ≡ meant_providers c.from_flags-action.result named =
     elim c.match-action.branch [
       | goal.in-Announce a ↦ rw a.in-Announce.is cc
       | goal.in-Withdraw a ↦ rw a.in-Withdraw.is cc
@@ -25,7 +25,7 @@ returns-clause-ok c =
             payload =
                 aspa (record {
                   customer = customer i;
-                  providers = (providers ∙ ap (λ a. meant_providers a unit.aspa.providers) action) i;
+                  providers = (providers ∙ ap (λ a. meant_providers a named) action) i;
                 });
           });
       max_len = tt;
