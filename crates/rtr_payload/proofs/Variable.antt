@@ -16,8 +16,8 @@ use Rattle.rtr_units.proofs.Headers.{same_header}
 use Rattle.rtr_units.specs.Reading.{IsWhole, AsksAfter, Stops, Reads}
 use Rattle.rtr_units.specs.StopCauses.{ReaderState}
 use Rattle.rtr_units.proofs.UnitsRead.{ByHeader, rest_stops, rest_whole, at_header}
-use Rattle.rtr_payload.specs.PrivateFrames.{StopsInFrame, IsRefusedBy}
-use Rattle.rtr_payload.specs.UnitKinds.{variable_unit}
+use Rattle.rtr_payload.specs.PrivateFrames.{StopsInFrame}
+use Rattle.rtr_payload.specs.UnitKinds.{IsRefusedBy, variable_unit}
 use Rattle.rtr_payload.specs.FirstFault.{header_fault}
 use Rattle.rtr_payload.proofs.Reading.{never_short}
 

@@ -1,7 +1,7 @@
 -- What calls inside this crate leave. Only contracts of private functions cite these.
-use Rattle.std.specs.Prelude.{◌≡◌, ◌⊎◌, ℕ, List, [], length, Option, Some, Result, Ok, Err, ⊤}
+use Rattle.std.specs.Prelude.{◌≡◌, ◌⊎◌, ℕ, List, [], length, Option, Result, Ok, Err, ⊤}
 use Rattle.std.specs.Io.KnownBytes.{Consumes}
-use Rattle.rtr_units.specs.StopCauses.{Refusal, Cause, no_memory, wrong, refused}
+use Rattle.rtr_units.specs.StopCauses.{Cause, no_memory, wrong, refused}
 use Rattle.rtr_units.specs.Reading.{Takes}
 use Rattle.rtr_units.specs.Stream.{FallsShort}
 use Rattle.rtr_units.specs.StopCauses.{ReaderState, reader_count}
@@ -20,11 +20,6 @@ ReadsFrameBytes n (Err c) old left = Takes old left (λ t. StopsInFrame n c t le
 abbrev pub ReadsFrame : ℕ → Result (List ℕ) Cause → ReaderState → ReaderState → Type 0
 ReadsFrame n answer old new =
     ReadsFrameBytes n answer old.left new.left × (new.failed ≡ reader_count answer old.failed)
-
--- this is what is wrong with a header
-abbrev pub IsRefusedBy : Option Refusal → Cause → Type 0
-IsRefusedBy fault (wrong f) = fault ≡ Some f
-IsRefusedBy fault c = ⊥
 
 -- a report, or no memory for it
 abbrev pub AnswersReport : Cause → List ℕ → Type 0

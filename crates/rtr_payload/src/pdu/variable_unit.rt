@@ -16,8 +16,7 @@ ghost use Rattle.rtr_units.specs.Reading.{IsWhole, Reads, ReadsAfter, by_bytes, 
 ghost use Rattle.rtr_units.specs.Stream.{PutsForm};
 ghost use Rattle.rtr_units.specs.StopCauses.{HoldsReadError, HoldsWriteError};
 ghost use Rattle.rtr_units.specs.HeaderBytes.{header_bytes};
-ghost use Rattle.rtr_payload.specs.PrivateFrames.{IsRefusedBy};
-ghost use Rattle.rtr_payload.specs.UnitKinds.{variable_unit};
+ghost use Rattle.rtr_payload.specs.UnitKinds.{IsRefusedBy, variable_unit};
 ghost use Rattle.rtr_payload.specs.Payloads.{smallest_version};
 ghost use Rattle.rtr_payload.specs.UnitFields.{Fields, HasFields, LengthsAgree, meaning};
 ghost use Rattle.rtr_payload.specs.Units.{form_of};
