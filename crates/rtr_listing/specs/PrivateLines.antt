@@ -1,40 +1,18 @@
--- What printing a line, and what is wanted of one unit, leaves: this program's own. Only contracts
--- of private functions cite these.
-use Rattle.std.specs.Prelude.{◌≡◌, ℕ, ◌+◌, ◌-◌, ◌^◌, ◌<◌, List, [], ◌++◌, length, min, ⊤}
+-- What printing the lines of one unit leaves: this program's own. Only contracts of private
+-- functions cite these.
+use Rattle.std.specs.Prelude.{◌≡◌, ℕ, ◌+◌, ◌-◌, ◌^◌, List, length, min, ⊤}
 use Rattle.std.specs.Prelude.{Bool, Option, Result, Ok, Err}
 use Rattle.std.specs.Io.KnownBytes.{Appends}
 use Rattle.std.specs.List.{concat}
 use Rattle.rtr_units.specs.declared.fault.Fault.{Fault}
-use Rattle.rtr_units.specs.StopCauses.{Cause, by_writer, no_memory, by_cause, cause_of}
+use Rattle.rtr_units.specs.StopCauses.{by_cause, cause_of}
 use Rattle.rtr_units.specs.StopCauses.{WriterState, writer_count}
 use Rattle.rtr_session.specs.AnyFields.{AnyFields}
 use Rattle.rtr_listing.specs.PrivateFollowing.{HasSeen}
-use Rattle.rtr_listing.specs.Lines.{written_line}
 use Rattle.rtr_listing.specs.Listing.{BreaksOff, UnitLines, tells_broken}
 use Rattle.rtr_listing.specs.declared.check.Checker.{Checker}
 use Rattle.rtr_listing.specs.declared.run.Wanted.{Wanted}
 use Rattle.rtr_listing.specs.declared.run.Wanted.TheVariants.{Text, Json, Findings}
-
--- ---- one line
-
--- why a line wasn't written, and what was written of it and what wasn't
-abbrev pub StopsLine : Cause → List ℕ → List ℕ → Type 0
-StopsLine by_writer part missing = 0 < length missing
-StopsLine no_memory part missing = part ≡ []
-StopsLine cause part missing = ⊥
-
--- the line of this text was written, or a part of it, or nothing where memory ran out
-abbrev pub PutsLineBytes :
-    List ℕ → Result (Unit {0}) Fault → Option (List ℕ) → Option (List ℕ) → Type 0
-PutsLineBytes text (Ok x) held holds = Appends held holds (written_line text)
-PutsLineBytes text (Err e) held holds = (part missing : List ℕ) × Appends held holds part
-    × (written_line text ≡ part ++ missing) × StopsLine (cause_of e) part missing
-
-abbrev pub PutsLine : List ℕ → Result (Unit {0}) Fault → WriterState → WriterState → Type 0
-PutsLine text r old new =
-    PutsLineBytes text r old.held new.held × (new.failed ≡ writer_count (by_cause r) old.failed)
-
--- ---- one unit
 
 -- these lines of one unit were printed, with whether they report a broken rule, or printing
 -- stopped

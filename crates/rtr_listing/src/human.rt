@@ -51,7 +51,7 @@ pub fn describe(
     describe_fields(alloc, line, unit)
 }
 
-/// Writes what is unit_words after the version.
+/// Writes what follows the version.
 fn describe_fields(alloc: Global, line: &mut Line, unit: &AnyUnit) -> Result<(), AllocError>
     ensures { OnOk result (line.new ≡ line.old ++ unit_words (any_fields unit.now)) }
 {

@@ -6,8 +6,7 @@ ghost use Rattle.std.specs.Char.Escape.{escape_ascii};
 ghost use Rattle.std.specs.Fmt.{AppendsText};
 ghost use Rattle.hex.specs.Hex.{encode_lower};
 ghost use Rattle.rtr_units.specs.StopCauses.{by_cause, by_reader};
-ghost use Rattle.rtr_listing.specs.Lines.{written_line};
-ghost use Rattle.rtr_listing.specs.PrivateLines.{PutsLine};
+ghost use Rattle.rtr_listing.specs.Lines.{PutsLine, written_line};
 
 use hex::encode;
 use itoa::Buffer;
