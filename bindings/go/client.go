@@ -1,3 +1,5 @@
+//go:build cgo && linux && (amd64 || arm64)
+
 package rtr
 
 import (
@@ -6,7 +8,8 @@ import (
 	"time"
 )
 
-// ClientLimits bound what a cache can ask of a Client in time and memory.
+// ClientLimits bound what a cache can ask of a Client in time and memory. Each that is zero stands
+// for the one that NewClient gives.
 type ClientLimits struct {
 	Dial     time.Duration // to connect
 	Response time.Duration // from a query to the end of data that answers it
@@ -16,8 +19,39 @@ type ClientLimits struct {
 	Report   time.Duration // to send a report on a fault, and to let the cache read it
 }
 
+// usualClientLimits are for a cache of some million payloads.
+var usualClientLimits = ClientLimits{
+	Dial:     30 * time.Second,
+	Response: 2 * time.Minute,
+	Bytes:    1 << 27,
+	Units:    1 << 22,
+	Pause:    time.Second,
+	Report:   2 * time.Second,
+}
+
+// orUsual are the limits, with the usual one in the place of each that is zero.
+func (l ClientLimits) orUsual() ClientLimits {
+	usual := usualClientLimits
+	return ClientLimits{
+		Dial:     unlessZero(l.Dial, usual.Dial),
+		Response: unlessZero(l.Response, usual.Response),
+		Bytes:    unlessZero(l.Bytes, usual.Bytes),
+		Units:    unlessZero(l.Units, usual.Units),
+		Pause:    unlessZero(l.Pause, usual.Pause),
+		Report:   unlessZero(l.Report, usual.Report),
+	}
+}
+
+// unlessZero is the limit that was set, or the usual one where none was.
+func unlessZero[T time.Duration | int | uint64](set, usual T) T {
+	if set == 0 {
+		return usual
+	}
+	return set
+}
+
 // Client is a router's end: it asks a cache for data, and follows their changes (RFC 8210 sections
-// 6 to 8). NewClient makes one.
+// 6 to 8). NewClient makes one; Client{Address: address} is one that asks in version 0.
 type Client struct {
 	Address string       // as net.Dial takes it, for IPv4 or IPv6
 	Version uint8        // the highest version that it asks in, at most 2
@@ -32,18 +66,7 @@ type Client struct {
 // NewClient makes a Client of version 1, that of RFC 8210, with limits for a cache of some million
 // payloads. ASPAs are of version 2, for which caches in use have several layouts.
 func NewClient(address string) *Client {
-	return &Client{
-		Address: address,
-		Version: 1,
-		Limits: ClientLimits{
-			Dial:     30 * time.Second,
-			Response: 2 * time.Minute,
-			Bytes:    1 << 27,
-			Units:    1 << 22,
-			Pause:    time.Second,
-			Report:   2 * time.Second,
-		},
-	}
+	return &Client{Address: address, Version: 1, Limits: usualClientLimits}
 }
 
 // Update is a change of the data that a Client has.
@@ -72,7 +95,7 @@ var (
 // Errors: a Fault, a Breach, a Reported, ErrTooSlow, ErrClosed, that of the context, or one of the
 // connection.
 func (c *Client) Fetch(ctx context.Context) (Data, error) {
-	f := &follower{client: c, once: true, changed: func(Update) error { return nil }}
+	f := &follower{client: c.limited(), once: true, changed: func(Update) error { return nil }}
 	err := f.attempt(ctx)
 	return f.data, err
 }
@@ -81,6 +104,7 @@ func (c *Client) Fetch(ctx context.Context) (Data, error) {
 // answers that error. It calls changed when there are other data than before; these are whole
 // data of the cache at one serial number. It connects again when a connection ends.
 func (c *Client) Run(ctx context.Context, changed func(Update) error) error {
+	c = c.limited()
 	f := &follower{client: c, changed: changed}
 	for {
 		err := f.attempt(ctx)
@@ -96,6 +120,13 @@ func (c *Client) Run(ctx context.Context, changed func(Update) error) error {
 			return err
 		}
 	}
+}
+
+// limited is the client, with the usual limits where it has none.
+func (c *Client) limited() *Client {
+	limited := *c
+	limited.Limits = c.Limits.orUsual()
+	return &limited
 }
 
 // failed tells of a failure.

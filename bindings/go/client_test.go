@@ -1,3 +1,5 @@
+//go:build cgo && linux && (amd64 || arm64)
+
 package rtr
 
 import (
@@ -66,6 +68,31 @@ func quick(address string) *Client {
 	client.Limits.Report = patience
 	client.Retry = time.Millisecond
 	return client
+}
+
+// A client without limits has those of NewClient, and asks in version 0.
+func TestClientWithoutLimits(t *testing.T) {
+	noLeaks(t)
+	data := parsed(t, join(ipv4, ending(1, 7, 9)))
+	_, address := started(t, nil, data)
+	ctx, cancel := limited(t)
+	defer cancel()
+	client := &Client{Address: address}
+	got, err := client.Fetch(ctx)
+	if err != nil || got.Version() != 0 || got.Len() != 1 || got.Serial() != 9 {
+		t.Fatal(got, err)
+	}
+	updates, _ := follow(t, client, func(Update) bool { return true })
+	if len(updates) != 1 || !updates[0].Data.Equal(got) {
+		t.Fatal(updates)
+	}
+	if client.Limits != (ClientLimits{}) {
+		t.Fatal(client.Limits)
+	}
+	own := ClientLimits{time.Second, time.Minute, 1, 2, 3 * time.Second, time.Hour}
+	if NewClient("").Limits != (ClientLimits{}).orUsual() || own.orUsual() != own {
+		t.Fatal(own.orUsual())
+	}
 }
 
 // limited is a context that ends with a test's patience.

@@ -1,3 +1,5 @@
+//go:build cgo && linux && (amd64 || arm64)
+
 // Package rtr reads and writes the units of the RPKI to Router protocol (RFC 6810, RFC 8210), of
 // all eleven types, over the proved library rtr_c. What the library's functions promise is proved;
 // this package is tested.

@@ -1,3 +1,5 @@
+//go:build cgo && linux && (amd64 || arm64)
+
 package rtr
 
 // Progress says how far a call that normalises got: whole units, and the end of data if it was

@@ -1,3 +1,5 @@
+//go:build cgo && linux && (amd64 || arm64)
+
 package rtr
 
 import (
@@ -159,6 +161,8 @@ func (c *served) answerAll(queries <-chan query) error {
 			}
 		case <-c.woken:
 		case <-timer.C:
+		case <-c.server.stopping:
+			return ErrServerClosed
 		}
 		wait, err := c.notify(asked)
 		if err != nil {

@@ -1,6 +1,9 @@
+//go:build cgo && linux && (amd64 || arm64)
+
 package rtr
 
 import (
+	"context"
 	"errors"
 	"fmt"
 	"net"
@@ -41,12 +44,15 @@ type Server struct {
 	clients   map[*served]bool
 	closed    bool
 	running   sync.WaitGroup
+
+	stopping chan struct{} // closed by Shutdown
+	stop     sync.Once
 }
 
 // Why a Server ended a connection, besides a Fault, a Breach, a Reported, and errors of the
 // connection itself.
 var (
-	// ErrServerClosed is of a Server that was closed.
+	// ErrServerClosed is of a Server that was closed or shut down.
 	ErrServerClosed = errors.New("rtr: the server is closed")
 	// ErrManyClients is of a client above the limit.
 	ErrManyClients = errors.New("rtr: too many clients")
@@ -75,6 +81,7 @@ func NewServer() *Server {
 		},
 		listeners: map[net.Listener]bool{},
 		clients:   map[*served]bool{},
+		stopping:  make(chan struct{}),
 	}
 }
 
@@ -234,14 +241,48 @@ func (s *Server) isClosed() bool {
 // Close closes all listeners and connections, and answers when all goroutines of the server have
 // ended. The server can't be used again.
 func (s *Server) Close() {
+	s.closeListeners()
+	s.closeClients()
+	s.running.Wait()
+}
+
+// Shutdown ends the server as Close does, but first lets the answers that have begun come to their
+// end. Connections without one are closed at once.
+//
+// Errors: that of the context if it ends first; then the other connections are closed, too.
+func (s *Server) Shutdown(ctx context.Context) error {
+	s.closeListeners()
+	s.stop.Do(func() { close(s.stopping) })
+	ended := make(chan struct{})
+	go func() {
+		s.running.Wait()
+		close(ended)
+	}()
+	select {
+	case <-ended:
+		return nil
+	case <-ctx.Done():
+		s.closeClients()
+		<-ended
+		return ctx.Err()
+	}
+}
+
+// closeListeners has no more clients taken.
+func (s *Server) closeListeners() {
 	s.lock.Lock()
+	defer s.lock.Unlock()
 	s.closed = true
 	for listener := range s.listeners {
 		listener.Close()
 	}
+}
+
+// closeClients closes all connections.
+func (s *Server) closeClients() {
+	s.lock.Lock()
+	defer s.lock.Unlock()
 	for client := range s.clients {
 		client.connection.Close()
 	}
-	s.lock.Unlock()
-	s.running.Wait()
 }

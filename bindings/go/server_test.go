@@ -1,3 +1,5 @@
+//go:build cgo && linux && (amd64 || arm64)
+
 package rtr
 
 import (
@@ -235,10 +237,9 @@ func why(server *Server) <-chan error {
 	return errs
 }
 
-// A client that says nothing, stops inside of a unit, or reads nothing is closed, with the reason
-// named, and another one is served in the meantime.
-func TestServerLimits(t *testing.T) {
-	noLeaks(t)
+// megabytes are data that no buffer of a connection holds.
+func megabytes(t *testing.T) Data {
+	t.Helper()
 	large := make([][]byte, 0, 200000)
 	for i := uint32(0); i < 200000; i++ {
 		unit := append([]byte{}, ipv4...)
@@ -246,7 +247,14 @@ func TestServerLimits(t *testing.T) {
 		binary.BigEndian.PutUint32(unit[12:], i)
 		large = append(large, unit)
 	}
-	data := parsed(t, join(join(large...), ending(1, 7, 1)))
+	return parsed(t, join(join(large...), ending(1, 7, 1)))
+}
+
+// A client that says nothing, stops inside of a unit, or reads nothing is closed, with the reason
+// named, and another one is served in the meantime.
+func TestServerLimits(t *testing.T) {
+	noLeaks(t)
+	data := megabytes(t)
 	server, address := started(t, func(limits *ServerLimits) {
 		limits.First, limits.Unit = 500*time.Millisecond, 300*time.Millisecond
 		limits.Idle, limits.Write = 700*time.Millisecond, 2*time.Second
@@ -345,6 +353,52 @@ func TestServerClose(t *testing.T) {
 	}
 	for _, connection := range connections[:1] {
 		expectEnd(t, connection, nil)
+	}
+}
+
+// Shutdown lets an answer that has begun come to its end, and closes those that wait for queries.
+func TestServerShutdown(t *testing.T) {
+	noLeaks(t)
+	data := megabytes(t)
+	server, address := started(t, nil, data)
+	errs := why(server)
+	idle, slow := dial(t, address), dial(t, address)
+	send(t, idle, asked(1, 7, 1))
+	expect(t, idle, join(response(1, 7), ending(1, 7, 1)))
+	send(t, slow, asked(1, 0))
+	expect(t, slow, response(1, 7))
+	ended := make(chan error, 1)
+	go func() { ended <- server.Shutdown(context.Background()) }()
+	expectEnd(t, idle, nil)
+	if late, err := net.Dial("tcp", address); err == nil {
+		late.Close()
+		t.Fatal("a client was taken")
+	}
+	expectEnd(t, slow, data.Bytes())
+	for range []int{1, 2} {
+		if err := <-errs; err != ErrServerClosed {
+			t.Fatal(err)
+		}
+	}
+	if err := <-ended; err != nil {
+		t.Fatal(err)
+	}
+}
+
+// Shutdown waits for a client that reads nothing until its context ends.
+func TestServerShutdownLimit(t *testing.T) {
+	noLeaks(t)
+	server, address := started(t, nil, megabytes(t))
+	greedy := dial(t, address)
+	send(t, greedy, asked(1, 0))
+	expect(t, greedy, response(1, 7))
+	ctx, cancel := context.WithTimeout(context.Background(), 50*time.Millisecond)
+	defer cancel()
+	if err := server.Shutdown(ctx); err != context.DeadlineExceeded {
+		t.Fatal(err)
+	}
+	if err := server.Shutdown(context.Background()); err != nil {
+		t.Fatal(err)
 	}
 }
 

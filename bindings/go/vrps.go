@@ -1,0 +1,74 @@
+//go:build cgo && linux && (amd64 || arm64)
+
+package rtr
+
+import (
+	"fmt"
+	"net/netip"
+)
+
+// VRP is a validated ROA payload, as validators print it (RFC 6811 section 2).
+type VRP struct {
+	Prefix    netip.Prefix // bits after its length mean nothing
+	MaxLength uint8        // 0 stands for the length of the prefix, as in a ROA without one
+	ASN       uint32
+}
+
+// String is the VRP as "192.0.2.0/24-26 AS64496".
+func (v VRP) String() string {
+	return fmt.Sprintf("%v-%d AS%d", v.Prefix, v.MaxLength, v.ASN)
+}
+
+// NewDataOf makes data of VRPs, which are in any order. One that is there twice counts once, since
+// validators print one for each ROA.
+//
+// Errors: a Fault with UnitVersion for a version above 2; the first VRP that has no unit, with its
+// place among them, and a Fault: NoForm for a prefix that isn't valid, PrefixRule for the max
+// length.
+func NewDataOf(
+	vrps []VRP, version uint8, session uint16, serial uint32, timing Timing,
+) (Data, error) {
+	empty, err := NewData(version, session, serial, timing)
+	if err != nil {
+		return Data{}, err
+	}
+	var units []byte
+	seen := make(map[VRP]bool, len(vrps))
+	for i, vrp := range vrps {
+		plain := vrp.plain()
+		if seen[plain] {
+			continue
+		}
+		seen[plain] = true
+		unit := plain.unit(version)
+		if units, err = unit.AppendBinary(units); err != nil {
+			return Data{}, fmt.Errorf("VRP %d, %v: %w", i, vrp, err)
+		}
+	}
+	ordered, err := Order(append(units, empty.Bytes()...))
+	if err != nil {
+		return Data{}, err
+	}
+	return checkedData(ordered), nil
+}
+
+// plain is the VRP in the one form of all that mean the same.
+func (v VRP) plain() VRP {
+	v.Prefix = v.Prefix.Masked()
+	if v.MaxLength == 0 && v.Prefix.IsValid() {
+		v.MaxLength = uint8(v.Prefix.Bits())
+	}
+	return v
+}
+
+// unit is the unit of a version that announces the VRP.
+func (v VRP) unit(version uint8) Unit {
+	kind := IPv6Prefix
+	if v.Prefix.Addr().Is4() {
+		kind = IPv4Prefix
+	}
+	return Unit{
+		Kind: kind, Version: version, Announce: true,
+		Prefix: v.Prefix, MaxLength: v.MaxLength, ASN: v.ASN,
+	}
+}
