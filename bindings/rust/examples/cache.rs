@@ -136,9 +136,12 @@ fn serve(arguments: &Arguments) -> Result<(), Box<dyn Error>> {
 }
 
 fn main() -> ExitCode {
-    let Some(arguments) = arguments(std::env::args().skip(1)) else {
-        eprintln!("usage: cache FILE [--listen ADDRESS]...");
-        return ExitCode::from(2);
+    let arguments = match arguments(std::env::args().skip(1)) {
+        Some(arguments) => arguments,
+        None => {
+            eprintln!("usage: cache FILE [--listen ADDRESS]...");
+            return ExitCode::from(2);
+        }
     };
     match serve(&arguments) {
         Ok(()) => ExitCode::SUCCESS,

@@ -13,7 +13,8 @@ use rtr_wire::{change_json, change_line, Client, ClientOptions, Data, Event, Uni
 use std::io::{self, Write};
 use std::ops::ControlFlow;
 use std::process::ExitCode;
-use std::sync::OnceLock;
+use std::ptr;
+use std::sync::atomic::{AtomicPtr, Ordering};
 
 struct Arguments {
     address: String,
@@ -62,11 +63,11 @@ fn say(data: &Data) {
     eprintln!("session {session} serial {serial} version {version}: {count} payloads");
 }
 
-/// The client that a signal stops.
-static CLIENT: OnceLock<Client> = OnceLock::new();
+/// The client that a signal stops, once there is one. It is never freed, nor changed through this.
+static CLIENT: AtomicPtr<Client> = AtomicPtr::new(ptr::null_mut());
 
 mod signals {
-    use super::{Client, CLIENT};
+    use super::{Ordering, CLIENT};
 
     const INTERRUPT: i32 = 2;
     const TERMINATE: i32 = 15;
@@ -77,7 +78,10 @@ mod signals {
     }
 
     extern "C" fn end(_: i32) {
-        CLIENT.get().map(Client::stop);
+        // SAFETY: the pointer is null, or that of a client which is never freed.
+        if let Some(client) = unsafe { CLIENT.load(Ordering::Acquire).as_ref() } {
+            client.stop();
+        }
     }
 
     pub fn catch() {
@@ -106,17 +110,22 @@ fn tell(event: &Event<'_>, arguments: &Arguments) -> io::Result<bool> {
 }
 
 fn main() -> ExitCode {
-    let Some(arguments) = arguments(std::env::args().skip(1)) else {
-        eprintln!("usage: client HOST:PORT [--version 0|1|2] [--once] [--json]");
-        return ExitCode::from(2);
+    let arguments = match arguments(std::env::args().skip(1)) {
+        Some(arguments) => arguments,
+        None => {
+            eprintln!("usage: client HOST:PORT [--version 0|1|2] [--once] [--json]");
+            return ExitCode::from(2);
+        }
     };
     let options = ClientOptions {
         version: arguments.version,
         ..ClientOptions::default()
     };
     let mut status = ExitCode::SUCCESS;
-    let client = CLIENT.get_or_init(|| Client::new(arguments.address.as_str(), options));
+    let client = Client::new(arguments.address.as_str(), options);
+    let client: &Client = Box::leak(Box::new(client));
     if !arguments.once {
+        CLIENT.store(client as *const Client as *mut Client, Ordering::Release);
         signals::catch();
     }
     client.run(|event| {
@@ -124,7 +133,7 @@ fn main() -> ExitCode {
         if let Err(error) = &told {
             eprintln!("standard output: {error}");
         }
-        let failed = told.is_err() || arguments.once && told.is_ok_and(|failed| failed);
+        let failed = told.map_or(true, |failed| failed && arguments.once);
         if failed {
             status = ExitCode::FAILURE;
         }

@@ -91,14 +91,16 @@ impl<'f, 'c> Conversation<'f, 'c> {
 
     /// Follows the cache until the connection ends.
     pub(crate) fn run(mut self) -> Ended {
-        let Err(stops) = self.converse() else {
-            return Ended::Done;
+        let stops = match self.converse() {
+            Ok(()) => return Ended::Done,
+            Err(stops) => stops,
         };
         if let Some(version) = self.lower(&stops) {
             return Ended::Lower(version);
         }
-        let Stops::Failed(error) = stops else {
-            return Ended::Failed(ClientError::Closed);
+        let error = match stops {
+            Stops::Failed(error) => error,
+            Stops::Lower(_) => return Ended::Failed(ClientError::Closed),
         };
         if let Some(report) = error.report(self.version) {
             let deadline = after(Instant::now(), self.follower.options.report);
@@ -165,8 +167,9 @@ impl<'f, 'c> Conversation<'f, 'c> {
         loop {
             let base = self.base();
             let deadline = self.ask(base.as_ref())?;
-            let came = self.answer(base.is_some(), deadline).inspect_err(|stops| {
-                self.follower.resync |= base.is_some() && is_rejection(stops);
+            let came = self.answer(base.is_some(), deadline).map_err(|stops| {
+                self.follower.resync |= base.is_some() && is_rejection(&stops);
+                stops
             })?;
             match came.kind {
                 Kind::CacheResponse => return self.receive(came.session, base, deadline),
@@ -205,7 +208,8 @@ impl<'f, 'c> Conversation<'f, 'c> {
 
     fn send<B: AsRef<[u8]>>(&self, unit: &Unit<B>, deadline: Instant) -> io::Result<()> {
         let mut bytes = Vec::new();
-        unit.append(&mut bytes).map_err(io::Error::other)?;
+        unit.append(&mut bytes)
+            .map_err(|fault| io::Error::new(ErrorKind::Other, fault))?;
         write_all(self.stream, &bytes, |_| match Instant::now() < deadline {
             true if !self.follower.stop.is_set() => Ok(()),
             _ => Err(ErrorKind::TimedOut.into()),
@@ -287,7 +291,7 @@ impl<'f, 'c> Conversation<'f, 'c> {
         deadline: Instant,
     ) -> Result<(), Stops> {
         let is_other = |data: &Data| data.end().session != session;
-        if base.as_ref().is_some_and(is_other) {
+        if base.as_ref().map_or(false, is_other) {
             return Err(self.other_session());
         }
         let (read, end) = self.sequence(deadline)?;
@@ -295,7 +299,7 @@ impl<'f, 'c> Conversation<'f, 'c> {
             return Err(self.other_session());
         }
         let serial = base.as_ref().map(|data| data.end().serial);
-        if serial.is_some_and(|serial| is_before(end.serial, serial)) {
+        if serial.map_or(false, |serial| is_before(end.serial, serial)) {
             self.follower.resync = true;
             return Err(self.breach(Breach::SerialBack));
         }
@@ -357,10 +361,10 @@ impl<'f, 'c> Conversation<'f, 'c> {
             }
             self.check_version(&came)?;
             let end = self.follower.data.as_ref().map(Data::end);
-            if end.is_some_and(|end| end.session != came.session) {
+            if end.map_or(false, |end| end.session != came.session) {
                 return Err(self.other_session());
             }
-            if !end.is_some_and(|end| end.serial == came.serial) {
+            if end.map(|end| end.serial) != Some(came.serial) {
                 self.follower.wait(self.asked + self.follower.options.pause);
                 return Ok(());
             }
@@ -381,7 +385,7 @@ fn is_rejection(stops: &Stops) -> bool {
 
 /// Whether a serial number comes before another (RFC 1982).
 fn is_before(serial: u32, other: u32) -> bool {
-    compare_serials(serial, other).is_some_and(Ordering::is_lt)
+    compare_serials(serial, other) == Some(Ordering::Less)
 }
 
 /// What the changes that were read make of the data, or of none of this version and session.

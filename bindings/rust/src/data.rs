@@ -1,5 +1,6 @@
 //! Data and changes in canonical form.
 
+use crate::error::Error;
 use crate::fault::Fault;
 use crate::sys;
 use crate::unit::ErrorReport;
@@ -53,7 +54,7 @@ impl fmt::Display for DataError {
     }
 }
 
-impl core::error::Error for DataError {}
+impl Error for DataError {}
 
 /// Writes the delta that leads a router from the old data to the new (RFC 8210 section 8.2):
 /// changes in canonical form, with the end of data of the new data. It answers their length. An

@@ -1,5 +1,6 @@
 //! What may be wrong with a unit or a call.
 
+use crate::error::Error;
 use crate::sys;
 use crate::unit::{ErrorReport, ReportParts, MOST_IN_REPORT};
 use core::fmt;
@@ -183,7 +184,7 @@ impl fmt::Display for Fault {
     }
 }
 
-impl core::error::Error for Fault {}
+impl Error for Fault {}
 
 /// What was wrong, in an error report (RFC 8210 section 12). Codes above 8 are as in the Rust crate
 /// `rpki`.

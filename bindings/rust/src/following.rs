@@ -171,7 +171,7 @@ impl<'c> Follower<'c> {
 
     /// Drops data that have expired, and answers whether they had.
     pub(crate) fn drop_expired(&mut self) -> bool {
-        let expired = self.expires.is_some_and(|time| Instant::now() >= time);
+        let expired = self.expires.map_or(false, |time| Instant::now() >= time);
         if expired {
             self.drop_data();
         }

@@ -1,5 +1,6 @@
 //! The types of units.
 
+use crate::error::Error;
 use crate::sys;
 use core::fmt;
 
@@ -42,7 +43,7 @@ impl fmt::Display for UnknownKind {
     }
 }
 
-impl core::error::Error for UnknownKind {}
+impl Error for UnknownKind {}
 
 impl TryFrom<u8> for Kind {
     type Error = UnknownKind;

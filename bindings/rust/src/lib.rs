@@ -56,6 +56,12 @@
 #[cfg(any(feature = "std", test))]
 extern crate std;
 
+/// What `core` has since Rust 1.81: without `std` this crate needs that version.
+#[cfg(not(feature = "std"))]
+use core::{error, net};
+#[cfg(feature = "std")]
+use std::{error, net};
+
 #[cfg(feature = "std")]
 mod client;
 #[cfg(feature = "std")]

@@ -273,13 +273,18 @@ impl<R: Read> Reader<R> {
             match self.inner.read(&mut self.buffer[self.filled..size]) {
                 Ok(0) => return Ok(false),
                 Ok(count) if count <= size - self.filled => self.filled += count,
-                Ok(_) => return Err(io::Error::other("impossible count of bytes read").into()),
+                Ok(_) => return Err(impossible_count()),
                 Err(error) if error.kind() == io::ErrorKind::Interrupted => {}
                 Err(error) => return Err(error.into()),
             }
         }
         Ok(true)
     }
+}
+
+/// The error for a reader that says it gave more bytes than there was room for.
+fn impossible_count() -> Error {
+    io::Error::new(io::ErrorKind::Other, "impossible count of bytes read").into()
 }
 
 impl<R: Read> Iterator for Reader<R> {
@@ -335,8 +340,9 @@ impl<R: Read> Sequence<'_, R> {
         if self.ended {
             return Ok(None);
         }
-        self.read_unit().inspect_err(|error| {
+        self.read_unit().map_err(|error| {
             self.ended = error.fault().is_some();
+            error
         })?;
         let unit = self.reader.parse();
         self.ended = !matches!(&unit, Ok(unit) if unit.kind() != Kind::EndOfData);

@@ -1,6 +1,7 @@
 //! Whole sequences in memory.
 
 use crate::data::{Place, Side};
+use crate::error::Error;
 use crate::fault::Fault;
 use crate::sys;
 use core::fmt;
@@ -33,7 +34,7 @@ impl fmt::Display for Stopped {
     }
 }
 
-impl core::error::Error for Stopped {}
+impl Error for Stopped {}
 
 /// Normalises the sequence that the input begins with: reads payload units up to an end of data,
 /// and writes the form of what each means, and the end of data, to the front of the output. At most
@@ -103,7 +104,7 @@ impl fmt::Display for NotCompared {
     }
 }
 
-impl core::error::Error for NotCompared {}
+impl Error for NotCompared {}
 
 /// Whether both inputs begin with sequences that mean the same, of fewer than `limit` payload
 /// units each. It allocates nothing.

@@ -2,13 +2,13 @@
 
 use crate::owned_data::Data;
 use crate::serving::{serve, ServerError};
-use crate::snapshot::{Snapshot, UpdateError};
+use crate::snapshot::{locked, Snapshot, UpdateError};
 use crate::timed::{set_ticks, Stop, TICK};
 use std::boxed::Box;
 use std::io;
 use std::net::{SocketAddr, TcpListener, TcpStream, ToSocketAddrs};
 use std::string::ToString;
-use std::sync::{Arc, Condvar, Mutex, MutexGuard, PoisonError};
+use std::sync::{Arc, Condvar, Mutex, PoisonError};
 use std::thread::{self, JoinHandle};
 use std::time::Duration;
 use std::vec::Vec;
@@ -73,11 +73,6 @@ pub(crate) struct Shared {
     clients: Mutex<usize>,
     client_gone: Condvar,
     ended: Box<Ended>,
-}
-
-/// The mutex locked. What it holds is whole, even if a thread has panicked.
-fn locked<T>(mutex: &Mutex<T>) -> MutexGuard<'_, T> {
-    mutex.lock().unwrap_or_else(PoisonError::into_inner)
 }
 
 impl Shared {
@@ -240,8 +235,9 @@ fn accept(shared: &Arc<Shared>, listener: &TcpListener) {
 
 /// Serves a client in a thread, if there is room for one more. Else the stream is closed.
 fn start(shared: &Arc<Shared>, stream: TcpStream, from: SocketAddr) {
-    let Some(client) = Client::admit(shared) else {
-        return (shared.ended)(from, &ServerError::TooManyClients);
+    let client = match Client::admit(shared) {
+        Some(client) => client,
+        None => return (shared.ended)(from, &ServerError::TooManyClients),
     };
     let thread = thread::Builder::new().name("rtr client".to_string());
     // Without a thread the client is dropped, and its stream with it.

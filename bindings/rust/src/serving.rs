@@ -186,8 +186,9 @@ impl Connection<'_> {
     /// That a unit can't be read. It may owe a report.
     fn refuse(&self, refusal: &Refusal) -> End {
         let (unit, text) = (&refusal.unit, refusal.fault.to_string());
-        let Some(code) = refusal.fault.code(unit) else {
-            return End::from(ServerError::Refused { code: None, text });
+        let code = match refusal.fault.code(unit) {
+            Some(code) => code,
+            None => return ServerError::Refused { code: None, text }.into(),
         };
         let version = unit.first().copied().unwrap_or(NEWEST);
         let code = wrong_version(self.version, version).unwrap_or(code);
@@ -218,10 +219,13 @@ impl Connection<'_> {
 
     /// Answers a query (RFC 8210 section 8).
     fn answer(&mut self, version: u8, query: Query) -> Result<(), End> {
-        let Some(snapshot) = self.shared.current() else {
-            let code = ErrorCode::NO_DATA_AVAILABLE;
-            let report = self.report(code, self.units.bytes(), &code.to_string());
-            return self.send(&Unit::ErrorReport(report));
+        let snapshot = match self.shared.current() {
+            Some(snapshot) => snapshot,
+            None => {
+                let code = ErrorCode::NO_DATA_AVAILABLE;
+                let report = self.report(code, self.units.bytes(), &code.to_string());
+                return self.send(&Unit::ErrorReport(report));
+            }
         };
         self.check_session(snapshot.session())?;
         match query {
@@ -230,7 +234,7 @@ impl Connection<'_> {
                 let delta = (session == snapshot.session())
                     .then(|| snapshot.delta_for(version, serial))
                     .flatten();
-                match delta.as_ref().and_then(|made| made.get()) {
+                match delta {
                     Some(changes) => self.respond(version, &snapshot, changes.as_bytes()),
                     None => {
                         let reset: UnitRef = Unit::CacheReset(CacheReset { version });
@@ -257,7 +261,8 @@ impl Connection<'_> {
 
     fn send<B: AsRef<[u8]>>(&self, unit: &Unit<B>) -> Result<(), End> {
         let mut bytes = Vec::new();
-        unit.append(&mut bytes).map_err(io::Error::other)?;
+        unit.append(&mut bytes)
+            .map_err(|fault| io::Error::new(ErrorKind::Other, fault))?;
         Ok(self.write(&bytes, None)?)
     }
 
@@ -289,14 +294,15 @@ impl Connection<'_> {
         if self.shared.stop.is_set() {
             return Err(io::Error::from(ErrorKind::TimedOut).into());
         }
-        let (Some(version), Some(snapshot)) = (self.version, self.shared.current()) else {
-            return Ok(());
+        let (version, snapshot) = match (self.version, self.shared.current()) {
+            (Some(version), Some(snapshot)) => (version, snapshot),
+            _ => return Ok(()),
         };
         let now = Told::of(&snapshot);
         self.check_session(now.session)?;
         let waits = self
             .notified
-            .is_some_and(|time| time.elapsed() < self.shared.options.notify);
+            .map_or(false, |time| time.elapsed() < self.shared.options.notify);
         if self.told == Some(now) || waits {
             return Ok(());
         }

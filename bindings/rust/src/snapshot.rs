@@ -5,7 +5,7 @@ use crate::unit::compare_serials;
 use std::cmp::Ordering;
 use std::collections::BTreeMap;
 use std::fmt;
-use std::sync::{Arc, Mutex, OnceLock, PoisonError};
+use std::sync::{Arc, Mutex, MutexGuard, PoisonError};
 use std::vec::Vec;
 
 /// The versions of the protocol that there are.
@@ -37,8 +37,29 @@ impl fmt::Display for UpdateError {
 
 impl std::error::Error for UpdateError {}
 
-/// A delta that is made once, by the first who asks for it.
-type Made = Arc<OnceLock<Changes>>;
+/// The mutex locked. What it holds is whole, even if a thread has panicked.
+pub(crate) fn locked<T>(mutex: &Mutex<T>) -> MutexGuard<'_, T> {
+    mutex.lock().unwrap_or_else(PoisonError::into_inner)
+}
+
+/// A value that is made once, by the first who asks for it; others wait until it is there.
+#[derive(Debug)]
+struct MadeOnce<T>(Mutex<Option<Arc<T>>>);
+
+impl<T> Default for MadeOnce<T> {
+    fn default() -> Self {
+        MadeOnce(Mutex::new(None))
+    }
+}
+
+impl<T> MadeOnce<T> {
+    fn get_or_make(&self, make: impl FnOnce() -> T) -> Arc<T> {
+        Arc::clone(locked(&self.0).get_or_insert_with(|| Arc::new(make())))
+    }
+}
+
+/// What leads to the data of a snapshot.
+type Delta = Arc<MadeOnce<Changes>>;
 
 /// Data, and those of the same session that came before. What clients are sent of them is made
 /// once.
@@ -49,9 +70,9 @@ pub(crate) struct Snapshot {
     data: Arc<Data>,
     /// The newest come first.
     older: Vec<Arc<Data>>,
-    forms: [OnceLock<Data>; VERSIONS],
+    forms: [MadeOnce<Data>; VERSIONS],
     /// By the version, and the serial number that they begin at.
-    deltas: Mutex<BTreeMap<(u8, u32), Made>>,
+    deltas: Mutex<BTreeMap<(u8, u32), Delta>>,
 }
 
 impl Snapshot {
@@ -100,28 +121,27 @@ impl Snapshot {
     }
 
     /// The data for clients of a version that there is.
-    pub(crate) fn data_for(&self, version: u8) -> &Data {
+    pub(crate) fn data_for(&self, version: u8) -> Arc<Data> {
         if self.data.end().version == version {
-            return &self.data;
+            return Arc::clone(&self.data);
         }
-        self.forms[usize::from(version)].get_or_init(|| for_version(&self.data, version))
+        self.forms[usize::from(version)].get_or_make(|| for_version(&self.data, version))
     }
 
     /// What leads clients of a version from a serial number to these data, where that is known.
-    pub(crate) fn delta_for(&self, version: u8, serial: u32) -> Option<Made> {
+    pub(crate) fn delta_for(&self, version: u8, serial: u32) -> Option<Arc<Changes>> {
         let known = |data: &&Arc<Data>| data.end().serial == serial;
         let old = [&self.data].into_iter().chain(&self.older).find(known)?;
         let made = {
-            let mut deltas = self.deltas.lock().unwrap_or_else(PoisonError::into_inner);
+            let mut deltas = locked(&self.deltas);
             Arc::clone(deltas.entry((version, serial)).or_default())
         };
-        made.get_or_init(|| {
+        Some(made.get_or_make(|| {
             let new = self.data_for(version);
             let old = for_version(old, version);
-            old.delta_to(new)
+            old.delta_to(&new)
                 .expect("both are of one session and version")
-        });
-        Some(made)
+        }))
     }
 }
 

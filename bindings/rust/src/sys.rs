@@ -3,9 +3,9 @@
 use crate::data::{DataError, Place, Side};
 use crate::fault::{ErrorCode, Fault};
 use crate::kind::Kind;
+use crate::net::{Ipv4Addr, Ipv6Addr};
 use crate::sequence::{NotCompared, Progress, Stopped};
 use crate::unit::{self, ErrorReport, Providers, ReportParts, Timing, UnitRef};
-use core::net::{Ipv4Addr, Ipv6Addr};
 
 /// The result of a call that normalises.
 #[repr(C)]
@@ -532,7 +532,8 @@ impl Unit {
 #[cfg(test)]
 mod tests {
     use super::{write, Answer, Comparison, DataAnswer, Fault, Unit};
-    use core::mem::{offset_of, size_of};
+    use core::mem::size_of;
+    use core::ptr::addr_of;
     use std::string::ToString;
 
     /// What no unit of the crate can say.
@@ -574,66 +575,56 @@ mod tests {
         }
     }
 
+    /// How many bytes come before each of these fields in a type.
+    #[cfg(target_pointer_width = "64")]
+    macro_rules! offsets {
+        ($type:ty, $($field:ident),+) => {{
+            let value = <$type>::default();
+            let start = addr_of!(value) as usize;
+            [$(addr_of!(value.$field) as usize - start),+]
+        }};
+    }
+
     /// The layout that `crates/rtr_c` states, if a `usize` has eight bytes.
     #[test]
     #[cfg(target_pointer_width = "64")]
     fn layout() {
         assert_eq!(size_of::<Answer>(), 48);
-        let answer = [
-            offset_of!(Answer, units),
-            offset_of!(Answer, forms),
-            offset_of!(Answer, taken),
-            offset_of!(Answer, written),
-            offset_of!(Answer, wanted),
-            offset_of!(Answer, status),
-            offset_of!(Answer, detail),
-        ];
+        let answer = offsets!(Answer, units, forms, taken, written, wanted, status, detail);
         assert_eq!(answer, [0, 8, 16, 24, 32, 40, 41]);
         assert_eq!(size_of::<Comparison>(), 24);
-        let comparison = [
-            offset_of!(Comparison, offset),
-            offset_of!(Comparison, wanted),
-            offset_of!(Comparison, status),
-            offset_of!(Comparison, side),
-            offset_of!(Comparison, detail),
-            offset_of!(Comparison, same),
-        ];
+        let comparison = offsets!(Comparison, offset, wanted, status, side, detail, same);
         assert_eq!(comparison, [0, 8, 16, 17, 18, 19]);
         assert_eq!(size_of::<DataAnswer>(), 24);
-        let data_answer = [
-            offset_of!(DataAnswer, written),
-            offset_of!(DataAnswer, offset),
-            offset_of!(DataAnswer, status),
-            offset_of!(DataAnswer, side),
-            offset_of!(DataAnswer, detail),
-        ];
+        let data_answer = offsets!(DataAnswer, written, offset, status, side, detail);
         assert_eq!(data_answer, [0, 8, 16, 17, 18]);
         assert_eq!(size_of::<Unit>(), 120);
-        let unit = [
-            offset_of!(Unit, size),
-            offset_of!(Unit, wanted),
-            offset_of!(Unit, part_start),
-            offset_of!(Unit, part_length),
-            offset_of!(Unit, text_start),
-            offset_of!(Unit, text_length),
-            offset_of!(Unit, asn),
-            offset_of!(Unit, customer),
-            offset_of!(Unit, serial),
-            offset_of!(Unit, refresh),
-            offset_of!(Unit, retry),
-            offset_of!(Unit, expire),
-            offset_of!(Unit, session),
-            offset_of!(Unit, code),
-            offset_of!(Unit, kind),
-            offset_of!(Unit, version),
-            offset_of!(Unit, action),
-            offset_of!(Unit, family),
-            offset_of!(Unit, prefix_length),
-            offset_of!(Unit, max_length),
-            offset_of!(Unit, address),
-            offset_of!(Unit, key_identifier),
-            offset_of!(Unit, detail),
-        ];
+        let unit = offsets!(
+            Unit,
+            size,
+            wanted,
+            part_start,
+            part_length,
+            text_start,
+            text_length,
+            asn,
+            customer,
+            serial,
+            refresh,
+            retry,
+            expire,
+            session,
+            code,
+            kind,
+            version,
+            action,
+            family,
+            prefix_length,
+            max_length,
+            address,
+            key_identifier,
+            detail
+        );
         let expected = [
             0, 8, 16, 24, 32, 40, 48, 52, 56, 60, 64, 68, 72, 74, 76, 77, 78, 79, 80, 81, 82, 98,
             118,

@@ -2,9 +2,9 @@
 
 use crate::fault::{ErrorCode, Fault, PrefixRule};
 use crate::kind::Kind;
+use crate::net::{Ipv4Addr, Ipv6Addr};
 use crate::sys;
 use core::cmp::Ordering;
-use core::net::{Ipv4Addr, Ipv6Addr};
 #[cfg(feature = "std")]
 use std::vec::Vec;
 

@@ -1,5 +1,6 @@
 //! No unit allocates memory, nor do the calls over slices of data and changes.
 #![cfg(feature = "std")]
+#![deny(unsafe_op_in_unsafe_fn)]
 
 mod common;
 
@@ -18,7 +19,7 @@ thread_local! {
 // SAFETY: all is done by the system's allocator.
 unsafe impl GlobalAlloc for Counted {
     unsafe fn alloc(&self, layout: Layout) -> *mut u8 {
-        COUNT.set(COUNT.get() + 1);
+        COUNT.with(|count| count.set(count.get() + 1));
         // SAFETY: as the caller promises.
         unsafe { System.alloc(layout) }
     }
@@ -42,7 +43,7 @@ fn allocations() {
         writer.write(&unit).expect("it has a form");
     }
     let (nothing, data) = (common::END, [common::IPV4, common::END].concat());
-    let before = COUNT.get();
+    let before = COUNT.with(Cell::get);
     while let Some(unit) = reader.next_unit().expect("it is read") {
         writer.write(&unit).expect("it has a form");
     }
@@ -55,6 +56,6 @@ fn allocations() {
         assert_eq!(apply_into(nothing, &data, &mut output), Ok(length));
         assert_eq!(delta_into(nothing, &data, &mut output), Ok(length));
     }
-    assert_eq!(COUNT.get() - before, 0);
+    assert_eq!(COUNT.with(Cell::get) - before, 0);
     assert_eq!(reader.offset(), session.len() as u64);
 }

@@ -41,9 +41,7 @@ fn bytes_of_cases() -> Option<Vec<u8>> {
 
 /// The cases, or none where they can't be made.
 fn cases() -> Vec<Case> {
-    let Some(bytes) = bytes_of_cases() else {
-        return Vec::new();
-    };
+    let bytes = bytes_of_cases().unwrap_or_default();
     let mut rest = &bytes[..];
     let mut all = Vec::new();
     while !rest.is_empty() {

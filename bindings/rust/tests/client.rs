@@ -540,7 +540,7 @@ fn fetch_refused(cache: &Played, bytes: &[u8]) -> (String, Option<ErrorCode>) {
         let mut peer = cache.asked(&reset_query(2));
         peer.try_send(bytes);
         let report = peer.report();
-        assert!(!report.is_some_and(|report| report.1 != bytes[0]));
+        assert!(report.map_or(true, |report| report.1 == bytes[0]));
         drop(peer);
         let error = fetched.join().unwrap().unwrap_err();
         (error.to_string(), report.map(|report| report.0))

@@ -1,6 +1,7 @@
 //! What hostile peers cost a client and a server in memory. This is the only test of its program,
 //! so that no other allocates.
 #![cfg(feature = "std")]
+#![deny(unsafe_op_in_unsafe_fn)]
 
 mod peers;
 

@@ -4,7 +4,7 @@
 use rtr_wire::{change_line, order, Client, ClientOptions, Data, DataError, Event};
 use rtr_wire::{Error, Fault, Reader, ResetQuery, Unit, UnitRef, Writer};
 use rtr_wire::{Server, ServerOptions};
-use std::io::{BufReader, Read, Write};
+use std::io::{BufReader, ErrorKind, Read, Write};
 use std::ops::ControlFlow;
 
 /// Asks a cache for all of its data, and answers its prefixes and its serial number. If a unit is
@@ -25,9 +25,10 @@ fn fetch(input: impl Read, output: impl Write) -> Result<(Vec<String>, u32), Err
 /// Reads a cache response, and the sequence that follows it.
 fn read(reader: &mut Reader<impl Read>) -> Result<(Vec<String>, u32), Error> {
     let (mut prefixes, mut serial) = (Vec::new(), 0);
-    let Some(Unit::CacheResponse(_)) = reader.next_unit()? else {
-        return Err(std::io::Error::other("the cache has no data").into());
-    };
+    match reader.next_unit()? {
+        Some(Unit::CacheResponse(_)) => {}
+        _ => return Err(Error::Io(ErrorKind::InvalidData.into())),
+    }
     let mut sequence = reader.sequence(1 << 24);
     while let Some(unit) = sequence.next_unit()? {
         match unit {

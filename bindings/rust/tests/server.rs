@@ -7,6 +7,7 @@ mod peers;
 use peers::*;
 use rtr_wire::*;
 use std::net::SocketAddr;
+use std::sync::Mutex;
 use std::time::Instant;
 
 /// A server on a port of the loopback interface, whose threads are gone after it.
@@ -457,8 +458,9 @@ fn reasons() {
         connections: 1,
         ..options()
     };
+    let sender = Mutex::new(sender);
     let server = Server::telling(options, move |_, error| {
-        sender.send(error.to_string()).unwrap();
+        sender.lock().unwrap().send(error.to_string()).unwrap();
     });
     let address = server.listen("127.0.0.1:0").unwrap();
     server.update(data(1)).unwrap();

@@ -257,8 +257,9 @@ fn timings_that_are_not_said() {
 
 #[test]
 fn providers() {
-    let Ok((Unit::Aspa(aspa), _)) = Unit::first(ASPA) else {
-        panic!();
+    let aspa = match Unit::first(ASPA) {
+        Ok((Unit::Aspa(aspa), _)) => aspa,
+        other => panic!("{other:?}"),
     };
     assert!(aspa.providers.iter().eq([65001, 65551]));
     assert_eq!(aspa.providers.iter().len(), 2);
@@ -285,10 +286,12 @@ fn kinds() {
     ];
     for number in 0..=255_u8 {
         let text = texts.get(usize::from(number)).copied().unwrap_or("");
-        let Ok(kind) = Kind::try_from(number) else {
-            assert_eq!(text, "");
-            assert_eq!(Kind::try_from(number), Err(UnknownKind(number)));
-            continue;
+        let kind = match Kind::try_from(number) {
+            Ok(kind) => kind,
+            Err(unknown) => {
+                assert_eq!((text, unknown), ("", UnknownKind(number)));
+                continue;
+            }
         };
         assert_eq!(kind.to_string(), text);
         assert_eq!(u8::from(kind), number);

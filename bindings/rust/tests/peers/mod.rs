@@ -180,9 +180,7 @@ pub fn holds(mut what: impl FnMut() -> bool) -> bool {
 
 /// How many threads of this process have a name that begins with this.
 pub fn threads(name: &str) -> usize {
-    let Ok(tasks) = std::fs::read_dir("/proc/self/task") else {
-        return 0;
-    };
+    let tasks = std::fs::read_dir("/proc/self/task").into_iter().flatten();
     let names =
         tasks.filter_map(|task| std::fs::read_to_string(task.ok()?.path().join("comm")).ok());
     names.filter(|found| found.starts_with(name)).count()
