@@ -82,6 +82,16 @@ static inline void add_aspa(struct text *to, uint8_t flags, uint32_t customer, u
         add_number(to, provider);
 }
 
+/* A router key of AS 7 with so many bytes of key info. */
+static inline void add_key(struct text *to, uint8_t version, uint8_t flags, uint32_t info)
+{
+    static const uint8_t zero[1 << 16];
+    add_header(to, version, 9, (uint16_t)(flags << 8), 32 + info);
+    add(to, zero, 20);
+    add_number(to, 7);
+    add(to, zero, info);
+}
+
 static inline void add_serial(struct text *to, uint8_t version, uint8_t type, uint16_t session,
                               uint32_t serial)
 {
@@ -143,6 +153,11 @@ static inline enum rtr_client_event event(void)
         CHECK(rtr_delta(c.data, c.data_length, c.data, c.data_length, output, sizeof output,
                         &answer) == RTR_OK);
     CHECK((one == RTR_CLIENT_DROPPED) <= !c.data);
+    CHECK(c.data || (c.data_length == 0 && c.payloads == 0));
+    CHECK((c.changes == NULL) == (c.changes_length == 0));
+    if (one == RTR_CLIENT_WAIT || one == RTR_CLIENT_CONNECT)
+        CHECK(!c.changes && c.status == RTR_OK); /* those of an event before are no longer there */
+    CHECK(strlen(c.text) < sizeof c.text);
     return one;
 }
 

@@ -26,7 +26,8 @@ struct bytes {
 /* Memory for so many bytes; false where there is none. */
 static bool room(struct bytes *memory, size_t size)
 {
-    *memory = (struct bytes){malloc(size ? size : 1), size};
+    memory->at = malloc(size ? size : 1);
+    memory->length = memory->at ? size : 0;
     return memory->at != NULL;
 }
 

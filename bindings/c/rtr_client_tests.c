@@ -312,32 +312,40 @@ static void test_versions(void)
 }
 
 /* An answer in a lower version to a serial query: all data are asked for in that version, and what
- * it lacks is withdrawn. */
+ * it lacks is withdrawn: ASPAs from version 2 to 1, router keys from 1 to 0. */
 static void test_lower_answer(void)
 {
-    struct text text = {.length = 0};
-    begins(2);
-    add_response(&text, 2, SESSION);
-    add_prefix(&text, 2, 1, 1);
-    add_aspa(&text, 1, 7, 8);
-    add_end(&text, 2, SESSION, 5, usual);
-    comes(text.bytes, text.length);
-    EXPECT(DATA);
-    rtr_client_lost(&c, NULL);
-    EXPECT(CLOSE);
-    EXPECT(FAILED);
-    connects_after(1000);
-    sends_serial_query(2, 5);
-    comes(whole(1, 5, 1, 1)->bytes, whole(1, 5, 1, 1)->length);
-    EXPECT(CLOSE);
-    EXPECT(CONNECT);
-    rtr_client_connected(&c);
-    EXPECT(WAIT);
-    sends_reset_query(1);
-    comes(whole(1, 5, 1, 1)->bytes, whole(1, 5, 1, 1)->length);
-    EXPECT(DATA);
-    CHECK(c.changes_length == 12 + 24 && c.changes[1] == 11 && c.changes[2] == 0);
-    ends();
+    for (uint8_t lower = 0; lower < 2; lower++) {
+        static struct text text, gone;
+        uint8_t version = lower + 1;
+        text.length = gone.length = 0;
+        begins(version);
+        add_response(&text, version, SESSION);
+        add_prefix(&text, version, 1, 1);
+        if (version == 2)
+            add_aspa(&text, 1, 7, 8), add_aspa(&gone, 0, 7, 8);
+        else
+            add_key(&text, version, 1, 5), add_key(&gone, version, 0, 5);
+        add_end(&text, version, SESSION, 5, usual);
+        comes(text.bytes, text.length);
+        EXPECT(DATA);
+        rtr_client_lost(&c, NULL);
+        EXPECT(CLOSE);
+        EXPECT(FAILED);
+        connects_after(1000);
+        sends_serial_query(version, 5);
+        comes(whole(lower, 5, 1, 1)->bytes, whole(lower, 5, 1, 1)->length);
+        EXPECT(CLOSE);
+        EXPECT(CONNECT);
+        rtr_client_connected(&c);
+        EXPECT(WAIT);
+        sends_reset_query(lower);
+        comes(whole(lower, 5, 1, 1)->bytes, whole(lower, 5, 1, 1)->length);
+        EXPECT(DATA);
+        CHECK(c.changes_length == gone.length + 24);
+        CHECK(memcmp(c.changes, gone.bytes, gone.length) == 0);
+        ends();
+    }
 }
 
 /* A payload that the version doesn't have, an answer of a version that wasn't asked for, and one of
@@ -438,6 +446,78 @@ static void test_flood(void)
     EXPECT(FAILED);
     CHECK(c.failure == RTR_CLIENT_TOO_LONG && most_held <= 4 * c.most_bytes);
     ends();
+}
+
+/* An answer of as many bytes as are allowed, with its end of data, and one of a byte more. */
+static void test_limit(void)
+{
+    const struct text *text = whole(1, 5, 1, 3);
+    for (size_t over = 0; over < 2; over++) {
+        begins(1);
+        c.most_bytes = text->length - 8 - over;
+        comes(text->bytes, text->length);
+        if (over == 0) {
+            EXPECT(DATA);
+            CHECK(c.payloads == 3);
+        } else {
+            EXPECT(CLOSE);
+            owes(NONE, 0);
+            EXPECT(FAILED);
+            CHECK(c.failure == RTR_CLIENT_TOO_LONG && !c.data);
+        }
+        ends();
+    }
+}
+
+/* The second unit is as long as the room that was got for the first one left over, or differs by a
+ * byte. */
+static void test_room(void)
+{
+    for (uint32_t first = 0; first < 3; first++) {
+        static struct text text;
+        text.length = 0;
+        begins(1);
+        add_response(&text, 1, SESSION);
+        add_key(&text, 1, 1, 20 + first);
+        add_key(&text, 1, 1, 21);
+        add_end(&text, 1, SESSION, 5, usual);
+        comes(text.bytes, text.length);
+        if (first == 1) { /* then they are the same key */
+            EXPECT(CLOSE);
+            owes(7, 53);
+            EXPECT(FAILED);
+        } else {
+            EXPECT(DATA);
+            CHECK(c.payloads == 2 && c.data_length == 105 + first + 24);
+        }
+        ends();
+    }
+}
+
+/* Of a report's text the first 200 bytes are told, for which there is room. */
+static void test_long_report(void)
+{
+    static const char front[] = "the cache reports code 1: ";
+    for (uint32_t length = 199; length < 1000; length += length < 202 ? 1 : 199) {
+        static struct text report, text;
+        report.length = text.length = 0;
+        while (text.length < length)
+            add(&text, "a", 1);
+        add_header(&report, 1, 10, 1, 16 + length);
+        add_number(&report, 0);
+        add_number(&report, length);
+        add(&report, text.bytes, length);
+        begins(1);
+        comes(report.bytes, report.length);
+        EXPECT(CLOSE);
+        owes(NONE, 0);
+        EXPECT(FAILED);
+        CHECK(c.failure == RTR_CLIENT_REPORTED && c.code == 1);
+        CHECK(strlen(c.text) == sizeof front - 1 + (length < 200 ? length : 200));
+        CHECK(strncmp(c.text, front, sizeof front - 1) == 0);
+        CHECK(memcmp(c.text + sizeof front - 1, text.bytes, strlen(c.text) + 1 - sizeof front) == 0);
+        ends();
+    }
 }
 
 /* Whether a unit of this type may have this length (docs/PROTOCOL.md). */
@@ -594,6 +674,9 @@ int main(int count, char **words)
     test_slow();
     test_queries_not_taken();
     test_flood();
+    test_limit();
+    test_room();
+    test_long_report();
     test_lengths();
     test_memory();
     test_random(count > 1 ? atoi(words[1]) : 3000);
