@@ -427,6 +427,10 @@ def large_cases(rng):
         yield of_two("apply", sides[0], bytes_of, written([(ANNOUNCE, one) for one in new], end))
         mixed = rng.sample(changes, len(changes))
         yield of_one(b"".join(units_of(rng, 2, mixed)) + end_form(end), written(changes, end))
+    # The shortest units, so that an index needs most places for its input's length.
+    gone = [(WITHDRAW, (ASPA, customer, ())) for customer in range(3000)]
+    mixed = [form(2, *change) for change in rng.sample(gone, len(gone))]
+    yield of_one(b"".join(mixed) + end_form(end), written(gone, end), 0)
 
 
 def main():

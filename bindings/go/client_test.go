@@ -11,6 +11,7 @@ import (
 	"net"
 	"strings"
 	"sync"
+	"sync/atomic"
 	"testing"
 	"time"
 )
@@ -92,6 +93,57 @@ func TestClientWithoutLimits(t *testing.T) {
 	own := ClientLimits{time.Second, time.Minute, 1, 2, 3 * time.Second, time.Hour}
 	if NewClient("").Limits != (ClientLimits{}).orUsual() || own.orUsual() != own {
 		t.Fatal(own.orUsual())
+	}
+}
+
+// An answer of as many bytes, or units, as are allowed is taken, and one of one more isn't.
+func TestClientLimitsMet(t *testing.T) {
+	noLeaks(t)
+	data := parsed(t, join(ipv4, announced6, ending(1, 7, 9)))
+	_, address := started(t, nil, data)
+	ctx, cancel := limited(t)
+	defer cancel()
+	for _, one := range []struct {
+		bytes  int
+		units  uint64
+		reason error
+	}{
+		{len(data.Bytes()), 3, nil},
+		{len(data.Bytes()) - 1, 3, NoRoom},
+		{len(data.Bytes()), 2, TooMany},
+	} {
+		client := quick(address)
+		client.Version, client.Limits.Bytes, client.Limits.Units = 1, one.bytes, one.units
+		got, err := client.Fetch(ctx)
+		if !errors.Is(err, one.reason) || (err == nil) != got.Equal(data) {
+			t.Fatal(one, got, err)
+		}
+	}
+}
+
+// A client falls from version 1 to 0, and withdraws the router key.
+func TestClientFallsToVersion0(t *testing.T) {
+	noLeaks(t)
+	var lower atomic.Bool
+	address := fakeCache(t, func(connection *net.TCPConn) {
+		reader := NewReader(connection)
+		for unit, err := reader.Next(); err == nil; unit, err = reader.Next() {
+			if version := unit.Version; version == 1 && !lower.Load() {
+				connection.Write(join(response(1, 7), ipv4, key, ending(1, 7, 9)))
+				lower.Store(true)
+			} else if version == 1 {
+				connection.Write(reportBytes(0, 4, nil, "no"))
+			} else {
+				connection.Write(join(response(0, 7), changed(ipv4, 0, 0), ending(0, 7, 9)))
+			}
+		}
+	})
+	client := quick(address)
+	client.Version, client.Refresh = 1, time.Millisecond
+	updates, _ := follow(t, client, func(update Update) bool { return update.Data.Version() == 0 })
+	changes := updates[len(updates)-1].Changes()
+	if !changes.Scan() || changes.Unit().Kind != RouterKey || changes.Unit().Announce || changes.Scan() {
+		t.Fatal(updates)
 	}
 }
 

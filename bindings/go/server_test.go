@@ -388,7 +388,9 @@ func TestServerShutdown(t *testing.T) {
 // Shutdown waits for a client that reads nothing until its context ends.
 func TestServerShutdownLimit(t *testing.T) {
 	noLeaks(t)
-	server, address := started(t, nil, megabytes(t))
+	server, address := started(t, func(limits *ServerLimits) {
+		limits.Write, limits.Response = time.Hour, time.Hour
+	}, megabytes(t))
 	greedy := dial(t, address)
 	send(t, greedy, asked(1, 0))
 	expect(t, greedy, response(1, 7))

@@ -1,10 +1,9 @@
 //! The cases that `bindings/cases.py` writes: read from the file that `RTR_CASES` names, or else
 //! made by python3. Where there is no python3, nothing is tested here.
 
-use rtr_wire::{
-    normalise, normalise_for, same_meaning, Fault, PrefixRule, Progress, Side, Stopped, Units,
-};
-use std::process::Command;
+mod computed;
+
+use rtr_wire::{normalise, normalise_for, same_meaning, Fault, Progress, Side, Stopped, Units};
 
 /// One case.
 struct Case {
@@ -18,30 +17,10 @@ struct Case {
     form: Vec<u8>,
 }
 
-/// The bytes of the cases, or none if there is no python3 to make them.
-fn bytes_of_cases() -> Option<Vec<u8>> {
-    if let Ok(path) = std::env::var("RTR_CASES") {
-        return Some(std::fs::read(path).expect("the file of cases is read"));
-    }
-    let script = concat!(env!("CARGO_MANIFEST_DIR"), "/../cases.py");
-    let mut command = Command::new("python3");
-    match command.args([script, "--inputs", "300"]).output() {
-        Ok(output) => {
-            let said = String::from_utf8_lossy(&output.stderr);
-            assert!(output.status.success(), "{said}");
-            Some(output.stdout)
-        }
-        Err(error) if error.kind() == std::io::ErrorKind::NotFound => {
-            eprintln!("SKIPPED: there is no python3 to make cases, and RTR_CASES names no file");
-            None
-        }
-        Err(error) => panic!("{error}"),
-    }
-}
-
 /// The cases, or none where they can't be made.
 fn cases() -> Vec<Case> {
-    let bytes = bytes_of_cases().unwrap_or_default();
+    let bytes = computed::cases("RTR_CASES", "cases.py", &["--inputs", "300"]);
+    let bytes = bytes.unwrap_or_default();
     let mut rest = &bytes[..];
     let mut all = Vec::new();
     while !rest.is_empty() {
@@ -69,14 +48,7 @@ fn cases() -> Vec<Case> {
 
 /// The status and the detail of a fault, as `rtr.h` numbers them.
 fn numbers(fault: Fault) -> (u8, u8) {
-    let detail = match fault {
-        Fault::UnitType(number) | Fault::UnitVersion(number) => number,
-        Fault::Prefix(PrefixRule::LengthOver) => 1,
-        Fault::Prefix(PrefixRule::MaxLengthOver) => 2,
-        Fault::Prefix(PrefixRule::MaxLengthUnder) => 3,
-        _ => 0,
-    };
-    (fault.status(), detail)
+    (fault.status(), computed::detail(fault))
 }
 
 impl Case {

@@ -169,10 +169,6 @@ fn told_last(log: &Mutex<Log>, wanted: &Told) -> bool {
     holds(|| log.lock().unwrap().told.last() == Some(wanted))
 }
 
-fn response(version: u8, session: u16) -> Vec<u8> {
-    bytes_of(&Unit::CacheResponse(CacheResponse { version, session }))
-}
-
 /// A cache response, and these bytes after it.
 fn answer(version: u8, sequence: &[u8]) -> Vec<u8> {
     [&response(version, SESSION), sequence].concat()
@@ -715,6 +711,42 @@ fn hostile_caches() {
     let plays = Box::new(|mut peer: Peer| peer.send(&all(2, 1)));
     let (error, _) = fetch_played(plays, options);
     assert!(matches!(error, ClientError::TooManyUnits));
+}
+
+/// An answer of as many bytes, or units, as are allowed is taken, and one of one more isn't.
+#[test]
+fn limits() {
+    let _alone = alone();
+    let (bytes, units) = (data(1).as_bytes().len(), data(1).len() as u64 + 1);
+    let rows = [
+        (bytes, units, Ok(data(1))),
+        (
+            bytes - 1,
+            units,
+            Err("the answer has too many bytes".to_string()),
+        ),
+        (
+            bytes,
+            units - 1,
+            Err("the answer has too many units".to_string()),
+        ),
+    ];
+    for (bytes, units, wanted) in rows {
+        let options = ClientOptions {
+            bytes,
+            units,
+            ..options()
+        };
+        let cache = Played::new();
+        let client = Client::new(cache.address().to_string(), options);
+        std::thread::scope(|scope| {
+            let fetched = scope.spawn(|| client.fetch());
+            let mut peer = cache.asked(&reset_query(2));
+            peer.send(&all(2, 1));
+            let fetched = fetched.join().unwrap();
+            assert_eq!(fetched.map_err(|error| error.to_string()), wanted);
+        });
+    }
 }
 
 /// Why a client gets nothing of a cache, and how long it takes until then.

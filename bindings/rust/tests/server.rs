@@ -6,6 +6,7 @@ mod peers;
 
 use peers::*;
 use rtr_wire::*;
+use std::io::Read;
 use std::net::SocketAddr;
 use std::sync::Mutex;
 use std::time::Instant;
@@ -362,6 +363,37 @@ fn clients_that_do_not_read() {
         assert_eq!(cache.server.update(data(serial)), Ok(true));
     }
     assert!(holds(|| cache.server.clients() == 0));
+}
+
+/// A client that reads slowly gets each byte of an answer that no buffer of a system holds.
+#[test]
+fn a_slow_reader() {
+    let _alone = alone();
+    let cache = Cache::new(ServerOptions {
+        write: PATIENCE,
+        response: PATIENCE,
+        ..options()
+    });
+    let mut bytes = Vec::new();
+    for number in 0..1_000_000_u32 {
+        bytes.extend([2, 4, 0, 0, 0, 0, 0, 20, 1, 32, 32, 0]);
+        bytes.extend(number.to_be_bytes());
+        bytes.extend([0, 1, 0, 15]);
+    }
+    bytes.extend(Data::new(2, SESSION, 1, None).unwrap().into_bytes());
+    let wanted = [response(2, SESSION), bytes.clone()].concat();
+    assert_eq!(cache.server.update(Data::parse(&bytes).unwrap()), Ok(true));
+    let mut client = cache.client();
+    client.send(&reset_query(2));
+    let mut came = vec![0; wanted.len()];
+    for (number, piece) in came.chunks_mut(1 << 20).enumerate() {
+        // While this one waits so do the server's writes, some of which have then written a part.
+        if number < 8 {
+            std::thread::sleep(milliseconds(250));
+        }
+        client.stream.read_exact(piece).unwrap();
+    }
+    assert!(came == wanted, "other bytes came");
 }
 
 /// As many clients as are allowed are served, and others when one has gone.

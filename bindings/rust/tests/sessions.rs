@@ -2,8 +2,9 @@
 //! or else made by python3. Where there is no python3, nothing is tested here.
 #![cfg(feature = "std")]
 
+mod computed;
+
 use rtr_wire::*;
-use std::process::Command;
 
 /// What was computed of one unit.
 struct Answer {
@@ -43,18 +44,9 @@ impl Bytes {
 
 /// Each session, with the answer for each of its units.
 fn sessions() -> Vec<(Vec<u8>, Vec<Answer>)> {
-    let bytes = match std::env::var("RTR_SESSIONS") {
-        Ok(path) => std::fs::read(path).expect("the file of sessions is read"),
-        Err(_) => {
-            let script = concat!(env!("CARGO_MANIFEST_DIR"), "/../sessions.py");
-            match Command::new("python3").args([script, "cases"]).output() {
-                Ok(output) => output.stdout,
-                Err(error) => {
-                    eprintln!("SKIPPED: RTR_SESSIONS names no file, and python3: {error}");
-                    return Vec::new();
-                }
-            }
-        }
+    let bytes = match computed::cases("RTR_SESSIONS", "sessions.py", &["cases"]) {
+        Some(bytes) => bytes,
+        None => return Vec::new(),
     };
     let mut bytes = Bytes(bytes, 0);
     let mut sessions = Vec::new();
@@ -66,17 +58,6 @@ fn sessions() -> Vec<(Vec<u8>, Vec<Answer>)> {
     }
     assert!(!sessions.is_empty());
     sessions
-}
-
-/// The detail of a fault, as `rtr.h` has it.
-fn detail(fault: Fault) -> u64 {
-    match fault {
-        Fault::UnitType(number) | Fault::UnitVersion(number) => number.into(),
-        Fault::Prefix(PrefixRule::LengthOver) => 1,
-        Fault::Prefix(PrefixRule::MaxLengthOver) => 2,
-        Fault::Prefix(PrefixRule::MaxLengthUnder) => 3,
-        _ => 0,
-    }
 }
 
 /// The fields of a unit, by their places in NUMBERS. All others are 0.
@@ -172,7 +153,7 @@ impl Answer {
     }
 
     fn check_fault(&self, fault: Fault) {
-        let numbers = (u64::from(fault.status()), detail(fault));
+        let numbers = (fault.status().into(), computed::detail(fault).into());
         assert_eq!(numbers, (self.numbers[0], self.numbers[21]));
     }
 }

@@ -77,6 +77,11 @@ pub fn reset_query(version: u8) -> Vec<u8> {
     vec![version, 2, 0, 0, 0, 0, 0, 8]
 }
 
+/// A cache response.
+pub fn response(version: u8, session: u16) -> Vec<u8> {
+    bytes_of(&Unit::CacheResponse(CacheResponse { version, session }))
+}
+
 pub fn serial_query(version: u8, session: u16, serial: u32) -> Vec<u8> {
     bytes_of(&Unit::SerialQuery(SerialQuery {
         version,
