@@ -4,9 +4,9 @@
  * Copyright (c) 2018, NLnet Labs
  * BSD 3-Clause License: see the file LICENSE at the top of the repository.
  *
- * The functions are proved: their contracts are in crates/rtr_c. docs/PROTOCOL.md says in prose
- * what is accepted, in which order faults are checked, and what the written form is. This header
- * is not proved; `.ci/bindings` checks its layout and runs its examples. All lengths are in bytes.
+ * The functions are proved to meet their contracts. docs/PROTOCOL.md says in prose what is
+ * accepted, in which order faults are checked, and what the written form is. This header is not
+ * proved: tests check its layout and run its examples. All lengths are in bytes.
  *
  * Preconditions of every call:
  *   - a slice is passed as a pointer and a length: that many bytes can be read there, or written if
@@ -62,7 +62,7 @@ enum rtr_status {
     RTR_NOT_CANONICAL = 12,  /* a unit or an end of data that may not stand there in data or changes
                                 in canonical form */
     RTR_OTHER_SESSION = 13,  /* the second input is of another session than the first */
-    RTR_DUPLICATE = 14,      /* a payload is announced that is there already */
+    RTR_DUPLICATE = 14,      /* a payload other than an ASPA is announced that is there already */
     RTR_UNKNOWN = 15,        /* a payload is withdrawn that isn't there */
     RTR_UNDECIDED = 16,      /* rtr_order: an ASPA is announced and then withdrawn, so that what the
                                 changes come to depends on the data */
@@ -300,9 +300,20 @@ static inline bool rtr_provider(const struct rtr_unit *unit, const uint8_t *inpu
 
 /* Whether a report is owed to the peer for this status of rtr_next or rtr_unit_size, or for that of
  * a sequence, where the input begins with the unit that it is about. The error code of the report
- * (RFC 8210 section 12) is then in `code`, and else 0. One is owed for RTR_SHORT to RTR_PREFIX, for
- * RTR_DUPLICATE and for RTR_UNKNOWN, and for no other status, nor for any unit that is itself a
- * report (RFC 8210 section 5.11). */
+ * (RFC 8210 section 12) is then in `code`, and else 0:
+ *
+ *   RTR_SHORT            0, corrupt data
+ *   RTR_UNIT_TYPE        5, unsupported PDU type
+ *   RTR_UNIT_VERSION     4, unsupported protocol version
+ *   RTR_TOO_LONG         0, corrupt data
+ *   RTR_UNIT_LENGTH      0, corrupt data
+ *   RTR_EMPTY_PROVIDERS  9, ASPA provider list error: this code is the Rust crate rpki's, and RFC
+ *                        8210 doesn't have it
+ *   RTR_PREFIX           0, corrupt data
+ *   RTR_DUPLICATE        7, duplicate announcement received
+ *   RTR_UNKNOWN          6, withdrawal of unknown record
+ *
+ * For no other status is one owed, nor for any unit that is itself a report (section 5.11). */
 static inline bool rtr_error_code(uint8_t status, const uint8_t *input, size_t input_length,
                                   uint16_t *code)
 {
@@ -400,7 +411,8 @@ static inline uint8_t rtr_delta(const uint8_t *old_data, size_t old_length,
 
 /* Writes what the changes make of the data: data in canonical form, with the end of data of the
  * changes. All changes are made, or none. An ASPA that is announced takes the place of the one of
- * its customer. An output of data_length + changes_length bytes always suffices.
+ * its customer, and so is never RTR_DUPLICATE. An output of data_length + changes_length bytes
+ * always suffices.
  *
  * RTR_OK; or, in this order,
  *   RTR_SHORT to RTR_PREFIX, RTR_NOT_CANONICAL   the first fault of the data (side 1), or else of
@@ -438,7 +450,7 @@ static inline uint8_t rtr_apply(const uint8_t *data, size_t data_length,
  *                                     last withdraws it (side 1, the last)
  *   RTR_NO_ROOM                       the output is shorter than what is to be written
  * Of the units that RTR_DUPLICATE, RTR_UNKNOWN and RTR_UNDECIDED refuse it is the first in the
- * order of payloads. */
+ * order of payloads. An ASPA is never RTR_DUPLICATE: of two announcements the later one counts. */
 static inline uint8_t rtr_order(const uint8_t *input, size_t input_length,
                                 size_t *index, size_t index_length,
                                 uint8_t *output, size_t output_length,

@@ -23,10 +23,11 @@
  *   RTR_CLIENT_FAILED   `failure` and `text` say why there is no connection; another one is asked
  *                       for when it is time
  *
- * Each call returns at once. A client is one struct, which the program has wherever it likes;
- * several clients may run at once, each called by one thread at a time. It allocates memory for the
- * data, for the changes, and for an answer of at most `most_bytes`, but for no length that a header
- * names. Where there is no memory the connection ends, and the data stay as they were.
+ * Each call returns at once. A client is one struct of 193 KiB, too large for many a thread's
+ * stack: have it static, or allocate it. Several clients may run at once, each called by one thread
+ * at a time. It allocates memory for the data, for the changes, and for an answer of at most
+ * `most_bytes`, but for no length that a header names. Where there is no memory the connection
+ * ends, and the data stay as they were.
  */
 #ifndef FISHREEF_RTR_CLIENT_H
 #define FISHREEF_RTR_CLIENT_H

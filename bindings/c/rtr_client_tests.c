@@ -5,6 +5,8 @@
  * usage: rtr_client_tests [SESSIONS]   with so many sessions of random units; 3000 if not said */
 #include "played.h"
 
+_Static_assert(sizeof(struct rtr_client) / 1024 == 193, "rtr_client.h says how large it is");
+
 /* However the bytes of an answer are cut, the data are the same, and they are there at the last
  * byte and not before. */
 static void test_pieces(void)

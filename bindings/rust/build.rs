@@ -1,5 +1,5 @@
-//! Links the archive from where `RTR_LIB_DIR` says; else from this crate's `lib`, which a package
-//! has; else from the repository's `prebuilt`. Those two have archives for Linux alone.
+//! Links the archive from where `RTR_LIB_DIR` says; else, for Linux, from this crate's `lib`; else,
+//! in its repository, from `prebuilt`.
 
 use std::path::{Path, PathBuf};
 

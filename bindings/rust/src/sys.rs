@@ -1,4 +1,4 @@
-//! The functions of the archive, as `bindings/c/rtr.h` declares them, and safe calls of them.
+//! The functions of the archive, as `rtr.h` declares them for C, and safe calls of them.
 
 use crate::data::{DataError, Place, Side};
 use crate::fault::{ErrorCode, Fault};
@@ -585,7 +585,7 @@ mod tests {
         }};
     }
 
-    /// The layout that `crates/rtr_c` states, if a `usize` has eight bytes.
+    /// The layout that `rtr.h` gives, if a `usize` has eight bytes.
     #[test]
     #[cfg(target_pointer_width = "64")]
     fn layout() {
