@@ -7,8 +7,8 @@ usage: built.py [--fresh] NAME..
 and after `rt ci` also as Rattle's own compiler does. One that is older than a source of its crate,
 or of a library below it, is none. Where nothing was built, the one in prebuilt/ is picked, if
 prebuilt/SHA256SUMS has its sum, and a line on standard error says that it may be older than the
-sources; with --fresh it isn't picked. The script prints the programs of these names; the status is
-1 if there is none of one.
+sources, unless PREBUILT_SAID is set; with --fresh it isn't picked. The script prints the programs of
+these names; the status is 1 if there is none of one.
 """
 import functools
 import hashlib
@@ -70,8 +70,9 @@ def prebuilt(name):
     with open(path, "rb") as data, open(os.path.join(PREBUILT, "SHA256SUMS")) as sums:
         if f"{hashlib.sha256(data.read()).hexdigest()}  {file}\n" not in sums:
             sys.exit(f"prebuilt/{file} isn't the one that prebuilt/SHA256SUMS names")
-    print(f"!!! {name} wasn't built here: prebuilt/{file} is taken, which may be older than the "
-          "sources", file=sys.stderr)
+    if "PREBUILT_SAID" not in os.environ:
+        print(f"!!! {name} wasn't built here: prebuilt/{file} is taken, which may be older than the "
+              "sources", file=sys.stderr)
     return [path]
 
 
