@@ -62,7 +62,7 @@ module _ (v : ℕ) where
   removed test (x ∷ xs) = dropped x xs (remove_key test xs) (removed test xs) (test x)
 
   -- what a result holds, if anything, has no more bytes than this
-  abbrev Within : Result (List Payload) ChangeError → ℕ → Type 0
+  abbrev pub Within : Result (List Payload) ChangeError → ℕ → Type 0
   Within (Ok ps) n = announced_size v ps ≤ n
   Within (Err e) n = Unit {0}
 
@@ -89,7 +89,7 @@ module _ (v : ℕ) where
 
   -- ---- all changes
 
-  all_made : (cs : List Change) (r : Result (List Payload) ChangeError) (n : ℕ) → Within r n →
+  pub all_made : (cs : List Change) (r : Result (List Payload) ChangeError) (n : ℕ) → Within r n →
       Within (after_all cs r) (n + length (change_forms v cs))
   all_made [] (Ok ps) n few = omega (arith, few)
   all_made [] (Err e) n few = tt

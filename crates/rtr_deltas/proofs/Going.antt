@@ -55,7 +55,7 @@ pub taken : (input places : List ℕ) (o : ℕ) (view : PayloadView) (os : List 
 taken input places o view os v cs parts w h =
     taken_at input o view os v cs w (subst (λ l. HaveUnits input v l cs) parts h)
 
-some_left : (input places : List ℕ) (o : ℕ) (view : PayloadView) (os : List ℕ) →
+pub some_left : (input places : List ℕ) (o : ℕ) (view : PayloadView) (os : List ℕ) →
     places ≡ o ∷ os → Views input o view → HaveSome input places → HaveSome input os
 some_left input places o view os parts w (v, cs, h) =
     let t = taken input places o view os v cs parts w h in

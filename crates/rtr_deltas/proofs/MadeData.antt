@@ -28,10 +28,10 @@ use Rattle.rtr_deltas.proofs.Sent.{AreSent, IsSent, all_sent, announced_sent}
 -- ---- changes
 
 -- what is announced, and in units
-abbrev IsKept : ℕ → Change → Type 0
+abbrev pub IsKept : ℕ → Change → Type 0
 IsKept v c = c.action ≡ Announce → IsSent v (announcement c.payload)
 
-are_kept : (v : ℕ) (b : List ℕ) (cs : List Change) → AreUnits b (map (unit_of v) cs) →
+pub are_kept : (v : ℕ) (b : List ℕ) (cs : List Change) → AreUnits b (map (unit_of v) cs) →
     AllByRecursion (IsKept v) cs
 are_kept v b [] units = tt
 are_kept v b (c ∷ cs) (first, more, at, unit, units) = (
@@ -53,7 +53,7 @@ after_one v Withdraw p d made kept sent is =
     (all_remove (λ q. IsSent v (announcement q)) (is_at (name_cmp p)) d sent)
 
 -- all of them
-after_more : (v : ℕ) (cs : List Change) (r : Result (List Payload) ChangeError)
+pub after_more : (v : ℕ) (cs : List Change) (r : Result (List Payload) ChangeError)
     (made : List Payload) → AllByRecursion (IsKept v) cs →
     ((d : List Payload) → r ≡ Ok d → AreSent v announcement d) → after_all cs r ≡ Ok made →
     AreSent v announcement made

@@ -23,7 +23,8 @@ use Rattle.rtr_deltas.proofs.There.{Fine, fine, is_some, other_step, same_data, 
 use Rattle.rtr_deltas.proofs.There.{step, step_at, there}
 
 -- changes of one name, one after the other
-abbrev steps : List Change → Result (List Payload) ChangeError → Result (List Payload) ChangeError
+abbrev pub steps : List Change → Result (List Payload) ChangeError →
+    Result (List Payload) ChangeError
 steps [] r = r
 steps (c ∷ cs) (Ok s) = steps cs (step c s)
 steps (c ∷ cs) (Err e) = Err e

@@ -155,7 +155,7 @@ nets_fit : (v : ℕ) (cs ns : List Change) → Nets cs ns →
 nets_fit v cs ns nets =
     omega (arith, in_bytes v cs, in_bytes v ns, nets_in_all (form_size v) cs ns nets)
 
-sent_fits : (input : List ℕ) (cs : List Change) (e : EndMeaning) → Sends input cs e →
+pub sent_fits : (input : List ℕ) (cs : List Change) (e : EndMeaning) → Sends input cs e →
     length (change_forms e.version cs) + length (end_list e) ≤ length input
 sent_fits input cs e h =
     let s = h.accepts.sequence in

@@ -16,7 +16,7 @@ use Rattle.rtr_deltas.specs.Order.{IsAgain, LeadsAlike, RefusesAt, Sends, Writes
 use Rattle.rtr_deltas.proofs.Netting.{all_linked, nets_lead}
 use Rattle.rtr_deltas.proofs.Walking.{own_name}
 
-made_again : (v : ℕ) (cs : List Change) → map change_of (map (unit_of v) cs) ≡ cs
+pub made_again : (v : ℕ) (cs : List Change) → map change_of (map (unit_of v) cs) ≡ cs
 made_again v [] = refl
 made_again v (c ∷ cs) = ap (λ l. c ∷ l) (made_again v cs)
 

@@ -30,7 +30,7 @@ use Rattle.rtr_deltas.specs.declared.item.Item.TheVariants as items
 use Rattle.rtr_deltas.specs.declared.item.PayloadView.{PayloadView}
 
 -- what has a fault begins with no unit
-faulty : (e : ViewFault) (r : List ℕ) → IsFirstFault r e → first_fault r ≡ None → ⊥
+pub faulty : (e : ViewFault) (r : List ℕ) → IsFirstFault r e → first_fault r ≡ None → ⊥
 faulty (Writer x) r h n = h
 faulty Short r h n = let s = sym n ∙ h in absurd cc
 faulty (UnitType t) r h n = let s = sym n ∙ h in absurd cc

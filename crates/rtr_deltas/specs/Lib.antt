@@ -9,3 +9,6 @@ pub mod Net
 pub mod Order
 pub mod PrivateOrder
 pub mod PrivatePlaces
+pub mod InOrder
+pub mod PrivateInOrder
+pub mod PrivateMade

@@ -97,7 +97,7 @@ fn next_change<'a>(new: &'a [u8], withdrawn: &'a [u8]) -> Option<PayloadView<'a>
 /// The wanted unit at the front of the data, and what follows it, if it comes before the change: it
 /// stays as it is.
 #[inline(always)]
-fn next_under<'a>(
+pub(crate) fn next_under<'a>(
     old: &'a [u8],
     bound: &Option<PayloadView<'_>>,
     wanted: Wanted,
@@ -119,7 +119,7 @@ fn next_under<'a>(
 
 /// Whether the unit comes before the change.
 #[inline(always)]
-fn is_under(view: &PayloadView<'_>, bound: &Option<PayloadView<'_>>) -> bool
+pub(crate) fn is_under(view: &PayloadView<'_>, bound: &Option<PayloadView<'_>>) -> bool
     ensures { IsTrue result ↔ IsUnder view.now bound.now }
 {
     match bound {

@@ -2,14 +2,19 @@
 //! memory.
 #![tactic(auto)]
 
+mod allowing;
 mod applied;
 mod apply;
 mod changes;
 mod check;
 mod delta;
 mod fault;
+mod in_order;
+mod in_order_fault;
+pub mod in_order_laws;
 mod item;
 pub mod laws;
+mod made;
 mod missing;
 mod order;
 mod order_fault;
@@ -26,5 +31,7 @@ pub use changes::check_changes;
 pub use check::check_data;
 pub use delta::delta_into;
 pub use fault::{ApplyFault, DeltaFault, Flaw, Reason};
+pub use in_order::{apply_in_order, check_in_order};
+pub use in_order_fault::InOrderFault;
 pub use order::order_into;
 pub use order_fault::OrderFault;

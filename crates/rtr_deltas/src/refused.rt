@@ -42,7 +42,7 @@ pub(crate) fn first_refused(these: &[u8], those: &[u8], rule: Rule) -> Option<us
 /// Whether a unit's name is among others, and what is left of them from there on. Most of them are
 /// of prefixes, first those of IPv4.
 #[inline(never)]
-fn sought<'a>(first: &PayloadView<'_>, those: &'a [u8]) -> (bool, &'a [u8])
+pub(crate) fn sought<'a>(first: &PayloadView<'_>, those: &'a [u8]) -> (bool, &'a [u8])
     ensures { Seeks result.0 first.now result.1.now those.now }
 {
     let after_v4 = pass_wanted(first, those, Wanted::Ipv4);

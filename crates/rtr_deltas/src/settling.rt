@@ -83,7 +83,7 @@ pub(crate) fn place_settled(
 
 /// The first of the places, the unit there, and the other places.
 #[inline(always)]
-fn first_place<'a, 'b>(
+pub(crate) fn first_place<'a, 'b>(
     input: &'a [u8],
     places: &'b [usize],
 ) -> Option<(usize, PayloadView<'a>, &'b [usize])>
@@ -102,7 +102,7 @@ fn first_place<'a, 'b>(
 
 /// Whether two units are of one name.
 #[inline(always)]
-fn same_name(left: &PayloadView<'_>, right: &PayloadView<'_>) -> bool
+pub(crate) fn same_name(left: &PayloadView<'_>, right: &PayloadView<'_>) -> bool
     ensures { result ≡ have_name (change_of (meant left.now)) (change_of (meant right.now)) }
 {
     left.compare_names(right).is_eq()
@@ -189,7 +189,7 @@ fn settles(first: Action, view: &PayloadView<'_>) -> bool
 
 /// Whether they are the same.
 #[inline(always)]
-fn is_action(left: Action, right: Action) -> bool
+pub(crate) fn is_action(left: Action, right: Action) -> bool
     ensures { result ≡ has_action left right }
 {
     match (left, right) {

@@ -20,6 +20,7 @@ const NUMBERS: &[(&str, u64)] = &[
     ("flags", 255),
     ("length", 4294967295),
     ("limit", u64::MAX),
+    ("places", u64::MAX),
     ("room", u64::MAX),
     ("session", 65535),
     ("set", u64::MAX),
