@@ -1,0 +1,33 @@
+-- A step of a router: what it may do, what it has to do, and when.
+use Rattle.std.specs.Prelude.{◌≡◌, ◌≢◌, ℕ, true, ◌<◌, ◌≤◌}
+use Rattle.rtr_router.specs.declared.router.Router.{Router}
+use Rattle.rtr_router.specs.declared.router.Phase.TheVariants as phases
+use Rattle.rtr_router.specs.declared.event.Event.{Event}
+use Rattle.rtr_router.specs.declared.event.Event.TheVariants as events
+use Rattle.rtr_router.specs.declared.event.Action.{Action}
+use Rattle.rtr_router.specs.declared.event.Action.TheVariants as actions
+use Rattle.rtr_router.specs.declared.event.Cause.TheVariants as causes
+use Rattle.rtr_router.specs.Rules.{Fresh, Rule}
+use Rattle.rtr_router.specs.Heeding.{Heeds, HeedsExpiry, IsIdle, ends_for}
+use Rattle.rtr_router.specs.Pace.{IsLimited, Paces, wakes_at}
+
+-- the time for what is under way isn't over
+abbrev pub IsInTime : Router → ℕ → Type 0
+IsInTime r n = IsLimited r.phase → n < r.due
+
+pub record IsStep (r : Router) (n : ℕ) (e : Event) (a : Action) (r' : Router) : Type 0 where
+  -- what it may do
+  pub rule : Rule r n e a r'
+  -- data are shown until they expire
+  pub fresh : Fresh r' n
+  -- when it acts next
+  pub paces : Paces r n e a r'
+  -- what it has to do
+  pub heeds : Fresh r n → IsInTime r n → Heeds r n e a r'
+  -- what may be passed over, is
+  pub idles : Fresh r n → IsInTime r n → IsIdle e r → a ≡ actions.Wait
+  -- an event that comes too late is passed over: the data have expired, or a limit of time is over
+  pub expires : r.has_data ≡ true → r.expires ≤ n → HeedsExpiry r a
+  pub late : Fresh r n → IsLimited r.phase → r.due ≤ n → a ≡ ends_for causes.Slow
+  -- it acts when it said so, but while its caller owes it what the changes made
+  pub acts : e ≡ events.Tick → wakes_at r ≤ n → r.phase ≢ phases.Applying → a ≢ actions.Wait

@@ -1,0 +1,367 @@
+//! The units that come, and what the changes of a response made.
+
+ghost use Rattle.std.specs.Prelude.{◌≡◌, ◌≢◌, ◌≤◌, ◌<◌, ◌+◌, ◌^◌, ◌⊎◌, ◌↔◌, IsTrue, true, false};
+ghost use Rattle.std.specs.Prelude.{None, Some, max, min};
+ghost use Rattle.std.specs.declared.cmp.Ordering.TheVariants.{Less};
+ghost use Rattle.rtr_base.specs.Serial.{serial_cmp};
+ghost use Rattle.rtr_router.specs.Heeding.{Heeds, HeedsAsked, HeedsReading, HeedsUnit};
+ghost use Rattle.rtr_router.specs.Heeding.{HeedsWaiting, IsIdle};
+ghost use Rattle.rtr_router.specs.Pace.{Paces, PacesNoData, PacesShow, SameDue};
+ghost use Rattle.rtr_router.specs.Rules.{Begins, Fresh, IsPayloadOf, MayAnswer, Rule, SameKnown};
+ghost use Rattle.rtr_router.specs.Rules.{Adopts};
+ghost use Rattle.rtr_router.specs.declared.event.Action.TheVariants as actions;
+ghost use Rattle.rtr_router.specs.declared.event.Event.TheVariants as events;
+ghost use Rattle.rtr_router.specs.declared.head.Kind.TheVariants as kinds;
+ghost use Rattle.rtr_router.specs.declared.router.Phase.TheVariants as phases;
+
+use crate::ending::{CORRUPT_DATA, NO_DATA, NO_TYPE, NO_VERSION, OTHER_VERSION};
+use crate::event::{Action, Cause};
+use crate::head::{Head, Kind, Known};
+use crate::router::{FIRST_WAIT, Phase, Router};
+use rtr_base::state::Serial;
+use std::cmp::Ordering;
+
+impl Router {
+    pub(crate) fn came(&mut self, now: u64, unit: &Head) -> Action
+        requires time { now < 2 ^ 63 }
+        requires fresh { Fresh self.old now }
+        ensures rule { Rule self.old now (events.Came unit.now) result self.new }
+        ensures fresh { Fresh self.new now }
+        ensures paces { Paces self.old now (events.Came unit.now) result self.new }
+        ensures heeds { HeedsUnit self.old now unit.now result self.new }
+        ensures idles { IsIdle (events.Came unit.now) self.old → result ≡ actions.Wait }
+    {
+        match self.phase {
+            Phase::Offline | Phase::Connecting => Action::Wait,
+            Phase::Asked => self.answered(now, unit),
+            Phase::Reading => self.read_on(now, unit),
+            Phase::Waiting => self.notified(now, unit),
+            Phase::Applying => self.end(now, None, Cause::NotApplied),
+        }
+    }
+
+    /// A unit came while an answer is awaited. The first answer says what version the session has,
+    /// and a notify before it says nothing (RFC 8210 section 7).
+    fn answered(&mut self, now: u64, unit: &Head) -> Action
+        requires time { now < 2 ^ 63 }
+        requires asked { self.old.phase ≡ phases.Asked }
+        requires fresh { Fresh self.old now }
+        ensures rule { Rule self.old now (events.Came unit.now) result self.new }
+        ensures fresh { Fresh self.new now }
+        ensures paces { Paces self.old now (events.Came unit.now) result self.new }
+        ensures heeds { HeedsAsked self.old unit.now result }
+    {
+        match unit.kind {
+            Kind::ErrorReport => self.reported(now, unit),
+            Kind::SerialNotify if !self.agreed => Action::Wait,
+            _ if self.agreed && unit.version != self.version => {
+                self.end(now, Some(OTHER_VERSION), Cause::OtherVersion)
+            }
+            _ if unit.version > self.version => {
+                self.end(now, Some(NO_VERSION), Cause::HigherVersion)
+            }
+            Kind::SerialNotify => Action::Wait,
+            Kind::CacheResponse if self.changes => self.begin_changes(now, unit),
+            Kind::CacheResponse => self.begin(unit),
+            Kind::CacheReset if self.changes => self.reset(now, unit),
+            _ => self.end(now, Some(NO_TYPE), Cause::OutOfPlace),
+        }
+    }
+
+    /// A report came in place of an answer.
+    fn reported(&mut self, now: u64, unit: &Head) -> Action
+        requires time { now < 2 ^ 63 }
+        requires asked { self.old.phase ≡ phases.Asked }
+        requires kind { unit.now.kind ≡ kinds.ErrorReport }
+        requires fresh { Fresh self.old now }
+        ensures rule { Rule self.old now (events.Came unit.now) result self.new }
+        ensures fresh { Fresh self.new now }
+        ensures paces { Paces self.old now (events.Came unit.now) result self.new }
+        ensures heeds { HeedsAsked self.old unit.now result }
+    {
+        let lower = unit.version < self.version || unit.code == NO_VERSION;
+        if unit.code == NO_DATA && unit.version == self.version {
+            self.has_none(now)
+        } else if lower && !self.agreed && self.version > 0 {
+            self.fall(now, self.version - 1)
+        } else {
+            self.end(now, None, Cause::Reported)
+        }
+    }
+
+    /// The cache has no data yet (RFC 8210 section 8.4). It is asked again after the retry time.
+    fn has_none(&mut self, now: u64) -> Action
+        requires time { now < 2 ^ 63 }
+        ensures action { result ≡ actions.NoData }
+        ensures same { SameKnown self.old self.new }
+        ensures phase { self.new.phase ≡ phases.Waiting }
+        ensures version { self.new.version ≡ self.old.version }
+        ensures agreed { self.new.agreed ≡ true }
+        ensures floor { self.new.floor ≡ max self.old.floor self.old.version }
+        ensures resync { self.new.resync ≡ self.old.resync }
+        ensures paces { PacesNoData self.old now self.new }
+    {
+        self.agreed = true;
+        self.floor = self.floor.max(self.version);
+        self.phase = Phase::Waiting;
+        self.due = now + self.settings.retry(&self.known);
+        Action::NoData
+    }
+
+    /// A cache response begins the answer to a serial query.
+    fn begin_changes(&mut self, now: u64, unit: &Head) -> Action
+        requires time { now < 2 ^ 63 }
+        requires asked { self.old.phase ≡ phases.Asked }
+        requires kind { unit.now.kind ≡ kinds.CacheResponse }
+        requires changes { self.old.changes ≡ true }
+        requires version { unit.now.version ≤ self.old.version }
+        requires agreed { self.old.agreed ≡ true → unit.now.version ≡ self.old.version }
+        requires fresh { Fresh self.old now }
+        ensures rule { Rule self.old now (events.Came unit.now) result self.new }
+        ensures fresh { Fresh self.new now }
+        ensures paces { Paces self.old now (events.Came unit.now) result self.new }
+        ensures heeds { HeedsAsked self.old unit.now result }
+    {
+        if unit.version < self.version {
+            self.fall(now, unit.version)
+        } else if unit.session != self.known.session {
+            self.other_session(now)
+        } else {
+            self.begin(unit)
+        }
+    }
+
+    /// A cache response begins the answer.
+    fn begin(&mut self, unit: &Head) -> Action
+        requires asked { self.old.phase ≡ phases.Asked }
+        requires kind { unit.now.kind ≡ kinds.CacheResponse }
+        requires may { MayAnswer self.old unit.now }
+        requires own { self.old.changes ≡ true → unit.now.session ≡ self.old.known.session }
+        ensures action { result ≡ actions.Begin }
+        ensures begins { Begins self.old unit.now self.new }
+        ensures same { SameDue self.old self.new }
+    {
+        self.version = unit.version;
+        self.agreed = true;
+        self.floor = self.floor.max(unit.version);
+        self.session = unit.session;
+        self.units = 0;
+        self.bytes = 0;
+        self.noted = false;
+        self.phase = Phase::Reading;
+        Action::Begin
+    }
+
+    /// A cache reset answers a serial query: all data are asked for (RFC 8210 section 8.3).
+    fn reset(&mut self, now: u64, unit: &Head) -> Action
+        requires time { now < 2 ^ 63 }
+        requires asked { self.old.phase ≡ phases.Asked }
+        requires kind { unit.now.kind ≡ kinds.CacheReset }
+        requires changes { self.old.changes ≡ true }
+        requires version { unit.now.version ≤ self.old.version }
+        requires agreed { self.old.agreed ≡ true → unit.now.version ≡ self.old.version }
+        requires fresh { Fresh self.old now }
+        ensures rule { Rule self.old now (events.Came unit.now) result self.new }
+        ensures fresh { Fresh self.new now }
+        ensures paces { Paces self.old now (events.Came unit.now) result self.new }
+        ensures heeds { HeedsAsked self.old unit.now result }
+    {
+        if unit.version < self.version {
+            return self.fall(now, unit.version);
+        }
+        self.agreed = true;
+        self.floor = self.floor.max(unit.version);
+        self.resync = true;
+        self.ask(now)
+    }
+
+    /// A unit came in a response.
+    fn read_on(&mut self, now: u64, unit: &Head) -> Action
+        requires time { now < 2 ^ 63 }
+        requires reading { self.old.phase ≡ phases.Reading }
+        requires fresh { Fresh self.old now }
+        ensures rule { Rule self.old now (events.Came unit.now) result self.new }
+        ensures fresh { Fresh self.new now }
+        ensures paces { Paces self.old now (events.Came unit.now) result self.new }
+        ensures heeds { HeedsReading self.old unit.now result }
+    {
+        match unit.kind {
+            Kind::ErrorReport if unit.code == NO_DATA && unit.version == self.version => {
+                self.has_none(now)
+            }
+            Kind::ErrorReport => self.end(now, None, Cause::Reported),
+            _ if unit.version != self.version => {
+                self.end(now, Some(OTHER_VERSION), Cause::OtherVersion)
+            }
+            Kind::Prefix => self.keep(now, unit),
+            Kind::RouterKey if self.version >= 1 => self.keep(now, unit),
+            Kind::Aspa if self.version >= 2 => self.keep(now, unit),
+            Kind::RouterKey | Kind::Aspa => self.end(now, Some(NO_TYPE), Cause::NoSuchPayload),
+            Kind::SerialNotify => self.note(now, unit),
+            Kind::EndOfData => self.finish(now, unit),
+            Kind::SerialQuery | Kind::ResetQuery | Kind::CacheResponse | Kind::CacheReset => {
+                self.end(now, Some(NO_TYPE), Cause::OutOfPlace)
+            }
+        }
+    }
+
+    /// A payload unit of the version came in a response.
+    fn keep(&mut self, now: u64, unit: &Head) -> Action
+        requires time { now < 2 ^ 63 }
+        requires reading { self.old.phase ≡ phases.Reading }
+        requires version { unit.now.version ≡ self.old.version }
+        requires kind { IsPayloadOf self.old.version unit.now.kind }
+        requires fresh { Fresh self.old now }
+        ensures rule { Rule self.old now (events.Came unit.now) result self.new }
+        ensures fresh { Fresh self.new now }
+        ensures paces { Paces self.old now (events.Came unit.now) result self.new }
+        ensures heeds { HeedsReading self.old unit.now result }
+    {
+        let size = unit.size as u64;
+        if self.units >= self.settings.most_units
+            || self.bytes > self.settings.most_bytes
+            || self.settings.most_bytes - self.bytes < size
+        {
+            return self.end(now, None, Cause::TooLong);
+        }
+        self.units += 1;
+        self.bytes += size;
+        Action::Keep
+    }
+
+    /// A notify of the version came in a response. What it says of the same session is kept until
+    /// the data are there.
+    fn note(&mut self, now: u64, unit: &Head) -> Action
+        requires time { now < 2 ^ 63 }
+        requires reading { self.old.phase ≡ phases.Reading }
+        requires kind { unit.now.kind ≡ kinds.SerialNotify }
+        requires version { unit.now.version ≡ self.old.version }
+        requires fresh { Fresh self.old now }
+        ensures rule { Rule self.old now (events.Came unit.now) result self.new }
+        ensures fresh { Fresh self.new now }
+        ensures paces { Paces self.old now (events.Came unit.now) result self.new }
+        ensures heeds { HeedsReading self.old unit.now result }
+    {
+        if unit.session != self.session {
+            return self.other_session(now);
+        }
+        self.noted = true;
+        self.note = unit.serial;
+        Action::Wait
+    }
+
+    /// The end of data of a response came, of its version.
+    fn finish(&mut self, now: u64, unit: &Head) -> Action
+        requires time { now < 2 ^ 63 }
+        requires reading { self.old.phase ≡ phases.Reading }
+        requires kind { unit.now.kind ≡ kinds.EndOfData }
+        requires version { unit.now.version ≡ self.old.version }
+        requires fresh { Fresh self.old now }
+        ensures rule { Rule self.old now (events.Came unit.now) result self.new }
+        ensures fresh { Fresh self.new now }
+        ensures paces { Paces self.old now (events.Came unit.now) result self.new }
+        ensures heeds { HeedsReading self.old unit.now result }
+    {
+        if unit.session != self.session {
+            return self.other_session(now);
+        }
+        if self.changes && is_before(unit.serial, self.known.serial) {
+            return self.end(now, Some(CORRUPT_DATA), Cause::OldSerial);
+        }
+        if self.changes && unit.serial == self.known.serial && self.units > 0 {
+            return self.end(now, Some(CORRUPT_DATA), Cause::OtherData);
+        }
+        self.answer = Known {
+            version: unit.version,
+            session: unit.session,
+            serial: unit.serial,
+            refresh: unit.refresh,
+            retry: unit.retry,
+            expire: unit.expire,
+        };
+        self.phase = Phase::Applying;
+        Action::Apply(self.changes)
+    }
+
+    /// All changes were made: what they made are the data.
+    pub(crate) fn applied(&mut self, now: u64) -> Action
+        requires time { now < 2 ^ 63 }
+        requires fresh { Fresh self.old now }
+        ensures rule { Rule self.old now events.Applied result self.new }
+        ensures fresh { Fresh self.new now }
+        ensures paces { Paces self.old now events.Applied result self.new }
+        ensures heeds { Heeds self.old now events.Applied result self.new }
+        ensures idles { IsIdle events.Applied self.old → result ≡ actions.Wait }
+    {
+        match self.phase {
+            Phase::Applying => {
+                self.take(now);
+                Action::Show
+            }
+            _ => Action::Wait,
+        }
+    }
+
+    /// Adopts the data that the changes made.
+    fn take(&mut self, now: u64)
+        requires time { now < 2 ^ 63 }
+        requires applying { self.old.phase ≡ phases.Applying }
+        ensures shows { Adopts self.old self.new }
+        ensures paces { PacesShow self.old now self.new }
+        ensures expires { now < self.new.expires }
+    {
+        let more = self.noted && self.note != self.answer.serial;
+        let refresh = if more {
+            0
+        } else {
+            self.settings.refresh(&self.answer)
+        };
+        self.known = self.answer;
+        self.has_data = true;
+        self.resync = false;
+        self.answered = true;
+        self.wait = FIRST_WAIT;
+        self.floor = self.answer.version;
+        self.phase = Phase::Waiting;
+        self.due = now + refresh;
+        self.expires = now + self.settings.expire(&self.answer);
+    }
+
+    /// A unit came unasked: a notify of a serial number that it hasn't makes it ask.
+    fn notified(&mut self, now: u64, unit: &Head) -> Action
+        requires time { now < 2 ^ 63 }
+        requires waiting { self.old.phase ≡ phases.Waiting }
+        requires fresh { Fresh self.old now }
+        ensures rule { Rule self.old now (events.Came unit.now) result self.new }
+        ensures fresh { Fresh self.new now }
+        ensures paces { Paces self.old now (events.Came unit.now) result self.new }
+        ensures heeds { HeedsWaiting self.old now unit.now result self.new }
+    {
+        match unit.kind {
+            Kind::ErrorReport => self.end(now, None, Cause::Reported),
+            _ if unit.version != self.version => {
+                self.end(now, Some(OTHER_VERSION), Cause::OtherVersion)
+            }
+            Kind::SerialNotify if self.has_data && unit.session != self.known.session => {
+                self.other_session(now)
+            }
+            Kind::SerialNotify => {
+                if !self.has_data || unit.serial != self.known.serial {
+                    self.due = self.due.min(now);
+                }
+                Action::Wait
+            }
+            _ => self.end(now, Some(NO_TYPE), Cause::OutOfPlace),
+        }
+    }
+}
+
+/// Whether a serial number comes before another one (RFC 1982; RFC 8210 section 5.1).
+fn is_before(serial: u32, other: u32) -> bool
+    ensures { IsTrue result ↔ (serial_cmp serial other ≡ Some Less) }
+{
+    matches!(
+        Serial(serial).partial_cmp(&Serial(other)),
+        Some(Ordering::Less)
+    )
+}

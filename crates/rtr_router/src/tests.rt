@@ -1,0 +1,287 @@
+//! Runs of a router, as docs/SESSIONS.md has them.
+
+use crate::event::{Action, Event};
+use crate::head::{Fault, Head, Kind};
+use crate::router::Router;
+use crate::settings::Settings;
+use std::process::Abort;
+
+fn head(kind: Kind, version: u8, session: u16, serial: u32) -> Head {
+    Head {
+        kind,
+        version,
+        session,
+        serial,
+        code: 0,
+        refresh: 3600,
+        retry: 600,
+        expire: 7200,
+        size: 20,
+    }
+}
+
+fn came(kind: Kind, version: u8, session: u16, serial: u32) -> Event {
+    Event::Came(head(kind, version, session, serial))
+}
+
+fn report(version: u8, code: u16) -> Event {
+    Event::Came(Head {
+        code,
+        ..head(Kind::ErrorReport, version, 0, 0)
+    })
+}
+
+/// An action in a word.
+fn word(action: Action) -> &'static str {
+    match action {
+        Action::Wait => "wait",
+        Action::Connect => "connect",
+        Action::Ask(query) => match (query.changes, query.version) {
+            (true, 0) => "serial query 0",
+            (true, 1) => "serial query 1",
+            (true, _) => "serial query 2",
+            (false, 0) => "reset query 0",
+            (false, 1) => "reset query 1",
+            (false, _) => "reset query 2",
+        },
+        Action::Begin => "begin",
+        Action::Keep => "keep",
+        Action::Apply(true) => "apply",
+        Action::Apply(false) => "apply to none",
+        Action::Show => "show",
+        Action::NoData => "no data",
+        Action::Drop => "drop",
+        Action::End(ending) => match (ending.drop, ending.report) {
+            (true, Some(0)) => "drop, report 0, end",
+            (true, _) => "drop, end",
+            (false, None) => "end",
+            (false, Some(0)) => "report 0, end",
+            (false, Some(4)) => "report 4, end",
+            (false, Some(5)) => "report 5, end",
+            (false, Some(8)) => "report 8, end",
+            (false, _) => "report, end",
+        },
+    }
+}
+
+/// Tells a router these events, and holds its actions against the words.
+fn follow(rt: &impl Abort, router: &mut Router, rows: &[(u32, Event, &str)]) {
+    for (i, (now, event, want)) in rows.iter().enumerate() {
+        let got = word(router.step(*now as u64, *event));
+        assert_eq!(rt; got, *want, "at {i}");
+    }
+}
+
+/// Loads data of session 7 and serial number 5, at these times.
+fn load(rt: &impl Abort, router: &mut Router, version: u8, now: u32) {
+    let at = now as u64;
+    let wakes = router.wakes();
+    assert!(rt; wakes <= at, "it wakes later");
+    let begins = came(Kind::CacheResponse, version, 7, 0);
+    let ends = came(Kind::EndOfData, version, 7, 5);
+    assert_eq!(rt; word(router.step(at, Event::Tick)), "connect");
+    let _query = router.step(at, Event::Connected);
+    assert_eq!(rt; word(router.step(at, begins)), "begin");
+    assert_eq!(rt; word(router.step(at, ends)), "apply to none");
+    assert_eq!(rt; word(router.step(at, Event::Applied)), "show");
+}
+
+#[test]
+fn a_session(rt: HostRuntime) {
+    let mut router = Router::new(Settings::usual(1));
+    load(&rt, &mut router, 1, 0);
+    assert_eq!(rt; router.wakes(), 3_600_000);
+    follow(
+        &rt,
+        &mut router,
+        &[
+            (8, came(Kind::SerialNotify, 1, 7, 5), "wait"),
+            (9, Event::Tick, "wait"),
+            (10, came(Kind::SerialNotify, 1, 7, 6), "wait"),
+            (11, Event::Tick, "wait"),
+            (1000, Event::Tick, "serial query 1"),
+            (1001, came(Kind::CacheReset, 1, 0, 0), "reset query 1"),
+            (121_000, came(Kind::CacheResponse, 1, 7, 0), "begin"),
+            (121_000, came(Kind::RouterKey, 1, 0, 0), "keep"),
+            (121_000, came(Kind::SerialNotify, 1, 7, 7), "wait"),
+            (121_000, came(Kind::EndOfData, 1, 7, 6), "apply to none"),
+            (121_000, Event::Applied, "show"),
+            (121_000, Event::Tick, "serial query 1"),
+            (121_001, came(Kind::CacheResponse, 1, 7, 0), "begin"),
+            (121_002, came(Kind::Aspa, 1, 0, 0), "report 5, end"),
+        ],
+    );
+    assert_eq!(rt; router.wakes(), 122_002);
+}
+
+#[test]
+fn a_serial_query_that_fails(rt: HostRuntime) {
+    let mut router = Router::new(Settings::usual(1));
+    load(&rt, &mut router, 1, 0);
+    follow(
+        &rt,
+        &mut router,
+        &[
+            (10, Event::Lost, "end"),
+            (1010, Event::Tick, "connect"),
+            (1011, Event::Connected, "serial query 1"),
+            (1012, report(1, 3), "end"),
+            (2012, Event::Tick, "connect"),
+            (2013, Event::Connected, "reset query 1"),
+            (2014, Event::Lost, "end"),
+        ],
+    );
+    assert_eq!(rt; router.wakes(), 602_014);
+    load(&rt, &mut router, 1, 602_014);
+    follow(
+        &rt,
+        &mut router,
+        &[
+            (602_015, came(Kind::SerialNotify, 1, 7, 6), "wait"),
+            (603_014, Event::Tick, "serial query 1"),
+            (603_015, came(Kind::CacheResponse, 1, 7, 0), "begin"),
+            (603_016, came(Kind::Prefix, 1, 0, 0), "keep"),
+            (603_017, came(Kind::EndOfData, 1, 7, 5), "report 0, end"),
+            (604_017, Event::Tick, "connect"),
+            (604_018, Event::Connected, "reset query 1"),
+        ],
+    );
+}
+
+#[test]
+fn another_session(rt: HostRuntime) {
+    let mut router = Router::new(Settings::usual(1));
+    load(&rt, &mut router, 1, 0);
+    follow(
+        &rt,
+        &mut router,
+        &[
+            (10, came(Kind::SerialNotify, 1, 7, 6), "wait"),
+            (1000, Event::Tick, "serial query 1"),
+            (
+                1001,
+                came(Kind::CacheResponse, 1, 8, 0),
+                "drop, report 0, end",
+            ),
+            (2000, Event::Tick, "wait"),
+            (2001, Event::Tick, "connect"),
+            (2002, Event::Connected, "reset query 1"),
+            (2003, came(Kind::CacheResponse, 1, 8, 0), "begin"),
+            (2004, came(Kind::EndOfData, 1, 7, 1), "report 0, end"),
+        ],
+    );
+    assert_eq!(rt; router.wakes(), 3004);
+}
+
+#[test]
+fn versions_fall(rt: HostRuntime) {
+    let mut router = Router::new(Settings::usual(2));
+    follow(
+        &rt,
+        &mut router,
+        &[
+            (0, Event::Tick, "connect"),
+            (1, Event::Connected, "reset query 2"),
+            (2, report(1, 4), "end"),
+            (2, Event::Tick, "connect"),
+            (3, Event::Connected, "reset query 1"),
+            (4, Event::Lost, "end"),
+            (4, Event::Tick, "connect"),
+            (5, Event::Connected, "reset query 0"),
+            (6, report(0, 2), "no data"),
+            (600_006, Event::Tick, "reset query 0"),
+            (600_007, came(Kind::CacheResponse, 0, 9, 0), "begin"),
+            (600_008, Event::Lost, "end"),
+        ],
+    );
+    load(&rt, &mut router, 2, 601_008);
+    follow(
+        &rt,
+        &mut router,
+        &[
+            (700_000, Event::Lost, "end"),
+            (701_000, Event::Tick, "connect"),
+            (701_001, Event::Connected, "serial query 2"),
+            (701_002, Event::Lost, "end"),
+            (702_002, Event::Tick, "connect"),
+            (702_003, Event::Connected, "reset query 2"),
+            (702_004, Event::Lost, "end"),
+        ],
+    );
+}
+
+#[test]
+fn waits_grow(rt: HostRuntime) {
+    let settings = Settings {
+        chance: 32768,
+        ..Settings::usual(1)
+    };
+    let mut router = Router::new(settings);
+    let mut now = 0;
+    for wait in [
+        1000, 1500, 3000, 6000, 12_000, 24_000, 48_000, 96_000, 192_000, 384_000, 450_000,
+    ] {
+        assert_eq!(rt; word(router.step(now, Event::Tick)), "connect");
+        assert_eq!(rt; word(router.step(now, Event::Lost)), "end");
+        now += wait;
+        assert_eq!(rt; router.wakes(), now);
+    }
+}
+
+#[test]
+fn data_expire(rt: HostRuntime) {
+    let settings = Settings {
+        refresh: 8_000_000,
+        retry: 20_000_000,
+        ..Settings::usual(1)
+    };
+    let mut router = Router::new(settings);
+    load(&rt, &mut router, 1, 0);
+    follow(
+        &rt,
+        &mut router,
+        &[
+            (3_600_000, Event::Tick, "serial query 1"),
+            (3_600_001, report(1, 2), "no data"),
+            (7_199_999, Event::Tick, "wait"),
+            (7_200_000, came(Kind::SerialNotify, 1, 7, 6), "drop, end"),
+            (7_201_000, Event::Tick, "connect"),
+            (7_201_000, Event::Connected, "reset query 1"),
+        ],
+    );
+}
+
+#[test]
+fn faults_and_limits(rt: HostRuntime) {
+    let settings = Settings {
+        most_units: 2,
+        ..Settings::usual(2)
+    };
+    let mut router = Router::new(settings);
+    let broken = |version| Event::Faulty(Fault {
+        version,
+        code: Some(0),
+    });
+    follow(
+        &rt,
+        &mut router,
+        &[
+            (0, Event::Tick, "connect"),
+            (0, Event::Connected, "reset query 2"),
+            (0, came(Kind::SerialNotify, 3, 1, 1), "wait"),
+            (0, broken(3), "report 4, end"),
+            (1000, Event::Tick, "connect"),
+            (1000, Event::Connected, "reset query 2"),
+            (1000, came(Kind::CacheResponse, 1, 7, 0), "begin"),
+            (1000, came(Kind::Prefix, 1, 0, 0), "keep"),
+            (1000, came(Kind::Prefix, 1, 0, 0), "keep"),
+            (1000, came(Kind::Prefix, 1, 0, 0), "end"),
+            (3000, Event::Tick, "connect"),
+            (3000, Event::Connected, "reset query 2"),
+            (3000, came(Kind::CacheResponse, 2, 7, 0), "begin"),
+            (3000, broken(1), "report 8, end"),
+            (7000, Event::Tick, "connect"),
+            (37_000, Event::Connected, "end"),
+        ],
+    );
+}
