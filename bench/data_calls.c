@@ -20,12 +20,14 @@
 
 enum job {
     NORMALISE_BOTH, DELTA, DELTA_BYTES, DELTA_ARRAYS,
-    NORMALISE_CHANGES, APPLY, APPLY_BYTES, APPLY_ARRAYS, JOBS
+    NORMALISE_CHANGES, APPLY, APPLY_BYTES, APPLY_ARRAYS,
+    ORDER_APPLY, IN_ORDER, ORDER_APPLY_ALL, IN_ORDER_ALL, JOBS
 };
 
 static const char *const names[JOBS] = {
     "normalise_both", "rtr_delta", "delta_bytes", "delta_arrays",
     "normalise_changes", "rtr_apply", "apply_bytes", "apply_arrays",
+    "order_apply", "in_order", "order_apply_all", "in_order_all",
 };
 
 /* A sequence. */
@@ -34,10 +36,13 @@ struct bytes {
     size_t length;
 };
 
-/* An old and a new data, what leads from one to the other, and arrays to work in: the old, the new,
+/* An old and a new data, what leads from one to the other, the units of this and of the new data in
+ * no order, data without payloads, an index for either, and arrays to work in: the old, the new,
  * what is announced, what is withdrawn, and what is made of the old. */
 struct sample {
-    struct bytes old, new, changes;
+    struct bytes old, new, changes, mixed, all, none;
+    size_t *index;
+    uint8_t *ordered;
     struct origins in_old, in_new, announced, withdrawn, made;
 };
 
@@ -86,6 +91,28 @@ static size_t apply_by_hand(struct sample *sample, uint8_t *out)
     return made + END_SIZE;
 }
 
+/* The new data of the old and of changes in no order: put in order and applied. */
+static size_t order_apply(const struct sample *sample, struct bytes old, struct bytes changes,
+                          uint8_t *out)
+{
+    struct rtr_data_answer answer;
+    if (rtr_order(changes.at, changes.length, sample->index, changes.length / 20, sample->ordered,
+                  changes.length, &answer) == RTR_OK)
+        rtr_apply(old.at, old.length, sample->ordered, answer.written, out,
+                  old.length + changes.length, &answer);
+    return answer.written;
+}
+
+/* The same in one call. */
+static size_t in_order(const struct sample *sample, struct bytes old, struct bytes changes,
+                       uint8_t *out)
+{
+    struct rtr_data_answer answer;
+    rtr_apply_in_order(old.at, old.length, changes.at, changes.length, sample->index,
+                       changes.length / 20, out, old.length + changes.length, &answer);
+    return answer.written;
+}
+
 /* Does a job, and answers how much it made: bytes, or of arrays origins and 1; 0 if it was
  * refused. */
 static __attribute__((noinline)) size_t done(enum job job, struct sample *sample, uint8_t *out)
@@ -111,6 +138,14 @@ static __attribute__((noinline)) size_t done(enum job job, struct sample *sample
         return answer.written;
     case APPLY_BYTES:
         return apply_by_hand(sample, out);
+    case ORDER_APPLY:
+        return order_apply(sample, old, sample->mixed, out);
+    case IN_ORDER:
+        return in_order(sample, old, sample->mixed, out);
+    case ORDER_APPLY_ALL:
+        return order_apply(sample, sample->none, sample->all, out);
+    case IN_ORDER_ALL:
+        return in_order(sample, sample->none, sample->all, out);
     default:
         return merge_applied(&sample->in_old, &sample->announced, &sample->withdrawn,
                              &sample->made) ? sample->made.count + 1 : 0;
@@ -152,6 +187,43 @@ static bool make_room(struct origins *origins, size_t length)
     return origins->at != NULL;
 }
 
+/* Writes the units of a sequence in no order, and its end of data. */
+static struct bytes mix(struct bytes from, size_t *places, uint8_t *out)
+{
+    struct rtr_unit unit;
+    struct bytes mixed = {out, 0};
+    uint32_t random = 1;
+    size_t count = 0, at = 0;
+    for (; rtr_next(from.at + at, from.length - at, &unit) == RTR_OK
+           && unit.kind != RTR_END_OF_DATA; at += unit.size)
+        places[count++] = at;
+    for (; count > 0; count--) {
+        random = random * 1664525 + 1013904223;
+        size_t *taken = &places[(random >> 8) % count], size = from.at[*taken + 7];
+        memcpy(out + mixed.length, from.at + *taken, size);
+        mixed.length += size;
+        *taken = places[count - 1];
+    }
+    memcpy(out + mixed.length, from.at + at, END_SIZE);
+    mixed.length += END_SIZE;
+    return mixed;
+}
+
+/* Makes what the jobs read that take changes in no order. */
+static bool take_mixed(struct sample *sample)
+{
+    size_t room = sample->new.length + sample->changes.length;
+    sample->index = malloc(room / 20 * sizeof *sample->index + 1);
+    sample->ordered = malloc(room);
+    uint8_t *mixed = malloc(room);
+    if (!sample->index || !sample->ordered || !mixed)
+        return false;
+    sample->none = (struct bytes){sample->new.at + sample->new.length - END_SIZE, END_SIZE};
+    sample->mixed = mix(sample->changes, sample->index, mixed);
+    sample->all = mix(sample->new, sample->index, mixed + sample->mixed.length);
+    return true;
+}
+
 /* Splits the input, and makes the delta and the arrays. */
 static bool take_sample(const uint8_t *input, size_t length, struct sample *sample, uint8_t *delta)
 {
@@ -165,7 +237,8 @@ static bool take_sample(const uint8_t *input, size_t length, struct sample *samp
         || !make_room(&sample->made, both))
         return false;
     sample->changes = (struct bytes){delta, done(DELTA, sample, delta)};
-    return sample->old.length && sample->new.length && sample->changes.length;
+    return sample->old.length && sample->new.length && sample->changes.length
+        && take_mixed(sample);
 }
 
 static void drop_sample(struct sample *sample)
@@ -175,6 +248,9 @@ static void drop_sample(struct sample *sample)
     free(sample->announced.at);
     free(sample->withdrawn.at);
     free(sample->made.at);
+    free((void *)sample->mixed.at);
+    free(sample->ordered);
+    free(sample->index);
 }
 
 /* Whether what a job wrote is what it should be: the delta, or the new data. */
@@ -185,7 +261,8 @@ static bool is_right(enum job job, const struct sample *sample, const uint8_t *o
     case DELTA: case DELTA_BYTES:
         wanted = sample->changes;
         break;
-    case APPLY: case APPLY_BYTES:
+    case APPLY: case APPLY_BYTES: case ORDER_APPLY: case IN_ORDER: case ORDER_APPLY_ALL:
+    case IN_ORDER_ALL:
         wanted = sample->new;
         break;
     default:

@@ -7,12 +7,12 @@ usage: deltas.py [SEED] > CASES    for the tests of the bindings
 Each case is
 
 - one byte each: the call, of CALLS, and the status, the side and the detail of its answer;
-- eight bytes each, the lowest first: the offset of the answer, and the lengths of the first input,
-  the second input and the output, which is empty unless the status is 0;
+- eight bytes each, the lowest first: the offset of the answer, the lengths of the first input, the
+  second input and the output, which is empty unless the status is 0, and how many places the index
+  has, if the call has one;
 - the first input, the second input and the output.
 
-A call that puts changes in order has one input, and where the second input would lie an index of so
-many places, which is one more than it needs unless the status is 17.
+A call that puts changes in order has one input.
 """
 import random
 import struct
@@ -21,7 +21,7 @@ import sys
 import sessions
 from sessions import ASPA, END, IPV4, IPV6, KEY, OK, UNIT_TYPE, UNIT_VERSION
 
-CALLS = {"delta": 0, "apply": 1, "order": 2}
+CALLS = {"delta": 0, "apply": 1, "order": 2, "in_order": 3}
 NOT_CANONICAL, OTHER_SESSION, DUPLICATE, UNKNOWN, UNDECIDED, NO_INDEX = range(12, 18)
 ANNOUNCE, WITHDRAW = 1, 0
 WIDTHS = {IPV4: 4, IPV6: 16}
@@ -174,7 +174,7 @@ def may_follow(last, unit, call, announced):
     """Whether a unit, or an end of data, may come after the last unit in what the call reads."""
     if last is not None and last[0] != unit[0]:
         return False
-    if unit[1] == END or call == "order":
+    if unit[1] == END or call in ("order", "in_order"):
         return True
     action, payload = change_of(unit)
     if action == WITHDRAW and (call == "data" or name(payload) in announced):
@@ -209,43 +209,59 @@ def read(data, call):
         at += len(unit)
 
 
-def of_two(call, first, second, output):
-    """The case of two inputs, for which this is written where they aren't refused."""
-    sides = read(first, "data"), read(second, "data" if call == "delta" else "changes")
+# What the second input of a call is read as.
+READ_AS = {"delta": "data", "apply": "changes", "in_order": "in_order"}
+
+
+def of_two(call, first, second, output, places=1):
+    """The case of two inputs, for which this is written where they aren't refused, and an index with
+    so many places more than it needs, if the call has one."""
+    sides = read(first, "data"), read(second, READ_AS[call])
+    index = max(0, len(sides[1][1]) - 1 + places) if call == "in_order" else 0
+
+    def refused(status, side=0, detail=0, offset=0):
+        return call, status, side, detail, offset, index, first, second, b""
+
     for side, (wrong, _) in enumerate(sides, 1):
         if wrong:
             status, offset, detail = wrong
-            return call, status, side, detail, offset, first, second, b""
+            return refused(status, side, detail, offset)
     old_end, new_end = sides[0][1][-1], sides[1][1][-1]
     if old_end[0] != new_end[0]:
-        return call, UNIT_VERSION, 0, new_end[0], 0, first, second, b""
+        return refused(UNIT_VERSION, detail=new_end[0])
     if old_end[2:4] != new_end[2:4]:
-        return call, OTHER_SESSION, 0, 0, 0, first, second, b""
-    if call == "apply":
+        return refused(OTHER_SESSION)
+    if call == "in_order" and places < 0:
+        return refused(NO_INDEX)
+    if call != "delta":
         units = sides[1][1]
         made, count = applied([meant(unit) for unit in sides[0][1][:-1]],
                               [change_of(unit) for unit in units[:-1]])
         if count is not None:
-            return call, made, 2, 0, sum(map(len, units[:count])), first, second, b""
+            return refused(made, 2, offset=sum(map(len, units[:count])))
     assert output is not None
-    return call, OK, 0, 0, 0, first, second, output
+    return call, OK, 0, 0, 0, index, first, second, output
 
 
 def of_one(data, output, places=1):
     """The case of an input whose changes are put in order, for which this is written where they
     aren't refused, and an index with so many places more than it needs."""
     wrong, units = read(data, "order")
-    index = bytes(max(0, len(units) - 1 + places))
+    index = max(0, len(units) - 1 + places)
+
+    def refused(status, side=0, detail=0, offset=0):
+        return "order", status, side, detail, offset, index, data, b"", b""
+
     if wrong:
         status, offset, detail = wrong
-        return "order", status, 1, detail, offset, data, index, b""
+        return refused(status, 1, detail, offset)
     if places < 0:
-        return "order", NO_INDEX, 0, 0, 0, data, index, b""
+        return refused(NO_INDEX)
     status, count = come_to([change_of(unit) for unit in units[:-1]])
     if count is not None:
-        return "order", status, 1, 0, sum(map(len, units[:count])), data, index, b""
+        return refused(status, 1, offset=sum(map(len, units[:count])))
     assert output is not None
-    return "order", OK, 0, 0, 0, data, index, output
+    return "order", OK, 0, 0, 0, index, data, b"", output
 
 
 # ---- inputs
@@ -321,7 +337,7 @@ def spoiled_pairs(rng, call, units):
     first, second = (b"".join(side) for side in units)
     bad = b"".join(spoiled(rng, units[0])), b"".join(spoiled(rng, units[1]))
     for one, other in ((bad[0], second), (first, bad[1]), bad):
-        if read(one, "data")[0] or read(other, "data" if call == "delta" else "changes")[0]:
+        if read(one, "data")[0] or read(other, READ_AS[call])[0]:
             yield of_two(call, one, other, None)
 
 
@@ -381,22 +397,52 @@ def apply_cases(rng):
         yield from spoiled_pairs(rng, "apply", units)
 
 
+def any_sequence(rng, data):
+    """Changes in any order, some of them of one name, and most of them allowed by the data."""
+    changes, held = [], {name(payload): payload for payload in data}
+    for _ in range(rng.choice([0, 3, 12])):
+        payload = rng.choice([any_payload(rng), *data])
+        there = name(payload) in held
+        action = rng.choice([ANNOUNCE, WITHDRAW]) if rng.random() < 0.1 else (
+            WITHDRAW if there else ANNOUNCE)
+        if payload[0] == ASPA and rng.random() < 0.4:
+            action = ANNOUNCE
+        held.pop(name(payload), None)
+        if action == ANNOUNCE:
+            held[name(payload)] = payload
+        changes.append((action, payload))
+    return changes
+
+
+def in_order_cases(rng):
+    """Data, and changes in any order, and such of which one or both are spoiled."""
+    for _ in range(900):
+        version, session = rng.choice([0, 1, 2]), rng.getrandbits(16)
+        data = any_data(rng, 10)
+        changes = any_sequence(rng, data)
+        ends = any_end(rng, version, session), any_end(rng, version, session)
+        units = (data_units(rng, data, version) + [end_form(ends[0])],
+                 units_of(rng, version, changes) + [end_form(ends[1])])
+        made, refused = applied(data, changes)
+        output = None if refused is not None else written([(ANNOUNCE, one) for one in made],
+                                                          ends[1])
+        first, second = (b"".join(side) for side in units)
+        first += rng.choice([b"", rng.randbytes(9)])
+        yield of_two("in_order", first, second + rng.choice([b"", rng.randbytes(30)]), output,
+                     rng.choice([0, 1, 3]))
+        if changes:
+            yield of_two("in_order", first, second, None, -1)
+        other = any_end(rng, (version + 1) % 3, rng.choice([session, 7]))
+        moved = b"".join(units_of(rng, other[0], changes)) + end_form(other)
+        yield of_two("in_order", first, moved, None)
+        yield from spoiled_pairs(rng, "in_order", units)
+
+
 def order_cases(rng):
     """Changes in any order, some of them of one name, and such that are spoiled."""
     for _ in range(900):
         version, data = rng.choice([0, 1, 2]), any_data(rng, 10)
-        changes, held = [], {name(payload): payload for payload in data}
-        for _ in range(rng.choice([0, 3, 12])):
-            payload = rng.choice([any_payload(rng), *data])
-            there = name(payload) in held
-            action = rng.choice([ANNOUNCE, WITHDRAW]) if rng.random() < 0.1 else (
-                WITHDRAW if there else ANNOUNCE)
-            if payload[0] == ASPA and rng.random() < 0.4:
-                action = ANNOUNCE
-            held.pop(name(payload), None)
-            if action == ANNOUNCE:
-                held[name(payload)] = payload
-            changes.append((action, payload))
+        changes = any_sequence(rng, data)
         end = any_end(rng, version, rng.getrandbits(16))
         units = units_of(rng, version, changes) + [end_form(end)]
         kept, refused = come_to(changes)
@@ -425,23 +471,26 @@ def large_cases(rng):
         bytes_of = b"".join(units_of(rng, 2, changes)) + end_form(end)
         yield of_two("delta", *sides, written(changes, end))
         yield of_two("apply", sides[0], bytes_of, written([(ANNOUNCE, one) for one in new], end))
-        mixed = rng.sample(changes, len(changes))
-        yield of_one(b"".join(units_of(rng, 2, mixed)) + end_form(end), written(changes, end))
+        mixed = b"".join(units_of(rng, 2, rng.sample(changes, len(changes)))) + end_form(end)
+        yield of_one(mixed, written(changes, end))
+        yield of_two("in_order", sides[0], mixed, written([(ANNOUNCE, one) for one in new], end))
     # The shortest units, so that an index needs most places for its input's length.
     gone = [(WITHDRAW, (ASPA, customer, ())) for customer in range(3000)]
-    mixed = [form(2, *change) for change in rng.sample(gone, len(gone))]
-    yield of_one(b"".join(mixed) + end_form(end), written(gone, end), 0)
+    mixed = b"".join(form(2, *change) for change in rng.sample(gone, len(gone))) + end_form(end)
+    yield of_one(mixed, written(gone, end), 0)
+    there = written([(ANNOUNCE, (ASPA, customer, (1,))) for customer in range(3000)], end)
+    yield of_two("in_order", there, mixed, end_form(end), 0)
 
 
 def main():
     if len(sys.argv) > 2:
         sys.exit(__doc__)
     rng = random.Random(sys.argv[1] if len(sys.argv) > 1 else "1")
-    for cases in (delta_cases, apply_cases, order_cases, large_cases):
-        for call, status, side, detail, offset, first, second, output in cases(rng):
+    for cases in (delta_cases, apply_cases, order_cases, in_order_cases, large_cases):
+        for call, status, side, detail, offset, places, first, second, output in cases(rng):
             sys.stdout.buffer.write(
-                struct.pack("<4B4Q", CALLS[call], status, side, detail, offset, len(first),
-                            len(second), len(output)) + first + second + output)
+                struct.pack("<4B5Q", CALLS[call], status, side, detail, offset, len(first),
+                            len(second), len(output), places) + first + second + output)
 
 
 if __name__ == "__main__":

@@ -263,8 +263,7 @@ def refusals():
     rows = [
         (sequence([one, one]), "duplicate announcement, at byte 20", DUPLICATE),
         (sequence([other]), "withdrawal of an unknown record, at byte 0", UNKNOWN),
-        (sequence([aspa(1, [2]), aspa(1, [], 0)]),
-         "an ASPA is announced and then withdrawn, at byte 16", None),
+        (sequence([other, one]), "withdrawal of an unknown record, at byte 0", UNKNOWN),
         (sequence([old]), "unit of another version than the session", OTHER_VERSION),
         (response() + end(1, session=1), "unit of another session", CORRUPT),
         (response(0) + key(1, b"", version=0), "version does not have such payloads", NO_TYPE),
@@ -376,7 +375,7 @@ def test_following():
         expect(peer, reset_query(2))
         peer.sendall(sequence([first[0], second[0]], 3) + notify(4))
         expect(peer, serial_query(2, 3))
-        peer.sendall(sequence([first[0]], 4))  # it is there already
+        peer.sendall(sequence([first[0], gone], 4))  # it is there already
         assert received(peer)[1:4] == b"\x0a\0\7"
         peer.close()
         peer = run.asked(reset_query(2))

@@ -4,23 +4,25 @@
  * usage: data_tests CASES */
 #include "testing.h"
 
-enum call { DELTA = 0, APPLY = 1, ORDER = 2 };
+enum call { DELTA = 0, APPLY = 1, ORDER = 2, IN_ORDER = 3 };
 
 /* One case: a call, and what is expected of it. The numbers are little-endian. */
 struct data_case {
     uint8_t call, status, side, detail;
-    size_t offset, first_length, second_length, output_length;
+    size_t offset, first_length, second_length, output_length, places;
     const uint8_t *first, *second, *output;
 };
 
 static struct data_case next_case(const uint8_t **at)
 {
-    struct data_case one = {(*at)[0], (*at)[1], (*at)[2], (*at)[3], 0, 0, 0, 0, NULL, NULL, NULL};
+    struct data_case one = {(*at)[0], (*at)[1], (*at)[2], (*at)[3], 0, 0, 0, 0, 0, NULL,
+                            NULL, NULL};
     *at += 4;
     one.offset = number(at);
     one.first_length = number(at);
     one.second_length = number(at);
     one.output_length = number(at);
+    one.places = number(at);
     one.first = *at;
     one.second = one.first + one.first_length;
     one.output = one.second + one.second_length;
@@ -32,6 +34,8 @@ static uint8_t called(const struct place *place, const struct data_case *one,
                       const uint8_t *first, const uint8_t *second, uint8_t *output, size_t room,
                       struct rtr_data_answer *answer)
 {
+    size_t *index = lie(place, place->index, one->places * sizeof *index);
+    memset(index, 0xa5, one->places * sizeof *index);
     switch (one->call) {
     case DELTA:
         return rtr_delta(first, one->first_length, second, one->second_length, output, room,
@@ -39,12 +43,12 @@ static uint8_t called(const struct place *place, const struct data_case *one,
     case APPLY:
         return rtr_apply(first, one->first_length, second, one->second_length, output, room,
                          answer);
+    case IN_ORDER:
+        return rtr_apply_in_order(first, one->first_length, second, one->second_length, index,
+                                  one->places, output, room, answer);
     default:
         CHECK(one->call == ORDER);
-        size_t *index = lie(place, place->index, one->second_length * sizeof *index);
-        memset(index, 0xa5, one->second_length * sizeof *index);
-        return rtr_order(first, one->first_length, index, one->second_length, output, room,
-                         answer);
+        return rtr_order(first, one->first_length, index, one->places, output, room, answer);
     }
 }
 
@@ -75,7 +79,7 @@ static void check_case(const struct place *place, const struct data_case *one)
 {
     const uint8_t *first = copied(place, place->input, one->first, one->first_length);
     const uint8_t *second = copied(place, place->other, one->second, one->second_length);
-    size_t enough = one->first_length + (one->call == ORDER ? 0 : one->second_length);
+    size_t enough = one->first_length + one->second_length;
     check_room(place, one, first, second, enough, one->status);
     check_room(place, one, first, second, one->output_length, one->status);
     size_t step = one->output_length < 300 ? 1 : 1 + one->output_length / 20;
@@ -98,8 +102,16 @@ static void check_null(const struct place *place)
     CHECK(rtr_apply(NULL, 0, data, sizeof end, NULL, 0, answer) == RTR_SHORT && answer->side == 1);
     CHECK(rtr_apply(data, sizeof end, NULL, 0, NULL, 0, answer) == RTR_SHORT && answer->side == 2);
     CHECK(rtr_order(NULL, 0, NULL, 0, NULL, 0, answer) == RTR_SHORT && answer->side == 1);
+    CHECK(rtr_apply_in_order(NULL, 0, data, sizeof end, NULL, 0, NULL, 0, answer) == RTR_SHORT
+          && answer->side == 1);
+    CHECK(rtr_apply_in_order(data, sizeof end, NULL, 0, NULL, 0, NULL, 0, answer) == RTR_SHORT
+          && answer->side == 2);
     uint8_t *output = lie(place, place->output, sizeof end);
     CHECK(rtr_order(data, sizeof end, NULL, 0, output, sizeof end, answer) == RTR_OK);
+    CHECK(answer->written == sizeof end && memcmp(output, end, sizeof end) == 0);
+    output = lie(place, place->output, sizeof end);
+    CHECK(rtr_apply_in_order(data, sizeof end, data, sizeof end, NULL, 0, output, sizeof end,
+                             answer) == RTR_OK);
     CHECK(answer->written == sizeof end && memcmp(output, end, sizeof end) == 0);
 }
 

@@ -66,7 +66,7 @@ enum rtr_status {
     RTR_UNKNOWN = 15,        /* a payload is withdrawn that isn't there */
     RTR_UNDECIDED = 16,      /* rtr_order: an ASPA is announced and then withdrawn, so that what the
                                 changes come to depends on the data */
-    RTR_NO_INDEX = 17        /* rtr_order: the index has fewer places than there are units */
+    RTR_NO_INDEX = 17        /* the index has fewer places than there are units */
 };
 
 enum rtr_prefix_rule {
@@ -202,6 +202,11 @@ uint8_t rtr_delta_nonnull(const uint8_t *old_data, size_t old_length,
 uint8_t rtr_apply_nonnull(const uint8_t *data, size_t data_length,
                           const uint8_t *changes, size_t changes_length,
                           uint8_t *output, size_t output_length, struct rtr_data_answer *answer);
+uint8_t rtr_apply_in_order_nonnull(const uint8_t *data, size_t data_length,
+                                   const uint8_t *changes, size_t changes_length,
+                                   size_t *index, size_t index_length,
+                                   uint8_t *output, size_t output_length,
+                                   struct rtr_data_answer *answer);
 uint8_t rtr_order_nonnull(const uint8_t *input, size_t input_length,
                           size_t *index, size_t index_length,
                           uint8_t *output, size_t output_length, struct rtr_data_answer *answer);
@@ -432,10 +437,50 @@ static inline uint8_t rtr_apply(const uint8_t *data, size_t data_length,
                              rtr_writable(output), output_length, answer);
 }
 
+/* Writes what the changes of an answer make of the data, made one after the other in the order in
+ * which they came: data in canonical form, with the end of data of the changes. All changes are
+ * made, or none. An ASPA that is announced takes the place of the one of its customer. An output of
+ * data_length + changes_length bytes always suffices.
+ *
+ * The data are in canonical form. The changes are a sequence, as a cache sends it after its
+ * response: payload units in any order and an end of data, all of one version.
+ *
+ * The index is room that the call works in: as many places as the changes have payload units. What
+ * it holds afterwards is open.
+ *
+ * RTR_OK; or, in this order,
+ *   RTR_SHORT to RTR_PREFIX, RTR_NOT_CANONICAL   the first fault of the data (side 1), or else of
+ *                                                the changes (side 2), where RTR_NOT_CANONICAL is
+ *                                                of what isn't of the version of the units before
+ *                                                it
+ *   RTR_UNIT_VERSION                             the changes are of another version than the data:
+ *                                                of the one in `detail`
+ *   RTR_OTHER_SESSION                            the changes are of another session than the data
+ *   RTR_NO_INDEX                                 the index has fewer places than the changes have
+ *                                                payload units
+ *   RTR_DUPLICATE, RTR_UNKNOWN                   the first of the changes, as they came, that
+ *                                                announces what is there then, or withdraws what
+ *                                                isn't (side 2), at `offset`: rtr_error_code
+ *                                                answers 7 and 6 for it (RFC 8210 section 12)
+ *   RTR_NO_ROOM                                  the output is shorter than the data */
+static inline uint8_t rtr_apply_in_order(const uint8_t *data, size_t data_length,
+                                         const uint8_t *changes, size_t changes_length,
+                                         size_t *index, size_t index_length,
+                                         uint8_t *output, size_t output_length,
+                                         struct rtr_data_answer *answer)
+{
+    static size_t nowhere;
+    return rtr_apply_in_order_nonnull(rtr_readable(data), data_length, rtr_readable(changes),
+                                      changes_length, index ? index : &nowhere, index_length,
+                                      rtr_writable(output), output_length, answer);
+}
+
 /* Writes the sequence that the input begins with in canonical form: what its changes come to, made
  * one after the other. Caches send deltas in any order, and rtr_apply takes them in canonical form
- * alone. Where all of the changes are allowed one after the other, rtr_apply makes of the data with
- * those that are written what these make of it. An output as long as the input always suffices.
+ * alone; for changes that aren't compared or shown but made onto data, rtr_apply_in_order is
+ * enough. Where all of the changes are allowed one after the other, rtr_apply makes of the data
+ * with those that are written what these make of it. An output as long as the input always
+ * suffices.
  *
  * The index is room that the call works in: as many places as there are payload units. What it
  * holds afterwards is open.

@@ -236,30 +236,24 @@ static void drop(struct rtr_client *c)
     happens(c, RTR_CLIENT_DROPPED);
 }
 
-/* What the changes of the answer make of the client's data, or of none: all, or none. `input` is
- * then what `why` speaks of. False where there is no memory. */
-static bool changed(struct rtr_client *c, struct bytes *input, struct bytes *result,
-                    struct rtr_data_answer *why)
+/* What the changes of the answer make of the client's data, or of none: all, or none, and then
+ * `why` says which is refused. False where there is no memory. */
+static bool changed(struct rtr_client *c, struct bytes *result, struct rtr_data_answer *why)
 {
     uint8_t none[LONGEST_END];
     struct bytes index = {NULL, 0}, old = {c->data, c->data_length};
     if (!c->serial)
         old = nothing(&c->last, none);
-    if (!room(&index, c->answer_units * sizeof(size_t)) || !room(input, c->answer_length)
-        || !room(result, old.length + c->answer_length)) {
-        free(index.at);
-        return false;
-    }
-    if (rtr_order(c->answer, c->answer_length, (size_t *)(void *)index.at, c->answer_units,
-                  input->at, input->length, why)) {
-        memcpy(input->at, c->answer, c->answer_length);
-    } else {
-        input->length = why->written;
-        rtr_apply(old.at, old.length, input->at, input->length, result->at, result->length, why);
+    bool made = room(&index, c->answer_units * sizeof(size_t))
+                && room(result, old.length + c->answer_length);
+    if (made) {
+        rtr_apply_in_order(old.at, old.length, c->answer, c->answer_length,
+                           (size_t *)(void *)index.at, c->answer_units, result->at,
+                           result->length, why);
         result->length = why->written;
     }
     free(index.at);
-    return true;
+    return made;
 }
 
 /* ---- units that come */
@@ -276,17 +270,17 @@ static void other_session(struct rtr_client *c)
  * asked for next. */
 static void apply(struct rtr_client *c)
 {
-    struct bytes input = {NULL, 0}, data = {NULL, 0};
+    struct bytes data = {NULL, 0};
     struct rtr_data_answer why;
-    bool made = changed(c, &input, &data, &why);
+    bool made = changed(c, &data, &why);
     if (made && why.status) {
-        size_t size;
-        uint8_t detail, *unit = input.at + why.offset;
+        uint8_t detail, *unit = c->answer + why.offset;
+        size_t size, left = c->answer_length - why.offset;
         if (c->serial)
             reset(c);
-        if (rtr_unit_size(unit, input.length - why.offset, &size, &detail))
+        if (rtr_unit_size(unit, left, &size, &detail))
             size = 0;
-        refuse(c, why.status, why.offset, unit, input.length - why.offset, size);
+        refuse(c, why.status, why.offset, unit, left, size);
     } else if (made && take(c, data, &c->last)) {
         data.at = NULL;
         free(c->answer);
@@ -297,7 +291,6 @@ static void apply(struct rtr_client *c)
         fail_for(c, RTR_CLIENT_MEMORY, "no memory");
     }
     free(data.at);
-    free(input.at);
 }
 
 /* The end of data of a response came. */

@@ -97,8 +97,12 @@ static const struct refusal refusals[] = {
      RTR_CLIENT_REFUSED, 7, true, false, true},
     {BYTES("\2\4\0\0\0\0\0\x14\0\x08\x18\0\x0a\0\0\0\0\0\0\x09" END_OF("\x12\x34", "\6")), 20,
      RTR_CLIENT_REFUSED, 6, true, false, true},
-    {BYTES("\2\x0b\1\0\0\0\0\x10\0\0\0\1\0\0\0\2\2\x0b\0\0\0\0\0\x0c\0\0\0\1"
-           END_OF("\x12\x34", "\6")), 0, RTR_CLIENT_REFUSED, NONE, true, false, true},
+    {BYTES("\2\4\0\0\0\0\0\x14\1\x08\x18\0\x0a\0\0\0\0\0\0\1" /* whatever follows it */
+           "\2\4\0\0\0\0\0\x14\0\x08\x18\0\x0a\0\0\0\0\0\0\1" END_OF("\x12\x34", "\6")), 20,
+     RTR_CLIENT_REFUSED, 7, true, false, true},
+    {BYTES("\2\4\0\0\0\0\0\x14\0\x08\x18\0\x0a\0\0\0\0\0\0\x09"
+           "\2\4\0\0\0\0\0\x14\1\x08\x18\0\x0a\0\0\0\0\0\0\x09" END_OF("\x12\x34", "\6")), 20,
+     RTR_CLIENT_REFUSED, 6, true, false, true},
     {BYTES("\1\4\0\0\0\0\0\x14\1\x08\x18\0\x0a\0\0\0\0\0\0\x09"), 20, RTR_CLIENT_BREACH, 8, true,
      false, false},
     {BYTES("\2\3\x12\x34\0\0\0\x08"), 8, RTR_CLIENT_BREACH, 5, true, false, false},

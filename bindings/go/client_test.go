@@ -416,6 +416,18 @@ var clientStates = map[string]struct {
 			{asked(1, 7, 1), full(7, 2, otherIPv4, ipv4)},
 		}, {{reset1, full(7, 3, otherIPv4, ipv4)}}}, []uint32{1, 3}, []error{Duplicate},
 	},
+	"an announcement of what is there before its withdrawal": {
+		[][]scene{{
+			{reset1, join(full(7, 1, ipv4), numbered(1, 0, 7, 2))},
+			{asked(1, 7, 1), full(7, 2, ipv4, withdrawn4)},
+		}, {{reset1, full(7, 3, otherIPv4, ipv4)}}}, []uint32{1, 3}, []error{Duplicate},
+	},
+	"a withdrawal of what isn't there before its announcement": {
+		[][]scene{{
+			{reset1, join(full(7, 1), numbered(1, 0, 7, 2))},
+			{asked(1, 7, 1), full(7, 2, withdrawn4, ipv4)},
+		}, {{reset1, full(7, 3, otherIPv4, ipv4)}}}, []uint32{1, 3}, []error{Unknown},
+	},
 	"a report in a response": {
 		[][]scene{{{reset1, join(response(1, 7), ipv4, report(1, 1))}}, {{reset1, full(7, 3)}}},
 		[]uint32{3}, []error{&Reported{Code: InternalError}},

@@ -269,7 +269,7 @@ func (c *conversation) receive(session uint16) error {
 	if err != nil {
 		return err
 	}
-	data, err := applied(base, read)
+	data, err := ApplyInOrder(base, read)
 	if err != nil {
 		if c.serial {
 			c.reset()
@@ -287,15 +287,6 @@ func (c *conversation) interrupted(err error) error {
 		return err
 	}
 	return c.problem(err)
-}
-
-// applied are the data with changes in any order.
-func applied(data Data, read []byte) (Data, error) {
-	changes, err := Order(read)
-	if err != nil {
-		return Data{}, err
-	}
-	return Apply(data, changes)
 }
 
 // otherSession ends a session whose cache has begun another one, after the last unit said so: the

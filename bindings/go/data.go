@@ -240,9 +240,30 @@ func Apply(data Data, changes []byte) (Data, error) {
 	return checkedData(fitted(output, written)), nil
 }
 
+// ApplyInOrder is what the changes of an answer make of the data, made one after the other in the
+// order in which they came, with the end of data of the changes: all of them, or there is an error.
+// An ASPA that is announced takes the place of the one of its customer. The changes are a sequence,
+// as a cache sends it after its response; what follows its end of data doesn't count.
+//
+// Errors, each a Fault, in this order, with offsets in the changes:
+//   - Short for the zero Data;
+//   - Short to PrefixRule at the first unit of the changes that is refused, or NotCanonical at one
+//     that isn't of the version of those before it;
+//   - UnitVersion or OtherSession if the changes are of another version or session than the data;
+//   - Duplicate or Unknown at the first of the changes, as they came, that announces what is there
+//     then or withdraws what isn't (RFC 8210 section 12), which owes the cache a report.
+func ApplyInOrder(data Data, changes []byte) (Data, error) {
+	output := make([]byte, len(data.bytes)+len(changes))
+	written, err := applyInOrder(data.bytes, changes, output, len(changes)/shortestPayload)
+	if err != nil {
+		return Data{}, err
+	}
+	return checkedData(fitted(output, written)), nil
+}
+
 // Order is the sequence that changes begins with, in canonical form: what its changes come to,
 // made one after the other. Caches send deltas in any order, and Apply takes them in canonical
-// form alone. Where all of the changes are allowed, Apply makes of the data with what Order gives
+// form alone; ApplyInOrder takes them as they are. Where all of the changes are allowed, Apply makes of the data with what Order gives
 // what they make of it one after the other.
 //
 // Errors, each a Fault with the offset and the bytes of the unit, in this order:

@@ -24,6 +24,17 @@ static struct rtr_data_answer apply(const uint8_t *data, size_t data_length,
 	return answer;
 }
 
+static struct rtr_data_answer apply_in_order(const uint8_t *data, size_t data_length,
+                                             const uint8_t *changes, size_t changes_length,
+                                             size_t *index, size_t index_length,
+                                             uint8_t *output, size_t output_length)
+{
+	struct rtr_data_answer answer;
+	rtr_apply_in_order(data, data_length, changes, changes_length, index, index_length, output,
+	                   output_length, &answer);
+	return answer;
+}
+
 static struct rtr_data_answer order(const uint8_t *input, size_t input_length,
                                     size_t *index, size_t index_length,
                                     uint8_t *output, size_t output_length)
@@ -49,6 +60,17 @@ func apply(data, changes, output []byte) (int, error) {
 	second, m := place(changes)
 	out, room := place(output)
 	return answered(C.apply(first, n, second, m, out, room), data, changes)
+}
+
+// applyInOrder writes what the changes make of the data, in the order in which they came, to output,
+// and answers how long it is. There are at most so many payload units in them.
+func applyInOrder(data, changes, output []byte, units int) (int, error) {
+	index := make([]C.size_t, units+1)
+	first, n := place(data)
+	second, m := place(changes)
+	out, room := place(output)
+	a := C.apply_in_order(first, n, second, m, &index[0], C.size_t(units), out, room)
+	return answered(a, data, changes)
 }
 
 // order writes the changes in canonical form to output, and answers how long they are. There are

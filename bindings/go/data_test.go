@@ -184,53 +184,94 @@ func TestDeltas(t *testing.T) {
 	}
 }
 
+// changing are units of changes, and what is made of records by them, up to the first that isn't
+// allowed.
+type changing struct {
+	held   records
+	input  []byte
+	status Status
+	offset int // of the unit that isn't allowed
+}
+
+// change appends the unit that announces or withdraws a record.
+func (c *changing) change(one record, announce bool) {
+	_, there := c.held[one.name]
+	switch {
+	case c.status != OK:
+	case announce && there && one.kind != ASPA:
+		c.status, c.offset = Duplicate, len(c.input)
+	case !announce && !there:
+		c.status, c.offset = Unknown, len(c.input)
+	case announce:
+		c.held[one.name] = one
+	default:
+		delete(c.held, one.name)
+	}
+	c.input = append(c.input, one.unit(2, announce)...)
+}
+
+// becomes checks what a call answered that made these changes.
+func (c *changing) becomes(t *testing.T, made Data, err error) {
+	t.Helper()
+	if c.status == OK {
+		if err != nil || !bytes.Equal(made.Bytes(), c.held.canonical(2, 6)) {
+			t.Fatalf("%x: %x %v", c.input, made.Bytes(), err)
+		}
+	} else if wrong := refusedAt(err, c.status, c.input, c.offset); wrong != nil || !made.IsZero() {
+		t.Fatalf("%x: %v", c.input, wrong)
+	}
+}
+
+// Changes in any order are made one after the other, all or not at all, and the first that isn't
+// allowed is named.
+func TestApplyInOrder(t *testing.T) {
+	random := rand.New(rand.NewSource(6))
+	refused := map[Status]int{}
+	for i := 0; i < 4000; i++ {
+		c := changing{held: someRecords(random, random.Intn(8))}
+		data := parsed(t, c.held.canonical(2, 5))
+		for j := random.Intn(8); j > 0; j-- {
+			one := recordOf(random)
+			if there := c.held.ordered(func(record) bool { return true }); random.Intn(2) == 0 &&
+				len(there) > 0 {
+				one = there[random.Intn(len(there))]
+			}
+			_, there := c.held[one.name]
+			c.change(one, there == (random.Intn(8) == 0))
+		}
+		c.input = append(c.input, ending(2, 0x1234, 6)...)
+		made, err := ApplyInOrder(data, append(c.input, 7))
+		refused[c.status]++
+		c.becomes(t, made, err)
+	}
+	if len(refused) != 3 {
+		t.Fatal(refused)
+	}
+}
+
 // Changes in canonical form are applied all or not at all, and the first that isn't allowed is
 // named.
 func TestApply(t *testing.T) {
 	random := rand.New(rand.NewSource(2))
 	refused := map[Status]int{}
 	for i := 0; i < 3000; i++ {
-		held := someRecords(random, random.Intn(20))
-		data := parsed(t, held.canonical(2, 5))
+		c := changing{held: someRecords(random, random.Intn(20))}
+		data := parsed(t, c.held.canonical(2, 5))
 		announced := someRecords(random, random.Intn(3))
 		withdrawn := someRecords(random, random.Intn(3))
-		input, status, offset := []byte{}, OK, 0
-		change := func(one record, announce bool) {
-			_, there := held[one.name]
-			switch {
-			case status != OK:
-			case announce && there && one.kind != ASPA:
-				status, offset = Duplicate, len(input)
-			case !announce && !there:
-				status, offset = Unknown, len(input)
-			case announce:
-				held[one.name] = one
-			default:
-				delete(held, one.name)
-			}
-			input = append(input, one.unit(2, announce)...)
-		}
 		for _, one := range announced.ordered(func(record) bool { return true }) {
-			change(one, true)
+			c.change(one, true)
 		}
 		for _, one := range withdrawn.ordered(func(one record) bool {
 			_, there := announced[one.name]
 			return !there
 		}) {
-			change(one, false)
+			c.change(one, false)
 		}
-		input = append(input, ending(2, 0x1234, 6)...)
-		applied, err := Apply(data, input)
-		refused[status]++
-		if status == OK {
-			if err != nil || !bytes.Equal(applied.Bytes(), held.canonical(2, 6)) {
-				t.Fatalf("%x and %x: %x %v", data.Bytes(), input, applied.Bytes(), err)
-			}
-			continue
-		}
-		if wrong := refusedAt(err, status, input, offset); wrong != nil || !applied.IsZero() {
-			t.Fatalf("%x and %x: %v", data.Bytes(), input, wrong)
-		}
+		c.input = append(c.input, ending(2, 0x1234, 6)...)
+		applied, err := Apply(data, c.input)
+		refused[c.status]++
+		c.becomes(t, applied, err)
 	}
 	if len(refused) != 3 {
 		t.Fatal(refused)
@@ -391,6 +432,13 @@ var refusals = []struct {
 	{"apply: duplicate", applyError, join(announced6, ipv4, end)[32:], Duplicate, 0, 0},
 	{"apply: unknown", applyError, join(otherIPv4, ipv6, end), Unknown, 0, 20},
 
+	{"in order: nothing", inOrderError, nil, Short, 0, 0},
+	{"in order: versions", inOrderError, join(otherIPv4, withdrawn, end), NotCanonical, 0, 20},
+	{"in order: version", inOrderError, end0, UnitVersion, 0, -1},
+	{"in order: session", inOrderError, join(ipv4, otherEnd), OtherSession, 0, -1},
+	{"in order: duplicate", inOrderError, join(ipv4, withdrawn4, end), Duplicate, 0, 0},
+	{"in order: unknown", inOrderError, join(ipv6, announced6, ipv4, end), Unknown, 0, 0},
+
 	{"order: no end", orderError, ipv4, Short, 0, 20},
 	{"order: a query", orderError, join(ipv4, resetQuery), UnitType, 2, 20},
 	{"order: a prefix", orderError, join(ipv4, longPrefix, end), PrefixRule, 1, 20},
@@ -410,6 +458,15 @@ func applyError(input []byte) error {
 	data, err := ParseData(join(ipv4, end))
 	if err == nil {
 		_, err = Apply(data, input)
+	}
+	return err
+}
+
+// inOrderError applies changes in their order to data with one prefix.
+func inOrderError(input []byte) error {
+	data, err := ParseData(join(ipv4, end))
+	if err == nil {
+		_, err = ApplyInOrder(data, input)
 	}
 	return err
 }
@@ -449,7 +506,7 @@ func TestDeltaRefusals(t *testing.T) {
 	var zero Data
 	for _, err := range []error{
 		second(Delta(zero, one)), second(Delta(one, zero)), second(Delta(zero, zero)),
-		second(Apply(zero, end)), second(zero.For(1)),
+		second(Apply(zero, end)), second(ApplyInOrder(zero, end)), second(zero.For(1)),
 	} {
 		if !errors.Is(err, Short) {
 			t.Fatal(err)

@@ -36,7 +36,7 @@ func deltaCases(t *testing.T) (all []deltaCase) {
 		one := deltaCase{call: rest[0], status: rest[1], side: rest[2], detail: rest[3]}
 		one.offset = int64(binary.LittleEndian.Uint64(rest[4:]))
 		lengths := rest[12:36]
-		rest = rest[36:]
+		rest = rest[44:] // after how many places an index has: here one for each unit
 		for i, part := range []*[]byte{&one.first, &one.second, &one.output} {
 			length := binary.LittleEndian.Uint64(lengths[8*i:])
 			*part, rest = rest[:length], rest[length:]
@@ -54,6 +54,10 @@ func (one *deltaCase) called() ([]byte, error) {
 		return output[:written], err
 	case 1:
 		written, err := apply(one.first, one.second, output)
+		return output[:written], err
+	case 3:
+		units := len(one.second) / shortestPayload
+		written, err := applyInOrder(one.first, one.second, output, units)
 		return output[:written], err
 	}
 	return Order(one.first)

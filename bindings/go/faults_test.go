@@ -201,6 +201,8 @@ func clientRefusals() map[string]refusedResponse {
 			"duplicate announcement"},
 		"an unknown record": {1, join(withdrawn4, end), Unknown, 6, withdrawn4,
 			"withdrawal of an unknown record"},
+		"an unknown record that is announced then": {1, join(withdrawn4, ipv4, end), Unknown, 6,
+			withdrawn4, "withdrawal of an unknown record"},
 		"another version": {1, changed(ipv4, 0, 2), ErrOtherVersion, 8, changed(ipv4, 0, 2),
 			"unit of another version than the session"},
 		"another version at the end": {1, ending(0, session, 1), ErrOtherVersion, 8,
@@ -211,7 +213,6 @@ func clientRefusals() map[string]refusedResponse {
 			"version does not have such payloads"},
 		"another session": {1, ending(1, 7, 1), ErrOtherSession, 0, ending(1, 7, 1),
 			"unit of another session"},
-		"undecided":  {2, join(aspa, withdrawn, ending(2, session, 1)), Undecided, noReport, nil, ""},
 		"many units": {1, bytes.Repeat(ipv4, 101), TooMany, noReport, nil, ""},
 		"many bytes": {1, bytes.Repeat(changed(longKey(), 0, 1), 2), NoRoom, noReport, nil, ""},
 	}

@@ -5,7 +5,7 @@ use crate::data::{DataError, Place};
 use crate::fault::ErrorCode;
 use crate::following::Follower;
 use crate::kind::Kind;
-use crate::owned_data::{order, Data};
+use crate::owned_data::Data;
 use crate::reader::Error;
 use crate::timed::{after, close, is_tick_of_reader, units, write_all, Units};
 use crate::unit::{compare_serials, unit_size, ResetQuery, SerialQuery, Unit, UnitRef};
@@ -394,11 +394,10 @@ fn applied(
     read: &[u8],
     (version, session): (u8, u16),
 ) -> Result<Data, ClientError> {
-    let changes = order(read).map_err(|error| refused(error, read))?;
     let nothing = Data::new(version, session, 0, None);
     let base = base.unwrap_or(nothing.expect("there is this version"));
-    let refused = |error| refused(error, changes.as_bytes());
-    base.apply(&changes).map_err(refused)
+    let made = base.apply_in_order(read);
+    made.map_err(|error| refused(error, read))
 }
 
 /// The error with the bytes of the unit at fault.

@@ -78,7 +78,7 @@ pub fn delta_into(old: &[u8], new: &[u8], output: &mut [u8]) -> Result<usize, Da
 /// and nothing is allocated.
 ///
 /// Both are in canonical form, as `Data` and `Changes` have it; what follows their ends of data
-/// doesn't count. [`order_into`] puts changes into it.
+/// doesn't count. [`order_into`] puts changes into it, and [`apply_in_order`] takes others.
 ///
 /// ```
 /// use rtr_wire::apply_into;
@@ -106,9 +106,62 @@ pub fn apply_into(data: &[u8], changes: &[u8], output: &mut [u8]) -> Result<usiz
     sys::apply(data, changes, output)
 }
 
+/// Writes what the changes of an answer make of the data, made one after the other in the order in
+/// which they came: data in canonical form, with the end of data of the changes. It answers their
+/// length. All changes are made, or none. An ASPA that is announced takes the place of the one of
+/// its customer. An output as long as both inputs together always suffices, and nothing is
+/// allocated.
+///
+/// The data are in canonical form, as `Data` has it; the changes are a sequence, as a cache sends it
+/// after its response. What follows their ends of data doesn't count. The index is room to work in,
+/// with a place for each payload unit of the changes: `changes.len() / 12` always suffice. What it
+/// holds afterwards is open.
+///
+/// ```
+/// use rtr_wire::{apply_in_order, Fault};
+///
+/// // Data without payloads, and changes that withdraw a prefix and announce it (RFC 8210 sections
+/// // 5.6 and 5.8).
+/// let data = [0, 7, 0, 1, 0, 0, 0, 12, 0, 0, 0, 2];
+/// let changes = [
+///     0, 4, 0, 0, 0, 0, 0, 20, 0, 23, 26, 0, 192, 0, 2, 0, 0, 1, 0, 15, //
+///     0, 4, 0, 0, 0, 0, 0, 20, 1, 23, 26, 0, 192, 0, 2, 0, 0, 1, 0, 15, //
+///     0, 7, 0, 1, 0, 0, 0, 12, 0, 0, 0, 3,
+/// ];
+/// let (mut index, mut output) = ([0; 2], [0; 64]);
+/// let error = apply_in_order(&data, &changes, &mut index, &mut output).unwrap_err();
+/// assert_eq!(error.fault, Fault::UnknownRecord);
+/// assert_eq!(apply_in_order(&data, &changes[20..], &mut index, &mut output)?, 32);
+/// assert_eq!(output[..32], changes[20..]);
+/// # Ok::<(), rtr_wire::DataError>(())
+/// ```
+///
+/// # Errors
+///
+/// In this order:
+///
+/// - `Short` to `Prefix` or `NotCanonical`, the first fault of the data, or else of the changes,
+///   where `NotCanonical` is of what isn't of the version of the units before it;
+/// - `UnitVersion` with the version of the changes, where the data are of another; `OtherSession`;
+/// - `NoIndex`;
+/// - `Duplicate` or `UnknownRecord` for the first of the changes, as they came, that announces what
+///   is there then or withdraws what isn't (RFC 8210 section 12);
+/// - `NoRoom`.
+///
+/// After `NoRoom` the bytes of the output are open, after any other they are as they were.
+pub fn apply_in_order(
+    data: &[u8],
+    changes: &[u8],
+    index: &mut [usize],
+    output: &mut [u8],
+) -> Result<usize, DataError> {
+    sys::apply_in_order(data, changes, index, output)
+}
+
 /// Writes the sequence that the input begins with in canonical form: what its changes come to, made
 /// one after the other. It answers their length. Caches send deltas in any order, and
-/// [`apply_into`] takes them in canonical form alone. An output as long as the input always
+/// [`apply_into`] takes them in canonical form alone; [`apply_in_order`] takes them as they are. An
+/// output as long as the input always
 /// suffices, and nothing is allocated.
 ///
 /// The index is room to work in, with a place for each payload unit: `input.len() / 12` always

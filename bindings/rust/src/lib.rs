@@ -42,9 +42,10 @@
 //! # Data and deltas
 //!
 //! `Data` is what a cache has, or a router has of it, in canonical form. `Data::delta_to` makes
-//! what a serial query is answered by, `order` takes in what a cache sends, and `Data::apply` makes
-//! all of its changes, or none. [`delta_into`], [`order_into`] and [`apply_into`] do the same over
-//! slices, and allocate nothing.
+//! what a serial query is answered by, `Data::apply_in_order` makes all changes that a cache sends, or
+//! none, and `Data::apply` those that `order` puts in canonical form. [`delta_into`],
+//! [`apply_in_order`], [`order_into`] and [`apply_into`] do the same over slices, and allocate
+//! nothing.
 //!
 //! # Features
 //!
@@ -94,7 +95,7 @@ mod writer;
 
 #[cfg(feature = "std")]
 pub use client::{Breach, Client, ClientError, ClientOptions, Event};
-pub use data::{apply_into, delta_into, order_into, DataError, Place, Side};
+pub use data::{apply_in_order, apply_into, delta_into, order_into, DataError, Place, Side};
 pub use fault::{ErrorCode, Fault, PrefixRule};
 pub use kind::{Kind, UnknownKind};
 #[cfg(feature = "std")]

@@ -1,6 +1,6 @@
 //! Data and changes that own their bytes.
 
-use crate::data::{apply_into, delta_into, order_into, DataError, Place, Side};
+use crate::data::{apply_in_order, apply_into, delta_into, order_into, DataError, Place, Side};
 use crate::fault::Fault;
 use crate::sequence::normalise_for;
 use crate::unit::{EndOfData, Timing, Unit, UnitRef};
@@ -59,7 +59,7 @@ impl Canonical {
 /// Two data are equal if their payloads and their ends of data are.
 ///
 /// ```
-/// use rtr_wire::{order, Data, Unit};
+/// use rtr_wire::{Data, Unit};
 ///
 /// // What a cache sends: a prefix and an end of data (RFC 8210 sections 5.6 and 5.8).
 /// let sent = [
@@ -67,7 +67,7 @@ impl Canonical {
 ///     1, 7, 0, 9, 0, 0, 0, 24, 0, 0, 0, 5, 0, 0, 0x0e, 0x10, 0, 0, 2, 0x58, 0, 0, 0x1c, 0x20,
 /// ];
 /// let nothing = Data::new(1, 9, 4, None)?;
-/// let data = nothing.apply(&order(&sent)?)?;
+/// let data = nothing.apply_in_order(&sent)?;
 /// assert_eq!(data.as_bytes(), sent);
 /// assert_eq!((data.len(), data.end().serial), (1, 5));
 ///
@@ -208,6 +208,21 @@ impl Data {
         Ok(Data(Canonical::new(bytes, length)))
     }
 
+    /// What the changes of an answer make of this data, made one after the other in the order in
+    /// which they came: all of them are made, or none. An ASPA that is announced takes the place of
+    /// the one of its customer. They are a sequence, as a cache sends it after its response, and the
+    /// end of data is theirs.
+    ///
+    /// # Errors
+    ///
+    /// Those of [`apply_in_order`], but `NoIndex` and `NoRoom`.
+    pub fn apply_in_order(&self, sent: &[u8]) -> Result<Data, DataError> {
+        let mut index = vec![0; sent.len() / SHORTEST_UNIT];
+        let mut bytes = vec![0; self.0.bytes.len() + sent.len()];
+        let length = apply_in_order(self.as_bytes(), sent, &mut index, &mut bytes)?;
+        Ok(Data(Canonical::new(bytes, length)))
+    }
+
     /// The data for clients of a version, as [`normalise_for`] writes it: without what that version
     /// doesn't have.
     ///
@@ -275,8 +290,8 @@ impl Changes {
 }
 
 /// What the changes of the sequence that the input begins with come to, made one after the other.
-/// Caches send deltas in any order, and [`Data::apply`] takes what this makes of them. What a reset
-/// query is answered by is ordered in the same way, and applied to data without payloads.
+/// [`Data::apply`] takes what this makes of them. What isn't compared or shown but only made onto
+/// data needs no order: [`Data::apply_in_order`] takes the sequence as it came.
 ///
 /// # Errors
 ///

@@ -132,6 +132,17 @@ extern "C" {
         output_length: usize,
         answer: *mut DataAnswer,
     ) -> u8;
+    fn rtr_apply_in_order_nonnull(
+        data: *const u8,
+        data_length: usize,
+        changes: *const u8,
+        changes_length: usize,
+        index: *mut usize,
+        index_length: usize,
+        output: *mut u8,
+        output_length: usize,
+        answer: *mut DataAnswer,
+    ) -> u8;
     fn rtr_order_nonnull(
         input: *const u8,
         input_length: usize,
@@ -324,6 +335,30 @@ pub(crate) fn apply(data: &[u8], changes: &[u8], output: &mut [u8]) -> Result<us
             data.len(),
             changes.as_ptr(),
             changes.len(),
+            output.as_mut_ptr(),
+            output.len(),
+            &mut answer,
+        )
+    };
+    data_result(answer)
+}
+
+pub(crate) fn apply_in_order(
+    data: &[u8],
+    changes: &[u8],
+    index: &mut [usize],
+    output: &mut [u8],
+) -> Result<usize, DataError> {
+    let mut answer = DataAnswer::default();
+    // SAFETY: as in `normalise`; the index too is borrowed mutably.
+    unsafe {
+        rtr_apply_in_order_nonnull(
+            data.as_ptr(),
+            data.len(),
+            changes.as_ptr(),
+            changes.len(),
+            index.as_mut_ptr(),
+            index.len(),
             output.as_mut_ptr(),
             output.len(),
             &mut answer,

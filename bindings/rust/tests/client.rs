@@ -476,8 +476,6 @@ fn refused_sequences() -> Vec<Refused> {
     let one = prefix(1, 1);
     let mut old = one.clone();
     old[0] = 1;
-    let aspa = [2, 11, 1, 0, 0, 0, 0, 16, 0, 0, 0, 1, 0, 0, 0, 2];
-    let gone = [2, 11, 0, 0, 0, 0, 0, 12, 0, 0, 0, 1];
     let duplicate = Some(ErrorCode::DUPLICATE_ANNOUNCEMENT_RECEIVED);
     let unknown = Some(ErrorCode::WITHDRAWAL_OF_UNKNOWN_RECORD);
     let unexpected = Some(ErrorCode::UNEXPECTED_PROTOCOL_VERSION);
@@ -485,13 +483,12 @@ fn refused_sequences() -> Vec<Refused> {
         "duplicate announcement, at byte 20",
         "withdrawal of an unknown record, at byte 0",
         "unit of another version than the session",
-        "an ASPA is announced and then withdrawn, at byte 16",
     ];
     vec![
         (sequence(&[&one, &one]), texts[0], duplicate),
         (sequence(&[&prefix(0, 1)]), texts[1], unknown),
+        (sequence(&[&prefix(0, 1), &one]), texts[1], unknown),
         (sequence(&[&old]), texts[2], unexpected),
-        (sequence(&[&aspa, &gone]), texts[3], None),
     ]
 }
 
@@ -609,14 +606,17 @@ fn bad_changes() {
     let _alone = alone();
     let cache = Played::new();
     let there = data(1).as_bytes()[..20].to_vec();
+    let mut gone = there.clone();
+    gone[8] = 0;
     let (end, older) = (end_of(2), end_of(0));
+    let duplicate = ErrorCode::DUPLICATE_ANNOUNCEMENT_RECEIVED;
+    let unknown = ErrorCode::WITHDRAWAL_OF_UNKNOWN_RECORD;
     let rows = [
-        (there, &end, ErrorCode::DUPLICATE_ANNOUNCEMENT_RECEIVED),
-        (
-            prefix(0, 999),
-            &end,
-            ErrorCode::WITHDRAWAL_OF_UNKNOWN_RECORD,
-        ),
+        (there.clone(), &end, duplicate),
+        (prefix(0, 999), &end, unknown),
+        // What comes later doesn't make up for it.
+        ([there, gone].concat(), &end, duplicate),
+        ([prefix(0, 999), prefix(1, 999)].concat(), &end, unknown),
         (prefix(1, 999), &older, ErrorCode::CORRUPT_DATA),
     ];
     for (unit, end, code) in rows {

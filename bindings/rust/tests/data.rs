@@ -207,6 +207,9 @@ fn changes_in_any_order() {
         writes(&two, one.len() + length, |output| {
             apply_into(&one, &changes, output)
         });
+        writes(&two, one.len() + sent.len(), |output| {
+            apply_in_order(&one, &sent, &mut index, output)
+        });
     }
 }
 
@@ -300,7 +303,10 @@ fn what_holds_no_data() {
 #[test]
 fn inputs_that_do_not_fit_together() {
     let (one, other) = (end(5, 1), end(6, 2));
-    for call in [delta_into, apply_into] {
+    let in_order = |data: &[u8], changes: &[u8], output: &mut [u8]| {
+        apply_in_order(data, changes, &mut [0; 9], output)
+    };
+    for call in [delta_into, apply_into, in_order] {
         let version = refused(|out| call(&one, &END_0, out)).0;
         assert_eq!(version, Fault::UnitVersion(0));
         let version = refused(|out| call(&END_0, &other, out)).0;
@@ -341,6 +347,38 @@ fn changes_that_the_rules_refuse() {
     let changes = [aspa(3, &[7, 8]).announce, end.clone()].concat();
     let wanted = [ipv4(1).announce, aspa(3, &[7, 8]).announce, end].concat();
     writes(&wanted, 400, |output| apply_into(&data, &changes, output));
+}
+
+/// The first change, as they came, that announces what is there or withdraws what isn't, whatever
+/// comes after it.
+#[test]
+fn changes_in_order_that_the_rules_refuse() {
+    let (a, b, gone) = (ipv4(1), ipv4(2), aspa(4, &[]).withdraw);
+    let data = [&a.announce[..], &aspa(3, &[4]).announce, &end(5, 1)].concat();
+    let rows = [
+        (vec![&b.withdraw, &b.announce], Fault::UnknownRecord, 0),
+        (vec![&a.announce, &a.withdraw], Fault::Duplicate, 0),
+        (vec![&a.withdraw, &a.withdraw], Fault::UnknownRecord, 20),
+        (vec![&b.announce, &a.announce], Fault::Duplicate, 20),
+        (vec![&b.withdraw, &a.announce], Fault::UnknownRecord, 0),
+        (vec![&a.withdraw, &gone], Fault::UnknownRecord, 20),
+    ];
+    for (units, fault, offset) in rows {
+        let changes = [units.into_iter().flatten().copied().collect(), end(5, 2)].concat();
+        let wanted = (fault, at(Side::Second, offset));
+        let answer = refused(|out| apply_in_order(&data, &changes, &mut [0; 9], out));
+        assert_eq!(answer, wanted);
+    }
+    // An ASPA that is announced, over another too, and withdrawn is gone.
+    let (other, gone) = (aspa(3, &[7, 8]).announce, aspa(3, &[]).withdraw);
+    let changes = [&other[..], &gone, &end(5, 2)].concat();
+    let wanted = [&a.announce[..], &end(5, 2)].concat();
+    let mut index = [0; 2];
+    writes(&wanted, 400, |output| {
+        apply_in_order(&data, &changes, &mut index, output)
+    });
+    let answer = refused(|out| apply_in_order(&data, &changes, &mut [0; 1], out));
+    assert_eq!(answer, (Fault::NoIndex, None));
 }
 
 #[test]
@@ -413,6 +451,8 @@ fn reports() {
         assert_eq!((report.version, report.code), (2, code));
         let parts = report.parts.expect("it has parts");
         assert_eq!((parts.unit, parts.text), (&unit[..], &b"no"[..]));
+        let in_order = apply_in_order(&data, &changes, &mut [0; 9], &mut [0; 200]);
+        assert_eq!(in_order.unwrap_err().report(&changes, "no"), Some(report));
     }
     let changes = [ipv4(0).announce, end(6, 2)].concat();
     let error = apply_into(&data, &changes, &mut [0; 200]).unwrap_err();
@@ -450,6 +490,9 @@ mod owned {
             let all = order(&two).unwrap();
             let nothing = Data::new(2, 5, 0, None).unwrap();
             assert_eq!(nothing.apply(&all), Ok(new_data.clone()));
+            assert_eq!(nothing.apply_in_order(&two), Ok(new_data.clone()));
+            let in_order = old_data.apply_in_order(changes.as_bytes());
+            assert_eq!(in_order, Ok(new_data.clone()));
             let kinds = |names: &Model| names.keys().map(|name| name[0]).collect::<Vec<_>>();
             let shown = new_data.units().map(|unit| unit.kind() as u8);
             assert_eq!(shown.collect::<Vec<_>>(), kinds(&new));
@@ -474,6 +517,7 @@ mod owned {
             (error.fault, error.place),
             (Fault::UnknownRecord, at(Side::Second, 0))
         );
+        assert_eq!(nothing.apply_in_order(&twice), Err(error));
         let other = Data::new(2, 6, 0, None).unwrap();
         assert_eq!(
             nothing.delta_to(&other).unwrap_err().fault,

@@ -4,7 +4,8 @@
 
 mod computed;
 
-use rtr_wire::{apply_into, delta_into, order, order_into, DataError, Fault, Side};
+use rtr_wire::{apply_in_order, apply_into, delta_into, order, order_into};
+use rtr_wire::{DataError, Fault, Side};
 
 /// One case: a call, and what is expected of it.
 struct Case<'a> {
@@ -16,21 +17,24 @@ struct Case<'a> {
     first: &'a [u8],
     second: &'a [u8],
     output: &'a [u8],
+    places: usize,
 }
 
 impl<'a> Case<'a> {
     /// The case that these bytes begin with, and what follows it.
     fn first(bytes: &'a [u8]) -> (Self, &'a [u8]) {
         let (head, rest) = bytes.split_at(4);
-        let (numbers, rest) = rest.split_at(32);
+        let (numbers, rest) = rest.split_at(40);
         let mut numbers = numbers
             .chunks(8)
             .map(|number| u64::from_le_bytes(number.try_into().unwrap()) as usize);
         let mut next = || numbers.next().unwrap();
         let offset = next();
-        let (first, rest) = rest.split_at(next());
-        let (second, rest) = rest.split_at(next());
-        let (output, rest) = rest.split_at(next());
+        let (first_length, second_length, output_length) = (next(), next(), next());
+        let places = next();
+        let (first, rest) = rest.split_at(first_length);
+        let (second, rest) = rest.split_at(second_length);
+        let (output, rest) = rest.split_at(output_length);
         let case = Case {
             call: head[0],
             status: head[1],
@@ -40,15 +44,18 @@ impl<'a> Case<'a> {
             first,
             second,
             output,
+            places,
         };
         (case, rest)
     }
 
     fn called(&self, output: &mut [u8]) -> Result<usize, DataError> {
+        let mut index = vec![7; self.places];
         match self.call {
             0 => delta_into(self.first, self.second, output),
             1 => apply_into(self.first, self.second, output),
-            _ => order_into(self.first, &mut vec![7; self.second.len()], output),
+            2 => order_into(self.first, &mut index, output),
+            _ => apply_in_order(self.first, self.second, &mut index, output),
         }
     }
 

@@ -1,7 +1,7 @@
 //! What `docs/BINDINGS.md` shows of readers and writers, data, and clients.
 #![cfg(feature = "std")]
 
-use rtr_wire::{change_line, order, Client, ClientOptions, Data, DataError, Event};
+use rtr_wire::{change_line, Client, ClientOptions, Data, DataError, Event};
 use rtr_wire::{Error, Fault, Reader, ResetQuery, Unit, UnitRef, Writer};
 use rtr_wire::{Server, ServerOptions};
 use std::io::{BufReader, ErrorKind, Read, Write};
@@ -47,7 +47,7 @@ fn read(reader: &mut Reader<impl Read>) -> Result<(Vec<String>, u32), Error> {
 
 /// What the data are after a cache has sent these bytes in answer to a serial query.
 fn after(data: &Data, sent: &[u8]) -> Result<Data, DataError> {
-    data.apply(&order(sent)?)
+    data.apply_in_order(sent)
 }
 
 /// Follows a cache until it has this serial number, and prints what changes.

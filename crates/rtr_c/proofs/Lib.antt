@@ -16,3 +16,4 @@ mod MadeReport
 mod Kept
 mod Sides
 mod OrderRoom
+mod RoomInOrder

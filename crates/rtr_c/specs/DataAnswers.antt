@@ -8,6 +8,8 @@ use Rattle.rtr_deltas.specs.declared.fault.DeltaFault.TheVariants.{NoRoom}
 use Rattle.rtr_deltas.specs.declared.fault.Flaw.{Flaw}
 use Rattle.rtr_deltas.specs.declared.fault.Reason.{Reason}
 use Rattle.rtr_deltas.specs.declared.fault.Reason.TheVariants.{Refused, NotCanonical}
+use Rattle.rtr_deltas.specs.declared.in_order_fault.InOrderFault.{InOrderFault}
+use Rattle.rtr_deltas.specs.declared.in_order_fault.InOrderFault.TheVariants as in_order
 use Rattle.rtr_deltas.specs.declared.order_fault.OrderFault.{OrderFault}
 use Rattle.rtr_deltas.specs.declared.order_fault.OrderFault.TheVariants as ordered
 use Rattle.rtr_c.specs.Answers.{rtr_duplicate, rtr_unknown, rtr_undecided, rtr_no_index}
@@ -62,6 +64,17 @@ apply_told (Err (applied.Session s)) = refused_told rtr_other_session 0
 apply_told (Err (applied.Duplicate offset)) = side_told 2 offset rtr_duplicate 0
 apply_told (Err (applied.Unknown offset)) = side_told 2 offset rtr_unknown 0
 apply_told (Err applied.NoRoom) = refused_told rtr_no_room 0
+
+abbrev pub in_order_told : Result ℕ InOrderFault → RtrDataAnswer
+in_order_told (Ok n) = written_told n
+in_order_told (Err (in_order.Data f)) = flaw_told 1 f
+in_order_told (Err (in_order.Changes f)) = flaw_told 2 f
+in_order_told (Err (in_order.UnitVersion v)) = refused_told rtr_unit_version v
+in_order_told (Err (in_order.Session s)) = refused_told rtr_other_session 0
+in_order_told (Err in_order.NoIndex) = refused_told rtr_no_index 0
+in_order_told (Err (in_order.Duplicate offset)) = side_told 2 offset rtr_duplicate 0
+in_order_told (Err (in_order.Unknown offset)) = side_told 2 offset rtr_unknown 0
+in_order_told (Err in_order.NoRoom) = refused_told rtr_no_room 0
 
 abbrev pub order_told : Result ℕ OrderFault → RtrDataAnswer
 order_told (Ok n) = written_told n

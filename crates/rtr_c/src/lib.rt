@@ -9,6 +9,7 @@ mod apply;
 mod compare;
 mod data_answer;
 mod delta;
+mod in_order;
 mod laws;
 mod next;
 mod numbers;
