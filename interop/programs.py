@@ -84,7 +84,7 @@ def normalised(content):
 def made(content, version):
     """What `rtr_make --json` makes of a file that caches read, without what the version lacks."""
     words = ["rtr_make", "--json", "--version", str(version), "--session", "4660", "--serial", "1"]
-    status, units, said = run([*words, "--drop"], content)
+    status, units, said = run([*words, "--drop", "--empty"], content)
     if status:
         raise ValueError(f"rtr_make ends with {status}: {said}")
     return units

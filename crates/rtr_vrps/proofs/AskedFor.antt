@@ -1,16 +1,19 @@
 -- The sequence that is asked for.
 use Rattle.std.proofs.Common.{◌≡◌, ◌<◌, ◌^◌, ℕ, refl, inl, inr, arith}
-use Rattle.std.proofs.Common.{List, ◌++◌, Result, subst, ap, ◌∙◌}
+use Rattle.std.proofs.Common.{List, [], ◌∷◌, ◌++◌, Result, subst, sym, ap, ◌∙◌, Bool, true, false}
+use Rattle.std.proofs.Common.{not, ◌&&◌, nat_eq, length}
+use Rattle.std.proofs.lemmas.Bool.{and_parts, eqb-true}
 use Rattle.rtr_base.specs.declared.timing.Timing.{Timing}
 use Rattle.rtr_units.specs.End.{IsEndMeaning, HasTimingOf, end_list}
 use Rattle.rtr_units.specs.Stream.{PutsForm}
 use Rattle.rtr_units.specs.StopCauses.{WriterState}
 use Rattle.rtr_units.specs.declared.fault.Fault.{Fault}
 use Rattle.rtr_payload.specs.Payloads.{Payload}
-use Rattle.rtr_data.specs.Deltas.{all_for, change_forms}
+use Rattle.rtr_data.specs.Deltas.{all_for, change_forms, data_for}
 use Rattle.rtr_data.proofs.Accepted.{all_sequence}
 use Rattle.rtr_vrps.specs.Gathering.{GathersAll, NamesFirst}
-use Rattle.rtr_vrps.specs.Making.{IsSequenceOf, asked_end, sequence_of, timing_for, version_number}
+use Rattle.rtr_vrps.specs.Making.{HasNone, HasSome, IsSequenceOf, asked_end}
+use Rattle.rtr_vrps.specs.Making.{sequence_of, timing_for, version_number}
 use Rattle.rtr_vrps.specs.declared.item.Item.{Item}
 use Rattle.rtr_vrps.specs.declared.item.Refusal.{Refusal}
 use Rattle.rtr_vrps.specs.declared.words.Request.{Request}
@@ -28,12 +31,48 @@ version_is_byte V0 = omega arith
 version_is_byte V1 = omega arith
 version_is_byte V2 = omega arith
 
+some_at : (takes b : Bool) → takes ≡ false → (not takes && b) ≡ false → b ≡ true → ⊥
+some_at true b e f h = absurd cc
+some_at false b e f h = absurd cc
+
+is_nothing : (l : List Payload) → nat_eq (length l) 0 ≡ true → l ≡ []
+is_nothing [] h = refl
+is_nothing (p ∷ l) h = absurd (omega (arith, eqb-true (length (p ∷ l)) 0 h))
+
+not_true : (b : Bool) → not b ≡ true → b ≡ false
+not_true true e = absurd cc
+not_true false e = refl
+
 module _ (a : Request) (items : List Item) (d : List Payload) (v : ℕ)
     (is : v ≡ version_number a.version) where
-  pub made : (n : ℕ) → GathersAll v a.leaves_out items d n → IsEndMeaning (asked_end a) →
-      IsSequenceOf a items d n
-  made n g fits = record {
-    gathered = subst (λ w. GathersAll w a.leaves_out items d n) is g;
+  all : (n : ℕ) → GathersAll v a.leaves_out items d n →
+      GathersAll (version_number a.version) a.leaves_out items d n
+  all n g = subst (λ w. GathersAll w a.leaves_out items d n) is g
+
+  has_some : (b : Bool) → b ≡ nat_eq (length (data_for v d)) 0 →
+      (not a.takes_empty && b) ≡ false → HasSome a d
+  has_some b e f unasked none =
+      some_at a.takes_empty b unasked f
+      (e ∙ ap (λ w. nat_eq (length (data_for w d)) 0) is ∙ ap (λ l. nat_eq (length l) 0) none)
+
+  -- no payload is left, and that isn't asked for
+  pub lacks : (n : ℕ) (b : Bool) → GathersAll v a.leaves_out items d n →
+      b ≡ nat_eq (length (data_for v d)) 0 → (not a.takes_empty && b) ≡ true → HasNone a items
+  lacks n b g e f =
+      let p = and_parts (not a.takes_empty) b f in record {
+        d = d;
+        left_out = n;
+        gathered = all n g;
+        none = ap (λ w. data_for w d) (sym is) ∙ is_nothing (data_for v d) (sym e ∙ p.1);
+        unasked = not_true a.takes_empty p.0;
+      }
+
+  pub made : (n : ℕ) (b : Bool) → GathersAll v a.leaves_out items d n →
+      b ≡ nat_eq (length (data_for v d)) 0 → (not a.takes_empty && b) ≡ false →
+      IsEndMeaning (asked_end a) → IsSequenceOf a items d n
+  made n b g e f fits = record {
+    gathered = all n g;
+    some = has_some b e f;
     accepted = all_sequence (version_number a.version) (version_is_byte a.version) d
         (asked_end a) g.sendable fits;
   }

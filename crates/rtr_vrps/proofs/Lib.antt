@@ -1,7 +1,11 @@
 pub mod HeldData
+pub mod IgnoredSoFar
+pub mod Lacking
 pub mod SoFar
 pub mod AskedFor
 pub mod Origins
+pub mod Marks
 pub mod Numbers
+pub mod QuotesSoFar
 pub mod Rows
 pub mod WordsSoFar

@@ -1,5 +1,5 @@
 -- An origin is added by one search: no other payload has its name.
-use Rattle.std.proofs.Common.{◌≡◌, ℕ, Bool, true, false, ◌&&◌, ◌||◌, cond, List, [], ◌∷◌}
+use Rattle.std.proofs.Common.{◌≡◌, ℕ, Bool, true, false, not, ◌&&◌, ◌||◌, cond, List, [], ◌∷◌}
 use Rattle.std.proofs.Common.{Some, None, Ok, Err, arith, option_map, refl, ap, ◌∙◌}
 use Rattle.std.proofs.lemmas.Bool.Decides.{nat_tests}
 use Rattle.std.specs.BTreeSet.{replace_key}
@@ -39,12 +39,17 @@ none_at v p false true c e f u = refl
 none_at v p false false true e f u = absurd cc
 none_at v p false false false e f u = ap (option_map Change) u
 
+neither : (a b : Bool) → b ≡ false → (not a && b) ≡ false
+neither true b e = refl
+neither false b e = e
+
 -- no version refuses an origin
-pub none_refused : (v : ℕ) (o : RouteOrigin) (d : List Payload) →
-    refusal_after v d (origin_of o) ≡ None
-none_refused v o d =
-    none_at v (origin_of o) (is_lacking v (origin_of o)) (has d (origin_of o))
-    (has_name d (origin_of o)) (grind (arith, nat_tests)) (same_there o d) refl
+pub none_refused : (v : ℕ) (leaves_out : Bool) (o : RouteOrigin) (d : List Payload) →
+    refusal_after v leaves_out d (origin_of o) ≡ None
+none_refused v leaves_out o d =
+    none_at v (origin_of o) (not leaves_out && is_lacking v (origin_of o)) (has d (origin_of o))
+    (has_name d (origin_of o)) (neither leaves_out _ (grind (arith, nat_tests)))
+    (same_there o d) refl
 
 added_at : (d x e : List Payload) (b : Bool) →
     cond (b && true) (Err Duplicate) (Ok x) ≡ Ok e → e ≡ cond b d x

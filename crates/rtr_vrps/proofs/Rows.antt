@@ -17,8 +17,8 @@ use Rattle.csv.specs.Records.{AllText}
 use Rattle.csv.specs.declared.parser.State.{State}
 use Rattle.csv.specs.declared.parser.State.TheVariants.{StartRecord}
 use Rattle.rtr_base.proofs.Parsing.{refuses_len}
-use Rattle.rtr_vrps.specs.CsvItems.{AreItemsOf, HasNoOrigin, HasNoText, IsCsvOf}
-use Rattle.rtr_vrps.specs.CsvItems.{RefusesCsv, without_header}
+use Rattle.rtr_vrps.specs.CsvItems.{AreItemsOf, HasNoOrigin, HasNoText, HasItems}
+use Rattle.rtr_vrps.specs.CsvItems.{RefusesRows, without_header}
 use Rattle.rtr_vrps.specs.CsvRows.{IsMaxLengthField, IsPayloadRow, RefusesRow, is_header}
 use Rattle.rtr_vrps.specs.PrivateCsv.{AddsItem, RefusesItem, reason_of}
 use Rattle.rtr_vrps.specs.declared.item.Item.{Item}
@@ -144,7 +144,7 @@ module _ (text : List ℕ) (count : ℕ) (items : List Item) (a : State) (y : Li
     number = omega (arith, s.number, length-append s.rows (row ∷ []));
   }
 
-  pub all : next_record default_config a [] [] y ≡ None → IsCsvOf text items
+  pub all : next_record default_config a [] [] y ≡ None → HasItems text items
   all e = record {
     rows = s.rows;
     all = (a, y, s.reached, e);
@@ -183,7 +183,7 @@ module _ (text : List ℕ) (count : ℕ) (items : List Item) (a : State) (y : Li
 
   pub refuses : (row : List (List ℕ)) (why : Reason) (b : State) (z : List ℕ) →
       Reached default_config StartRecord (strip_bom text) (s.rows ++ row ∷ []) b z →
-      AllText row → RefusesItem ((count == 0) && is_header row) row why → RefusesCsv text why
+      AllText row → RefusesItem ((count == 0) && is_header row) row why → RefusesRows text why
   refuses row Memory b z r t h = tt
   refuses row NotText b z r t h = absurd h.1
   refuses row other b z r t h = no_origin row other b z r t h.0 h.1
@@ -192,7 +192,7 @@ module _ (text : List ℕ) (count : ℕ) (items : List Item) (a : State) (y : Li
 pub explained : {R : Type 0} (rem : R → Option (List ℕ)) (a b : Reader R) (k : ErrorKind)
     (text : List ℕ) (count : ℕ) (items : List Item) (y : List ℕ) → a.config ≡ default_config →
     source_of rem a ≡ Some y → RowsSoFar text count items a.state y → ExplainsRead rem a b true k →
-    RefusesCsv text (reason_of k)
+    RefusesRows text (reason_of k)
 explained rem a b (Utf8 position error) text count items y c e s h =
     let t = taken (strip_bom text) y s.rows h.1 a.state b.state (pending_of (rem b.rdr) b)
     (rw (c, e) at h.2) s.reached in

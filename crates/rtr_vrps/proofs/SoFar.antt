@@ -2,16 +2,16 @@
 use Rattle.std.proofs.Common.{◌≡◌, ℕ, ◌+◌, Bool, true, false, not, ◌&&◌, cond, List, [], ◌∷◌}
 use Rattle.std.proofs.Common.{◌++◌, map, length, Some, None, Err, refl, sym, ap}
 use Rattle.std.proofs.Common.{subst, ◌∙◌, arith, append_assoc, option_map, ◌<◌, ◌≤◌, drop, get_or}
-use Rattle.std.proofs.Common.{drop-cons, suc}
+use Rattle.std.proofs.Common.{drop-cons, suc, min, ◌^◌, ◌-◌}
 use Rattle.std.proofs.Math.ListN.{drop_of_length-le}
-use Rattle.std.proofs.lemmas.List.{append-nil, length-append, length-map}
+use Rattle.std.proofs.lemmas.List.{append-nil}
 use Rattle.std.specs.BTreeSet.{replace_key}
 use Rattle.std.specs.List.{AllByRecursion}
 use Rattle.rtr_payload.specs.Payloads.{Payload}
 use Rattle.rtr_data.specs.Contents.{AreFit, unfit}
 use Rattle.rtr_data.specs.Data.{has, has_name, name_cmp}
 use Rattle.rtr_data.specs.Sequences.{IsInRange, IsSendable}
-use Rattle.rtr_vrps.specs.Gathering.{counted, first_refused, refusal_after, refused_at}
+use Rattle.rtr_vrps.specs.Gathering.{first_refused, refusal_after, refused_at, lacking}
 use Rattle.rtr_vrps.specs.Gathering.{item_payload, is_lacking, GathersAll, NamesFirst}
 use Rattle.rtr_vrps.specs.PrivateAdding.{AddsPayload, with_payload}
 use Rattle.rtr_vrps.specs.declared.item.Item.{Item}
@@ -20,40 +20,37 @@ use Rattle.rtr_vrps.specs.declared.item.Reason.TheVariants.{Version, OtherProvid
 use Rattle.rtr_vrps.proofs.HeldData.{Held, held_none, held_new, held_again}
 
 -- what a payload is refused for depends on what came before by members and names alone
-same_refusal : (v : ℕ) (d ps : List Payload) (p : Payload) → Held d ps →
-    refusal_after v d p ≡ refusal_after v ps p
-same_refusal v d ps p h = cc (h.members p, h.names p)
+same_refusal : (v : ℕ) (leaves_out : Bool) (d ps : List Payload) (p : Payload) → Held d ps →
+    refusal_after v leaves_out d p ≡ refusal_after v leaves_out ps p
+same_refusal v leaves_out d ps p h = cc (h.members p, h.names p)
 
 held_at : (v : ℕ) (d ps : List Payload) (p : Payload) → Held d ps → IsInRange p →
-    (a b c : Bool) → is_lacking v p ≡ a → has d p ≡ b → has_name d p ≡ c →
+    (a b c : Bool) → has d p ≡ b → has_name d p ≡ c →
     cond a (Some (Version v)) (cond b None (cond c (Some OtherProviders)
     (option_map Change (unfit p)))) ≡ None →
     Held (with_payload p d) (ps ++ p ∷ [])
-held_at v d ps p h r true b c e f g k = absurd cc
-held_at v d ps p h r false true c e f g k =
+held_at v d ps p h r true b c f g k = absurd cc
+held_at v d ps p h r false true c f g k =
     subst (λ x. Held (cond x d (replace_key name_cmp d p)) (ps ++ p ∷ [])) (sym f)
     (held_again p d ps h f)
-held_at v d ps p h r false false true e f g k = absurd cc
-held_at v d ps p h r false false false e f g k =
+held_at v d ps p h r false false true f g k = absurd cc
+held_at v d ps p h r false false false f g k =
     subst (λ x. Held (cond x d (replace_key name_cmp d p)) (ps ++ p ∷ [])) (sym f)
     (held_new p d ps h g r)
 
 -- the data after a payload that isn't refused
-held_more : (v : ℕ) (d ps : List Payload) (p : Payload) → Held d ps → IsInRange p →
-    refusal_after v d p ≡ None → Held (with_payload p d) (ps ++ p ∷ [])
-held_more v d ps p h r k =
-    held_at v d ps p h r (is_lacking v p) (has d p) (has_name d p) refl refl refl k
+held_more : (v : ℕ) (leaves_out : Bool) (d ps : List Payload) (p : Payload) → Held d ps →
+    IsInRange p → refusal_after v leaves_out d p ≡ None → Held (with_payload p d) (ps ++ p ∷ [])
+held_more v leaves_out d ps p h r k =
+    held_at v d ps p h r (not leaves_out && is_lacking v p) (has d p) (has_name d p) refl refl k
 
--- The data has the payloads of those items that came before the rest, and n were left out.
-pub record SoFar (v : ℕ) (leaves_out : Bool) (items rest : List Item) (d : List Payload)
-    (n : ℕ) : Type 0 where
-  pub before : List Payload
-  pub held : Held d before
-  pub parts : before ++ map item_payload (counted v leaves_out rest) ≡
-      map item_payload (counted v leaves_out items)
-  pub later : first_refused v before (counted v leaves_out rest) ≡
-      first_refused v [] (counted v leaves_out items)
-  pub number : n + length before + length rest ≡ length items
+-- The data has the payloads of those items that came before the rest.
+pub record SoFar (v : ℕ) (leaves_out : Bool) (items rest : List Item) (d : List Payload) : Type 0
+  where
+    pub before : List Payload
+    pub held : Held d before
+    pub parts : before ++ map item_payload rest ≡ map item_payload items
+    pub later : first_refused v leaves_out before rest ≡ first_refused v leaves_out [] items
 
 -- the first item of what is left
 pub next_item : (items : List Item) (i : ℕ) (x : Item) → i < length items →
@@ -67,75 +64,41 @@ pub none_left : (items : List Item) (i : ℕ) → length items ≤ i → drop i 
 none_left items i h = drop_of_length-le items h
 
 module _ (v : ℕ) (leaves_out : Bool) (items : List Item) where
-  pub starts : SoFar v leaves_out items items [] 0
-  starts = record {
-    before = [];
-    held = held_none;
-    parts = refl;
-    later = refl;
-    number = omega arith;
-  }
-
-  first_counted : (x : Item) (rest : List Item) (b : Bool) →
-      (leaves_out && is_lacking v (item_payload x)) ≡ b →
-      counted v leaves_out (x ∷ rest) ≡
-      cond (not b) (x ∷ counted v leaves_out rest) (counted v leaves_out rest)
-  first_counted x rest b e =
-      ap (λ c. cond (not c) (x ∷ counted v leaves_out rest) (counted v leaves_out rest)) e
-
-  -- an item that is left out
-  pub skips : (x : Item) (rest : List Item) (d : List Payload) (n : ℕ) →
-      (leaves_out && is_lacking v (item_payload x)) ≡ true →
-      SoFar v leaves_out items (x ∷ rest) d n → SoFar v leaves_out items rest d (n + 1)
-  skips x rest d n e s =
-      let t = first_counted x rest true e in record {
-        before = s.before;
-        held = s.held;
-        parts = ap (λ l. s.before ++ map item_payload l) (sym t) ∙ s.parts;
-        later = ap (first_refused v s.before) (sym t) ∙ s.later;
-        number = omega (arith, s.number);
-      }
+  pub starts : SoFar v leaves_out items items []
+  starts = record { before = []; held = held_none; parts = refl; later = refl }
 
   -- an item whose payload is added
-  pub adds : (x : Item) (rest : List Item) (d e : List Payload) (n : ℕ) →
-      (leaves_out && is_lacking v (item_payload x)) ≡ false → IsInRange (item_payload x) →
-      refusal_after v d (item_payload x) ≡ None → e ≡ with_payload (item_payload x) d →
-      SoFar v leaves_out items (x ∷ rest) d n → SoFar v leaves_out items rest e n
-  adds x rest d e n is range none made s =
-      let t = first_counted x rest false is in
+  pub adds : (x : Item) (rest : List Item) (d e : List Payload) →
+      IsInRange (item_payload x) → refusal_after v leaves_out d (item_payload x) ≡ None →
+      e ≡ with_payload (item_payload x) d →
+      SoFar v leaves_out items (x ∷ rest) d → SoFar v leaves_out items rest e
+  adds x rest d e range none made s =
       let p = item_payload x in record {
         before = s.before ++ p ∷ [];
         held = subst (λ l. Held l (s.before ++ p ∷ [])) (sym made)
-            (held_more v d s.before p s.held range none);
-        parts = append_assoc s.before (p ∷ []) (map item_payload (counted v leaves_out rest))
-            ∙ ap (λ l. s.before ++ map item_payload l) (sym t) ∙ s.parts;
-        later = ap (λ r. refused_at x r (first_refused v (s.before ++ p ∷ [])
-            (counted v leaves_out rest)))
-            (sym none ∙ same_refusal v d s.before p s.held)
-            ∙ ap (first_refused v s.before) (sym t) ∙ s.later;
-        number = omega (arith, s.number, length-append s.before (p ∷ []));
+            (held_more v leaves_out d s.before p s.held range none);
+        parts = append_assoc s.before (p ∷ []) (map item_payload rest) ∙ s.parts;
+        later = ap (λ r. refused_at x r (first_refused v leaves_out (s.before ++ p ∷ []) rest))
+            (sym none ∙ same_refusal v leaves_out d s.before p s.held) ∙ s.later;
       }
 
   -- an item that is refused
-  refused : (x : Item) (rest : List Item) (d : List Payload) (n : ℕ) (r : Reason) →
-      (leaves_out && is_lacking v (item_payload x)) ≡ false →
-      refusal_after v d (item_payload x) ≡ Some r → SoFar v leaves_out items (x ∷ rest) d n →
-      first_refused v [] (counted v leaves_out items) ≡
-      Some (record { place = x.place; reason = r })
-  refused x rest d n r is some s =
-      let t = first_counted x rest false is in
+  refused : (x : Item) (rest : List Item) (d : List Payload) (r : Reason) →
+      refusal_after v leaves_out d (item_payload x) ≡ Some r →
+      SoFar v leaves_out items (x ∷ rest) d →
+      first_refused v leaves_out [] items ≡ Some (record { place = x.place; reason = r })
+  refused x rest d r some s =
       let p = item_payload x in
-      sym s.later ∙ ap (first_refused v s.before) t
-      ∙ ap (λ o. refused_at x o (first_refused v (s.before ++ p ∷ []) (counted v leaves_out rest)))
-      (sym (same_refusal v d s.before p s.held) ∙ some)
+      sym s.later
+      ∙ ap (λ o. refused_at x o (first_refused v leaves_out (s.before ++ p ∷ []) rest))
+      (sym (same_refusal v leaves_out d s.before p s.held) ∙ some)
 
-  pub stops : (x : Item) (rest : List Item) (d e : List Payload) (n : ℕ) (r : Reason) →
-      (leaves_out && is_lacking v (item_payload x)) ≡ false →
-      AddsPayload {T = Unit {0}} v (item_payload x) (Err r) d e →
-      SoFar v leaves_out items (x ∷ rest) d n →
+  pub stops : (x : Item) (rest : List Item) (d e : List Payload) (r : Reason) →
+      AddsPayload {T = Unit {0}} v leaves_out (item_payload x) (Err r) d e →
+      SoFar v leaves_out items (x ∷ rest) d →
       NamesFirst v leaves_out items (record { place = x.place; reason = r }) r
-  stops x rest d e n Memory is some s = tt
-  stops x rest d e n other is some s = refused x rest d n other is some s
+  stops x rest d e Memory some s = tt
+  stops x rest d e other some s = refused x rest d other some s
 
   sendable : (d : List Payload) → AllByRecursion (λ p. IsInRange p) d → AreFit d →
       AllByRecursion (λ p. IsSendable p) d
@@ -143,20 +106,16 @@ module _ (v : ℕ) (leaves_out : Bool) (items : List Item) where
   sendable (p ∷ d) (g, h) (f, k) =
       (record { range = g.0; fit = f; bytes = g.1 }, sendable d h k)
 
-  pub ends : (d : List Payload) (n : ℕ) → AreFit d → SoFar v leaves_out items [] d n →
+  pub ends : (d : List Payload) (n : ℕ) → AreFit d →
+      n ≡ min (length (lacking v d)) (2 ^ 64 - 1) → SoFar v leaves_out items [] d →
       GathersAll v leaves_out items d n
-  ends d n fit s =
+  ends d n fit number s =
       let all = sym (append-nil s.before) ∙ s.parts in record {
         payloads = record {
           in_order = s.held.in_order;
           members = λ p. s.held.members p ∙ ap (λ l. has l p) all;
         };
         none = sym s.later;
-        others = omega (
-          arith,
-          s.number,
-          ap length all,
-          length-map (counted v leaves_out items) item_payload,
-        );
+        others = number;
         sendable = sendable d s.held.ranges fit;
       }

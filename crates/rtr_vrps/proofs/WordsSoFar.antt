@@ -54,3 +54,17 @@ steps words i x before after s t all small is taken so_far =
     let rest = map string_bytes (drop (i + 1) words) in
     ap (said_on rest) (sym taken) ∙ one_more before (string_bytes x) rest s
     ∙ ap (λ l. said_from before (map string_bytes l) s) (sym left) ∙ so_far
+
+-- words of which one isn't taken
+pub stops : {Z : Type 0} (words : List (String Z)) (i : ℕ) (x : String Z)
+    (before : Option Setting) (s : Said) (all : Option Said) → i < length words →
+    x ≡ get_or words i x → word_taken before (string_bytes x) s ≡ None →
+    said_from before (map string_bytes (drop i words)) s ≡ all → all ≡ None
+stops words i x before s all small is taken so_far =
+    let next : suc i ≡ i + 1 = omega arith in
+    let left : drop i words ≡ x ∷ drop (i + 1) words =
+    drop-cons words i x small ∙ ap (λ y. y ∷ drop (suc i) words) (sym is)
+    ∙ ap (λ j. x ∷ drop j words) next in
+    let rest = map string_bytes (drop (i + 1) words) in
+    sym so_far ∙ ap (λ l. said_from before (map string_bytes l) s) left
+    ∙ sym (one_more before (string_bytes x) rest s) ∙ ap (said_on rest) taken

@@ -1,12 +1,13 @@
 -- Which items are read of a text of comma-separated values, and why one is refused. The rows are
 -- those that the kit's `csv` reads of a text, as RFC 4180 has them, without a mark of its byte
 -- order.
-use Rattle.std.specs.Prelude.{◌≡◌, ⊤, ℕ, ◌++◌, List, [], ◌∷◌, if◌then◌else◌}
+use Rattle.std.specs.Prelude.{◌≡◌, ◌⊎◌, ⊤, ℕ, ◌++◌, List, [], ◌∷◌, if◌then◌else◌}
 use Rattle.std.specs.List.{AllByRecursion}
 use Rattle.csv.specs.Reading.{AreRecords, Reached, default_config, strip_bom}
 use Rattle.csv.specs.Records.{AllText}
 use Rattle.csv.specs.declared.parser.State.{State}
 use Rattle.csv.specs.declared.parser.State.TheVariants.{StartRecord}
+use Rattle.rtr_vrps.specs.CsvQuotes.{AreQuotesWell, RefusesQuotes}
 use Rattle.rtr_vrps.specs.CsvRows.{IsPayloadRow, RefusesRow, is_header}
 use Rattle.rtr_vrps.specs.declared.item.Item.{Item}
 use Rattle.rtr_vrps.specs.declared.item.Reason.{Reason}
@@ -33,7 +34,7 @@ AreItemsOf (row ∷ rows) (i ∷ items) = IsPayloadRow row i.payload × AreItems
 AreItemsOf rows others = ⊥
 
 -- all rows are text, and all but a header are origins: those of the items
-pub record IsCsvOf (text : List ℕ) (items : List Item) : Type 0 where
+pub record HasItems (text : List ℕ) (items : List Item) : Type 0 where
   pub rows : List (List (List ℕ))
   pub all : HasRows text rows
   pub text_rows : AllByRecursion AllText rows
@@ -61,8 +62,18 @@ pub record HasNoOrigin (text : List ℕ) (why : Reason) : Type 0 where
   pub origins : AreItemsOf before items
   pub refused : RefusesRow row why
 
--- why a text is refused: the first row that is at fault decides, unless memory ran out
+-- why the rows of a text are refused: the first row that is at fault decides, unless memory ran out
+abbrev pub RefusesRows : List ℕ → Reason → Type 0
+RefusesRows text Memory = ⊤
+RefusesRows text NotText = HasNoText text
+RefusesRows text why = HasNoOrigin text why
+
+-- quotes stand where they may, and the rows are those of the items
+pub record IsCsvOf (text : List ℕ) (items : List Item) : Type 0 where
+  pub quotes : AreQuotesWell (strip_bom text)
+  pub rows : HasItems text items
+
+-- why a text is refused: its first quote at fault decides, else its first row
 abbrev pub RefusesCsv : List ℕ → Reason → Type 0
-RefusesCsv text Memory = ⊤
-RefusesCsv text NotText = HasNoText text
-RefusesCsv text why = HasNoOrigin text why
+RefusesCsv text why = RefusesQuotes (strip_bom text) why
+    ⊎ (AreQuotesWell (strip_bom text) × RefusesRows text why)

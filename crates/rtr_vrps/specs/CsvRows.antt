@@ -1,6 +1,6 @@
 -- Which rows of comma-separated values are which origins, and why others are refused: the shape of
 -- what validators print. A row is the list of its fields, each the bytes of a text.
-use Rattle.std.specs.Prelude.{◌≡◌, ℕ, Bool, ◌||◌, Option, Some, None, unwrap_or}
+use Rattle.std.specs.Prelude.{◌≡◌, ℕ, Bool, true, false, ◌||◌, Option, Some, None, unwrap_or}
 use Rattle.std.specs.Prelude.{List, [], codes, bytes_eq, Result, MatchResult}
 use Rattle.csv.specs.Records.{field_at}
 use Rattle.rtr_base.specs.Addresses.{PrefixParts, IsMaxLenPrefix, BreaksMaxLen}
@@ -10,6 +10,7 @@ use Rattle.rtr_payload.specs.declared.payload.Payload.TheVariants.{Origin}
 use Rattle.rtr_payload.specs.declared.payload.RouteOrigin.{RouteOrigin}
 use Rattle.rtr_vrps.specs.declared.item.Reason.{Reason}
 use Rattle.rtr_vrps.specs.declared.item.Reason.TheVariants.{Asn, Prefix, MaxLength, MaxLengthRule}
+use Rattle.rtr_vrps.specs.declared.item.Reason.TheVariants.{UriColumn}
 
 -- the field at a place, of which the first is 0; one that isn't there is empty
 abbrev pub field : List (List ℕ) → ℕ → List ℕ
@@ -42,9 +43,16 @@ HasAsn row = (n : ℕ) × IsAsnText (field row 0) n
 abbrev pub HasPrefix : List (List ℕ) → Type 0
 HasPrefix row = (p : PrefixParts) × IsPrefixText (field row 1) p
 
+-- the name of a column that some validators print before the others
+abbrev pub is_uri_name : List ℕ → Bool
+is_uri_name text = bytes_eq text (codes "URI")
+
 -- why a row is no origin: the first of these that holds
 abbrev pub RefusesRow : List (List ℕ) → Reason → Type 0
-RefusesRow row Asn = (n : ℕ) → ¬ IsAsnText (field row 0) n
+RefusesRow row UriColumn =
+    ((n : ℕ) → ¬ IsAsnText (field row 0) n) × (is_uri_name (field row 0) ≡ true)
+RefusesRow row Asn =
+    ((n : ℕ) → ¬ IsAsnText (field row 0) n) × (is_uri_name (field row 0) ≡ false)
 RefusesRow row (Prefix e) = HasAsn row × RefusesPrefix (field row 1) e
 RefusesRow row MaxLength =
     HasAsn row × HasPrefix row × ((x : Option ℕ) → ¬ IsMaxLengthField (field row 2) x)

@@ -1,6 +1,8 @@
 pub mod CsvItems
+pub mod CsvQuotes
 pub mod CsvRows
 pub mod Gathering
+pub mod MakeInfo
 pub mod Making
 pub mod MakeStatus
 pub mod MakeWords

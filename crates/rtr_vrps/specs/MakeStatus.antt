@@ -34,12 +34,12 @@ MakesOf a items status before after =
     × MakesSequence a items answer before mid × Flushes flushed mid after
     × (status ≡ make_status answer flushed)
 
--- what is read of a text in this format: of comma-separated values the items of its rows, or why
--- one is refused; of JSON some items, or a refusal
-abbrev pub ReadsItems : Format → List ℕ → Result (List Item) Refusal → Type 0
-ReadsItems Csv text (Ok items) = IsCsvOf text items
-ReadsItems Csv text (Err r) = RefusesCsv text r.reason
-ReadsItems Json text read = ⊤
+-- what is read of a text in this format, where names are passed over: of comma-separated values the
+-- items of its rows, or why one is refused; of JSON some items, or a refusal
+abbrev pub ReadsItems : Format → List (List ℕ) → List ℕ → Result (List Item) Refusal → Type 0
+ReadsItems Csv ignored text (Ok items) = IsCsvOf text items
+ReadsItems Csv ignored text (Err r) = RefusesCsv text r.reason
+ReadsItems Json ignored text read = ⊤
 
 -- the sequence of the items; or, where the text is refused or memory runs out, nothing is written,
 -- and the reason decides the status
@@ -47,10 +47,11 @@ abbrev pub MakesRead : Request → Result (List Item) Refusal → ℕ → Writer
 MakesRead a (Ok items) status before after = MakesOf a items status before after
 MakesRead a (Err r) status before after = (after ≡ before) × (status ≡ refusal_status r.reason)
 
--- what is made of a text in this format
-abbrev pub MakesText : Format → Request → List ℕ → ℕ → WriterState → WriterState → Type 0
-MakesText format a text status before after = (read : Result (List Item) Refusal)
-    × ReadsItems format text read × MakesRead a read status before after
+-- what is made of a text in this format, where names are passed over
+abbrev pub MakesText : Format → Request → List (List ℕ) → List ℕ → ℕ → WriterState →
+    WriterState → Type 0
+MakesText format a ignored text status before after = (read : Result (List Item) Refusal)
+    × ReadsItems format ignored text read × MakesRead a read status before after
 
 -- the text is all that the reader had left, where that is known, and the reader is at its end
 abbrev pub IsWholeInput : Option (List ℕ) → Option (List ℕ) → List ℕ → Type 0
@@ -58,8 +59,9 @@ IsWholeInput left rest text = IfSome left (λ all. text ≡ all) × IsAtEnd rest
 
 -- What a run leaves: what is made of the whole input; or, where that couldn't be read, nothing was
 -- written, and the status is 3.
-abbrev pub RunsMaking : Request → Option (List ℕ) → Option (List ℕ) → ℕ → WriterState →
-    WriterState → Type 0
-RunsMaking a left rest status before after =
-    ((text : List ℕ) × IsWholeInput left rest text × MakesText a.format a text status before after)
+abbrev pub RunsMaking : Request → List (List ℕ) → Option (List ℕ) → Option (List ℕ) → ℕ →
+    WriterState → WriterState → Type 0
+RunsMaking a ignored left rest status before after =
+    ((text : List ℕ) × IsWholeInput left rest text
+    × MakesText a.format a ignored text status before after)
     ⊎ ((after ≡ before) × (status ≡ 3))

@@ -4,6 +4,7 @@ use Rattle.std.specs.Prelude.{Option, Some, None, is_some, option_map, option_an
 use Rattle.std.specs.Prelude.{List, [], ◌∷◌, map, length, codes, bytes_eq, if◌then◌else◌}
 use Rattle.std.specs.Prelude.{String, string_bytes}
 use Rattle.std.specs.Char.{is_digit}
+use Rattle.std.specs.List.{list_any}
 use Rattle.std.specs.Str.Parse.{digits_value, without_leading_plus}
 use Rattle.rtr_base.specs.Timings.{default_timing}
 use Rattle.rtr_vrps.specs.Making.{version_number}
@@ -53,6 +54,8 @@ nothing_said = record {
   retry = None;
   expire = None;
   leaves_out = None;
+  takes_empty = None;
+  ignores = false;
 }
 
 -- a value where none was said before: nothing is said twice
@@ -73,11 +76,14 @@ said_alone word s =
     if bytes_eq word (codes "--json")
     then option_map (λ x. record s { format = Some x }) (once s.format Json) else
     if bytes_eq word (codes "--drop")
-    then option_map (λ x. record s { leaves_out = Some x }) (once s.leaves_out true) else None
+    then option_map (λ x. record s { leaves_out = Some x }) (once s.leaves_out true) else
+    if bytes_eq word (codes "--empty")
+    then option_map (λ x. record s { takes_empty = Some x }) (once s.takes_empty true) else None
 
 -- the option of this name, which a text has to follow
 abbrev pub setting_named : List ℕ → Option Setting
 setting_named word =
+    if bytes_eq word (codes "--ignore") then Some settings.Ignore else
     if bytes_eq word (codes "--version") then Some settings.Version else
     if bytes_eq word (codes "--session") then Some settings.Session else
     if bytes_eq word (codes "--serial") then Some settings.Serial else
@@ -85,8 +91,9 @@ setting_named word =
     if bytes_eq word (codes "--retry") then Some settings.Retry else
     if bytes_eq word (codes "--expire") then Some settings.Expire else None
 
--- an option with the text after it
+-- an option with the text after it; names to ignore may be any, and several
 abbrev pub said_with : Setting → List ℕ → Said → Option Said
+said_with settings.Ignore text s = Some (record s { ignores = true })
 said_with settings.Version text s =
     option_map (λ x. record s { version = Some x }) (given s.version (version_of text))
 said_with settings.Session text s =
@@ -137,13 +144,22 @@ request_in s format = record {
     expire = unwrap_or s.expire default_timing.expire;
   };
   leaves_out = unwrap_or s.leaves_out false;
+  takes_empty = unwrap_or s.takes_empty false;
 }
+
+abbrev pub is_csv : Format → Bool
+is_csv Csv = true
+is_csv Json = false
+
+-- comma-separated values have no names that could be ignored
+abbrev pub allowed_in : Said → Format → Option Request
+allowed_in s format = if s.ignores && is_csv format then None else Some (request_in s format)
 
 -- a format has to be said, and version 0 has no timings (RFC 6810 section 5.8)
 abbrev pub request_of : Said → Option Request
 request_of s =
     if (version_number (version_said s) == 0) && has_timing s then None else
-    option_map (request_in s) s.format
+    option_and_then (allowed_in s) s.format
 
 -- the request, by the texts of the words; all other words ask for nothing
 abbrev pub request_by_texts : List (List ℕ) → Option Request
@@ -152,3 +168,18 @@ request_by_texts words = option_and_then request_of (said_by words nothing_said)
 -- the same by the words
 abbrev pub request_by_words : {Z : Type 0} → List (String Z) → Option Request
 request_by_words words = request_by_texts (map string_bytes words)
+
+-- the names that stand after an `--ignore` in words that ask for something
+abbrev pub names_ignored : List (List ℕ) → List (List ℕ)
+names_ignored [] = []
+names_ignored (word ∷ []) = []
+names_ignored (word ∷ text ∷ rest) = if bytes_eq word (codes "--ignore")
+    then text ∷ names_ignored rest else names_ignored (text ∷ rest)
+
+-- the same by the words
+abbrev pub ignored_by_words : {Z : Type 0} → List (String Z) → List (List ℕ)
+ignored_by_words words = names_ignored (map string_bytes words)
+
+-- whether a name is one of these
+abbrev pub is_one_of : List (List ℕ) → List ℕ → Bool
+is_one_of names name = list_any (λ text. bytes_eq text name) names

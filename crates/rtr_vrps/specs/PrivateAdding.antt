@@ -1,5 +1,5 @@
 -- What adding one payload leaves of data. Only contracts of private functions cite these.
-use Rattle.std.specs.Prelude.{◌≡◌, ⊤, ℕ, Some, None, List, Result, Ok, Err, if◌then◌else◌}
+use Rattle.std.specs.Prelude.{◌≡◌, ⊤, ℕ, Bool, Some, None, List, Result, Ok, Err, if◌then◌else◌}
 use Rattle.std.specs.BTreeSet.{replace_key}
 use Rattle.rtr_payload.specs.Payloads.{Payload}
 use Rattle.rtr_data.specs.Data.{has, name_cmp}
@@ -13,7 +13,8 @@ with_payload p d = if has d p then d else replace_key name_cmp d p
 
 -- it isn't refused and is there; or it is refused, or memory ran out
 abbrev pub AddsPayload :
-    {T : Type 0} → ℕ → Payload → Result T Reason → List Payload → List Payload → Type 0
-AddsPayload v p (Ok t) old new = (refusal_after v old p ≡ None) × (new ≡ with_payload p old)
-AddsPayload v p (Err Memory) old new = ⊤
-AddsPayload v p (Err r) old new = refusal_after v old p ≡ Some r
+    {T : Type 0} → ℕ → Bool → Payload → Result T Reason → List Payload → List Payload → Type 0
+AddsPayload v leaves_out p (Ok t) old new =
+    (refusal_after v leaves_out old p ≡ None) × (new ≡ with_payload p old)
+AddsPayload v leaves_out p (Err Memory) old new = ⊤
+AddsPayload v leaves_out p (Err r) old new = refusal_after v leaves_out old p ≡ Some r

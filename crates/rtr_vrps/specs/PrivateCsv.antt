@@ -1,5 +1,7 @@
 -- What one row leaves of items. Only contracts of private functions cite these.
-use Rattle.std.specs.Prelude.{◌≡◌, ⊤, ℕ, Bool, true, false, ◌++◌, List, [], ◌∷◌, Result, Ok, Err}
+use Rattle.std.specs.Prelude.{◌≡◌, ⊤, ℕ, Bool, true, false, ◌&&◌, nat_le, length}
+use Rattle.std.specs.Prelude.{get_or, ◌++◌, List, [], ◌∷◌, Result, Ok, Err}
+use Rattle.csv.specs.Reading.{is_bom}
 use Rattle.csv.specs.declared.error.ErrorKind.{ErrorKind}
 use Rattle.csv.specs.declared.error.ErrorKind.TheVariants.{Utf8}
 use Rattle.rtr_vrps.specs.CsvRows.{IsPayloadRow, RefusesRow}
@@ -7,6 +9,11 @@ use Rattle.rtr_vrps.specs.declared.item.Item.{Item}
 use Rattle.rtr_vrps.specs.declared.item.Reason.{Reason}
 use Rattle.rtr_vrps.specs.declared.item.Reason.TheVariants.{NotText, Memory}
 use Rattle.rtr_vrps.specs.declared.item.Refusal.{Refusal}
+
+-- the text begins with U+FEFF
+abbrev pub has_mark : List ℕ → Bool
+has_mark text = nat_le 3 (length text)
+    && is_bom (get_or text 0 0) (get_or text 1 0) (get_or text 2 0)
 
 -- the reason of what stopped the reader of rows
 abbrev pub reason_of : ErrorKind → Reason

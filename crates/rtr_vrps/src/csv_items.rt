@@ -1,13 +1,14 @@
 //! Origins in comma-separated values, as validators print them.
 
-ghost use Rattle.std.specs.Prelude.{◌≡◌, ◌&&◌, IfErr, IfOk};
+ghost use Rattle.std.specs.Prelude.{◌≡◌, ◌&&◌, IfErr, IfOk, if◌then◌else◌};
 ghost use Rattle.csv.specs.Reading.{error_kind};
 ghost use Rattle.csv.specs.Records.{fields_of};
-ghost use Rattle.rtr_vrps.specs.CsvItems.{IsCsvOf, RefusesCsv};
-ghost use Rattle.rtr_vrps.specs.CsvRows.{ReadsMaxLength, ReadsRow, field, is_header};
+ghost use Rattle.rtr_vrps.specs.CsvItems.{HasItems, IsCsvOf, RefusesCsv, RefusesRows};
+ghost use Rattle.rtr_vrps.specs.CsvRows.{ReadsMaxLength, ReadsRow, field, is_header, is_uri_name};
 ghost use Rattle.rtr_vrps.specs.PrivateCsv.{AddsRow, reason_of};
 
 use crate::item::{Item, Place, Reason, Refusal};
+use crate::quotes::{check_quotes, without_mark};
 use csv::{Error, ErrorKind, Position, ReaderBuilder, StringRecord};
 use rtr_base::addr::{MaxLenPrefix, Prefix};
 use rtr_base::asn::Asn;
@@ -16,13 +17,25 @@ use std::alloc::Global;
 
 /// Reads a line for each origin: its ASN, with or without `AS` before the number, its prefix, and
 /// its max length, if it has one. Further columns and empty lines are passed over, and a first line
-/// that begins with `ASN`.
+/// whose first field is `ASN` or `asn`.
 ///
-/// The first line that is something else decides, with the reasons `NotText`, `Asn`,
-/// `Prefix`, `MaxLength` and `MaxLengthRule`, in this order; `Memory` ends reading, too.
+/// The first quote at fault decides, as `check_quotes` has it; else the first line that is
+/// something else, with the reasons `NotText`, `UriColumn`, `Asn`, `Prefix`, `MaxLength` and `MaxLengthRule`,
+/// in this order; `Memory` ends reading, too.
 pub fn read_csv<'a>(alloc: Global, text: &'a [u8]) -> Result<Vec<Item<'a>>, Refusal<'a>>
     ensures items { IfOk result (λ v. IsCsvOf text.now v.items) }
     ensures refused { IfErr result (λ r. RefusesCsv text.now r.reason) }
+{
+    match check_quotes(text) {
+        Ok(()) => read_rows(alloc, text),
+        Err(refusal) => Err(refusal),
+    }
+}
+
+/// Reads the rows of a text whose quotes stand where they may.
+fn read_rows<'a>(alloc: Global, text: &'a [u8]) -> Result<Vec<Item<'a>>, Refusal<'a>>
+    ensures items { IfOk result (λ v. HasItems text.now v.items) }
+    ensures refused { IfErr result (λ r. RefusesRows text.now r.reason) }
 {
     let mut items = Vec::new(alloc);
     let mut reader = ReaderBuilder::new()
@@ -116,7 +129,7 @@ fn line_at(text: &[u8], position: Position) -> u64 {
 /// The text from this byte on, without a mark of its byte order at its start.
 fn read_from(text: &[u8], start: u64) -> &[u8] {
     if start == 0 {
-        return text.strip_prefix(b"\xef\xbb\xbf").unwrap_or(text);
+        return without_mark(text);
     }
     text.get(start as usize..).unwrap_or(&[])
 }
@@ -142,7 +155,7 @@ fn origin(row: &StringRecord) -> Result<Payload, Reason>
 {
     let asn = match field(row, 0).parse::<Asn>() {
         Ok(asn) => asn,
-        Err(_) => return Err(Reason::Asn),
+        Err(_) => return Err(no_asn(field(row, 0))),
     };
     let prefix = match field(row, 1).parse::<Prefix>() {
         Ok(prefix) => prefix,
@@ -155,6 +168,17 @@ fn origin(row: &StringRecord) -> Result<Payload, Reason>
     match MaxLenPrefix::new(prefix, max_length) {
         Ok(prefix) => Ok(Payload::origin(prefix, asn)),
         Err(error) => Err(Reason::MaxLengthRule(error)),
+    }
+}
+
+/// Why the field is no ASN.
+fn no_asn(text: &str) -> Reason
+    ensures { result ≡ (if is_uri_name text.now then Reason.UriColumn else Reason.Asn) }
+{
+    if text == "URI" {
+        Reason::UriColumn
+    } else {
+        Reason::Asn
     }
 }
 

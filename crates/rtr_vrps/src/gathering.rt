@@ -1,10 +1,12 @@
 //! The payloads of items as data: each once, in their order.
 
-ghost use Rattle.std.specs.Prelude.{◌≡◌, ◌&&◌};
+ghost use Rattle.std.specs.Prelude.{◌≡◌, ◌^◌, ◌+◌, ◌-◌, length, min, nat_eq, if◌then◌else◌};
 ghost use Rattle.rtr_base.specs.Bytes.{IsBytes};
 ghost use Rattle.rtr_payload.specs.Meanings.{origin_of, payload_of};
+ghost use Rattle.rtr_data.specs.Contents.{AreFit};
+ghost use Rattle.rtr_data.specs.Deltas.{data_for};
 ghost use Rattle.rtr_data.specs.Sequences.{HasBytes, IsInRange};
-ghost use Rattle.rtr_vrps.specs.Gathering.{Gathers, is_lacking};
+ghost use Rattle.rtr_vrps.specs.Gathering.{Gathers, is_lacking, lacking};
 ghost use Rattle.rtr_vrps.specs.PrivateAdding.{AddsPayload};
 
 use crate::item::{Item, Reason, Refusal};
@@ -13,20 +15,20 @@ use rtr_payload::payload::laws::in_range;
 use rtr_payload::payload::{Payload, RouteOrigin};
 use std::alloc::Global;
 
-/// The payloads of items, as far as a version of the protocol has them.
+/// The payloads of items.
 #[derive(Drop)]
 pub struct Gathered {
-    /// The payloads that the version has.
+    /// All of them, each once.
     pub payloads: Data,
-    /// How many items were left out.
+    /// How many of them the version hasn't.
     pub left_out: usize,
 }
 
-/// Gathers the payloads of the items that this version has. Whatever else there is is refused, or
-/// left out where that is asked for. A payload that comes again is the same payload.
+/// Gathers the payloads of the items. One that this version hasn't is refused, unless such payloads
+/// are to be left out: then they are counted. A payload that comes again is the same payload.
 ///
 /// The first item that is refused decides, with the reason `Version`, `OtherProviders`, or `Change`
-/// with `KeyTooLong` or `NoProviders`; `Memory` ends it, too.
+/// with `KeyTooLong` or `NoProviders`, whether the version has it or not; `Memory` ends it, too.
 pub fn gather<'a>(
     alloc: Global,
     version: u8,
@@ -36,22 +38,52 @@ pub fn gather<'a>(
     ensures { Gathers version leaves_out items.now result }
 {
     let mut payloads = Data::new(alloc);
-    let mut left_out: usize = 0;
     for item in items {
-        if is_left_out(version, leaves_out, &item.payload) {
-            left_out += 1;
-        } else {
-            match add(version, &mut payloads, &item.payload) {
-                Ok(()) => {}
-                Err(reason) => {
-                    let place = item.place;
-                    return Err(Refusal { place, reason });
-                }
+        match add(version, leaves_out, &mut payloads, &item.payload) {
+            Ok(()) => {}
+            Err(reason) => {
+                let place = item.place;
+                return Err(Refusal { place, reason });
             }
         }
     }
-    let _parts = payloads.parts();
+    let left_out = count_lacking(version, &payloads);
     Ok(Gathered { payloads, left_out })
+}
+
+/// How many of the payloads the version hasn't, or 2^64 - 1 where there are more.
+fn count_lacking(version: u8, payloads: &Data) -> usize
+    ensures count { result ≡ min (length (lacking version payloads.now)) (2 ^ 64 - 1) }
+    ensures fit { AreFit payloads.now }
+{
+    let (_, keys, aspas) = payloads.parts();
+    let keys = if_counted(version < 1, keys.len());
+    keys.saturating_add(if_counted(version < 2, aspas.len()))
+}
+
+/// Whether the version has none of the payloads.
+pub fn has_none(version: u8, payloads: &Data) -> bool
+    ensures { result ≡ nat_eq (length (data_for version payloads.now)) 0 }
+{
+    let (origins, keys, aspas) = payloads.parts();
+    are_zero(
+        origins.len(),
+        if_counted(version >= 1, keys.len()),
+        if_counted(version >= 2, aspas.len()),
+    )
+}
+
+/// The count, or 0 where it doesn't count.
+fn if_counted(counts: bool, count: usize) -> usize
+    ensures { result ≡ (if counts then count else 0) }
+{
+    if counts { count } else { 0 }
+}
+
+fn are_zero(first: usize, second: usize, third: usize) -> bool
+    ensures { result ≡ nat_eq (first + (second + third)) 0 }
+{
+    first == 0 && second == 0 && third == 0
 }
 
 /// Whether the version has no such payload.
@@ -65,26 +97,20 @@ fn lacks(version: u8, payload: &Payload) -> bool
     }
 }
 
-/// Whether the payload is left out.
-fn is_left_out(version: u8, leaves_out: bool, payload: &Payload) -> bool
-    ensures { result ≡ (leaves_out && is_lacking version (payload_of payload.now)) }
-{
-    leaves_out && lacks(version, payload)
-}
-
-/// AddsPayload a payload, unless it is there.
-fn add(version: u8, payloads: &mut Data, payload: &Payload) -> Result<(), Reason>
-    ensures adds { AddsPayload version (payload_of payload.now) result payloads.old payloads.new }
+/// Adds a payload, unless it is there.
+fn add(version: u8, leaves_out: bool, payloads: &mut Data, payload: &Payload) -> Result<(), Reason>
+    ensures adds { AddsPayload version leaves_out (payload_of payload.now) result
+        payloads.old payloads.new }
     ensures range { IsInRange (payload_of payload.now) }
 {
     let lent = payload.as_ref();
     in_range(&lent);
     has_bytes(payload);
-    if lacks(version, payload) {
+    if !leaves_out && lacks(version, payload) {
         return Err(Reason::Version(version));
     }
     if let Payload::Origin(origin) = payload {
-        return add_origin(version, *origin, payloads);
+        return add_origin(version, leaves_out, *origin, payloads);
     }
     if payloads.contains(&lent) {
         return Ok(());
@@ -104,8 +130,13 @@ fn add(version: u8, payloads: &mut Data, payload: &Payload) -> Result<(), Reason
 }
 
 /// Adds an origin, unless it is there. No other payload has its name, so one search will do.
-fn add_origin(version: u8, origin: RouteOrigin, payloads: &mut Data) -> Result<(), Reason>
-    ensures { AddsPayload version (origin_of origin) result payloads.old payloads.new }
+fn add_origin(
+    _version: u8,
+    _leaves_out: bool,
+    origin: RouteOrigin,
+    payloads: &mut Data,
+) -> Result<(), Reason>
+    ensures { AddsPayload _version _leaves_out (origin_of origin) result payloads.old payloads.new }
 {
     match payloads.announce(Payload::Origin(origin)) {
         Ok(()) => Ok(()),

@@ -32,6 +32,8 @@ pub enum Place<'a> {
     Item(&'a str, u64),
     /// In what this item has under this name.
     Member(&'a str, u64, &'a str),
+    /// In what the object of this name has under this other name.
+    Entry(&'a str, &'a str),
 }
 
 impl fmt::Display for Place<'_> {
@@ -44,6 +46,7 @@ impl fmt::Display for Place<'_> {
             Place::Unknown(name) => write!(f, "{name:?}"),
             Place::Item(array, index) => write!(f, "{array}[{index}]"),
             Place::Member(array, index, name) => write!(f, "{array}[{index}].{name}"),
+            Place::Entry(array, name) => write!(f, "{array}[{name:?}]"),
         }
     }
 }
@@ -63,6 +66,18 @@ pub enum Reason {
     /// The text is no JSON.
     #[error("no JSON")]
     NotJson,
+    /// Arrays and objects nest too deep.
+    #[error("nested deeper than 128")]
+    TooDeep,
+    /// A field begins with a quote, and no quote ends it.
+    #[error("a quote is not closed")]
+    OpenQuote,
+    /// A quote stands in a field that doesn't begin with one.
+    #[error("a quote inside a field")]
+    QuoteInside,
+    /// Text stands between the quote that ends a field and the end of the field.
+    #[error("text after a closing quote")]
+    TextAfterQuote,
     /// The text isn't UTF-8.
     #[error("no UTF-8")]
     NotText,
@@ -78,6 +93,9 @@ pub enum Reason {
     /// Payloads under a name that isn't known.
     #[error("payloads under an unknown name")]
     UnknownName,
+    /// There is no payload, and none were asked for.
+    #[error("no payloads: give --empty if that is meant")]
+    NoPayloads,
     /// It is missing.
     #[error("missing")]
     Missing,
@@ -87,6 +105,9 @@ pub enum Reason {
     /// It isn't the number of an autonomous system.
     #[error("invalid AS number")]
     Asn,
+    /// A URI stands where the number of an autonomous system has to.
+    #[error("a column of URIs before the AS numbers is not read: leave it out")]
+    UriColumn,
     /// A text was expected.
     #[error("no text")]
     NotString,

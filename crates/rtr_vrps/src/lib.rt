@@ -4,17 +4,25 @@
 
 mod csv_items;
 mod gathering;
+mod info;
 mod item;
 mod json_items;
-mod json_parts;
+mod json_looks;
+mod json_names;
+mod json_objects;
+mod json_values;
 mod make;
+mod quotes;
 mod sequence;
 mod words;
 
 pub use csv_items::read_csv;
 pub use gathering::{Gathered, gather};
+pub use info::{Info, info_asked};
 pub use item::{Item, Place, Reason, Refusal};
 pub use json_items::read_json;
+pub use json_names::{Holding, Kind, Part};
 pub use make::{program, run};
+pub use quotes::check_quotes;
 pub use sequence::{Trouble, write_sequence};
-pub use words::{Format, Request, Version, asked};
+pub use words::{Format, Request, Version, asked, is_ignored};

@@ -1,11 +1,13 @@
 //! One run of the program, over any reader and writers.
 
-ghost use Rattle.std.specs.Prelude.{◌≡◌, drop, IfSome, IsNone, None};
+ghost use Rattle.std.specs.Prelude.{◌≡◌, drop, IfSome, IsNone, None, []};
 ghost use Rattle.std.specs.Process.{exit_status};
 ghost use Rattle.rtr_vrps.specs.MakeStatus.{MakesOf, MakesText, RunsMaking, refusal_status};
-ghost use Rattle.rtr_vrps.specs.MakeWords.{request_by_words};
+ghost use Rattle.rtr_vrps.specs.MakeInfo.{TellsText, info_by_words};
+ghost use Rattle.rtr_vrps.specs.MakeWords.{ignored_by_words, request_by_words};
 
 use crate::csv_items::read_csv;
+use crate::info::{USAGE, info_asked, tell_info};
 use crate::item::{Item, Reason, Refusal};
 use crate::json_items::read_json;
 use crate::sequence::{Trouble, write_sequence};
@@ -20,7 +22,7 @@ use std::process::ExitCode;
 const REFUSED: u8 = 1;
 
 /// The status if the arguments are wrong.
-const USAGE: u8 = 2;
+const WRONG_WORDS: u8 = 2;
 
 /// The status if reading, writing, flushing or memory failed.
 const FAILED: u8 = 3;
@@ -39,17 +41,24 @@ pub fn program<R: Read, W: Sink, F: Write>(
     ensures no_words { IsNone words →
         (exit_status result ≡ 2) × (input.new ≡ input.old) × (output.new ≡ output.old) }
     // The same with words after the program's name that ask for nothing.
-    ensures usage { IfSome words (λ all. request_by_words (drop 1 all.items) ≡ None →
+    ensures usage { IfSome words (λ all. info_by_words (drop 1 all.items) ≡ None →
+        request_by_words (drop 1 all.items) ≡ None →
         (exit_status result ≡ 2) × (input.new ≡ input.old) × (output.new ≡ output.old)) }
+    // With those that ask what the program is, nothing is read, and a text is written.
+    ensures tells { IfSome words (λ all. IfSome (info_by_words (drop 1 all.items)) (λ what.
+        (input.new ≡ input.old)
+        × TellsText (exit_status result) (W.state output.old) (W.state output.new))) }
     // Otherwise what they ask for is made of the input.
-    ensures makes { IfSome words (λ all. IfSome (request_by_words (drop 1 all.items)) (λ what.
-        RunsMaking what (R.remaining input.old) (R.remaining input.new) (exit_status result)
-        (W.state output.old) (W.state output.new))) }
+    ensures makes { IfSome words (λ all. info_by_words (drop 1 all.items) ≡ None →
+        IfSome (request_by_words (drop 1 all.items)) (λ what.
+        RunsMaking what (ignored_by_words (drop 1 all.items)) (R.remaining input.old)
+        (R.remaining input.new) (exit_status result) (W.state output.old)
+        (W.state output.new))) }
 {
     let Some(words) = words else {
-        return ExitCode::from(usage(&[], faults));
+        return ExitCode::from(usage(faults));
     };
-    let status = run_asked(alloc, words_after_name(&words), input, output, faults);
+    let status = run_words(alloc, words_after_name(&words), input, output, faults);
     ExitCode::from(status)
 }
 
@@ -58,6 +67,29 @@ fn words_after_name(words: &[String]) -> &[String]
     ensures { result.now ≡ drop 1 words.now }
 {
     words.get(1..).unwrap_or(&[])
+}
+
+/// Says what the words after the program's name ask it to say of itself, or runs what else they ask
+/// for.
+fn run_words<R: Read, W: Sink, F: Write>(
+    alloc: Global,
+    words: &[String],
+    input: &mut R,
+    output: &mut W,
+    faults: &mut F,
+) -> u8
+    ensures usage { info_by_words words.now ≡ None → request_by_words words.now ≡ None →
+        (result ≡ 2) × (input.new ≡ input.old) × (output.new ≡ output.old) }
+    ensures tells { IfSome (info_by_words words.now) (λ what. (input.new ≡ input.old)
+        × TellsText result (W.state output.old) (W.state output.new)) }
+    ensures makes { info_by_words words.now ≡ None → IfSome (request_by_words words.now) (λ what.
+        RunsMaking what (ignored_by_words words.now) (R.remaining input.old)
+        (R.remaining input.new) result (W.state output.old) (W.state output.new)) }
+{
+    match info_asked(words) {
+        Some(info) => tell_info(info, output, faults),
+        None => run_asked(alloc, words, input, output, faults),
+    }
 }
 
 /// Runs what the words after the program's name ask for, or prints the usage.
@@ -71,17 +103,18 @@ fn run_asked<R: Read, W: Sink, F: Write>(
     ensures usage { request_by_words words.now ≡ None →
         (result ≡ 2) × (input.new ≡ input.old) × (output.new ≡ output.old) }
     ensures makes { IfSome (request_by_words words.now) (λ what. RunsMaking what
-        (R.remaining input.old) (R.remaining input.new) result
+        (ignored_by_words words.now) (R.remaining input.old) (R.remaining input.new) result
         (W.state output.old) (W.state output.new)) }
 {
     match asked(words) {
-        Some(asked) => run(alloc, &asked, input, output, faults),
-        None => usage(words, faults),
+        Some(asked) => run(alloc, &asked, words, input, output, faults),
+        None => usage(faults),
     }
 }
 
 /// Reads all of the input, writes the sequence of its payloads, flushes the output once, and
-/// answers the exit status:
+/// answers the exit status. What JSON has under a name that stands after an `--ignore` of the words
+/// is passed over. The status is
 /// - 0 if that succeeded, with a line on `faults` if payloads were left out;
 /// - 1 if the input was refused;
 /// - 3 if reading, writing, flushing or memory failed.
@@ -91,12 +124,13 @@ fn run_asked<R: Read, W: Sink, F: Write>(
 pub fn run<R: Read, W: Sink, F: Write>(
     alloc: Global,
     asked: &Request,
+    words: &[String],
     input: &mut R,
     output: &mut W,
     faults: &mut F,
 ) -> u8
-    ensures { RunsMaking asked.now (R.remaining input.old) (R.remaining input.new) result
-        (W.state output.old) (W.state output.new) }
+    ensures { RunsMaking asked.now (ignored_by_words words.now) (R.remaining input.old)
+        (R.remaining input.new) result (W.state output.old) (W.state output.new) }
 {
     let mut text: Vec<u8> = Vec::new(alloc);
     if let Err(error) = input.read_to_end(&mut text) {
@@ -110,7 +144,7 @@ pub fn run<R: Read, W: Sink, F: Write>(
     }
     match asked.format {
         Format::Csv => make_of_csv(alloc, asked, &text, output, faults),
-        Format::Json => make_of_json(alloc, asked, &text, output, faults),
+        Format::Json => make_of_json(alloc, asked, words, &text, output, faults),
     }
 }
 
@@ -122,7 +156,7 @@ fn make_of_csv<W: Sink, F: Write>(
     output: &mut W,
     faults: &mut F,
 ) -> u8
-    ensures { MakesText Format.Csv asked.now text.now result
+    ensures { MakesText Format.Csv asked.now [] text.now result
         (W.state output.old) (W.state output.new) }
 {
     match read_csv(alloc, text) {
@@ -135,15 +169,16 @@ fn make_of_csv<W: Sink, F: Write>(
 fn make_of_json<W: Sink, F: Write>(
     alloc: Global,
     asked: &Request,
+    words: &[String],
     text: &[u8],
     output: &mut W,
     faults: &mut F,
 ) -> u8
-    ensures { MakesText Format.Json asked.now text.now result
+    ensures { MakesText Format.Json asked.now (ignored_by_words words.now) text.now result
         (W.state output.old) (W.state output.new) }
 {
     let mut scratch = Scratch::new(alloc);
-    match read_json(alloc, text, &mut scratch) {
+    match read_json(alloc, text, words, &mut scratch) {
         Ok(items) => write(alloc, asked, &items, output, faults),
         Err(refusal) => tell_refusal(&refusal, faults),
     }
@@ -195,29 +230,10 @@ fn tell_refusal<F: Write>(refusal: &Refusal<'_>, faults: &mut F) -> u8
     REFUSED
 }
 
-/// Prints how the program is called, before that for help what it does, as its man page begins, and
-/// answers status 2.
-fn usage<F: Write>(words: &[String], faults: &mut F) -> u8
+/// Prints how the program is called, and answers status 2.
+fn usage<F: Write>(faults: &mut F) -> u8
     ensures { result ≡ 2 }
 {
-    if asks_for_help(words) {
-        let _ = writeln!(
-            faults,
-            "rtr_make - write the RTR sequence of validated payloads"
-        );
-    }
-    let _ = writeln!(
-        faults,
-        "usage: rtr_make --csv | --json [--version 0|1|2] [--session N] [--serial N] [--refresh N] \
-         [--retry N] [--expire N] [--drop]"
-    );
-    USAGE
-}
-
-/// Whether the one word is that for help.
-fn asks_for_help(words: &[String]) -> bool {
-    match words {
-        [word] => word.as_str() == "--help",
-        _ => false,
-    }
+    let _ = writeln!(faults, "{USAGE}");
+    WRONG_WORDS
 }

@@ -1,14 +1,14 @@
 //! The sequence that is made of items.
 
-ghost use Rattle.std.specs.Prelude.{◌≡◌, ◌≤◌, ◌<◌, ◌^◌, ◌++◌};
+ghost use Rattle.std.specs.Prelude.{◌≡◌, ◌&&◌, not, ◌≤◌, ◌<◌, ◌^◌, ◌++◌};
 ghost use Rattle.rtr_units.specs.AnyEnd.{end_bytes};
 ghost use Rattle.rtr_units.specs.End.{IsEndMeaning, end_list};
 ghost use Rattle.rtr_units.specs.Stream.{PutsForm};
 ghost use Rattle.rtr_data.specs.Deltas.{all_for, change_forms};
 ghost use Rattle.rtr_vrps.specs.Making.{MakesSequence, asked_end};
 
-use crate::gathering::gather;
-use crate::item::{Item, Refusal};
+use crate::gathering::{gather, has_none};
+use crate::item::{Item, Place, Reason, Refusal};
 use crate::words::Request;
 use rtr_base::timing::Timing;
 use rtr_data::Data;
@@ -27,8 +27,9 @@ pub enum Trouble<'a> {
 }
 
 /// Writes the units that announce the payloads of the items, each once and in order, and an end of
-/// data, as the request has them. Answers how many items were left out. On a refusal nothing is
-/// written.
+/// data, as the request has them. Answers how many payloads were left out. On a refusal nothing is
+/// written: the first item that is refused, or `NoPayloads` where there would be none and the
+/// request takes no empty sequence.
 pub fn write_sequence<'a, W: Sink>(
     alloc: Global,
     asked: &Request,
@@ -42,10 +43,30 @@ pub fn write_sequence<'a, W: Sink>(
         Ok(gathered) => gathered,
         Err(refusal) => return Err(Trouble::Input(refusal)),
     };
+    if lacks_payloads(asked.takes_empty, has_none(version, &gathered.payloads)) {
+        return Err(Trouble::Input(no_payloads()));
+    }
     let end = end_of(asked);
     match put_sequence(version, &gathered.payloads, &end, output) {
         Ok(()) => Ok(gathered.left_out),
         Err(fault) => Err(Trouble::Output(fault)),
+    }
+}
+
+/// Whether payloads are wanted and there are none.
+fn lacks_payloads(takes_empty: bool, has_none: bool) -> bool
+    ensures { result ≡ (not takes_empty && has_none) }
+{
+    !takes_empty && has_none
+}
+
+/// The refusal of an input without payloads that the version has.
+fn no_payloads<'a>() -> Refusal<'a>
+    ensures { result.reason ≡ Reason.NoPayloads }
+{
+    Refusal {
+        place: Place::Input,
+        reason: Reason::NoPayloads,
     }
 }
 

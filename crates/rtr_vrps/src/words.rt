@@ -1,7 +1,9 @@
 //! What the program is asked for.
 
-ghost use Rattle.std.specs.Prelude.{◌≡◌};
-ghost use Rattle.rtr_vrps.specs.MakeWords.{has_timing, nothing_said, number_of, once};
+ghost use Rattle.std.specs.Prelude.{◌≡◌, ◌&&◌};
+ghost use Rattle.rtr_vrps.specs.MakeWords.{has_timing, ignored_by_words, is_csv};
+ghost use Rattle.rtr_vrps.specs.MakeWords.{is_one_of, nothing_said};
+ghost use Rattle.rtr_vrps.specs.MakeWords.{number_of, once};
 ghost use Rattle.rtr_vrps.specs.MakeWords.{request_by_words, request_of, said_alone, said_with};
 ghost use Rattle.rtr_vrps.specs.MakeWords.{setting_named, version_of};
 ghost use Rattle.rtr_vrps.specs.Making.{version_number};
@@ -17,6 +19,17 @@ pub enum Format {
     Csv,
     /// JSON.
     Json,
+}
+
+impl Format {
+    fn is_csv(self) -> bool
+        ensures { result ≡ is_csv self }
+    {
+        match self {
+            Format::Csv => true,
+            Format::Json => false,
+        }
+    }
 }
 
 /// A version of the protocol.
@@ -56,11 +69,14 @@ pub struct Request {
     pub timing: Timing,
     /// Whether payloads that the version hasn't are left out. Otherwise they are refused.
     pub leaves_out: bool,
+    /// Whether a sequence without payloads is written. Otherwise it is refused.
+    pub takes_empty: bool,
 }
 
-/// An option that a number follows.
+/// An option that a text follows.
 #[derive(Clone, Copy)]
 enum Setting {
+    Ignore,
     Version,
     Session,
     Serial,
@@ -80,12 +96,15 @@ struct Said {
     retry: Option<u32>,
     expire: Option<u32>,
     leaves_out: Option<bool>,
+    takes_empty: Option<bool>,
+    ignores: bool,
 }
 
 /// What the words after the program's name ask for, if they ask for something: `--csv` or `--json`,
-/// and each of the options at most once, in any order. Without `--version` it is 2. The session and
-/// the serial number are 0 and the timings those of RFC 8210 section 6, if they aren't given.
-/// Version 0 has no timings: none may be given with it.
+/// and each of the options at most once, in any order, but for `--ignore`, which may come again
+/// with `--json`. Without `--version` it is 2. The session and the serial number are 0 and the timings
+/// those of RFC 8210 section 6, if they aren't given. Version 0 has no timings: none may be given
+/// with it.
 pub fn asked(words: &[String]) -> Option<Request>
     ensures { result ≡ request_by_words words.now }
 {
@@ -98,6 +117,27 @@ pub fn asked(words: &[String]) -> Option<Request>
         Some(_) => None,
         None => said.request(),
     }
+}
+
+/// Whether the words after the program's name have this name after an `--ignore`.
+pub fn is_ignored(words: &[String], name: &str) -> bool
+    ensures { result ≡ is_one_of (ignored_by_words words.now) name.now }
+{
+    let mut follows = false;
+    for word in words {
+        let word = word.as_str();
+        if is_both(follows, word == name) {
+            return true;
+        }
+        follows = is_both(!follows, word == "--ignore");
+    }
+    false
+}
+
+fn is_both(first: bool, second: bool) -> bool
+    ensures { result ≡ (first && second) }
+{
+    first && second
 }
 
 /// What is set to this value, where nothing was.
@@ -115,6 +155,7 @@ fn setting_named(word: &str) -> Option<Setting>
     ensures { result ≡ setting_named word.now }
 {
     match word {
+        "--ignore" => Some(Setting::Ignore),
         "--version" => Some(Setting::Version),
         "--session" => Some(Setting::Session),
         "--serial" => Some(Setting::Serial),
@@ -171,6 +212,8 @@ impl Said {
             retry: None,
             expire: None,
             leaves_out: None,
+            takes_empty: None,
+            ignores: false,
         }
     }
 
@@ -197,6 +240,7 @@ impl Said {
             "--csv" => said.format = Some(once(self.format, Format::Csv)?),
             "--json" => said.format = Some(once(self.format, Format::Json)?),
             "--drop" => said.leaves_out = Some(once(self.leaves_out, true)?),
+            "--empty" => said.takes_empty = Some(once(self.takes_empty, true)?),
             _ => return None,
         }
         Some(said)
@@ -208,6 +252,7 @@ impl Said {
     {
         let mut said = self;
         match setting {
+            Setting::Ignore => said.ignores = true,
             Setting::Version => said.version = Some(once(self.version, version_of(text)?)?),
             Setting::Session => said.session = Some(once(self.session, short_number(text)?)?),
             Setting::Serial => said.serial = Some(once(self.serial, number(text)?)?),
@@ -233,9 +278,13 @@ impl Said {
         if version.number() == 0 && self.has_timing() {
             return None;
         }
+        let format = self.format?;
+        if self.ignores && format.is_csv() {
+            return None;
+        }
         let timing = Timing::default();
         Some(Request {
-            format: self.format?,
+            format,
             version,
             state: State::from_parts(self.session.unwrap_or(0), Serial(self.serial.unwrap_or(0))),
             timing: Timing {
@@ -244,6 +293,7 @@ impl Said {
                 expire: self.expire.unwrap_or(timing.expire),
             },
             leaves_out: self.leaves_out.unwrap_or(false),
+            takes_empty: self.takes_empty.unwrap_or(false),
         })
     }
 }

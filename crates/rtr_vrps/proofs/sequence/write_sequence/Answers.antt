@@ -1,4 +1,4 @@
-use Rattle.std.proofs.Common.{Ok, Err}
+use Rattle.std.proofs.Common.{Ok, Err, sym, ◌∙◌}
 use Rattle.rtr_vrps.proofs.AskedFor.{made, written}
 use Rattle.rtr_vrps.proofs.sequence.write_sequence.Goals as goal
 
@@ -7,7 +7,8 @@ returns-in-Ok-put_sequence g c =
     let a = c.args.asked.now in
     let v = c.number-version.ensures in (
       c.in-Ok.gathered.payloads,
-      made a c.args.items.now _ _ v _ c.in-Ok.ensures c.end_of-end.ensures.fits,
+      made a c.args.items.now _ _ v _ _ c.in-Ok.ensures c.has_none.ensures
+          (sym c.lacks_payloads.ensures ∙ c.if-lacks_payloads.false) c.end_of-end.ensures.fits,
       written a c.args.items.now c.in-Ok.gathered.payloads _ v (Ok _) _ _ _
           c.end_of-end.ensures.bytes c.in-Ok-put_sequence.ensures,
     )
@@ -18,7 +19,8 @@ returns g c =
     let v = c.number-version.ensures in (
       c.in-Ok.gathered.payloads,
       c.in-Ok.gathered.left_out,
-      made a c.args.items.now _ _ v _ c.in-Ok.ensures c.end_of-end.ensures.fits,
+      made a c.args.items.now _ _ v _ _ c.in-Ok.ensures c.has_none.ensures
+          (sym c.lacks_payloads.ensures ∙ c.if-lacks_payloads.false) c.end_of-end.ensures.fits,
       written a c.args.items.now c.in-Ok.gathered.payloads _ v (Err c.in-Err-put_sequence.fault)
           _ _ _ c.end_of-end.ensures.bytes c.in-Err-put_sequence.ensures,
     )

@@ -3,9 +3,9 @@ use Rattle.csv.proofs.ReadFacts.{rows-end, rows-more}
 use Rattle.csv.specs.Reading.{default_config, strip_bom}
 use Rattle.csv.specs.Records.{fields_of}
 use Rattle.csv.specs.declared.parser.State.TheVariants.{StartRecord}
-use Rattle.rtr_vrps.specs.CsvItems.{RefusesCsv}
+use Rattle.rtr_vrps.specs.CsvItems.{RefusesRows}
 use Rattle.rtr_vrps.proofs.Rows.{adds, all, explained, no_rows, refuses}
-use Rattle.rtr_vrps.proofs.csv_items.read_csv.Goals as goal
+use Rattle.rtr_vrps.proofs.csv_items.read_rows.Goals as goal
 
 pub loop-count-init : goal.loop-count-init
 loop-count-init c =
@@ -43,7 +43,7 @@ returns-in-Ok-false-clause-items c =
 pub returns-in-Err-clause-refused : goal.returns-in-Err-clause-refused
 returns-in-Err-clause-refused c =
     let inv = c.loop-count.invariant in
-    subst (RefusesCsv c.args.text.now) (sym c.refusal.ensures)
+    subst (RefusesRows c.args.text.now) (sym c.refusal.ensures)
     (explained (λ (s : Bor (List ℕ)). Some s.now) c.loop-count.reader c.read_record.new.self
     c.in-Err.error.kind c.args.text.now c.loop-count.count c.loop-count.items.items inv.3 inv.2
     inv.4 inv.5 (c.in-Err.ensures.why inv.0 inv.1))

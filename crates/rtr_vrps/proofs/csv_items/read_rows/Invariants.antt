@@ -2,7 +2,7 @@ use Rattle.std.proofs.Common.{◌≡◌, Bor, ℕ, List, Some}
 use Rattle.csv.specs.Reading.{Ready, default_config, source_of}
 use Rattle.csv.specs.declared.reader.Trim.TheVariants as trim
 use Rattle.rtr_vrps.proofs.Rows.{RowsSoFar}
-use Rattle.rtr_vrps.proofs.csv_items.read_csv.Given as goal
+use Rattle.rtr_vrps.proofs.csv_items.read_rows.Given as goal
 
 abbrev pub invariant-loop-count : goal.invariant-loop-count
 invariant-loop-count l =
