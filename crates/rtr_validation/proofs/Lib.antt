@@ -1,0 +1,12 @@
+pub mod Bits
+pub mod Walking
+pub mod Among
+pub mod Order
+pub mod Runs
+pub mod Parted
+pub mod Upward
+pub mod Saying
+pub mod Meeting
+pub mod Narrowing
+pub mod Sets
+pub mod Agreeing
