@@ -66,6 +66,21 @@ fn provider_counts(rt: HostRuntime) {
     expect_rows(&rt, rt.alloc(), COUNTS, provider_count);
 }
 
+/// The error that says there are too many, by itself: its debug text and its text.
+#[test]
+fn texts_of_too_many(rt: HostRuntime) {
+    let left = 16381;
+    let asked = &Cell::new(0);
+    match ProviderAsns::try_from_iter(rt.alloc(), Asns { left, asked }) {
+        Err(ProviderIterError::Count(error)) => {
+            let text = format!(in rt.alloc(); "{error:?}: {error}").expect(&rt, "memory");
+            let want = "ProviderAsnsError(()): provider ASNs size overflow";
+            expect_equal(&rt, text.as_str(), want);
+        }
+        _ => assert!(rt; false, "so many providers were taken"),
+    }
+}
+
 #[test]
 fn providers_in_their_order(rt: HostRuntime) {
     let some = providers(rt.alloc(), "7 5 7").expect(&rt, "providers");

@@ -1,15 +1,16 @@
-//! Debug texts: all types of values have one. Only those of units of no fixed size are compared.
+//! Debug texts: all types of values have one. Those of units of no fixed size, of borrowed payloads
+//! and of the rules on prefixes are compared.
 
 use crate::base::rows::named;
 use crate::expect::expect_equal;
-use crate::samples::{ASPA_NAMED, IPV4, IPV6, KEY, decoded};
+use crate::samples::{ASPA, ASPA_NAMED, IPV4, IPV6, KEY, decoded};
 use crate::wire::unit;
 use rtr_wire::base::{Asn, KeyIdentifier, MaxLenPrefix, Prefix};
 use rtr_wire::payload::{Action, Afi, PayloadType, RouteOrigin, Timing};
 use rtr_wire::pdu::{
     CacheReset, CacheResponse, Counted, EndOfData, Error, ErrorCode, Fault, Header, KeyInfoError,
-    KeyInfoVecError, ProviderAsns, ProviderIterError, ResetQuery, SerialNotify, SerialQuery,
-    SerialQueryPayload, SliceSource,
+    KeyInfoVecError, PrefixRule, ProviderAsns, ProviderIterError, ResetQuery, SerialNotify,
+    SerialQuery, SerialQueryPayload, SliceSource,
 };
 use rtr_wire::state::{Serial, State};
 use std::alloc::Global;
@@ -108,6 +109,57 @@ fn texts_of_units_of_no_fixed_size(rt: HostRuntime) {
     for (input, want) in TEXTS {
         let text = shown(rt.alloc(), input);
         expect_equal(&rt, text.as_deref(), Some(*want));
+    }
+}
+
+/// Units, and the debug texts of their payloads where these are borrowed, in the form that Rust's
+/// derive gives to types of the same fields.
+const BORROWED: &[(&str, &str)] = &[
+    (
+        IPV4,
+        "Origin(RouteOrigin { prefix: MaxLenPrefix { prefix: Prefix { is_v4: true, len: 23, \
+         bits: 3221225984 }, max_len: Some(26) }, asn: Asn(65551) })",
+    ),
+    (
+        KEY,
+        "RouterKey(RouterKey { key_identifier: KeyIdentifier([1, 2, 3, 4, 5, 6, 7, 8, 9, 10, 11, \
+         12, 13, 14, 15, 16, 17, 18, 19, 20]), asn: Asn(65551), \
+         key_info: RouterKeyInfo(FRYXGA) })",
+    ),
+    (
+        ASPA,
+        "Aspa(Aspa { customer: Asn(65551), providers: [Asn(65549), Asn(65550)] })",
+    ),
+];
+
+/// The debug text of the payload of the unit of these bytes, which is borrowed.
+fn borrowed(alloc: Global, text: &str) -> Option<String> {
+    let unit = unit(alloc, &decoded(alloc, text)?)?;
+    let (_, payload) = unit.to_payload(alloc).ok()?;
+    named(alloc, &payload.as_ref())
+}
+
+#[test]
+fn texts_of_borrowed_payloads(rt: HostRuntime) {
+    for (input, want) in BORROWED {
+        let text = borrowed(rt.alloc(), input);
+        expect_equal(&rt, text.as_deref(), Some(*want));
+    }
+}
+
+#[test]
+fn texts_of_prefix_rules(rt: HostRuntime) {
+    let rules = [
+        PrefixRule::LenOverflow,
+        PrefixRule::MaxOverflow,
+        PrefixRule::MaxUnderflow,
+    ];
+    for (rule, want) in rules
+        .iter()
+        .zip(["LenOverflow", "MaxOverflow", "MaxUnderflow"])
+    {
+        let text = named(rt.alloc(), rule);
+        expect_equal(&rt, text.as_deref(), Some(want));
     }
 }
 
