@@ -10,7 +10,7 @@ import ours as examples
 import payloads
 import recorder
 import trust_anchor
-from processes import READY_SECONDS, Missing, Server, free_port, package_version, program, until
+from processes import READY_SECONDS, Missing, Server, on_port, package_version, program, until
 
 FOLDER = os.path.dirname(os.path.abspath(__file__))
 
@@ -33,7 +33,7 @@ class Cache:
     def __init__(self, folder, version):
         self.folder = folder
         self.version = version
-        self.port = free_port()
+        self.port = None
         self.server = None
         os.makedirs(folder, exist_ok=True)
 
@@ -63,10 +63,15 @@ class Cache:
         return path
 
     def start(self, words):
-        """Starts its program, and waits until it has data: some listen before they do."""
-        self.server = Server(words, os.path.join(self.folder, "log"))
+        """Starts its program by the words for a port, which is the same each time."""
+        return on_port(lambda port: self.start_on(port, words), self.port)
+
+    def start_on(self, port, words):
+        """Starts it, and waits until it has data: some listen before they do."""
+        self.server = Server(words(port), os.path.join(self.folder, "log"))
         try:
-            self.server.listens(self.port)
+            self.server.listens(port)
+            self.port = port
             until(self.has_data, READY_SECONDS, f"{self.name} has data")
         except BaseException:
             self.server.end()
@@ -106,10 +111,10 @@ class StayRTR(Cache):
     def serve(self, listed):
         """Starts it with this list."""
         path = self.keep("list.json", payloads.stayrtr_json(listed))
-        words = [program("stayrtr"), "-bind", f"127.0.0.1:{self.port}", "-cache", path]
-        words += ["-checktime=false", "-refresh", "3600", "-protocol", str(self.version)]
-        words += ["-rtr.retry", str(self.retry)]
-        return self.start(words + ["-metrics.addr", f"127.0.0.1:{free_port()}"])
+        words = [program("stayrtr"), "-cache", path, "-checktime=false", "-refresh", "3600"]
+        words += ["-protocol", str(self.version), "-rtr.retry", str(self.retry)]
+        words += ["-metrics.addr", "127.0.0.1:0"]
+        return self.start(lambda port: [*words, "-bind", f"127.0.0.1:{port}"])
 
     def change(self, listed):
         """Has it serve another list."""
@@ -146,8 +151,8 @@ class GoRTR(Cache):
         """Starts it with the origins of this list."""
         path = self.keep("list", payloads.plain_lines(listed))
         words = [self.built(os.path.dirname(self.folder)), "-file", path]
-        words += ["-listen", f"127.0.0.1:{self.port}", "-version", str(self.version)]
-        return self.start(words)
+        words += ["-version", str(self.version)]
+        return self.start(lambda port: [*words, "-listen", f"127.0.0.1:{port}"])
 
     def change(self, listed):
         """Has it serve another list."""
@@ -178,7 +183,8 @@ class Fort(Cache):
         words += ["--mode=server", "--work-offline=true", "--server.interval.validation=60"]
         words += ["--log.output=console", "--validation-log.enabled=true"]
         words += ["--validation-log.output=console"]
-        return self.start(words + ["--server.address=127.0.0.1", f"--server.port={self.port}"])
+        words += ["--server.address=127.0.0.1"]
+        return self.start(lambda port: [*words, f"--server.port={port}"])
 
     def change(self, listed):
         """Has it serve another list, once it looks again."""
@@ -213,7 +219,8 @@ class Ours(Cache):
     def serve(self, listed):
         """Starts it with this list."""
         path = self.write(listed)
-        return self.start([self.example.built(), path, "--listen", f"127.0.0.1:{self.port}"])
+        words = [self.example.built(), path, "--listen"]
+        return self.start(lambda port: [*words, f"127.0.0.1:{port}"])
 
     def change(self, listed):
         """Has it serve another list."""

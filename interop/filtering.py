@@ -8,7 +8,7 @@ import programs
 import recorder
 import routers
 import routing
-from processes import Server, free_port, program
+from processes import Server, on_port, program
 from results import Pair
 
 PART = "a filter"
@@ -19,14 +19,23 @@ class Relay:
     """socat, which runs a pipe for each connection: soil, and after it a filter if there is one."""
 
     def __init__(self, cache, folder, name, after=""):
-        self.port = free_port()
-        listen = f"TCP-LISTEN:{self.port},bind=127.0.0.1,reuseaddr,fork,max-children=32"
-        pipe = f"SYSTEM:{sys.executable} {SOIL} {cache.port}{after}"
-        words = [program("socat"), "-t", "5", listen, pipe]
-        self.server = Server(words, os.path.join(folder, f"{name}.log"))
+        self.log = os.path.join(folder, f"{name}.log")
+        self.pipe = f"SYSTEM:{sys.executable} {SOIL} {cache.port}{after}"
+        self.port = self.server = None
 
     def __enter__(self):
-        self.server.listens(self.port)
+        return on_port(self.start_on)
+
+    def start_on(self, port):
+        """Starts it, and waits until it listens."""
+        listen = f"TCP-LISTEN:{port},bind=127.0.0.1,reuseaddr,fork,max-children=32"
+        self.server = Server([program("socat"), "-t", "5", listen, self.pipe], self.log)
+        try:
+            self.server.listens(port)
+        except BaseException:
+            self.server.end()
+            raise
+        self.port = port
         return self
 
     def __exit__(self, *_):

@@ -15,8 +15,19 @@ READY_SECONDS = 60
 END_SECONDS = 5
 
 
+# How often a server is started that another process may have taken the port of.
+ATTEMPTS = 5
+
+# What systems say of a port that is taken, in whatever letters.
+TAKEN = "address already in use"
+
+
 class Missing(Exception):
     """Something isn't on this machine: what needs it is skipped."""
+
+
+class PortTaken(OSError):
+    """A server couldn't listen, since another process had its port."""
 
 
 def program(*names):
@@ -72,9 +83,23 @@ class Ports:
         cls.names.append(name)
 
 
-def free_port():
-    """A port of the loopback interface that nothing uses now."""
-    return Ports.free()
+def on_port(start, port=None, free=Ports.free):
+    """What `start` makes on this port, or where none is named on a free one. If another process has
+    it, the same port is tried again a second later, and in the place of a free one another."""
+    for _ in range(ATTEMPTS - 1):
+        with contextlib.suppress(PortTaken):
+            return start(port or free())
+        time.sleep(1 if port else 0)
+    return start(port or free())
+
+
+def listeners(port):
+    """The inodes of the sockets that listen at a port (proc(5))."""
+    for name in ("tcp", "tcp6"):
+        with contextlib.suppress(OSError), open(f"/proc/net/{name}", encoding="ascii") as lines:
+            for _, local, _, state, *rest in map(str.split, itertools.islice(lines, 1, None)):
+                if state == "0A" and int(local.rpartition(":")[2], 16) == port:
+                    yield rest[5]
 
 
 def until(condition, seconds, what):
@@ -133,13 +158,30 @@ class Server:
         with open(self.log, encoding="utf-8", errors="replace") as file:
             return file.read()
 
+    def check(self):
+        """Says why it ended, if it did."""
+        if self.process.poll() is not None:
+            said = self.said()[-300:]
+            kind = PortTaken if TAKEN in said.lower() else OSError
+            raise kind(f"{self.words[0]} ended: {said}")
+
+    def owns(self, port):
+        """Whether it is this server that listens at a port, or a process that it started."""
+        listening = {f"socket:[{inode}]" for inode in listeners(port)}
+        for process in filter(str.isdigit, os.listdir("/proc")):
+            with contextlib.suppress(OSError):
+                if os.getsid(int(process)) == self.process.pid:
+                    folder = f"/proc/{process}/fd"
+                    if any(os.readlink(f"{folder}/{fd}") in listening for fd in os.listdir(folder)):
+                        return True
+        return False
+
     def listens(self, port, seconds=READY_SECONDS):
         """Waits until it takes connections on this port."""
         def connects():
-            if self.process.poll() is not None:
-                raise OSError(f"{self.words[0]} ended: {self.said()[-300:]}")
+            self.check()
             with contextlib.suppress(OSError), socket.create_connection(("127.0.0.1", port), 1):
-                return True
+                return self.owns(port)
             return False
         until(connects, seconds, f"{self.words[0]} listens")
 

@@ -12,7 +12,7 @@ import ours as examples
 import payloads
 import speaker
 from payloads import Origin, RouterKey
-from processes import Missing, Server, free_port, package_version, program, until
+from processes import Missing, Server, on_port, package_version, program, until
 
 SECONDS = 60
 
@@ -165,7 +165,7 @@ class FRR(Router):
         path = self.keep("conf", "rpki\n rpki polling_period 3600\n rpki retry_interval 2\n"
                                  f" rpki cache 127.0.0.1 {self.cache} preference 1\n exit\n")
         words = ["-M", "rpki", "-f", path, "-i", self.path("process"), "-Z", "-S", "-P", "0"]
-        words += ["--vty_socket", self.folder, "-l", "127.0.0.1", "-p", str(free_port())]
+        words += ["--vty_socket", self.folder, "-l", "127.0.0.1", "-p", "0"]
         self.run([daemon, *words])
 
     def table(self):
@@ -206,7 +206,10 @@ class OpenBGPD(Router):
         tried = subprocess.run([*inside, "true"], capture_output=True, timeout=SECONDS, check=False)
         if os.geteuid() != 0 or tried.returncode:
             raise Missing(self.NEEDS_ROOT)
-        listen = free_port()
+        on_port(lambda listen: self.start_on(listen, [*inside, daemon]))
+
+    def start_on(self, listen, words):
+        """Starts it by these words, with a port for its neighbor."""
         path = self.keep("conf", f"""
             AS 65000
             router-id 192.0.2.1
@@ -227,8 +230,12 @@ class OpenBGPD(Router):
             allow from any
         """)
         os.chmod(path, 0o600)
-        self.run([*inside, daemon, "-d", "-v", "-f", path])
-        self.server.listens(listen)
+        self.run([*words, "-d", "-v", "-f", path])
+        try:
+            self.server.listens(listen)
+        except BaseException:
+            self.server.end()
+            raise
         self.speaker = until(lambda: self.connected(listen), SECONDS, "OpenBGPD takes a neighbor")
 
     def connected(self, listen):
