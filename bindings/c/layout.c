@@ -53,6 +53,27 @@ AT(rtr_data_answer, offset, 8);
 AT(rtr_data_answer, status, 16);
 AT(rtr_data_answer, side, 17);
 AT(rtr_data_answer, detail, 18);
+
+_Static_assert(sizeof(struct rtr_tables) == 2328, "rtr_tables");
+AT(rtr_tables, ipv4, 0);
+AT(rtr_tables, ipv6, 8);
+AT(rtr_tables, starts, 16);
+AT(rtr_tables, shortest_ipv4, 2064);
+AT(rtr_tables, shortest_ipv6, 2065);
+AT(rtr_tables, shortest, 2066);
+
+_Static_assert(sizeof(struct rtr_covering) == 16, "rtr_covering");
+AT(rtr_covering, place, 0);
+AT(rtr_covering, asn, 8);
+AT(rtr_covering, prefix_length, 12);
+AT(rtr_covering, max_length, 13);
+AT(rtr_covering, mismatch, 14);
 #endif
+
+_Static_assert(sizeof(struct rtr_route) == 24, "rtr_route");
+AT(rtr_route, asn, 0);
+AT(rtr_route, family, 4);
+AT(rtr_route, prefix_length, 5);
+AT(rtr_route, address, 6);
 
 _Static_assert(sizeof(bool) == 1, "bool");

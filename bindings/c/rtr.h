@@ -173,6 +173,51 @@ struct rtr_unit {
     uint8_t detail;             /* if rtr_next refuses, as in an rtr_answer; else 0 */
 };
 
+/* What origin validation says of a route (RFC 6811 section 2). */
+enum rtr_validity {
+    RTR_NOT_FOUND = 0, /* no VRP covers the route */
+    RTR_VALID = 1,     /* a VRP matches it */
+    RTR_INVALID = 2,   /* VRPs cover it, and none matches */
+    RTR_NO_ROUTE = 3   /* the family is neither 4 nor 6, or the prefix length is above 32 or 128 */
+};
+
+/* Why a VRP that covers a route doesn't match it: the first of these that holds. */
+enum rtr_mismatch {
+    RTR_MATCHES = 0,  /* it matches */
+    RTR_AS_ZERO = 1,  /* it is one of AS 0, which says that no route is valid */
+    RTR_OTHER_AS = 2, /* the route isn't from its AS */
+    RTR_LONGER = 3    /* the route's prefix is longer than its max length */
+};
+
+/* A route. */
+struct rtr_route {
+    uint32_t asn;          /* the AS that it is from; 0 where that is no single one, as after an
+                              AS_SET at the end of its path: no VRP matches it then */
+    uint8_t family;        /* 4 or 6 */
+    uint8_t prefix_length;
+    uint8_t address[16];   /* in network order, for IPv4 the first 4 bytes; the bits after the
+                              prefix length don't count */
+};
+
+/* Where the prefixes of data lie. What is in it only matters to the calls that take it. */
+struct rtr_tables {
+    size_t ipv4;
+    size_t ipv6;
+    size_t starts[256];
+    uint8_t shortest_ipv4;
+    uint8_t shortest_ipv6;
+    uint8_t shortest[256];
+};
+
+/* A VRP that covers a route. Its prefix are the first bits of the route's address. */
+struct rtr_covering {
+    size_t place;          /* which payload of the data it is, from 0 */
+    uint32_t asn;
+    uint8_t prefix_length;
+    uint8_t max_length;
+    uint8_t mismatch;      /* an rtr_mismatch */
+};
+
 /* The functions of the archive that take slices. They are those below, without the ending of their
  * names, but no pointer may be null: with length 0 any other pointer will do. */
 uint8_t rtr_normalise_slice_nonnull(const uint8_t *input, size_t input_length,
@@ -210,6 +255,13 @@ uint8_t rtr_apply_in_order_nonnull(const uint8_t *data, size_t data_length,
 uint8_t rtr_order_nonnull(const uint8_t *input, size_t input_length,
                           size_t *index, size_t index_length,
                           uint8_t *output, size_t output_length, struct rtr_data_answer *answer);
+
+void rtr_tables_nonnull(const uint8_t *data, size_t data_length, struct rtr_tables *tables);
+uint8_t rtr_validate_nonnull(const uint8_t *data, size_t data_length,
+                             const struct rtr_tables *tables, const struct rtr_route *route);
+bool rtr_covering_nonnull(const uint8_t *data, size_t data_length,
+                          const struct rtr_tables *tables, const struct rtr_route *route,
+                          size_t from, struct rtr_covering *covering);
 
 /* The pointer of a slice to be read; in place of a null pointer, whose length is 0, another. */
 static inline const uint8_t *rtr_readable(const uint8_t *bytes)
@@ -504,6 +556,38 @@ static inline uint8_t rtr_order(const uint8_t *input, size_t input_length,
     static size_t nowhere;
     return rtr_order_nonnull(rtr_readable(input), input_length, index ? index : &nowhere,
                              index_length, rtr_writable(output), output_length, answer);
+}
+
+/* Route origin validation (RFC 6811) by the VRPs, the prefixes, of data in canonical form: what
+ * rtr_apply writes. Make the tables anew for each data: they belong to these bytes, and are 2328 of
+ * their own. Any number of threads may ask at once. Over other bytes, or with other tables, a call
+ * returns, reads nothing else, and answers something.
+ *
+ * A VRP covers a route where its prefix has the route's in it; it matches the route where it covers
+ * it, the route is from its AS, which isn't 0, and the route's prefix length is at most its max
+ * length. */
+
+/* Makes the tables of the data, in one pass. */
+static inline void rtr_tables(const uint8_t *data, size_t data_length, struct rtr_tables *tables)
+{
+    rtr_tables_nonnull(rtr_readable(data), data_length, tables);
+}
+
+/* The validity of a route, an rtr_validity. */
+static inline uint8_t rtr_validate(const uint8_t *data, size_t data_length,
+                                   const struct rtr_tables *tables, const struct rtr_route *route)
+{
+    return rtr_validate_nonnull(rtr_readable(data), data_length, tables, route);
+}
+
+/* Whether a VRP covers the route, of the payloads from the place `from` on, counted from 0: the first
+ * one is then in `covering`, and else 0 is in all of it. To see all of them, in the order of
+ * payloads, go on from covering->place + 1. */
+static inline bool rtr_covering(const uint8_t *data, size_t data_length,
+                                const struct rtr_tables *tables, const struct rtr_route *route,
+                                size_t from, struct rtr_covering *covering)
+{
+    return rtr_covering_nonnull(rtr_readable(data), data_length, tables, route, from, covering);
 }
 
 /* A text for a status, never null; any number may be passed. */

@@ -17,3 +17,4 @@ mod Kept
 mod Sides
 mod OrderRoom
 mod RoomInOrder
+mod Routes

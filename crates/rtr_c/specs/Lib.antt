@@ -8,3 +8,4 @@ pub mod Numbers
 pub mod DataAnswers
 pub mod Kept
 pub mod PrivateRanges
+pub mod Routes

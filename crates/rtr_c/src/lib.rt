@@ -18,4 +18,5 @@ mod providers;
 mod sequence;
 mod size;
 mod unit;
+mod validation;
 mod write;

@@ -1,0 +1,100 @@
+-- What C says of a route, and what it gets of its validity (RFC 6811 section 2; the numbers are
+-- this library's own).
+use Rattle.std.specs.Prelude.{◌≡◌, ℕ, ◌≤◌, ◌&&◌, ◌==◌, Bool, true, false, List, take}
+use Rattle.std.specs.Prelude.{Option, Some, None, IfSome, nat_le, if◌then◌else◌}
+use Rattle.rtr_base.specs.Addresses.{Family, v4, v6, PrefixParts, width, cleared, resolved_len}
+use Rattle.rtr_base.specs.Bytes.{value}
+use Rattle.rtr_units.specs.End.{EndMeaning}
+use Rattle.rtr_units.specs.PrefixUnits.{address_bytes}
+use Rattle.rtr_payload.specs.Payloads.{Payload}
+use Rattle.rtr_deltas.specs.Canonical.{HoldsData}
+use Rattle.rtr_validation.specs.Covering.{IsFirstCovering, IsMismatch, vrp}
+use Rattle.rtr_validation.specs.Tables.{AreTables}
+use Rattle.rtr_validation.specs.Validity.{IsValidity}
+use Rattle.rtr_validation.specs.declared.finding.CoveringVrp.{CoveringVrp}
+use Rattle.rtr_validation.specs.declared.mismatch.Mismatch.{Mismatch}
+use Rattle.rtr_validation.specs.declared.mismatch.Mismatch.TheVariants.{AsZero, OtherAs, TooLong}
+use Rattle.rtr_validation.specs.declared.tables.Tables.{Tables}
+use Rattle.rtr_validation.specs.declared.validity.Validity.{Validity}
+use Rattle.rtr_validation.specs.declared.validity.Validity.TheVariants.{NotFound, Valid, Invalid}
+use Rattle.rtr_c.specs.declared.validation.RtrCovering.{RtrCovering}
+use Rattle.rtr_c.specs.declared.validation.RtrRoute.{RtrRoute}
+
+-- the prefix of a route of this family: its address with all bits after the length cleared
+abbrev pub prefix_of : Family → RtrRoute → PrefixParts
+prefix_of f r = record {
+  family = f;
+  address = cleared (width f) r.prefix_length (value (take (address_bytes f) r.address));
+  len = r.prefix_length;
+}
+
+-- the prefix of a route, unless its family or its length is none
+abbrev pub route_prefix : RtrRoute → Option PrefixParts
+route_prefix r =
+    if (r.family == 4) && nat_le r.prefix_length 32 then Some (prefix_of v4 r)
+    else if (r.family == 6) && nat_le r.prefix_length 128 then Some (prefix_of v6 r)
+    else None
+
+abbrev pub validity_number : Validity → ℕ
+validity_number NotFound = 0
+validity_number Valid = 1
+validity_number Invalid = 2
+
+abbrev pub mismatch_number : Option Mismatch → ℕ
+mismatch_number None = 0
+mismatch_number (Some AsZero) = 1
+mismatch_number (Some OtherAs) = 2
+mismatch_number (Some TooLong) = 3
+
+-- the number of the validity of a route over data, or 3 where it is none
+abbrev pub TellsValidity : Option PrefixParts → List ℕ → Tables → (asn code : ℕ) → Type 0
+TellsValidity None input t asn code = code ≡ 3
+TellsValidity (Some p) input t asn code =
+    (answer : Validity) × (code ≡ validity_number answer)
+    × (AreTables input t → (d : List Payload) → (e : EndMeaning) → HoldsData input d e →
+    IsValidity d p asn answer)
+
+-- ---- what covers
+
+-- the number of why a VRP that covers a route doesn't match it
+abbrev pub TellsMismatch : CoveringVrp → PrefixParts → (asn code : ℕ) → Type 0
+TellsMismatch c p asn code =
+    (m : Option Mismatch) × IsMismatch m (vrp c.origin) p asn × (code ≡ mismatch_number m)
+
+-- the numbers of a VRP that covers a route
+pub record ShowsCovering (c : CoveringVrp) (p : PrefixParts) (origin_as : ℕ)
+    (shown : RtrCovering) : Type 0 where
+  pub place : shown.place ≡ c.place
+  pub asn : shown.asn ≡ c.origin.asn
+  pub prefix_length : shown.prefix_length ≡ c.origin.prefix.prefix.len
+  pub max_length : shown.max_length ≡ resolved_len c.origin.prefix
+  pub mismatch : TellsMismatch c p origin_as shown.mismatch
+
+abbrev pub nothing_covers : RtrCovering
+nothing_covers = record {
+  place = 0;
+  asn = 0;
+  prefix_length = 0;
+  max_length = 0;
+  mismatch = 0;
+}
+
+-- what is shown, and that it is; or nothing
+abbrev pub ShowsOne : Option RtrCovering → RtrCovering → Bool → Type 0
+ShowsOne None shown said = (said ≡ false) × (shown ≡ nothing_covers)
+ShowsOne (Some one) shown said = (said ≡ true) × (shown ≡ one)
+
+abbrev pub ShowsFound : Option CoveringVrp → PrefixParts → ℕ → RtrCovering → Bool → Type 0
+ShowsFound None p asn shown said = (said ≡ false) × (shown ≡ nothing_covers)
+ShowsFound (Some c) p asn shown said = (said ≡ true) × ShowsCovering c p asn shown
+
+-- The first VRP from a place of data on that covers a route. Whatever the bytes are, it isn't
+-- before that place.
+abbrev pub TellsCovering : Option PrefixParts → List ℕ → Tables → (asn from : ℕ) → RtrCovering →
+    Bool → Type 0
+TellsCovering None input t asn from shown said = (said ≡ false) × (shown ≡ nothing_covers)
+TellsCovering (Some p) input t asn from shown said =
+    (found : Option CoveringVrp) × ShowsFound found p asn shown said
+    × IfSome found (λ c. from ≤ c.place)
+    × (AreTables input t → (d : List Payload) → (e : EndMeaning) → HoldsData input d e →
+    IsFirstCovering d p from found)
