@@ -6,10 +6,10 @@ ghost use Rattle.std.specs.Option.{option_cmp, option_map};
 ghost use Rattle.rtr_deltas.specs.Items.{meant};
 ghost use Rattle.rtr_deltas.specs.PrivatePlaces.{ComparesPlaces, SortsPlaces, ViewsAt, meaning_cmp};
 
-use crate::item::{Item, PayloadView, next};
+use crate::item::{Item, PayloadView, Wanted, next, next_wanted};
 use std::cmp::Ordering;
 
-/// The payload unit at the place, if one begins there.
+/// The payload unit at the place, if one begins there. Most are of prefixes.
 #[inline(always)]
 pub(crate) fn unit_at<'a>(input: &'a [u8], place: usize) -> Option<PayloadView<'a>>
     ensures { ViewsAt input.now place result }
@@ -17,7 +17,14 @@ pub(crate) fn unit_at<'a>(input: &'a [u8], place: usize) -> Option<PayloadView<'
     if place > input.len() {
         return None;
     }
-    match next(&input[place..]) {
+    let rest = &input[place..];
+    if let Some((view, _)) = next_wanted(rest, Wanted::Ipv4) {
+        return Some(view);
+    }
+    if let Some((view, _)) = next_wanted(rest, Wanted::Ipv6) {
+        return Some(view);
+    }
+    match next(rest) {
         Ok((Item::Unit(view), _)) => Some(view),
         Ok((Item::End(_), _)) => None,
         Err(_) => None,
