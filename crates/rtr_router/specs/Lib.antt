@@ -4,3 +4,6 @@ pub mod Rules
 pub mod Heeding
 pub mod Pace
 pub mod Step
+pub mod Histories
+pub mod Recovery
+pub mod Asking

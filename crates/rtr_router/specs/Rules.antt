@@ -221,7 +221,7 @@ pub record Adopts (r r' : Router) : Type 0 where
   pub resync : r'.resync ≡ false
 
 -- the cache has no data yet (RFC 8210 section 8.4)
-pub record HasNone (r : Router) (u : Head) (r' : Router) : Type 0 where
+pub record HasNoData (r : Router) (u : Head) (r' : Router) : Type 0 where
   pub same : SameKnown r r'
   pub kind : u.kind ≡ kinds.ErrorReport
   pub code : u.code ≡ 2
@@ -336,7 +336,7 @@ Rule r n (events.Came u) actions.Begin r' = Begins r u r'
 Rule r n (events.Came u) actions.Keep r' = Keeps r u r'
 Rule r n (events.Came u) (actions.Apply on) r' = Completes r u on r'
 Rule r n events.Applied actions.Show r' = Adopts r r'
-Rule r n (events.Came u) actions.NoData r' = HasNone r u r'
+Rule r n (events.Came u) actions.NoData r' = HasNoData r u r'
 Rule r n e actions.Drop r' = Loses r r'
 Rule r n e (actions.End x) r' = Closes r e x r'
 Rule r n _ _ r' = ⊥

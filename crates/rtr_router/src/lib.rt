@@ -6,6 +6,7 @@ mod answering;
 mod ending;
 pub mod event;
 pub mod head;
+pub mod laws;
 pub mod router;
 pub mod settings;
 #[cfg(test)]

@@ -217,14 +217,23 @@ fn waits_grow(rt: HostRuntime) {
         ..Settings::usual(1)
     };
     let mut router = Router::new(settings);
-    let mut now = 0;
-    for wait in [
-        1000, 1500, 3000, 6000, 12_000, 24_000, 48_000, 96_000, 192_000, 384_000, 450_000,
-    ] {
-        assert_eq!(rt; word(router.step(now, Event::Tick)), "connect");
-        assert_eq!(rt; word(router.step(now, Event::Lost)), "end");
-        now += wait;
-        assert_eq!(rt; router.wakes(), now);
+    let rows: [(u32, u32); 11] = [
+        (0, 1000),
+        (1000, 2500),
+        (2500, 5500),
+        (5500, 11_500),
+        (11_500, 23_500),
+        (23_500, 47_500),
+        (47_500, 95_500),
+        (95_500, 191_500),
+        (191_500, 383_500),
+        (383_500, 767_500),
+        (767_500, 1_217_500),
+    ];
+    for (now, wakes) in rows {
+        assert_eq!(rt; word(router.step(now as u64, Event::Tick)), "connect");
+        assert_eq!(rt; word(router.step(now as u64, Event::Lost)), "end");
+        assert_eq!(rt; router.wakes(), wakes as u64);
     }
 }
 

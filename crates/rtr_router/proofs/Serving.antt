@@ -1,0 +1,811 @@
+-- A router that a cache serves by the rules has data in time: what is left of the time, at most,
+-- never grows.
+use Rattle.std.proofs.Common.{◌≡◌, ◌≢◌, ◌⊎◌, ℕ, Bool, true, false, ◌+◌, ◌*◌, ◌<◌, ◌≤◌, min}
+use Rattle.std.proofs.Common.{max}
+use Rattle.std.proofs.Common.{Option, None, if◌then◌else◌, refl, sym, ap, ap₂, ◌∙◌, subst}
+use Rattle.std.proofs.Common.{inl, inr, arith, ◌&&◌}
+use Rattle.std.proofs.Math.Nat.{add-mul, mul-le-mul_right}
+use Rattle.std.proofs.lemmas.Bool.{cases_lt}
+use Rattle.rtr_router.specs.declared.head.Head.{Head}
+use Rattle.rtr_router.specs.declared.head.Kind.TheVariants as kinds
+use Rattle.rtr_router.specs.declared.head.Query.{Query}
+use Rattle.rtr_router.specs.declared.settings.Settings.{Settings}
+use Rattle.rtr_router.specs.declared.router.Router.{Router}
+use Rattle.rtr_router.specs.declared.router.Phase.{Phase}
+use Rattle.rtr_router.specs.declared.router.Phase.TheVariants as phases
+use Rattle.rtr_router.specs.declared.event.Event.{Event}
+use Rattle.rtr_router.specs.declared.event.Event.TheVariants as events
+use Rattle.rtr_router.specs.declared.event.Action.{Action}
+use Rattle.rtr_router.specs.declared.event.Action.TheVariants as actions
+use Rattle.rtr_router.specs.declared.event.Cause.TheVariants as causes
+use Rattle.rtr_router.specs.Rules.{Asks, Begins, Completes, Connects}
+use Rattle.rtr_router.specs.Rules.{FallsOver}
+use Rattle.rtr_router.specs.Rules.{Fresh, Keeps, Loses, MayAnswer, Rule, SameKnown, Waits}
+use Rattle.rtr_router.specs.Rules.{awaits_changes, is_answering, query}
+use Rattle.rtr_router.specs.Heeding.{HeedsAsked, HeedsTick, asks_for_all, ends_for}
+use Rattle.rtr_router.specs.Heeding.{ends_with}
+use Rattle.rtr_router.specs.Pace.{Paces, PacesAsk, PacesConnect, PacesDrop, PacesFailure}
+use Rattle.rtr_router.specs.Pace.{PacesFall, PacesWait, SameDue, due_in, rest, wakes_at}
+use Rattle.rtr_router.specs.Step.{IsInTime, IsStep}
+use Rattle.rtr_router.specs.Recovery.{AnswersWell, GoesOnWell, IsMadeWell, IsServed, IsServedBy}
+use Rattle.rtr_router.specs.Recovery.{connection_time, restarts, served_until}
+use Rattle.rtr_router.specs.Recovery.AnswersWell.{not_yet, notifies, responds, resets_well}
+use Rattle.rtr_router.specs.Recovery.AnswersWell.{refuses_version, answers_lower, closes_silently}
+use Rattle.rtr_router.specs.Recovery.GoesOnWell.{not_more_yet, notifies_inside, sends_payload}
+use Rattle.rtr_router.specs.Recovery.GoesOnWell.{ends_data}
+use Rattle.rtr_router.specs.Recovery.IsMadeWell.{not_made_yet, are_made, are_refused}
+use Rattle.rtr_router.specs.Recovery.IsServed.{served_from, served_on}
+use Rattle.rtr_router.proofs.Settled.{same_settings}
+
+-- ---- what is left, at most, after `due`
+
+-- how many connections come after this one, at most
+abbrev after : Settings → Router → ℕ
+after s r = r.version + restarts r * (s.highest + 1)
+
+abbrev opening : Settings → Router → ℕ
+opening s r = if r.fell then r.version else s.highest
+
+-- how many come where there is none now
+abbrev all : Settings → Router → ℕ
+all s r = opening s r + 1 + restarts r * (s.highest + 1)
+
+abbrev left : Phase → Settings → Router → ℕ
+left phases.Offline s r = all s r * connection_time s
+left phases.Connecting s r =
+    s.response_limit + s.response_limit + s.pause + after s r * connection_time s
+left phases.Asked s r =
+    (if r.changes then s.response_limit else 0) + s.pause + after s r * connection_time s
+left phases.Reading s r = s.pause + after s r * connection_time s
+left phases.Applying s r = s.pause + after s r * connection_time s
+left phases.Waiting s r = 0
+
+-- what holds while a query or its answer is under way
+pub record UnderWay (r : Router) : Type 0 where
+  pub fell : r.fell ≡ false
+  pub has_data : r.changes ≡ true → r.has_data ≡ true
+  pub resync : r.changes ≡ true → r.resync ≡ false
+
+abbrev Holds : Phase → Router → Type 0
+Holds phases.Offline r = Unit {0}
+Holds phases.Connecting r = r.fell ≡ false
+Holds phases.Asked r = UnderWay r
+Holds phases.Reading r = UnderWay r
+Holds phases.Applying r = UnderWay r
+Holds phases.Waiting r = ⊥
+
+pub record Kept (s : Settings) (r r' : Router) (n n' : ℕ) : Type 0 where
+  pub holds : Holds r'.phase r'
+  pub less : max n' r'.due + left r'.phase s r' ≤ max n r.due + left r.phase s r
+
+kept :
+    (p p' : Phase) (s : Settings) (r r' : Router) (n n' : ℕ) → r.phase ≡ p → r'.phase ≡ p'
+    → Holds p' r' → max n' r'.due + left p' s r' ≤ max n r.due + left p s r
+    → Kept s r r' n n'
+kept p p' s r r' n n' e e' h l =
+    let to : max n' r'.due + left r'.phase s r' ≤ max n r.due + left p s r =
+    subst (λ (x : Phase). max n' r'.due + left x s r' ≤ max n r.due + left p s r) (sym e') l in
+    record {
+      holds = subst (λ (x : Phase). Holds x r') (sym e') h;
+      less = subst (λ (x : Phase). max n' r'.due + left r'.phase s r' ≤ max n r.due + left x s r)
+          (sym e) to;
+    }
+
+-- ---- arithmetic
+
+same_le :
+    (n n' d d' x x' : ℕ) → n' ≤ max n d → d' ≡ d → x' ≡ x → max n' d' + x' ≤ max n d + x
+same_le n n' d d' x x' h e f = omega arith
+
+less_le :
+    (n n' d d' x x' : ℕ) → n' ≤ max n d → d' ≤ d → x' ≤ x → max n' d' + x' ≤ max n d + x
+less_le n n' d d' x x' h e f = omega arith
+
+connect_le :
+    (n n' d d' l a p x y : ℕ) → n' ≤ max n d → d' ≡ n' + l → y ≡ x + (l + a + a + p)
+    → max n' d' + (a + a + p + x) ≤ max n d + y
+connect_le n n' d d' l a p x y h e f = omega arith
+
+ask_le :
+    (n n' d d' a p z x x' : ℕ) → n' ≤ max n d → d' ≡ n' + a → z ≤ a → x' ≡ x
+    → max n' d' + (z + p + x') ≤ max n d + (a + a + p + x)
+ask_le n n' d d' a p z x x' h e f g = omega arith
+
+reset_le :
+    (n n' d d' a p z z' x x' : ℕ) → n' ≤ max n d → d' ≡ n' + a → z ≡ a → z' ≡ 0 → x' ≤ x
+    → max n' d' + (z' + p + x') ≤ max n d + (z + p + x)
+reset_le n n' d d' a p z z' x x' h e f g k = omega arith
+
+begin_le :
+    (n n' d d' p z x x' : ℕ) → n' ≤ max n d → d' ≡ d → x' ≤ x
+    → max n' d' + (p + x') ≤ max n d + (z + p + x)
+begin_le n n' d d' p z x x' h e f = omega arith
+
+fall_le :
+    (n n' d d' p z x y : ℕ) → n' ≤ max n d → d' ≡ n' → y ≤ x
+    → max n' d' + y ≤ max n d + (z + p + x)
+fall_le n n' d d' p z x y h e f = omega arith
+
+fail_le :
+    (n n' d d' p x y l : ℕ) → n' ≤ max n d → d' ≡ n' + p → y ≤ x → p + x ≤ l
+    → max n' d' + y ≤ max n d + l
+fail_le n n' d d' p x y l h e f g = omega arith
+
+min_le : (d a b : ℕ) → d ≡ min a b → d ≤ a
+min_le d a b e = omega arith
+
+-- ---- how many connections
+
+times : (a b p : ℕ) → a ≤ b → a * p ≤ b * p
+times a b p h = mul-le-mul_right p h
+
+once_more : (a p : ℕ) → (a + 1) * p ≡ a * p + p
+once_more a p = add-mul a 1 p ∙ one (a * p) p
+  where
+    one : (x p : ℕ) → x + 1 * p ≡ x + p
+    one x p = omega arith
+
+restarts_same :
+    (r r' : Router) → r'.has_data ≡ r.has_data → r'.resync ≡ r.resync → restarts r' ≡ restarts r
+restarts_same r r' e f = ap₂ (λ (d y : Bool). if d then (if y then 1 else 2) else 0) e f
+
+after_same :
+    (s : Settings) (r r' : Router) → r'.version ≡ r.version → r'.has_data ≡ r.has_data
+    → r'.resync ≡ r.resync → after s r' ≡ after s r
+after_same s r r' e f g =
+    ap₂ (λ (v x : ℕ). v + x * (s.highest + 1)) e (restarts_same r r' f g)
+
+all_same :
+    (s : Settings) (r r' : Router) → r'.fell ≡ r.fell → r'.version ≡ r.version
+    → r'.has_data ≡ r.has_data → r'.resync ≡ r.resync → all s r' ≡ all s r
+all_same s r r' l e f g =
+    ap₂ (λ (o x : ℕ). o + 1 + x * (s.highest + 1))
+    (ap₂ (λ (b : Bool) (v : ℕ). if b then v else s.highest) l e)
+    (restarts_same r r' f g)
+
+-- nothing is left to begin anew where there are no data
+no_restarts : (r : Router) → r.has_data ≡ false → restarts r ≡ 0
+no_restarts r e = ap (λ (d : Bool). if d then (if r.resync then 1 else 2) else 0) e
+
+some_restarts : (r : Router) → r.has_data ≡ true → 1 ≤ restarts r
+some_restarts r e = subst (λ (x : ℕ). 1 ≤ x) (sym is) (least r.resync)
+  where
+    is : restarts r ≡ (if r.resync then 1 else 2)
+    is = ap (λ (d : Bool). if d then (if r.resync then 1 else 2) else 0) e
+
+    least : (y : Bool) → 1 ≤ (if y then 1 else 2)
+    least true = omega arith
+    least false = omega arith
+
+restarts_reset : (r r' : Router) → r'.has_data ≡ r.has_data → r'.resync ≡ true
+    → restarts r' ≤ restarts r
+restarts_reset r r' e f =
+    subst (λ (x : ℕ). x ≤ restarts r) (sym
+    (ap₂ (λ (d y : Bool). if d then (if y then 1 else 2) else 0) e f))
+    (most r.has_data r.resync)
+  where
+    most : (d y : Bool) → (if d then 1 else 0) ≤ (if d then (if y then 1 else 2) else 0)
+    most true true = omega arith
+    most true false = omega arith
+    most false y = omega arith
+
+-- ---- each action
+
+-- where all but `due` stays
+on_still :
+    (p : Phase) (s : Settings) (r r' : Router) (n n' : ℕ) → r.phase ≡ p → r'.phase ≡ p
+    → n' ≤ max n r.due → SameKnown r r' → r'.version ≡ r.version → r'.resync ≡ r.resync
+    → r'.changes ≡ r.changes → r'.fell ≡ r.fell → r'.due ≡ r.due → Holds p r
+    → Kept s r r' n n'
+on_still p s r r' n n' e e' t same v y c f d h =
+    kept p p s r r' n n' e e' (holding p h)
+    (same_le n n' r.due r'.due (left p s r) (left p s r') t d (leaving p))
+  where
+    under : UnderWay r → UnderWay r'
+    under x = record {
+      fell = f ∙ x.fell;
+      has_data = λ q. same.has_data ∙ x.has_data (sym c ∙ q);
+      resync = λ q. y ∙ x.resync (sym c ∙ q);
+    }
+
+    holding : (p : Phase) → Holds p r → Holds p r'
+    holding phases.Offline x = tt
+    holding phases.Connecting x = f ∙ x
+    holding phases.Asked x = under x
+    holding phases.Reading x = under x
+    holding phases.Applying x = under x
+    holding phases.Waiting x = absurd x
+
+    next : after s r' ≡ after s r
+    next = after_same s r r' v same.has_data y
+
+    leaving : (p : Phase) → left p s r' ≡ left p s r
+    leaving phases.Offline = ap (λ (x : ℕ). x * connection_time s)
+        (all_same s r r' f v same.has_data y)
+    leaving phases.Connecting = ap (λ (x : ℕ). s.response_limit + s.response_limit + s.pause + x *
+        connection_time s) next
+    leaving phases.Asked = ap₂ (λ (b : Bool) (x : ℕ). (if b then s.response_limit else 0) + s.pause
+        + x * connection_time s) c next
+    leaving phases.Reading = ap (λ (x : ℕ). s.pause + x * connection_time s) next
+    leaving phases.Applying = ap (λ (x : ℕ). s.pause + x * connection_time s) next
+    leaving phases.Waiting = refl
+
+on_wait :
+    (p : Phase) (s : Settings) (r r' : Router) (n n' : ℕ) (e : Event) → r.phase ≡ p
+    → n' ≤ max n r.due → Waits r e r' → PacesWait r n' r' → Holds p r → Kept s r r' n n'
+on_wait p s r r' n n' e f t w d h =
+    on_still p s r r' n n' f (w.talk.phase ∙ f) t w.same w.talk.version w.talk.resync w.talk.changes
+    d.same.fell (due d.due) h
+  where
+    never : (p : Phase) → p ≡ phases.Waiting → Holds p r → ⊥
+    never phases.Waiting q x = x
+    never phases.Offline q x = cc
+    never phases.Connecting q x = cc
+    never phases.Asked q x = cc
+    never phases.Reading q x = cc
+    never phases.Applying q x = cc
+
+    due : (r'.due ≡ r.due) ⊎ ((r.phase ≡ phases.Waiting) × (r'.due ≡ min r.due n')) → r'.due ≡ r.due
+    due (inl q) = q
+    due (inr q) = absurd (never p (sym f ∙ q.0) h)
+
+on_connect :
+    (s : Settings) (r r' : Router) (n n' : ℕ) → r.settings ≡ s → n' ≤ max n r.due
+    → Connects r n' r' → PacesConnect r n' r' → Kept s r r' n n'
+on_connect s r r' n n' g t w d =
+    kept phases.Offline phases.Connecting s r r' n n' w.from w.phase d.fell
+    (connect_le n n' r.due r'.due s.connect_limit s.response_limit s.pause
+    (after s r' * connection_time s) (all s r * connection_time s) t
+    (d.due ∙ ap (λ (x : Settings). n' + x.connect_limit) g)
+    (ap (λ (x : ℕ). x * connection_time s) count ∙ once_more (after s r') (connection_time s)))
+  where
+    opens : r'.version ≡ opening s r
+    opens = w.version ∙ ap (λ (x : Settings). if r.fell then r.version else x.highest) g
+
+    shift : (o x : ℕ) → o + 1 + x ≡ o + x + 1
+    shift o x = omega arith
+
+    count : all s r ≡ after s r' + 1
+    count = shift (opening s r) (restarts r * (s.highest + 1))
+        ∙ ap₂ (λ (v x : ℕ). v + x * (s.highest + 1) + 1) (sym opens)
+        (sym (restarts_same r r' w.same.has_data w.resync))
+
+on_connected :
+    (s : Settings) (r r' : Router) (n n' : ℕ) (q : Query) → r.settings ≡ s → n' ≤ max n r.due
+    → Asks r n' events.Connected q r' → PacesAsk r n' events.Connected r' → r.fell ≡ false
+    → Kept s r r' n n'
+on_connected s r r' n n' q g t w d f =
+    kept phases.Connecting phases.Asked s r r' n n' w.may.0 w.phase
+    (record {
+      fell = d.fell ∙ f;
+      has_data = λ c. (w.own c).has_data;
+      resync = λ c. (w.own c).resync;
+    })
+    (ask_le n n' r.due r'.due s.response_limit s.pause (if r'.changes then s.response_limit else 0)
+    (after s r * connection_time s) (after s r' * connection_time s) t
+    (d.due ∙ ap (λ (x : Settings). n' + x.response_limit) g)
+    (most r'.changes s.response_limit)
+    (ap (λ (x : ℕ). x * connection_time s) (after_same s r r' w.version w.same.has_data w.may.2)))
+  where
+    most : (b : Bool) (a : ℕ) → (if b then a else 0) ≤ a
+    most true a = omega arith
+    most false a = omega arith
+
+on_reset :
+    (s : Settings) (r r' : Router) (n n' : ℕ) (u : Head) (q : Query) → r.settings ≡ s
+    → n' ≤ max n r.due → Asks r n' (events.Came u) q r' → PacesAsk r n' (events.Came u) r'
+    → UnderWay r → Kept s r r' n n'
+on_reset s r r' n n' u q g t w d x =
+    kept phases.Asked phases.Asked s r r' n n' w.may.0 w.phase
+    (record {
+      fell = d.fell ∙ x.fell;
+      has_data = λ c. absurd (still c);
+      resync = λ c. absurd (still c);
+    })
+    (reset_le n n' r.due r'.due s.response_limit s.pause
+    (if r.changes then s.response_limit else 0) (if r'.changes then s.response_limit else 0)
+    (after s r * connection_time s) (after s r' * connection_time s) t
+    (d.due ∙ ap (λ (x : Settings). n' + x.response_limit) g)
+    (ap (λ (b : Bool). if b then s.response_limit else 0) w.may.1)
+    (ap (λ (b : Bool). if b then s.response_limit else 0) w.may.4)
+    (times (after s r') (after s r) (connection_time s) fewer))
+  where
+    still : r'.changes ≡ true → ⊥
+    still c = let e : r'.changes ≡ false = w.may.4 in cc
+
+    sum_le : (v v' a b : ℕ) → v' ≡ v → a ≤ b → v' + a ≤ v + b
+    sum_le v v' a b e h = omega arith
+
+    fewer : after s r' ≤ after s r
+    fewer = sum_le r.version r'.version (restarts r' * (s.highest + 1))
+        (restarts r * (s.highest + 1)) w.version
+        (times (restarts r') (restarts r) (s.highest + 1)
+        (restarts_reset r r' w.same.has_data w.may.5))
+
+on_begin :
+    (s : Settings) (r r' : Router) (n n' : ℕ) (u : Head) → n' ≤ max n r.due
+    → Begins r u r' → SameDue r r' → UnderWay r → Kept s r r' n n'
+on_begin s r r' n n' u t w d x =
+    kept phases.Asked phases.Reading s r r' n n' w.from w.phase
+    (record {
+      fell = d.same.fell ∙ x.fell;
+      has_data = λ c. w.same.has_data ∙ x.has_data (sym w.changes ∙ c);
+      resync = λ c. w.resync ∙ x.resync (sym w.changes ∙ c);
+    })
+    (begin_le n n' r.due r'.due s.pause (if r.changes then s.response_limit else 0)
+    (after s r * connection_time s) (after s r' * connection_time s) t d.due
+    (times (after s r') (after s r) (connection_time s) fewer))
+  where
+    sum_le : (v v' u a b : ℕ) → v' ≡ u → u ≤ v → a ≡ b → v' + a ≤ v + b
+    sum_le v v' u a b e h f = omega arith
+
+    fewer : after s r' ≤ after s r
+    fewer = sum_le r.version r'.version u.version (restarts r' * (s.highest + 1))
+        (restarts r * (s.highest + 1)) w.version w.may.most
+        (ap (λ (x : ℕ). x * (s.highest + 1)) (restarts_same r r' w.same.has_data w.resync))
+
+on_apply :
+    (s : Settings) (r r' : Router) (n n' : ℕ) (u : Head) (on : Bool) → n' ≤ max n r.due
+    → Completes r u on r' → SameDue r r' → UnderWay r → Kept s r r' n n'
+on_apply s r r' n n' u on t w d x =
+    kept phases.Reading phases.Applying s r r' n n' w.from w.phase
+    (record {
+      fell = d.same.fell ∙ x.fell;
+      has_data = λ c. w.same.has_data ∙ x.has_data (sym w.same_changes ∙ c);
+      resync = λ c. w.resync ∙ x.resync (sym w.same_changes ∙ c);
+    })
+    (same_le n n' r.due r'.due (left phases.Reading s r) (left phases.Applying s r') t d.due
+    (ap (λ (x : ℕ). s.pause + x * connection_time s)
+    (after_same s r r' w.same_version w.same.has_data w.resync)))
+
+-- it falls to a lower version
+lower : (r r' : Router) (e : Event) → FallsOver r e r' → r'.version < r.version
+lower r r' (events.Came u) w = w.lower
+lower r r' events.Lost w = below r'.version r.version w.by_one
+  where
+    below : (a b : ℕ) → a + 1 ≡ b → a < b
+    below a b e = omega arith
+lower r r' events.Tick w = absurd w
+lower r r' events.Connected w = absurd w
+lower r r' (events.Faulty f) w = absurd w
+lower r r' events.Applied w = absurd w
+lower r r' (events.NotApplied code) w = absurd w
+
+on_fall :
+    (s : Settings) (r r' : Router) (n n' : ℕ) (e : Event) → n' ≤ max n r.due
+    → Rule r n' e (ends_for causes.Lower) r' → PacesFall r n' r' → Kept s r r' n n'
+on_fall s r r' n n' e t w d =
+    kept phases.Asked phases.Offline s r r' n n' w.by.from w.phase tt
+    (fall_le n n' r.due r'.due s.pause (if r.changes then s.response_limit else 0)
+    (after s r * connection_time s) (all s r' * connection_time s) t d.due
+    (times (all s r') (after s r) (connection_time s) fewer))
+  where
+    sum_le : (v v' o a b : ℕ) → o ≡ v' → v' < v → a ≡ b → o + 1 + a ≤ v + b
+    sum_le v v' o a b e h f = omega arith
+
+    fewer : all s r' ≤ after s r
+    fewer = sum_le r.version r'.version (opening s r') (restarts r' * (s.highest + 1))
+        (restarts r * (s.highest + 1))
+        (ap (λ (b : Bool). if b then r'.version else s.highest) d.fell)
+        (lower r r' e w.by.over)
+        (ap (λ (x : ℕ). x * (s.highest + 1)) (restarts_same r r' w.data_then.has_data w.by.resync))
+
+-- changes are refused: a reset query follows
+on_refused :
+    (s : Settings) (r r' : Router) (n n' : ℕ) (code : Option ℕ) → r.settings ≡ s
+    → r.phase ≡ phases.Applying → r.changes ≡ true → n' ≤ max n r.due
+    → Rule r n' (events.NotApplied code) (ends_with false code causes.NotApplied) r'
+    → PacesFailure r n' false r' → UnderWay r → Kept s r r' n n'
+on_refused s r r' n n' code g p c t w d x =
+    kept phases.Applying phases.Offline s r r' n n' p w.phase tt
+    (fail_le n n' r.due r'.due s.pause (after s r * connection_time s)
+    (all s r' * connection_time s)
+    (s.pause + after s r * connection_time s) t
+    (d.due ∙ ap (λ (b : Bool). n' + (if b then r.settings.pause else rest r)) since
+    ∙ ap (λ (x : Settings). n' + x.pause) g)
+    (times (all s r') (after s r) (connection_time s) fewer)
+    (self_le (s.pause + after s r * connection_time s)))
+  where
+    self_le : (x : ℕ) → x ≤ x
+    self_le x = omega arith
+
+    answering : (p : Phase) → p ≡ phases.Applying → (b : Bool) → b ≡ true
+        → (is_answering p && b) ≡ true
+    answering phases.Applying e b f = f
+    answering phases.Offline e b f = cc
+    answering phases.Connecting e b f = cc
+    answering phases.Asked e b f = f
+    answering phases.Reading e b f = f
+    answering phases.Waiting e b f = cc
+
+    since : awaits_changes r ≡ true
+    since = answering r.phase p r.changes c
+
+    was : restarts r ≡ 2
+    was = ap₂ (λ (d y : Bool). if d then (if y then 1 else 2) else 0) (x.has_data c) (x.resync c)
+
+    is : restarts r' ≡ 1
+    is = ap₂ (λ (d y : Bool). if d then (if y then 1 else 2) else 0)
+        (w.data_then.has_data ∙ x.has_data c) (w.by.since since)
+
+    opens : opening s r' ≡ s.highest
+    opens = ap (λ (b : Bool). if b then r'.version else s.highest) (d.fell ∙ x.fell)
+
+    two : (v h o a b : ℕ) → o ≡ h → a ≡ 1 * (h + 1) → b ≡ 2 * (h + 1) → o + 1 + a ≤ v + b
+    two v h o a b e f g = omega arith
+
+    fewer : all s r' ≤ after s r
+    fewer = two r.version s.highest (opening s r') (restarts r' * (s.highest + 1))
+        (restarts r * (s.highest + 1)) opens
+        (ap (λ (x : ℕ). x * (s.highest + 1)) is)
+        (ap (λ (x : ℕ). x * (s.highest + 1)) was)
+
+-- data expire on a connection
+on_expiry :
+    (p : Phase) (s : Settings) (r r' : Router) (n n' : ℕ) (e : Event) → r.settings ≡ s
+    → r.phase ≡ p → r.fell ≡ false → r.has_data ≡ true → n' ≤ max n r.due
+    → s.pause + after s r * connection_time s ≤ left p s r
+    → Rule r n' e (ends_with true None causes.Expired) r' → PacesFailure r n' true r'
+    → Kept s r r' n n'
+on_expiry p s r r' n n' e g q f h t room w d =
+    kept p phases.Offline s r r' n n' q w.phase tt
+    (fail_le n n' r.due r'.due s.pause (after s r * connection_time s)
+    (all s r' * connection_time s)
+    (left p s r) t (d.due ∙ ap (λ (x : Settings). n' + x.pause) g)
+    (times (all s r') (after s r) (connection_time s) fewer) room)
+  where
+    opens : opening s r' ≡ s.highest
+    opens = ap (λ (b : Bool). if b then r'.version else s.highest) (d.fell ∙ f)
+
+    one : (v h o a b : ℕ) → o ≡ h → a ≡ 0 * (h + 1) → 1 * (h + 1) ≤ b → o + 1 + a ≤ v + b
+    one v h o a b e f g = omega arith
+
+    fewer : all s r' ≤ after s r
+    fewer = one r.version s.highest (opening s r') (restarts r' * (s.highest + 1))
+        (restarts r * (s.highest + 1)) opens
+        (ap (λ (x : ℕ). x * (s.highest + 1)) (no_restarts r' w.data_then.has_data))
+        (times 1 (restarts r) (s.highest + 1) (some_restarts r h))
+
+-- and without one
+on_drop :
+    (s : Settings) (r r' : Router) (n n' : ℕ) → n' ≤ max n r.due → Loses r r' → PacesDrop r n' r'
+    → Kept s r r' n n'
+on_drop s r r' n n' t w d =
+    kept phases.Offline phases.Offline s r r' n n' w.from w.phase tt
+    (less_le n n' r.due r'.due (all s r * connection_time s) (all s r' * connection_time s) t
+    (min_le r'.due r.due (n' + r.settings.pause) d.due)
+    (times (all s r') (all s r) (connection_time s) fewer))
+  where
+    sum_le : (o o' a b h : ℕ) → o' ≡ o → a ≡ 0 * (h + 1) → o' + 1 + a ≤ o + 1 + b
+    sum_le o o' a b h e f = omega arith
+
+    fewer : all s r' ≤ all s r
+    fewer = sum_le (opening s r) (opening s r') (restarts r' * (s.highest + 1))
+        (restarts r * (s.highest + 1)) s.highest
+        (ap₂ (λ (b : Bool) (v : ℕ). if b then v else s.highest) d.fell w.version)
+        (ap (λ (x : ℕ). x * (s.highest + 1)) (no_restarts r' w.lost.has_data))
+
+-- ---- what is done at what such a cache sends
+
+pub record Done (r : Router) (n : ℕ) (e : Event) (x : Action) (r' : Router) : Type 0 where
+  pub rule : Rule r n e x r'
+  pub paces : Paces r n e x r'
+
+done :
+    (r r' : Router) (n : ℕ) (e : Event) (a x : Action) → IsStep r n e a r' → a ≡ x
+    → Done r n e x r'
+done r r' n e a x w q = record {
+  rule = subst (λ (y : Action). Rule r n e y r') q w.rule;
+  paces = subst (λ (y : Action). Paces r n e y r') q w.paces;
+}
+
+-- time
+soonest : (p : Phase) (r : Router) → r.phase ≡ p → Holds p r → wakes_at r ≤ r.due
+soonest p r e h = bounded r.has_data (due_in r.phase r) r.expires r.due
+    (ap (λ (x : Phase). due_in x r) e ∙ same p h)
+  where
+    same : (p : Phase) → Holds p r → due_in p r ≡ r.due
+    same phases.Offline x = refl
+    same phases.Connecting x = refl
+    same phases.Asked x = refl
+    same phases.Reading x = refl
+    same phases.Applying x = refl
+    same phases.Waiting x = absurd x
+
+    bounded : (b : Bool) (x y d : ℕ) → x ≡ d → (if b then min x y else x) ≤ d
+    bounded true x y d e = omega arith
+    bounded false x y d e = omega arith
+
+max_le : (n n' w d : ℕ) → n' ≤ max n w → w ≤ d → n' ≤ max n d
+max_le n n' w d h k = omega arith
+
+fresh_or_not : (r : Router) (n : ℕ) → Fresh r n ⊎ ((r.has_data ≡ true) × (r.expires ≤ n))
+fresh_or_not r n = go r.has_data refl (cases_lt n r.expires)
+  where
+    go : (b : Bool) → r.has_data ≡ b → (n < r.expires) ⊎ (r.expires ≤ n)
+        → Fresh r n ⊎ ((r.has_data ≡ true) × (r.expires ≤ n))
+    go false e x = inl (λ q. cc)
+    go true e (inl x) = inl (λ q. x)
+    go true e (inr x) = inr (e, x)
+
+-- the data have expired
+expired :
+    (p : Phase) (s : Settings) (r r' : Router) (n n' : ℕ) (e : Event) (a : Action)
+    → r.settings ≡ s → r.phase ≡ p → Holds p r → n' ≤ max n r.due
+    → r.has_data ≡ true → r.expires ≤ n' → IsStep r n' e a r' → Kept s r r' n n'
+expired p s r r' n n' e a g q h t has late w = go p q h
+  where
+    online : (p : Phase) → r.phase ≡ p → r.phase ≢ phases.Offline → r.fell ≡ false
+        → s.pause + after s r * connection_time s ≤ left p s r → Kept s r r' n n'
+    online p q differs f room =
+        let d : Done r n' e (ends_with true None causes.Expired) r' =
+        done r r' n' e a (ends_with true None causes.Expired) w
+        ((w.expires has late).online differs) in
+        on_expiry p s r r' n n' e g q f has t room d.rule d.paces
+
+    room_more : (a p x : ℕ) → p + x ≤ a + p + x
+    room_more a p x = omega arith
+
+    room_two : (a p x : ℕ) → p + x ≤ a + a + p + x
+    room_two a p x = omega arith
+
+    room_self : (x : ℕ) → x ≤ x
+    room_self x = omega arith
+
+    not_in : (p : Phase) → r.phase ≡ p → p ≢ phases.Offline → r.phase ≢ phases.Offline
+    not_in p q differs e = differs (sym q ∙ e)
+
+    go : (p : Phase) → r.phase ≡ p → Holds p r → Kept s r r' n n'
+    go phases.Offline q h =
+        let d : Done r n' e actions.Drop r' = done r r' n' e a actions.Drop w
+        ((w.expires has late).offline q) in
+        on_drop s r r' n n' t d.rule d.paces
+    go phases.Connecting q h = online phases.Connecting q (not_in phases.Connecting q (λ f. cc)) h
+        (room_two s.response_limit s.pause (after s r * connection_time s))
+    go phases.Asked q h = online phases.Asked q (not_in phases.Asked q (λ f. cc)) h.fell
+        (room_more (if r.changes then s.response_limit else 0) s.pause
+        (after s r * connection_time s))
+    go phases.Reading q h = online phases.Reading q (not_in phases.Reading q (λ f. cc)) h.fell
+        (room_self (s.pause + after s r * connection_time s))
+    go phases.Applying q h = online phases.Applying q (not_in phases.Applying q (λ f. cc)) h.fell
+        (room_self (s.pause + after s r * connection_time s))
+    go phases.Waiting q h = absurd h
+
+-- it waits
+passed :
+    (p : Phase) (s : Settings) (r r' : Router) (n n' : ℕ) (e : Event) (a : Action)
+    → r.phase ≡ p → Holds p r → n' ≤ max n r.due → IsStep r n' e a r' → a ≡ actions.Wait
+    → Kept s r r' n n'
+passed p s r r' n n' e a q h t w f =
+    let d : Done r n' e actions.Wait r' = done r r' n' e a actions.Wait w f in
+    on_wait p s r r' n n' e q t d.rule d.paces h
+
+-- a query is awaited or an answer read, so time alone says nothing
+idle : (p : Phase) (r : Router) → r.phase ≡ p → p ≢ phases.Offline → p ≢ phases.Waiting
+    → (r.phase ≢ phases.Offline) × (r.phase ≢ phases.Waiting)
+idle p r q x y = ((λ e. x (sym q ∙ e)), (λ e. y (sym q ∙ e)))
+
+fell_away :
+    (s : Settings) (r r' : Router) (n n' : ℕ) (e : Event) (a : Action) → n' ≤ max n r.due
+    → IsStep r n' e a r' → a ≡ ends_for causes.Lower → Kept s r r' n n'
+fell_away s r r' n n' e a t w f =
+    let d : Done r n' e (ends_for causes.Lower) r' = done r r' n' e a (ends_for causes.Lower) w f in
+    on_fall s r r' n n' e t d.rule d.paces
+
+began :
+    (s : Settings) (r r' : Router) (n n' : ℕ) (u : Head) (a : Action) → n' ≤ max n r.due
+    → UnderWay r → IsStep r n' (events.Came u) a r' → a ≡ actions.Begin → Kept s r r' n n'
+began s r r' n n' u a t h w f =
+    let d : Done r n' (events.Came u) actions.Begin r' = done r r' n' (events.Came u) a
+    actions.Begin w f in
+    on_begin s r r' n n' u t d.rule d.paces h
+
+asked :
+    (most : ℕ) (s : Settings) (r r' : Router) (n n' : ℕ) (e : Event) (a : Action)
+    → r.settings ≡ s → r.phase ≡ phases.Asked → UnderWay r → n' ≤ max n r.due
+    → Fresh r n' → IsInTime r n' → AnswersWell most r e → IsStep r n' e a r'
+    → Kept s r r' n n'
+asked most s r r' n n' e a g q h t fresh soon not_yet w =
+    passed phases.Asked s r r' n n' events.Tick a q h t w
+    (w.idles fresh soon (idle phases.Asked r q (λ f. cc) (λ f. cc)))
+asked most s r r' n n' e a g q h t fresh soon (notifies u k v) w =
+    passed phases.Asked s r r' n n' (events.Came u) a q h t w (go r.agreed refl)
+  where
+    heeds : HeedsAsked r u a
+    heeds = (w.heeds fresh soon).asked q
+
+    go : (b : Bool) → r.agreed ≡ b → a ≡ actions.Wait
+    go true e = heeds.passes k (v e)
+    go false e = heeds.ignores k e
+asked most s r r' n n' e a g q h t fresh soon (responds u k v x) w =
+    began s r r' n n' u a t h w (((w.heeds fresh soon).asked q).begins k may x)
+  where
+    may_le : (a b : ℕ) → a ≡ b → a ≤ b
+    may_le a b e = omega arith
+
+    may : MayAnswer r u
+    may = record { most = may_le u.version r.version v; agreed = λ e. v; changes = λ e. v }
+asked most s r r' n n' e a g q h t fresh soon (resets_well u k v c) w =
+    let d : Done r n' (events.Came u) (asks_for_all r) r' = done r r' n' (events.Came u) a
+    (asks_for_all r) w (((w.heeds fresh soon).asked q).resets k v c) in
+    on_reset s r r' n n' u (record {
+      changes = false;
+      version = r.version;
+      session = 0;
+      serial =
+          0;
+    }) g t d.rule d.paces h
+asked most s r r' n n' e a g q h t fresh soon (refuses_version u l unagreed k x) w =
+    fell_away s r r' n n' (events.Came u) a t w
+    (((w.heeds fresh soon).asked q).falls k x unagreed (positive most r.version l))
+  where
+    positive : (a b : ℕ) → a < b → 1 ≤ b
+    positive a b h = omega arith
+asked most s r r' n n' e a g q h t fresh soon (answers_lower u v l unagreed x) w =
+    go r.changes refl x
+  where
+    heeds : HeedsAsked r u a
+    heeds = (w.heeds fresh soon).asked q
+
+    below : (a b m : ℕ) → a ≡ m → m < b → a < b
+    below a b m e h = omega arith
+
+    below_le : (a b m : ℕ) → a ≡ m → m < b → a ≤ b
+    below_le a b m e h = omega arith
+
+    may : r.changes ≡ false → MayAnswer r u
+    may c = record {
+      most = below_le u.version r.version most v l;
+      agreed = λ f. cc;
+      changes =
+          λ f. cc;
+    }
+
+    either : (u.kind ≡ kinds.CacheResponse) ⊎ ((u.kind ≡ kinds.CacheReset) × (r.changes ≡ true))
+        → (u.kind ≡ kinds.CacheResponse) ⊎ (u.kind ≡ kinds.CacheReset)
+    either (inl k) = inl k
+    either (inr k) = inr k.0
+
+    go : (b : Bool) → r.changes ≡ b → (u.kind ≡ kinds.CacheResponse) ⊎
+        ((u.kind ≡ kinds.CacheReset) × (r.changes ≡ true)) → Kept s r r' n n'
+    go true c x = fell_away s r r' n n' (events.Came u) a t w
+        (heeds.falls_to (either x) (below u.version r.version most v l) c unagreed)
+    go false c (inl k) = began s r r' n n' u a t h w (heeds.begins k (may c) (λ f. cc))
+    go false c (inr k) = let f : r.changes ≡ true = k.1 in cc
+asked most s r r' n n' e a g q h t fresh soon (closes_silently l unagreed x) w =
+    fell_away s r r' n n' events.Lost a t w ((w.heeds fresh soon).falls (q, unagreed) x)
+
+reading :
+    (s : Settings) (r r' : Router) (n n' : ℕ) (e : Event) (a : Action)
+    → r.phase ≡ phases.Reading → UnderWay r → n' ≤ max n r.due
+    → Fresh r n' → IsInTime r n' → GoesOnWell r e → IsStep r n' e a r' → Kept s r r' n n'
+reading s r r' n n' e a q h t fresh soon not_more_yet w =
+    passed phases.Reading s r r' n n' events.Tick a q h t w
+    (w.idles fresh soon (idle phases.Reading r q (λ f. cc) (λ f. cc)))
+reading s r r' n n' e a q h t fresh soon (notifies_inside u x) w =
+    passed phases.Reading s r r' n n' (events.Came u) a q h t w
+    (((w.heeds fresh soon).reading q).notes x)
+reading s r r' n n' e a q h t fresh soon (sends_payload u k v x) w =
+    let d : Done r n' (events.Came u) actions.Keep r' = done r r' n' (events.Came u) a actions.Keep
+    w (((w.heeds fresh soon).reading q).keeps k v x) in
+    let rule : Keeps r u r' = d.rule in
+    let paces : SameDue r r' = d.paces in
+    on_still phases.Reading s r r' n n' q (rule.talk.phase ∙ q) t rule.same rule.talk.version
+    rule.talk.resync rule.talk.changes paces.same.fell paces.due h
+reading s r r' n n' e a q h t fresh soon (ends_data u x y z) w =
+    let d : Done r n' (events.Came u) (actions.Apply r.changes) r' = done r r' n' (events.Came u) a
+    (actions.Apply r.changes) w (((w.heeds fresh soon).reading q).applies x y z) in
+    on_apply s r r' n n' u r.changes t d.rule d.paces h
+
+applying :
+    (s : Settings) (r r' : Router) (n n' : ℕ) (e : Event) (a : Action)
+    → r.settings ≡ s → r.phase ≡ phases.Applying → UnderWay r → n' ≤ max n r.due
+    → Fresh r n' → IsInTime r n' → IsMadeWell r e → IsStep r n' e a r' → a ≢ actions.Show
+    → Kept s r r' n n'
+applying s r r' n n' e a g q h t fresh soon not_made_yet w unshown =
+    passed phases.Applying s r r' n n' events.Tick a q h t w
+    (w.idles fresh soon (idle phases.Applying r q (λ f. cc) (λ f. cc)))
+applying s r r' n n' e a g q h t fresh soon are_made w unshown =
+    absurd (unshown (w.heeds fresh soon q))
+applying s r r' n n' e a g q h t fresh soon (are_refused code c) w unshown =
+    let d : Done r n' (events.NotApplied code) (ends_with false code causes.NotApplied) r' =
+    done r r' n' (events.NotApplied code) a (ends_with false code causes.NotApplied) w
+    (w.heeds fresh soon (inr q)) in
+    on_refused s r r' n n' code g q c t d.rule d.paces h
+
+offline :
+    (s : Settings) (r r' : Router) (n n' : ℕ) (a : Action)
+    → r.settings ≡ s → r.phase ≡ phases.Offline → n' ≤ max n r.due
+    → Fresh r n' → IsInTime r n' → IsStep r n' events.Tick a r' → Kept s r r' n n'
+offline s r r' n n' a g q t fresh soon w = go (cases_lt n' r.due)
+  where
+    heeds : HeedsTick r n' a r'
+    heeds = w.heeds fresh soon
+
+    go : (n' < r.due) ⊎ (r.due ≤ n') → Kept s r r' n n'
+    go (inl x) = passed phases.Offline s r r' n n' events.Tick a q tt t w (heeds.rests q x)
+    go (inr x) =
+        let d : Done r n' events.Tick actions.Connect r' =
+        done r r' n' events.Tick a actions.Connect w (heeds.connects q x) in
+        on_connect s r r' n n' g t d.rule d.paces
+
+served :
+    (most : ℕ) (p : Phase) (s : Settings) (r r' : Router) (n n' : ℕ) (e : Event) (a : Action)
+    → r.settings ≡ s → r.phase ≡ p → Holds p r → n' ≤ max n r.due
+    → Fresh r n' → IsInTime r n' → IsServedBy most p r e → IsStep r n' e a r' → a ≢ actions.Show
+    → Kept s r r' n n'
+served most phases.Offline s r r' n n' e a g q h t fresh soon x w unshown =
+    offline s r r' n n' a g q t fresh soon (subst (λ (y : Event). IsStep r n' y a r') x w)
+served most phases.Connecting s r r' n n' e a g q h t fresh soon (inl x) w unshown =
+    let w' : IsStep r n' events.Tick a r' = subst (λ (y : Event). IsStep r n' y a r') x w in
+    passed phases.Connecting s r r' n n' events.Tick a q h t w'
+    (w'.idles fresh soon (idle phases.Connecting r q (λ f. cc) (λ f. cc)))
+served most phases.Connecting s r r' n n' e a g q h t fresh soon (inr x) w unshown =
+    let w' : IsStep r n' events.Connected a r' = subst (λ (y : Event). IsStep r n' y a r') x w in
+    let d : Done r n' events.Connected (actions.Ask (query r')) r' = done r r' n' events.Connected a
+    (actions.Ask (query r')) w' (w'.heeds fresh soon q) in
+    on_connected s r r' n n' (query r') g t d.rule d.paces h
+served most phases.Asked s r r' n n' e a g q h t fresh soon x w unshown =
+    asked most s r r' n n' e a g q h t fresh soon x w
+served most phases.Reading s r r' n n' e a g q h t fresh soon x w unshown =
+    reading s r r' n n' e a q h t fresh soon x w
+served most phases.Applying s r r' n n' e a g q h t fresh soon x w unshown =
+    applying s r r' n n' e a g q h t fresh soon x w unshown
+served most phases.Waiting s r r' n n' e a g q h t fresh soon x w unshown = absurd x
+
+step :
+    (most : ℕ) (s : Settings) (r r' : Router) (n n' : ℕ) (e : Event) (a : Action)
+    → r.settings ≡ s → Holds r.phase r → n' ≤ max n (wakes_at r) → IsInTime r n'
+    → IsServedBy most r.phase r e → IsStep r n' e a r' → a ≢ actions.Show
+    → Kept s r r' n n'
+step most s r r' n n' e a g h t soon x w unshown = go (fresh_or_not r n')
+  where
+    in_time : n' ≤ max n r.due
+    in_time = max_le n n' (wakes_at r) r.due t (soonest r.phase r refl h)
+
+    go : Fresh r n' ⊎ ((r.has_data ≡ true) × (r.expires ≤ n')) → Kept s r r' n n'
+    go (inl fresh) = served most r.phase s r r' n n' e a g refl h in_time fresh soon x w unshown
+    go (inr late) = expired r.phase s r r' n n' e a g refl h in_time late.0 late.1 w
+
+record Lasts (s : Settings) (r₀ r : Router) (start n : ℕ) : Type 0 where
+  settings : r.settings ≡ s
+  holds : Holds r.phase r
+  less : max n r.due + left r.phase s r ≤ max start r₀.due + left r₀.phase s r₀
+
+lasts :
+    (most : ℕ) (r₀ : Router) (start : ℕ) (r : Router) (n : ℕ) → r₀.phase ≡ phases.Offline
+    → IsServed most r₀ start r n → Lasts r₀.settings r₀ r start n
+lasts most r₀ start r n q served_from = record {
+  settings = refl;
+  holds = subst (λ (p : Phase). Holds p r₀) (sym q) tt;
+  less = self (max start r₀.due + left r₀.phase r₀.settings r₀);
+}
+  where
+    self : (x : ℕ) → x ≤ x
+    self x = omega arith
+lasts most r₀ start r n q (served_on r₁ n₁ n₂ e a r₂ run l t soon x w unshown) =
+    let y : Lasts r₀.settings r₀ r₁ start n₁ = lasts most r₀ start r₁ n₁ q run in
+    let z : Kept r₀.settings r₁ r₂ n₁ n₂ = step most r₀.settings r₁ r₂ n₁ n₂ e a y.settings y.holds
+    t soon x w unshown in
+    record {
+      settings = same_settings r₁ r₂ n₂ e a w.paces ∙ y.settings;
+      holds = z.holds;
+      less = through (max n₂ r₂.due + left r₂.phase r₀.settings r₂)
+          (max n₁ r₁.due + left r₁.phase r₀.settings r₁)
+          (max start r₀.due + left r₀.phase r₀.settings r₀) z.less y.less;
+    }
+  where
+    through : (a b c : ℕ) → a ≤ b → b ≤ c → a ≤ c
+    through a b c h k = omega arith
+
+pub recovers :
+    (most : ℕ) (r₀ : Router) (start : ℕ) (r : Router) (n : ℕ) → r₀.phase ≡ phases.Offline
+    → IsServed most r₀ start r n → n ≤ served_until r₀ start
+recovers most r₀ start r n q run =
+    let y : Lasts r₀.settings r₀ r start n = lasts most r₀ start r n q run in
+    bound n r.due (left r.phase r₀.settings r) (max start r₀.due) (left r₀.phase r₀.settings r₀)
+    (all r₀.settings r₀ * connection_time r₀.settings)
+    y.less (ap (λ (p : Phase). left p r₀.settings r₀) q)
+  where
+    bound : (n d x t l y : ℕ) → max n d + x ≤ t + l → l ≡ y → n ≤ t + y
+    bound n d x t l y h e = omega arith

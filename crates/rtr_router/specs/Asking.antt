@@ -1,0 +1,124 @@
+-- How often a router asks, in which versions, and what it sends when, in a whole history.
+use Rattle.std.specs.Prelude.{◌≡◌, ◌⊎◌, ℕ, Bool, true, false, ◌+◌, ◌-◌, ◌*◌, ◌^◌, ◌<◌, ◌≤◌}
+use Rattle.std.specs.Prelude.{Option, Some, None, List, [], ◌∷◌, if◌then◌else◌}
+use Rattle.rtr_router.specs.declared.head.Query.{Query}
+use Rattle.rtr_router.specs.declared.settings.Settings.{Settings}
+use Rattle.rtr_router.specs.declared.event.Event.{Event}
+use Rattle.rtr_router.specs.declared.event.Event.TheVariants as events
+use Rattle.rtr_router.specs.declared.event.Action.{Action}
+use Rattle.rtr_router.specs.declared.event.Action.TheVariants as actions
+use Rattle.rtr_router.specs.declared.event.Cause.{Cause}
+use Rattle.rtr_router.specs.declared.event.Cause.TheVariants as causes
+use Rattle.rtr_router.specs.Rules.{NoneAboutReports}
+use Rattle.rtr_router.specs.Histories.{Moment}
+
+-- ---- times
+
+abbrev pub latest : List Moment → ℕ
+latest [] = 0
+latest (m ∷ ms) = m.now
+
+-- times that don't go back, each below 2^63
+abbrev pub IsTimed : List Moment → Type 0
+IsTimed [] = Unit {0}
+IsTimed (m ∷ ms) = (latest ms ≤ m.now) × (m.now < 2 ^ 63) × IsTimed ms
+
+-- the longest that a router waits for anything: a day, if its caller sets no times
+abbrev pub longest : Settings → ℕ
+longest s =
+    s.pause + s.connect_limit + s.response_limit + s.refresh + s.retry + s.expire + 86400000
+
+-- ---- queries
+
+-- a query, and when it was sent
+pub record Asking : Type 0 where
+  pub query : Query
+  pub at : ℕ
+
+abbrev pub asked_last : Action → ℕ → Option Asking → Option Asking
+asked_last (actions.Ask q) n before = Some (record { query = q; at = n })
+asked_last _ n before = before
+
+-- the last query of a history
+abbrev pub last_query : List Moment → Option Asking
+last_query [] = None
+last_query (m ∷ ms) = asked_last m.action m.now (last_query ms)
+
+-- what a query weighs: one of a lower version weighs less, and so does a reset query
+abbrev pub weight : Query → ℕ
+weight q = 2 * q.version + (if q.changes then 1 else 0)
+
+-- a query comes a pause after the one before it, or weighs less: so at most six come in one pause
+abbrev pub PacedHere : ℕ → Action → ℕ → Option Asking → Type 0
+PacedHere pause (actions.Ask q) n (Some x) = (pause ≤ n - x.at) ⊎ (weight q < weight x.query)
+PacedHere pause _ n _ = Unit {0}
+
+abbrev pub IsPaced : ℕ → List Moment → Type 0
+IsPaced pause [] = Unit {0}
+IsPaced pause (m ∷ ms) = PacedHere pause m.action m.now (last_query ms) × IsPaced pause ms
+
+-- ---- connections
+
+-- whether a connection is there, or being made
+abbrev pub connection_after : Action → Bool → Bool
+connection_after actions.Connect before = true
+connection_after (actions.End x) before = false
+connection_after _ before = before
+
+abbrev pub has_connection : List Moment → Bool
+has_connection [] = false
+has_connection (m ∷ ms) = connection_after m.action (has_connection ms)
+
+-- queries and reports go out on a connection that hasn't ended, and no report is about a report
+-- (RFC 8210 section 5.11); a report ends the connection, so there is one on each at most
+abbrev pub TidyHere : Event → Action → Bool → Type 0
+TidyHere e (actions.Ask q) before = before ≡ true
+TidyHere e (actions.End x) before = (before ≡ true) × NoneAboutReports e x.report
+TidyHere e actions.Connect before = before ≡ false
+TidyHere e _ before = Unit {0}
+
+abbrev pub IsTidy : List Moment → Type 0
+IsTidy [] = Unit {0}
+IsTidy (m ∷ ms) = TidyHere m.event m.action (has_connection ms) × IsTidy ms
+
+-- ---- versions
+
+-- the version of the first answer on a connection
+abbrev pub answered_in : Event → Action → Option ℕ → Option ℕ
+answered_in (events.Came u) actions.Begin before = Some u.version
+answered_in e actions.Connect before = None
+answered_in e _ before = before
+
+abbrev pub agreed_version : List Moment → Option ℕ
+agreed_version [] = None
+agreed_version (m ∷ ms) = answered_in m.event m.action (agreed_version ms)
+
+-- all answers on a connection are of one version (RFC 8210 section 7)
+abbrev pub AgreesHere : Event → Action → Option ℕ → Type 0
+AgreesHere (events.Came u) actions.Begin (Some v) = u.version ≡ v
+AgreesHere e _ before = Unit {0}
+
+abbrev pub IsOfOneVersion : List Moment → Type 0
+IsOfOneVersion [] = Unit {0}
+IsOfOneVersion (m ∷ ms) = AgreesHere m.event m.action (agreed_version ms) × IsOfOneVersion ms
+
+-- why the last connection ended
+abbrev pub cause_after : Action → Option Cause → Option Cause
+cause_after (actions.End x) before = Some x.cause
+cause_after _ before = before
+
+abbrev pub last_cause : List Moment → Option Cause
+last_cause [] = None
+last_cause (m ∷ ms) = cause_after m.action (last_cause ms)
+
+-- the first query on a connection is in the highest version, unless the connection before ended
+-- because the cache may have a lower one
+abbrev pub HighestHere : ℕ → Event → Action → Option Cause → Type 0
+HighestHere highest events.Connected (actions.Ask q) before =
+    (q.version ≡ highest) ⊎ (before ≡ Some causes.Lower)
+HighestHere highest e _ before = Unit {0}
+
+abbrev pub TriesHighest : ℕ → List Moment → Type 0
+TriesHighest highest [] = Unit {0}
+TriesHighest highest (m ∷ ms) =
+    HighestHere highest m.event m.action (last_cause ms) × TriesHighest highest ms

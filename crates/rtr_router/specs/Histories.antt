@@ -1,0 +1,172 @@
+-- Whole answers, in the history of what came to a router and what it did, the newest first.
+use Rattle.std.specs.Prelude.{◌≡◌, ◌≢◌, ℕ, true, false, ◌+◌, ◌<◌, if◌then◌else◌}
+use Rattle.std.specs.Prelude.{Option, Some, None, List, [], ◌∷◌, ◌++◌}
+use Rattle.std.specs.declared.cmp.Ordering.TheVariants.{Less}
+use Rattle.rtr_base.specs.Serial.{serial_cmp}
+use Rattle.rtr_router.specs.declared.head.Head.{Head}
+use Rattle.rtr_router.specs.declared.head.Known.{Known}
+use Rattle.rtr_router.specs.declared.head.Query.{Query}
+use Rattle.rtr_router.specs.declared.head.Kind.TheVariants as kinds
+use Rattle.rtr_router.specs.declared.settings.Settings.{Settings}
+use Rattle.rtr_router.specs.declared.router.Router.{Router}
+use Rattle.rtr_router.specs.declared.router.Phase.TheVariants as phases
+use Rattle.rtr_router.specs.declared.event.Event.{Event}
+use Rattle.rtr_router.specs.declared.event.Event.TheVariants as events
+use Rattle.rtr_router.specs.declared.event.Action.{Action}
+use Rattle.rtr_router.specs.declared.event.Action.TheVariants as actions
+use Rattle.rtr_router.specs.Rules.{IsPayloadOf, known_of}
+use Rattle.rtr_router.specs.Step.{IsStep}
+use Rattle.rtr_router.specs.Times.{expire_ms}
+
+-- What happened once: the time, the event, what the unit that came has beside its head, and what
+-- the router did.
+pub record Moment : Type 0 where
+  pub now : ℕ
+  pub event : Event
+  pub body : ℕ
+  pub action : Action
+
+abbrev pub at : ℕ → Event → ℕ → Action → Moment
+at n e b a = record { now = n; event = e; body = b; action = a }
+
+-- nothing came over the connection but perhaps a notify, and it wasn't lost, nor another one made
+abbrev pub IsStill : Event → Type 0
+IsStill (events.Came u) = u.kind ≡ kinds.SerialNotify
+IsStill events.Lost = ⊥
+IsStill (events.Faulty f) = ⊥
+IsStill events.Connected = ⊥
+IsStill _ = Unit {0}
+
+-- the query was sent, and nothing has answered it yet
+pub data IsOut (q : Query) : List Moment → Type 0 where
+  was_asked :
+      (n b : ℕ) (e : Event) (ms : List Moment)
+      → IsOut q (at n e b (actions.Ask q) ∷ ms)
+  still_out :
+      (n b : ℕ) (e : Event) (ms : List Moment) → IsStill e → IsOut q ms
+      → IsOut q (at n e b actions.Wait ∷ ms)
+
+-- the query was answered by a cache response of version v and session s, and after that by these
+-- payloads, each of version v; there may be more of them
+pub data IsRead (q : Query) (v s : ℕ) : List Moment → List ℕ → Type 0 where
+  was_begun :
+      (n b : ℕ) (u : Head) (ms : List Moment) → IsOut q ms
+      → u.kind ≡ kinds.CacheResponse → u.version ≡ v → u.session ≡ s
+      → IsRead q v s (at n (events.Came u) b actions.Begin ∷ ms) []
+  was_kept :
+      (n b : ℕ) (u : Head) (ms : List Moment) (bodies : List ℕ) → IsRead q v s ms bodies
+      → IsPayloadOf v u.kind → u.version ≡ v
+      → IsRead q v s (at n (events.Came u) b actions.Keep ∷ ms) (bodies ++ b ∷ [])
+  still_read :
+      (n b : ℕ) (e : Event) (ms : List Moment) (bodies : List ℕ) → IsStill e
+      → IsRead q v s ms bodies
+      → IsRead q v s (at n e b actions.Wait ∷ ms) bodies
+
+-- the answer is whole: an end of data of that version and session came
+pub data WasAnswered (q : Query) (k : Known) : List Moment → List ℕ → Type 0 where
+  was_ended :
+      (n b : ℕ) (u : Head) (ms : List Moment) (bodies : List ℕ)
+      → IsRead q u.version u.session ms bodies → u.kind ≡ kinds.EndOfData → k ≡ known_of u
+      → WasAnswered q k (at n (events.Came u) b (actions.Apply q.changes) ∷ ms) bodies
+  still_whole :
+      (n b : ℕ) (e : Event) (ms : List Moment) (bodies : List ℕ) → IsStill e
+      → WasAnswered q k ms bodies
+      → WasAnswered q k (at n e b actions.Wait ∷ ms) bodies
+
+-- The query is for the changes since these data, and the answer is of their session and version,
+-- and not of a serial number before theirs (RFC 1982).
+pub record AnswersSince (q : Query) (old new : Known) : Type 0 where
+  pub changes : q.changes ≡ true
+  pub session : q.session ≡ old.session
+  pub serial : q.serial ≡ old.serial
+  pub version : q.version ≡ old.version
+  pub new_session : new.session ≡ old.session
+  pub new_version : new.version ≡ old.version
+  pub order : serial_cmp new.serial old.serial ≢ Some Less
+
+-- what leaves the data that are shown as they are
+abbrev pub LeavesData : Action → Type 0
+LeavesData actions.Show = ⊥
+LeavesData actions.Drop = ⊥
+LeavesData (actions.End x) = x.drop ≡ false
+LeavesData _ = Unit {0}
+
+-- What a caller set, and how it makes changes of data, or of none; it may refuse. Data and changes
+-- are numbers here.
+pub record Caller : Type 0 where
+  pub settings : Settings
+  pub make : Option ℕ → List ℕ → Option ℕ
+
+-- The data that a router has by a history: what names them, when they came, and the data, which one
+-- whole answer made of no data, or of the data before it.
+pub data HistoryHas (c : Caller) : List Moment → Known → ℕ → ℕ → Type 0 where
+  made_anew :
+      (n b : ℕ) (ms : List Moment) (q : Query) (k : Known) (bodies : List ℕ) (d : ℕ)
+      → q.changes ≡ false → WasAnswered q k ms bodies → c.make None bodies ≡ Some d
+      → HistoryHas c (at n events.Applied b actions.Show ∷ ms) k n d
+  made_of :
+      (n b : ℕ) (ms : List Moment) (q : Query) (k : Known) (bodies : List ℕ) (d : ℕ)
+      (k₀ : Known) (n₀ d₀ : ℕ) → HistoryHas c ms k₀ n₀ d₀
+      → AnswersSince q k₀ k → WasAnswered q k ms bodies → c.make (Some d₀) bodies ≡ Some d
+      → HistoryHas c (at n events.Applied b actions.Show ∷ ms) k n d
+  still_had :
+      (n b : ℕ) (e : Event) (a : Action) (ms : List Moment) (k : Known) (n₀ d₀ : ℕ)
+      → HistoryHas c ms k n₀ d₀ → LeavesData a → n < n₀ + expire_ms c.settings k
+      → HistoryHas c (at n e b a ∷ ms) k n₀ d₀
+
+-- What a caller has: what it keeps of the response, what the changes made, and what it shows.
+pub record Host : Type 0 where
+  pub kept : List ℕ
+  pub made : Option ℕ
+  pub shown : Option ℕ
+
+abbrev pub empty_host : Host
+empty_host = record { kept = []; made = None; shown = None }
+
+-- what a caller does
+abbrev pub host_after : Caller → Host → ℕ → Action → Host
+host_after c h b actions.Begin = record { kept = []; made = h.made; shown = h.shown }
+host_after c h b actions.Keep =
+    record { kept = h.kept ++ b ∷ []; made = h.made; shown = h.shown }
+host_after c h b (actions.Apply changes) =
+    record {
+      kept = h.kept;
+      made = c.make (if changes then h.shown else None) h.kept;
+      shown = h.shown;
+    }
+host_after c h b actions.Show = record { kept = h.kept; made = h.made; shown = h.made }
+host_after c h b actions.Drop = record { kept = h.kept; made = h.made; shown = None }
+host_after c h b (actions.End x) =
+    record { kept = h.kept; made = h.made; shown = if x.drop then None else h.shown }
+host_after c h b _ = h
+
+-- what a caller may say: that a connection is there only where it was to make one, and that all
+-- changes were made only where they were
+abbrev pub MaySay : Router → Host → Event → Type 0
+MaySay r h events.Applied = (d : ℕ) × (h.made ≡ Some d)
+MaySay r h events.Connected = r.phase ≡ phases.Connecting
+MaySay r h _ = Unit {0}
+
+-- a router as `new` makes it
+pub record IsNew (s : Settings) (r : Router) : Type 0 where
+  pub settings : r.settings ≡ s
+  pub phase : r.phase ≡ phases.Offline
+  pub has_data : r.has_data ≡ false
+  pub due : r.due ≡ 0
+  pub asked : r.asked ≡ 0
+  pub fell : r.fell ≡ false
+
+-- any run of a router with these settings and its caller, whatever comes
+pub data IsHistory (c : Caller) : List Moment → Router → Host → Type 0 where
+  run_begins : (r : Router) → IsNew c.settings r → IsHistory c [] r empty_host
+  run_goes_on :
+      (n b : ℕ) (e : Event) (a : Action) (r' : Router) (ms : List Moment) (r : Router) (h : Host)
+      → IsHistory c ms r h → MaySay r h e → IsStep r n e a r'
+      → IsHistory c (at n e b a ∷ ms) r' (host_after c h b a)
+
+-- what is shown is what the history has, under this name
+pub record IsAnswered (c : Caller) (ms : List Moment) (k : Known) (o : Option ℕ) : Type 0 where
+  pub since : ℕ
+  pub value : ℕ
+  pub shows : o ≡ Some value
+  pub has : HistoryHas c ms k since value
