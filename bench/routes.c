@@ -1,0 +1,295 @@
+/* Looks routes up in made-up VRPs, by rtr_validate and by rtrlib's table.
+ *
+ * usage: routes VRPS ROUTES ROUNDS
+ *
+ * It makes so many VRPs, five in six of IPv4, and as many routes, of which a third is of each state:
+ * one below a VRP and of its AS, one below a VRP and of an AS that has none, and one that nothing
+ * covers. Each round looks all of them up, by the one and then by the other. The last line has, each
+ * after a space: how many VRPs and bytes of data there are; the milliseconds in which the tables are
+ * made, and rtrlib's; the median nanoseconds of a lookup of IPv4, of IPv6 and of both, by
+ * rtr_validate and by rtrlib; and how many routes are not found, valid, invalid, and answered
+ * otherwise by rtrlib. Without rtrlib, which WITH_RTRLIB says is there, its numbers are 0. */
+#include <stdio.h>
+#include <stdlib.h>
+#include <string.h>
+#include <time.h>
+#include "rtr.h"
+#ifdef WITH_RTRLIB
+#include <arpa/inet.h>
+#include <rtrlib/rtrlib.h>
+#endif
+
+/* No VRP is of this AS. */
+#define NOBODY 4200000000u
+
+#define MOST_ROUNDS 99
+
+/* A VRP. Its bytes up to the AS stand in the order of payloads. */
+struct vrp {
+    uint8_t family, address[16], length, most;
+    uint32_t asn;
+};
+
+static uint64_t seed = 88172645463325252u;
+
+static uint64_t any(uint64_t below)
+{
+    seed ^= seed << 13;
+    seed ^= seed >> 7;
+    seed ^= seed << 17;
+    return seed % below;
+}
+
+static double now(void)
+{
+    struct timespec time;
+    clock_gettime(CLOCK_MONOTONIC, &time);
+    return time.tv_sec * 1e9 + time.tv_nsec;
+}
+
+static uint8_t width(const struct vrp *vrp)
+{
+    return vrp->family == 4 ? 32 : 128;
+}
+
+/* Sets the bits after the length to zero. */
+static void clear(uint8_t *address, uint8_t length)
+{
+    for (int i = length; i < 128; i++)
+        address[i / 8] &= (uint8_t)~(0x80 >> i % 8);
+}
+
+/* Any address of the parts that are given to networks. */
+static void any_address(struct vrp *vrp)
+{
+    memset(vrp->address, 0, sizeof vrp->address);
+    for (int i = 0; i < (vrp->family == 4 ? 4 : 16); i++)
+        vrp->address[i] = (uint8_t)any(256);
+    vrp->address[0] = vrp->family == 4 ? (uint8_t)(1 + any(222)) : (uint8_t)(0x20 + any(2));
+}
+
+/* Lengths as often as they are among the VRPs of the RPKI, and half of these VRPs below another. */
+static void any_vrp(struct vrp *vrp, const struct vrp *others, size_t count)
+{
+    static const uint8_t lengths[2][20] = {
+        {24, 24, 24, 24, 24, 24, 24, 24, 24, 24, 24, 23, 23, 22, 22, 21, 20, 19, 16, 12},
+        {48, 48, 48, 48, 48, 48, 48, 48, 48, 48, 44, 44, 40, 40, 36, 32, 32, 32, 32, 29},
+    };
+    vrp->length = lengths[vrp->family == 6][any(20)];
+    any_address(vrp);
+    if (count > 0 && any(2)) {
+        const struct vrp *above = others + any(count);
+        if (above->family == vrp->family)
+            for (int i = 0; i < above->length / 8; i++)
+                vrp->address[i] = above->address[i];
+    }
+    clear(vrp->address, vrp->length);
+    vrp->most = any(3) ? vrp->length : (uint8_t)(vrp->length + any(5));
+    vrp->asn = (uint32_t)(1 + any(70000));
+}
+
+static int compare(const void *left, const void *right)
+{
+    const struct vrp *a = left, *b = right;
+    int order = memcmp(a, b, offsetof(struct vrp, asn));
+    return order ? order : (a->asn > b->asn) - (a->asn < b->asn);
+}
+
+/* Makes VRPs in their order, each once, and answers how many. */
+static size_t make_vrps(struct vrp *vrps, size_t count)
+{
+    size_t kept = 0;
+    for (size_t i = 0; i < count; i++) {
+        memset(vrps + i, 0, sizeof vrps[i]);
+        vrps[i].family = i % 6 < 5 ? 4 : 6;
+        any_vrp(vrps + i, vrps, i);
+    }
+    qsort(vrps, count, sizeof *vrps, compare);
+    for (size_t i = 0; i < count; i++)
+        if (kept == 0 || compare(vrps + kept - 1, vrps + i))
+            vrps[kept++] = vrps[i];
+    return kept;
+}
+
+static void put32(uint8_t *at, uint32_t number)
+{
+    for (int i = 0; i < 4; i++)
+        at[i] = (uint8_t)(number >> (24 - 8 * i));
+}
+
+/* Writes the units that announce the VRPs, and an end of data of version 0. */
+static size_t write_data(const struct vrp *vrps, size_t count, uint8_t *data)
+{
+    uint8_t *at = data;
+    for (size_t i = 0; i < count; i++) {
+        uint8_t octets = width(vrps + i) / 8, size = (uint8_t)(16 + octets);
+        const uint8_t head[12] = {
+            0, vrps[i].family, 0, 0, 0, 0, 0, size, 1, vrps[i].length, vrps[i].most, 0,
+        };
+        memcpy(at, head, 12);
+        memcpy(at + 12, vrps[i].address, octets);
+        put32(at + 12 + octets, vrps[i].asn);
+        at += size;
+    }
+    const uint8_t end[12] = {0, 7, 0, 1, 0, 0, 0, 12, 0, 0, 0, 1};
+    memcpy(at, end, 12);
+    return (size_t)(at + 12 - data);
+}
+
+/* A route at or below a VRP, with the length that may be as long as the VRP has it. */
+static void below(struct rtr_route *route, const struct vrp *vrp)
+{
+    route->family = vrp->family;
+    route->prefix_length = (uint8_t)(vrp->length + any(1u + vrp->most - vrp->length));
+    for (int i = 0; i < width(vrp) / 8; i++)
+        route->address[i] = (uint8_t)any(256);
+    for (int i = 0; i < vrp->length; i++) {
+        uint8_t bit = (uint8_t)(0x80 >> i % 8);
+        route->address[i / 8] = (uint8_t)((route->address[i / 8] & ~bit) | (vrp->address[i / 8] & bit));
+    }
+    clear(route->address, route->prefix_length);
+}
+
+static void make_routes(struct rtr_route *routes, size_t count, const struct vrp *vrps, size_t many,
+                        const uint8_t *data, size_t length, const struct rtr_tables *tables)
+{
+    for (size_t i = 0; i < count; i++) {
+        const struct vrp *vrp = vrps + any(many);
+        below(routes + i, vrp);
+        routes[i].asn = i % 3 == 0 ? vrp->asn : NOBODY;
+        while (i % 3 == 2 && rtr_validate(data, length, tables, routes + i) != RTR_NOT_FOUND) {
+            struct vrp other = *vrp;
+            any_address(&other);
+            memcpy(routes[i].address, other.address, sizeof other.address);
+            clear(routes[i].address, routes[i].prefix_length);
+        }
+    }
+}
+
+#ifdef WITH_RTRLIB
+static uint32_t get32(const uint8_t *at)
+{
+    uint32_t number;
+    memcpy(&number, at, sizeof number);
+    return ntohl(number);
+}
+
+static struct lrtr_ip_addr theirs(uint8_t family, const uint8_t *address)
+{
+    struct lrtr_ip_addr made = {.ver = family == 4 ? LRTR_IPV4 : LRTR_IPV6};
+    if (family == 4)
+        made.u.addr4.addr = get32(address);
+    for (int i = 0; family == 6 && i < 4; i++)
+        made.u.addr6.addr[i] = get32(address + 4 * i);
+    return made;
+}
+
+static struct pfx_table table;
+
+static void their_tables(const struct vrp *vrps, size_t count)
+{
+    pfx_table_init(&table, NULL);
+    for (size_t i = 0; i < count; i++) {
+        struct pfx_record record = {
+            .asn = vrps[i].asn, .prefix = theirs(vrps[i].family, vrps[i].address),
+            .min_len = vrps[i].length, .max_len = vrps[i].most,
+        };
+        pfx_table_add(&table, &record);
+    }
+}
+
+static uint8_t their_validity(const struct rtr_route *route)
+{
+    static const uint8_t validities[] = {
+        [BGP_PFXV_STATE_VALID] = RTR_VALID, [BGP_PFXV_STATE_NOT_FOUND] = RTR_NOT_FOUND,
+        [BGP_PFXV_STATE_INVALID] = RTR_INVALID,
+    };
+    struct lrtr_ip_addr prefix = theirs(route->family, route->address);
+    enum pfxv_state state;
+    pfx_table_validate(&table, route->asn, &prefix, route->prefix_length, &state);
+    return validities[state];
+}
+#endif
+
+static int by_time(const void *left, const void *right)
+{
+    double a = *(const double *)left, b = *(const double *)right;
+    return (a > b) - (a < b);
+}
+
+static double median(double *times, int rounds)
+{
+    qsort(times, (size_t)rounds, sizeof *times, by_time);
+    return times[rounds / 2];
+}
+
+/* Room for so much, or the end. */
+static void *room(size_t size)
+{
+    void *made = calloc(size, 1);
+    if (!made)
+        exit(1);
+    return made;
+}
+
+int main(int argc, char **argv)
+{
+    size_t asked = argc == 4 ? strtoul(argv[1], NULL, 10) : 0;
+    size_t count = argc == 4 ? strtoul(argv[2], NULL, 10) : 0;
+    int rounds = argc == 4 ? atoi(argv[3]) : 0;
+    if (asked == 0 || count < 6 || rounds < 1 || rounds > MOST_ROUNDS) {
+        fprintf(stderr, "usage: routes VRPS ROUTES ROUNDS\n");
+        return 2;
+    }
+    struct vrp *vrps = room(asked * sizeof *vrps);
+    size_t many = make_vrps(vrps, asked);
+    uint8_t *data = room(32 * many + 12), *answers = room(count), *others = room(count);
+    size_t length = write_data(vrps, many, data);
+    struct rtr_tables tables;
+    double made[MOST_ROUNDS], building = 0, times[2][3][MOST_ROUNDS] = {{{0}}};
+    for (int round = 0; round < rounds; round++) {
+        double start = now();
+        rtr_tables(data, length, &tables);
+        made[round] = now() - start;
+    }
+    struct rtr_route *routes = room(count * sizeof *routes);
+    make_routes(routes, count, vrps, many, data, length, &tables);
+#ifdef WITH_RTRLIB
+    double begun = now();
+    their_tables(vrps, many);
+    building = now() - begun;
+#endif
+    size_t of_family[3] = {0, 0, count}, seen[3] = {0}, differ = 0;
+    for (size_t i = 0; i < count; i++)
+        of_family[routes[i].family == 6]++;
+    for (int round = 0; round < rounds; round++) {
+        for (int family = 0; family < 2; family++) {
+            double start = now();
+            for (size_t i = 0; i < count; i++)
+                if (routes[i].family == 4 + 2 * family)
+                    answers[i] = rtr_validate(data, length, &tables, routes + i);
+            double middle = now();
+            times[0][family][round] = middle - start;
+#ifdef WITH_RTRLIB
+            for (size_t i = 0; i < count; i++)
+                if (routes[i].family == 4 + 2 * family)
+                    others[i] = their_validity(routes + i);
+            times[1][family][round] = now() - middle;
+#endif
+        }
+        for (int who = 0; who < 2; who++)
+            times[who][2][round] = times[who][0][round] + times[who][1][round];
+    }
+    for (size_t i = 0; i < count; i++) {
+        seen[answers[i]]++;
+#ifdef WITH_RTRLIB
+        differ += answers[i] != others[i];
+#endif
+    }
+    printf("%zu %zu %.3f %.1f", many, length, median(made, rounds) / 1e6, building / 1e6);
+    for (int who = 0; who < 2; who++)
+        for (int family = 0; family < 3; family++)
+            printf(" %.1f", median(times[who][family], rounds) / (double)of_family[family]);
+    printf(" %zu %zu %zu %zu\n", seen[0], seen[1], seen[2], differ);
+    return differ != 0;
+}
