@@ -40,6 +40,7 @@ type Data struct {
 	session uint16
 	serial  uint32
 	timing  Timing
+	lookup  *lookup
 }
 
 // NewData makes data without payloads. In version 0 the timing isn't kept.
@@ -83,7 +84,7 @@ func unitLength(unit []byte) int {
 
 // checkedData is the data of these bytes, which were checked.
 func checkedData(bytes []byte) Data {
-	data := Data{bytes: bytes[:len(bytes):len(bytes)]}
+	data := Data{bytes: bytes[:len(bytes):len(bytes)], lookup: new(lookup)}
 	at := 0
 	for ; Kind(bytes[at+1]) != EndOfData; data.units++ {
 		at += unitLength(bytes[at:])

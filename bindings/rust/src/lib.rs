@@ -47,6 +47,11 @@
 //! [`apply_in_order`], [`order_into`] and [`apply_into`] do the same over slices, and allocate
 //! nothing.
 //!
+//! # Routes
+//!
+//! `Data::validate` says whether a route is valid by the data (RFC 6811), and `Data::covering` which
+//! VRPs cover it and why each doesn't match. [`Tables`] does the same over slices.
+//!
 //! # Features
 //!
 //! `std`, on by default, has readers, writers, and units, data and changes that own their bytes.
@@ -90,6 +95,7 @@ mod sys;
 mod timed;
 mod unit;
 mod units;
+mod validation;
 #[cfg(feature = "std")]
 mod writer;
 
@@ -119,5 +125,6 @@ pub use unit::{
     SerialQuery, Timing, Unit, UnitRef,
 };
 pub use units::Units;
+pub use validation::{Covering, LengthError, Mismatch, Route, Tables, Validity, Vrp};
 #[cfg(feature = "std")]
 pub use writer::Writer;

@@ -5,6 +5,8 @@ use crate::fault::Fault;
 use crate::sequence::normalise_for;
 use crate::unit::{EndOfData, Timing, Unit, UnitRef};
 use crate::units::Units;
+use crate::validation::{Covering, Route, Tables, Validity};
+use std::boxed::Box;
 use std::vec;
 use std::vec::Vec;
 
@@ -79,7 +81,7 @@ impl Canonical {
 /// # Ok::<(), Box<dyn std::error::Error>>(())
 /// ```
 #[derive(Clone, Debug, PartialEq, Eq, Hash)]
-pub struct Data(Canonical);
+pub struct Data(Canonical, Box<Tables>);
 
 /// Changes in canonical form, made by [`order`] or [`Data::delta_to`]. They own their bytes.
 ///
@@ -90,6 +92,12 @@ pub struct Data(Canonical);
 pub struct Changes(Canonical);
 
 impl Data {
+    /// These, which withdraw nothing.
+    fn of(canonical: Canonical) -> Data {
+        let tables = Tables::of(&canonical.bytes);
+        Data(canonical, Box::new(tables))
+    }
+
     /// Data without payloads. In versions 1 and 2 the intervals that RFC 8210 section 6 recommends
     /// stand for none.
     ///
@@ -110,7 +118,7 @@ impl Data {
         });
         let mut bytes = Vec::with_capacity(LONGEST_END);
         let length = end.append(&mut bytes)?;
-        Ok(Data(Canonical::new(bytes, length)))
+        Ok(Data::of(Canonical::new(bytes, length)))
     }
 
     /// The data that these bytes begin with, which have to be in canonical form. What follows the
@@ -125,7 +133,7 @@ impl Data {
         let size = delta_into(bytes, bytes, &mut end)?;
         let mut form = vec![0; bytes.len() + size];
         let length = apply_into(bytes, &end[..size], &mut form)?;
-        Ok(Data(Canonical::new(form, length)))
+        Ok(Data::of(Canonical::new(form, length)))
     }
 
     /// The data that a sequence makes which only announces, in whatever order.
@@ -149,7 +157,7 @@ impl Data {
             }
             offset = units.offset();
         }
-        Ok(Data(changes.0))
+        Ok(Data::of(changes.0))
     }
 
     /// The bytes: payload units, and the end of data.
@@ -182,6 +190,30 @@ impl Data {
         self.0.payloads == 0
     }
 
+    /// The validity of the route by the VRPs of the data (RFC 6811 section 2).
+    ///
+    /// ```
+    /// use rtr_wire::{Data, Route, Validity};
+    /// use std::net::Ipv4Addr;
+    ///
+    /// // 192.0.2.0/23-26 AS65551, and an end of data (RFC 8210 sections 5.6 and 5.8).
+    /// let data = Data::parse(&[
+    ///     0, 4, 0, 0, 0, 0, 0, 20, 1, 23, 26, 0, 192, 0, 2, 0, 0, 1, 0, 15, //
+    ///     0, 7, 0, 1, 0, 0, 0, 12, 0, 0, 0, 2,
+    /// ])?;
+    /// let route = Route::new(Ipv4Addr::new(192, 0, 2, 0), 24, 65551)?;
+    /// assert_eq!(data.validate(&route), Validity::Valid);
+    /// # Ok::<(), Box<dyn std::error::Error>>(())
+    /// ```
+    pub fn validate(&self, route: &Route) -> Validity {
+        self.1.validate(self.as_bytes(), route)
+    }
+
+    /// The VRPs of the data that cover the route, in their order, each with why it doesn't match.
+    pub fn covering(&self, route: &Route) -> Covering<'_> {
+        self.1.covering(self.as_bytes(), route)
+    }
+
     /// The changes that lead a router from this data to the new (RFC 8210 section 8.2). They have
     /// the new data's end of data, and [`apply`](Data::apply) makes the new data of them.
     ///
@@ -205,7 +237,7 @@ impl Data {
     pub fn apply(&self, changes: &Changes) -> Result<Data, DataError> {
         let mut bytes = vec![0; self.0.bytes.len() + changes.0.bytes.len()];
         let length = apply_into(self.as_bytes(), changes.as_bytes(), &mut bytes)?;
-        Ok(Data(Canonical::new(bytes, length)))
+        Ok(Data::of(Canonical::new(bytes, length)))
     }
 
     /// What the changes of an answer make of this data, made one after the other in the order in
@@ -220,7 +252,7 @@ impl Data {
         let mut index = vec![0; sent.len() / SHORTEST_UNIT];
         let mut bytes = vec![0; self.0.bytes.len() + sent.len()];
         let length = apply_in_order(self.as_bytes(), sent, &mut index, &mut bytes)?;
-        Ok(Data(Canonical::new(bytes, length)))
+        Ok(Data::of(Canonical::new(bytes, length)))
     }
 
     /// The data for clients of a version, as [`normalise_for`] writes it: without what that version
@@ -232,7 +264,7 @@ impl Data {
     pub fn for_version(&self, version: u8) -> Result<Data, Fault> {
         let mut bytes = vec![0; self.0.bytes.len() + LONGEST_END];
         match normalise_for(self.as_bytes(), &mut bytes, u64::MAX, version) {
-            Ok(progress) => Ok(Data(Canonical::new(bytes, progress.written))),
+            Ok(progress) => Ok(Data::of(Canonical::new(bytes, progress.written))),
             Err(stopped) => Err(stopped.fault),
         }
     }
@@ -249,7 +281,7 @@ impl Data {
         let mut bytes = self.0.bytes.clone();
         bytes.truncate(bytes.len() - unit.size());
         unit.append(&mut bytes).expect("its version has this form");
-        Data(Canonical {
+        Data::of(Canonical {
             bytes,
             end,
             ..self.0

@@ -3,9 +3,10 @@
 use crate::data::{DataError, Place, Side};
 use crate::fault::{ErrorCode, Fault};
 use crate::kind::Kind;
-use crate::net::{Ipv4Addr, Ipv6Addr};
+use crate::net::{IpAddr, Ipv4Addr, Ipv6Addr};
 use crate::sequence::{NotCompared, Progress, Stopped};
 use crate::unit::{self, ErrorReport, Providers, ReportParts, Timing, UnitRef};
+use crate::validation::{Route, Validity};
 
 /// The result of a call that normalises.
 #[repr(C)]
@@ -70,6 +71,52 @@ pub(crate) struct Unit {
     pub(crate) address: [u8; 16],
     pub(crate) key_identifier: [u8; 20],
     pub(crate) detail: u8,
+}
+
+/// A route, in numbers.
+#[repr(C)]
+#[derive(Default)]
+struct RouteNumbers {
+    asn: u32,
+    family: u8,
+    prefix_length: u8,
+    address: [u8; 16],
+}
+
+/// Where the prefixes of data lie.
+#[repr(C)]
+#[derive(Clone, PartialEq, Eq, Hash)]
+pub(crate) struct Tables {
+    ipv4: usize,
+    ipv6: usize,
+    starts: [usize; 256],
+    shortest_ipv4: u8,
+    shortest_ipv6: u8,
+    shortest: [u8; 256],
+}
+
+impl Default for Tables {
+    fn default() -> Self {
+        Tables {
+            ipv4: 0,
+            ipv6: 0,
+            starts: [0; 256],
+            shortest_ipv4: 0,
+            shortest_ipv6: 0,
+            shortest: [0; 256],
+        }
+    }
+}
+
+/// A VRP that covers a route.
+#[repr(C)]
+#[derive(Default)]
+pub(crate) struct CoveringNumbers {
+    pub(crate) place: usize,
+    pub(crate) asn: u32,
+    pub(crate) prefix_length: u8,
+    pub(crate) max_length: u8,
+    pub(crate) mismatch: u8,
 }
 
 // The functions whose names end in `_nonnull` take slices, whose pointers are never null here.
@@ -157,6 +204,21 @@ extern "C" {
         input: *const u8,
         input_length: usize,
         code: *mut u16,
+    ) -> bool;
+    fn rtr_tables_nonnull(data: *const u8, data_length: usize, tables: *mut Tables);
+    fn rtr_validate_nonnull(
+        data: *const u8,
+        data_length: usize,
+        tables: *const Tables,
+        route: *const RouteNumbers,
+    ) -> u8;
+    fn rtr_covering_nonnull(
+        data: *const u8,
+        data_length: usize,
+        tables: *const Tables,
+        route: *const RouteNumbers,
+        from: usize,
+        covering: *mut CoveringNumbers,
     ) -> bool;
     fn rtr_serial_order(left: u32, right: u32) -> u8;
     fn rtr_version_has(version: u8, kind: u8) -> bool;
@@ -388,6 +450,57 @@ pub(crate) fn order(
     data_result(answer)
 }
 
+/// The tables of data.
+pub(crate) fn tables(data: &[u8]) -> Tables {
+    let mut tables = Tables::default();
+    // SAFETY: the slice is live and of this length, never null, and the tables overlap nothing.
+    unsafe { rtr_tables_nonnull(data.as_ptr(), data.len(), &mut tables) };
+    tables
+}
+
+/// The route in numbers.
+fn route_numbers(route: &Route) -> RouteNumbers {
+    let mut numbers = RouteNumbers {
+        asn: route.asn(),
+        family: 6,
+        prefix_length: route.length(),
+        address: [0; 16],
+    };
+    match route.address() {
+        IpAddr::V4(address) => {
+            numbers.family = 4;
+            numbers.address[..4].copy_from_slice(&address.octets());
+        }
+        IpAddr::V6(address) => numbers.address = address.octets(),
+    }
+    numbers
+}
+
+/// The validity of a route, whose length is in its range.
+pub(crate) fn validate(data: &[u8], tables: &Tables, route: &Route) -> Validity {
+    let route = route_numbers(route);
+    // SAFETY: the slice is live and of this length, never null, and the rest is borrowed.
+    match unsafe { rtr_validate_nonnull(data.as_ptr(), data.len(), tables, &route) } {
+        1 => Validity::Valid,
+        2 => Validity::Invalid,
+        _ => Validity::NotFound,
+    }
+}
+
+/// The first VRP that covers a route among the payloads from this place on.
+pub(crate) fn covering(
+    data: &[u8],
+    tables: &Tables,
+    route: &Route,
+    from: usize,
+) -> Option<CoveringNumbers> {
+    let route = route_numbers(route);
+    let mut found = CoveringNumbers::default();
+    // SAFETY: as in `validate`; what is found overlaps nothing.
+    unsafe { rtr_covering_nonnull(data.as_ptr(), data.len(), tables, &route, from, &mut found) }
+        .then_some(found)
+}
+
 /// The code of the report that is owed for this status of the unit that the input begins with.
 pub(crate) fn error_code(status: u8, input: &[u8]) -> Option<u16> {
     let mut code = 0;
@@ -566,7 +679,8 @@ impl Unit {
 
 #[cfg(test)]
 mod tests {
-    use super::{write, Answer, Comparison, DataAnswer, Fault, Unit};
+    use super::{write, Answer, Comparison, CoveringNumbers, DataAnswer, Fault};
+    use super::{RouteNumbers, Tables, Unit};
     use core::mem::size_of;
     use core::ptr::addr_of;
     use std::string::ToString;
@@ -633,6 +747,30 @@ mod tests {
         assert_eq!(size_of::<DataAnswer>(), 24);
         let data_answer = offsets!(DataAnswer, written, offset, status, side, detail);
         assert_eq!(data_answer, [0, 8, 16, 17, 18]);
+        assert_eq!(size_of::<RouteNumbers>(), 24);
+        let route = offsets!(RouteNumbers, asn, family, prefix_length, address);
+        assert_eq!(route, [0, 4, 5, 6]);
+        assert_eq!(size_of::<Tables>(), 2328);
+        let tables = offsets!(
+            Tables,
+            ipv4,
+            ipv6,
+            starts,
+            shortest_ipv4,
+            shortest_ipv6,
+            shortest
+        );
+        assert_eq!(tables, [0, 8, 16, 2064, 2065, 2066]);
+        assert_eq!(size_of::<CoveringNumbers>(), 16);
+        let covering = offsets!(
+            CoveringNumbers,
+            place,
+            asn,
+            prefix_length,
+            max_length,
+            mismatch
+        );
+        assert_eq!(covering, [0, 8, 12, 13, 14]);
         assert_eq!(size_of::<Unit>(), 120);
         let unit = offsets!(
             Unit,

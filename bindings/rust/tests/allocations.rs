@@ -1,10 +1,12 @@
-//! No unit allocates memory, nor do the calls over slices of data and changes.
+//! No unit allocates memory, nor do the calls over slices of data and changes, nor lookups in them.
 #![cfg(feature = "std")]
 #![deny(unsafe_op_in_unsafe_fn)]
 
 mod common;
 
-use rtr_wire::{apply_into, delta_into, order_into, Reader, Units, Writer};
+use rtr_wire::{
+    apply_into, delta_into, order_into, Reader, Route, Tables, Units, Validity, Writer,
+};
 use std::alloc::{GlobalAlloc, Layout, System};
 use std::cell::Cell;
 
@@ -56,6 +58,10 @@ fn allocations() {
         assert_eq!(apply_into(nothing, &data, &mut output), Ok(length));
         assert_eq!(delta_into(nothing, &data, &mut output), Ok(length));
     }
+    let tables = Tables::of(&data);
+    let route = Route::new([192, 0, 2, 0], 24, 65551).expect("its length is in range");
+    assert_eq!(tables.validate(&data, &route), Validity::Valid);
+    assert_eq!(tables.covering(&data, &route).count(), 1);
     assert_eq!(COUNT.with(Cell::get) - before, 0);
     assert_eq!(reader.offset(), session.len() as u64);
 }

@@ -3,8 +3,9 @@
 
 use rtr_wire::{change_line, Client, ClientOptions, Data, DataError, Event};
 use rtr_wire::{Error, Fault, Reader, ResetQuery, Unit, UnitRef, Writer};
-use rtr_wire::{Server, ServerOptions};
+use rtr_wire::{LengthError, Route, Server, ServerOptions};
 use std::io::{BufReader, ErrorKind, Read, Write};
+use std::net::Ipv4Addr;
 use std::ops::ControlFlow;
 
 /// Asks a cache for all of its data, and answers its prefixes and its serial number. If a unit is
@@ -48,6 +49,26 @@ fn read(reader: &mut Reader<impl Read>) -> Result<(Vec<String>, u32), Error> {
 /// What the data are after a cache has sent these bytes in answer to a serial query.
 fn after(data: &Data, sent: &[u8]) -> Result<Data, DataError> {
     data.apply_in_order(sent)
+}
+
+/// What is said of three routes by the data of a router: whether each is valid, and why not.
+fn states(data: &Data) -> Result<Vec<String>, LengthError> {
+    let routes = [
+        Route::new(Ipv4Addr::new(192, 0, 2, 0), 24, 65551)?,
+        Route::new(Ipv4Addr::new(192, 0, 2, 0), 27, 65551)?,
+        Route::new(Ipv4Addr::new(203, 0, 113, 0), 24, 65551)?,
+    ];
+    let mut lines = Vec::new();
+    for route in routes {
+        let validity = data.validate(&route);
+        lines.push(format!("{route} {validity}"));
+        for vrp in data.covering(&route) {
+            if let Some(mismatch) = vrp.mismatch {
+                lines.push(format!("  {vrp}: {mismatch}"));
+            }
+        }
+    }
+    Ok(lines)
 }
 
 /// Follows a cache until it has this serial number, and prints what changes.
@@ -104,6 +125,18 @@ fn refused() {
     let error = fetch(&SENT[..20], Vec::new()).unwrap_err();
     assert_eq!(error.fault(), Some(Fault::Short));
     assert!(matches!(fetch(&QUERY[..], Vec::new()), Err(Error::Io(_))));
+}
+
+#[test]
+fn validated() {
+    let data = Data::parse(&SENT[8..]).expect("it is data");
+    let lines = [
+        "192.0.2.0/24 AS65551 valid",
+        "192.0.2.0/27 AS65551 invalid",
+        "  192.0.2.0/23-26 AS65551: longer than the max length",
+        "203.0.113.0/24 AS65551 not found",
+    ];
+    assert_eq!(states(&data).expect("their lengths are in range"), lines);
 }
 
 #[test]

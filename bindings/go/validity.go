@@ -1,0 +1,195 @@
+//go:build cgo && linux && (amd64 || arm64)
+
+package rtr
+
+/*
+#include "rtr.h"
+
+// A VRP by value, and whether there is one.
+struct covered {
+	struct rtr_covering vrp;
+	bool found;
+};
+
+static uint8_t validate(const uint8_t *data, size_t length, const struct rtr_tables *tables,
+                        struct rtr_route route)
+{
+	return rtr_validate(data, length, tables, &route);
+}
+
+static struct covered covering(const uint8_t *data, size_t length,
+                               const struct rtr_tables *tables, struct rtr_route route,
+                               size_t from)
+{
+	struct covered covered;
+	covered.found = rtr_covering(data, length, tables, &route, from, &covered.vrp);
+	return covered;
+}
+*/
+import "C"
+
+import (
+	"fmt"
+	"net/netip"
+	"sync"
+)
+
+// Validity is what origin validation says of a route (RFC 6811 section 2).
+type Validity uint8
+
+// The validities of routes.
+const (
+	NotFound Validity = 0 // no VRP covers the route
+	Valid    Validity = 1 // a VRP matches it
+	Invalid  Validity = 2 // VRPs cover it, and none matches
+	NoRoute  Validity = 3 // there is no route: its prefix isn't valid
+)
+
+var validityTexts = [...]string{
+	NotFound: "not found",
+	Valid:    "valid",
+	Invalid:  "invalid",
+	NoRoute:  "no route",
+}
+
+// String is the name of the validity.
+func (v Validity) String() string {
+	if int(v) < len(validityTexts) {
+		return validityTexts[v]
+	}
+	return fmt.Sprintf("validity %d", uint8(v))
+}
+
+// Mismatch is why a VRP that covers a route doesn't match it: the first of these that holds.
+type Mismatch uint8
+
+// Why VRPs don't match.
+const (
+	Matches Mismatch = 0 // it matches
+	ASZero  Mismatch = 1 // the VRP is of AS 0, which matches no route
+	OtherAS Mismatch = 2 // its AS isn't the route's
+	Longer  Mismatch = 3 // the route's prefix is longer than its max length
+)
+
+var mismatchTexts = [...]string{
+	Matches: "matches",
+	ASZero:  "AS 0",
+	OtherAS: "another AS",
+	Longer:  "longer than the max length",
+}
+
+// String is the name of the mismatch.
+func (m Mismatch) String() string {
+	if int(m) < len(mismatchTexts) {
+		return mismatchTexts[m]
+	}
+	return fmt.Sprintf("mismatch %d", uint8(m))
+}
+
+// lookup has where the prefixes of data lie. It is made once, when it is first asked for.
+type lookup struct {
+	once   sync.Once
+	tables C.struct_rtr_tables
+}
+
+// tables are those of the data.
+func (d Data) tables() *C.struct_rtr_tables {
+	d.lookup.once.Do(func() {
+		first, n := place(d.bytes)
+		C.rtr_tables(first, n, &d.lookup.tables)
+	})
+	return &d.lookup.tables
+}
+
+// routeOf is the route of this prefix and this AS, and whether it is one.
+func routeOf(prefix netip.Prefix, asn uint32) (C.struct_rtr_route, bool) {
+	route := C.struct_rtr_route{asn: C.uint32_t(asn)}
+	if !prefix.IsValid() {
+		return route, false
+	}
+	route.prefix_length = C.uint8_t(prefix.Bits())
+	if prefix.Addr().Is4() {
+		route.family = 4
+		for i, octet := range prefix.Addr().As4() {
+			route.address[i] = C.uint8_t(octet)
+		}
+		return route, true
+	}
+	route.family = 6
+	for i, octet := range prefix.Addr().As16() {
+		route.address[i] = C.uint8_t(octet)
+	}
+	return route, true
+}
+
+// Validate is the validity of the route of this prefix with this origin AS, by the VRPs of the
+// data (RFC 6811 section 2): NotFound if none covers it, Valid if one matches it, and else Invalid.
+// An AS of 0 is for a route that has no one origin, since its path ends with an AS_SET: no VRP
+// matches it. Host bits of the prefix don't count.
+//
+// It is NoRoute for a prefix that isn't valid. The zero Data has no VRPs.
+func (d Data) Validate(prefix netip.Prefix, asn uint32) Validity {
+	route, is := routeOf(prefix, asn)
+	if !is {
+		return NoRoute
+	}
+	if d.IsZero() {
+		return NotFound
+	}
+	first, n := place(d.bytes)
+	return Validity(C.validate(first, n, d.tables(), route))
+}
+
+// Covering is a loop over the VRPs of the data that cover the route of this prefix with this origin
+// AS, in the order of payloads. There are none for a prefix that isn't valid.
+//
+//	for covering := data.Covering(prefix, asn); covering.Scan(); {
+//		fmt.Println(covering.VRP(), covering.Mismatch())
+//	}
+func (d Data) Covering(prefix netip.Prefix, asn uint32) *Covering {
+	route, is := routeOf(prefix, asn)
+	return &Covering{data: d, prefix: prefix, route: route, ended: !is || d.IsZero()}
+}
+
+// Covering is a loop over the VRPs that cover a route.
+type Covering struct {
+	data     Data
+	prefix   netip.Prefix
+	route    C.struct_rtr_route
+	from     C.size_t
+	ended    bool
+	vrp      VRP
+	mismatch Mismatch
+}
+
+// Scan goes to the next VRP, which VRP and Mismatch then give. It answers false after the last one.
+func (c *Covering) Scan() bool {
+	if c.ended {
+		return false
+	}
+	first, n := place(c.data.bytes)
+	covered := C.covering(first, n, c.data.tables(), c.route, c.from)
+	if !covered.found {
+		c.ended = true
+		return false
+	}
+	c.from = covered.vrp.place + 1
+	length := int(covered.vrp.prefix_length)
+	c.vrp = VRP{
+		Prefix:    netip.PrefixFrom(c.prefix.Addr().WithZone(""), length).Masked(),
+		MaxLength: uint8(covered.vrp.max_length),
+		ASN:       uint32(covered.vrp.asn),
+	}
+	c.mismatch = Mismatch(covered.vrp.mismatch)
+	return true
+}
+
+// VRP is the one that Scan went to, with the max length that it has or stands for.
+func (c *Covering) VRP() VRP {
+	return c.vrp
+}
+
+// Mismatch is why the VRP doesn't match the route, or Matches.
+func (c *Covering) Mismatch() Mismatch {
+	return c.mismatch
+}

@@ -1,0 +1,237 @@
+//! Origin validation of routes (RFC 6811).
+
+use crate::error::Error;
+use crate::net::{IpAddr, Ipv4Addr, Ipv6Addr};
+use crate::sys;
+use core::fmt;
+use core::iter::FusedIterator;
+
+/// What origin validation says of a route (RFC 6811 section 2).
+#[derive(Clone, Copy, Debug, PartialEq, Eq, Hash)]
+pub enum Validity {
+    /// No VRP covers the route.
+    NotFound,
+    /// A VRP matches it.
+    Valid,
+    /// VRPs cover it, and none matches.
+    Invalid,
+}
+
+impl fmt::Display for Validity {
+    fn fmt(&self, f: &mut fmt::Formatter<'_>) -> fmt::Result {
+        f.pad(match self {
+            Validity::NotFound => "not found",
+            Validity::Valid => "valid",
+            Validity::Invalid => "invalid",
+        })
+    }
+}
+
+/// Why a VRP that covers a route doesn't match it: the first of these that holds.
+#[derive(Clone, Copy, Debug, PartialEq, Eq, Hash)]
+pub enum Mismatch {
+    /// The VRP is of AS 0, which matches no route.
+    AsZero,
+    /// Its AS isn't the route's.
+    OtherAs,
+    /// The route's prefix is longer than its max length.
+    TooLong,
+}
+
+impl fmt::Display for Mismatch {
+    fn fmt(&self, f: &mut fmt::Formatter<'_>) -> fmt::Result {
+        f.pad(match self {
+            Mismatch::AsZero => "AS 0",
+            Mismatch::OtherAs => "another AS",
+            Mismatch::TooLong => "longer than the max length",
+        })
+    }
+}
+
+/// A prefix is longer than its address.
+#[derive(Clone, Copy, Debug, PartialEq, Eq, Hash)]
+pub struct LengthError;
+
+impl fmt::Display for LengthError {
+    fn fmt(&self, f: &mut fmt::Formatter<'_>) -> fmt::Result {
+        f.write_str("prefix length too large")
+    }
+}
+
+impl Error for LengthError {}
+
+/// A route: its prefix, and the AS that it originates in.
+#[derive(Clone, Copy, Debug, PartialEq, Eq, Hash)]
+pub struct Route {
+    address: IpAddr,
+    length: u8,
+    asn: u32,
+}
+
+impl Route {
+    /// The route of this prefix with this origin AS. An AS of 0 is for a route that has no one
+    /// origin, since its path ends with an AS_SET: no VRP matches it. Host bits are cleared.
+    ///
+    /// # Errors
+    ///
+    /// A length over 32 for IPv4, or over 128 for IPv6.
+    pub fn new(address: impl Into<IpAddr>, length: u8, asn: u32) -> Result<Route, LengthError> {
+        let address = address.into();
+        let width = if address.is_ipv4() { 32 } else { 128 };
+        if length > width {
+            return Err(LengthError);
+        }
+        let address = first_bits(address, length);
+        Ok(Route {
+            address,
+            length,
+            asn,
+        })
+    }
+
+    /// The address of the prefix, whose host bits are zero.
+    pub fn address(&self) -> IpAddr {
+        self.address
+    }
+
+    /// How many bits of the address count.
+    pub fn length(&self) -> u8 {
+        self.length
+    }
+
+    /// The origin AS, or 0 where there is no one origin.
+    pub fn asn(&self) -> u32 {
+        self.asn
+    }
+}
+
+impl fmt::Display for Route {
+    fn fmt(&self, f: &mut fmt::Formatter<'_>) -> fmt::Result {
+        write!(f, "{}/{} AS{}", self.address, self.length, self.asn)
+    }
+}
+
+/// The address with zero after so many bits.
+fn first_bits(address: IpAddr, length: u8) -> IpAddr {
+    match address {
+        IpAddr::V4(address) => {
+            let mask = u32::MAX.checked_shl(32 - u32::from(length)).unwrap_or(0);
+            Ipv4Addr::from(u32::from(address) & mask).into()
+        }
+        IpAddr::V6(address) => {
+            let mask = u128::MAX.checked_shl(128 - u32::from(length)).unwrap_or(0);
+            Ipv6Addr::from(u128::from(address) & mask).into()
+        }
+    }
+}
+
+/// A validated payload whose prefix covers that of a route.
+#[derive(Clone, Copy, Debug, PartialEq, Eq, Hash)]
+#[non_exhaustive]
+pub struct Vrp {
+    /// Which payload of the data it is, from 0.
+    pub place: usize,
+    /// The address of its prefix.
+    pub address: IpAddr,
+    /// The length of its prefix.
+    pub length: u8,
+    /// The longest prefix length that is meant.
+    pub max_length: u8,
+    /// Its AS.
+    pub asn: u32,
+    /// Why it doesn't match the route, or none where it does.
+    pub mismatch: Option<Mismatch>,
+}
+
+impl fmt::Display for Vrp {
+    fn fmt(&self, f: &mut fmt::Formatter<'_>) -> fmt::Result {
+        let (address, length) = (self.address, self.length);
+        write!(f, "{address}/{length}-{} AS{}", self.max_length, self.asn)
+    }
+}
+
+/// Where the prefixes of data lie, so that routes are looked up by halving. They are made in one
+/// pass over these; nothing is allocated.
+///
+/// ```
+/// use rtr_wire::{Mismatch, Route, Tables, Validity};
+/// use std::net::Ipv4Addr;
+///
+/// // 192.0.2.0/23-26 AS65551, and an end of data (RFC 8210 sections 5.6 and 5.8).
+/// let data = [
+///     0, 4, 0, 0, 0, 0, 0, 20, 1, 23, 26, 0, 192, 0, 2, 0, 0, 1, 0, 15, //
+///     0, 7, 0, 1, 0, 0, 0, 12, 0, 0, 0, 2,
+/// ];
+/// let tables = Tables::of(&data);
+/// let route = Route::new(Ipv4Addr::new(192, 0, 2, 0), 27, 65551)?;
+/// assert_eq!(tables.validate(&data, &route), Validity::Invalid);
+/// let mut covering = tables.covering(&data, &route);
+/// assert_eq!(covering.next().and_then(|vrp| vrp.mismatch), Some(Mismatch::TooLong));
+/// assert_eq!(covering.next(), None);
+/// # Ok::<(), rtr_wire::LengthError>(())
+/// ```
+#[derive(Clone, PartialEq, Eq, Hash)]
+pub struct Tables(sys::Tables);
+
+impl Tables {
+    /// The tables of data in canonical form, as [`apply_into`](crate::apply_into) writes it. Make
+    /// them anew after each delta.
+    pub fn of(data: &[u8]) -> Tables {
+        Tables(sys::tables(data))
+    }
+
+    /// The validity of the route by the VRPs of the data that these are the tables of. With other
+    /// bytes there is some answer.
+    pub fn validate(&self, data: &[u8], route: &Route) -> Validity {
+        sys::validate(data, &self.0, route)
+    }
+
+    /// The VRPs of the data that cover the route, in the order of payloads.
+    pub fn covering<'a>(&'a self, data: &'a [u8], route: &Route) -> Covering<'a> {
+        Covering {
+            data,
+            tables: self,
+            route: *route,
+            from: Some(0),
+        }
+    }
+}
+
+impl fmt::Debug for Tables {
+    fn fmt(&self, f: &mut fmt::Formatter<'_>) -> fmt::Result {
+        f.debug_struct("Tables").finish_non_exhaustive()
+    }
+}
+
+/// The VRPs that cover a route, in the order of payloads.
+#[derive(Clone, Debug)]
+pub struct Covering<'a> {
+    data: &'a [u8],
+    tables: &'a Tables,
+    route: Route,
+    from: Option<usize>,
+}
+
+impl Iterator for Covering<'_> {
+    type Item = Vrp;
+
+    fn next(&mut self) -> Option<Vrp> {
+        let found = sys::covering(self.data, &self.tables.0, &self.route, self.from?);
+        self.from = found.as_ref().map(|vrp| vrp.place + 1);
+        found.map(|vrp| Vrp {
+            place: vrp.place,
+            address: first_bits(self.route.address, vrp.prefix_length),
+            length: vrp.prefix_length,
+            max_length: vrp.max_length,
+            asn: vrp.asn,
+            mismatch: match vrp.mismatch {
+                1 => Some(Mismatch::AsZero),
+                2 => Some(Mismatch::OtherAs),
+                3 => Some(Mismatch::TooLong),
+                _ => None,
+            },
+        })
+    }
+}
+
+impl FusedIterator for Covering<'_> {}
