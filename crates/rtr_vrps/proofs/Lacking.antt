@@ -9,7 +9,7 @@ use Rattle.rtr_payload.specs.declared.payload.RouteOrigin.{RouteOrigin}
 use Rattle.rtr_payload.specs.declared.payload.RouterKey.{RouterKey}
 use Rattle.rtr_data.specs.Contents.{entry_of, joined}
 use Rattle.rtr_data.specs.Deltas.{data_for}
-use Rattle.rtr_vrps.specs.Gathering.{is_lacking, lacking}
+use Rattle.rtr_vrps.specs.Gathering.{is_lacking, lacked}
 
 append_tail : (b : Bool) (x : Payload) (xs ys : List Payload) →
     cond b (x ∷ (xs ++ ys)) (xs ++ ys) ≡ cond b (x ∷ xs) xs ++ ys
@@ -67,7 +67,7 @@ none_below_0 v = grind (arith, nat_tests)
 
 pub lacking_count : (v : ℕ) (os : List RouteOrigin) (ks : List RouterKey)
     (es : List (ℕ × List ℕ)) →
-    length (lacking v (joined os ks es))
+    length (lacked v (joined os ks es))
     ≡ cond (nat_lt v 1) (length ks) 0 + cond (nat_lt v 2) (length es) 0
 lacking_count v os ks es =
     by_kinds (is_lacking v) false (nat_lt v 1) (nat_lt v 2)

@@ -1,11 +1,16 @@
 pub mod HeldData
 pub mod IgnoredSoFar
+pub mod JsonSoFar
 pub mod Lacking
 pub mod SoFar
+pub mod AnySoFar
 pub mod AskedFor
 pub mod Origins
 pub mod Marks
+pub mod NamesSoFar
 pub mod Numbers
+pub mod PartsSoFar
+pub mod ProviderSet
 pub mod QuotesSoFar
 pub mod Rows
 pub mod WordsSoFar

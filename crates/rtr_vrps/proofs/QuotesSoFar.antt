@@ -5,7 +5,7 @@ use Rattle.std.proofs.Common.{refl, sym, ap, subst, ◌∙◌, arith}
 use Rattle.std.proofs.Math.Nat.{eq-or-lt_of_le}
 use Rattle.std.proofs.lemmas.Bool.{eqb-true}
 use Rattle.std.proofs.lemmas.List.{take_all, take_more}
-use Rattle.rtr_vrps.specs.CsvQuotes.{AreQuotesWell, FitUpTo, IsFirstAtFault, fits, fits_after}
+use Rattle.rtr_vrps.specs.CsvQuotes.{AreQuotesWell, FitUpTo, IsFirstAtFault, may_come, fits_after}
 use Rattle.rtr_vrps.specs.CsvQuotes.{RefusesQuotes, is_closed, last_byte, quote}
 use Rattle.rtr_vrps.specs.declared.item.Reason.TheVariants.{QuoteInside, TextAfterQuote}
 
@@ -53,15 +53,15 @@ module _ (text : List ℕ) where
     more : take (i + 1) text ≡ take i text ++ c ∷ []
     more = take_more text i 0 small ∙ ap (λ d. take i text ++ d ∷ []) (sym is)
 
-    tested : fits (take i text) (get_or text i 0) ≡ (not closed || fits_after before c)
+    tested : may_come (take i text) (get_or text i 0) ≡ (not closed || fits_after before c)
     tested =
-        ap (λ d. fits (take i text) d) (sym is)
+        ap (λ d. may_come (take i text) d) (sym is)
         ∙ ap (λ k. not k || fits_after (last_byte (take i text)) c) (sym s.closed_now)
         ∙ ap (λ p. not closed || fits_after p c) (sym s.last)
 
-    fit_at : (j : ℕ) → fits (take i text) (get_or text i 0) ≡ true →
-        (j ≡ i) ⊎ (j < i) → fits (take j text) (get_or text j 0) ≡ true
-    fit_at j h (inl e) = subst (λ k. fits (take k text) (get_or text k 0) ≡ true) (sym e) h
+    fit_at : (j : ℕ) → may_come (take i text) (get_or text i 0) ≡ true →
+        (j ≡ i) ⊎ (j < i) → may_come (take j text) (get_or text j 0) ≡ true
+    fit_at j h (inl e) = subst (λ k. may_come (take k text) (get_or text k 0) ≡ true) (sym e) h
     fit_at j h (inr less) = s.fit j less
 
     pub looked : (not closed || fits_after before c) ≡ true →

@@ -11,7 +11,7 @@ use Rattle.rtr_payload.specs.Payloads.{Payload}
 use Rattle.rtr_data.specs.Contents.{AreFit, unfit}
 use Rattle.rtr_data.specs.Data.{has, has_name, name_cmp}
 use Rattle.rtr_data.specs.Sequences.{IsInRange, IsSendable}
-use Rattle.rtr_vrps.specs.Gathering.{first_refused, refusal_after, refused_at, lacking}
+use Rattle.rtr_vrps.specs.Gathering.{first_refused, refusal_after, refused_at, lacked}
 use Rattle.rtr_vrps.specs.Gathering.{item_payload, is_lacking, GathersAll, NamesFirst}
 use Rattle.rtr_vrps.specs.PrivateAdding.{AddsPayload, with_payload}
 use Rattle.rtr_vrps.specs.declared.item.Item.{Item}
@@ -107,7 +107,7 @@ module _ (v : ℕ) (leaves_out : Bool) (items : List Item) where
       (record { range = g.0; fit = f; bytes = g.1 }, sendable d h k)
 
   pub ends : (d : List Payload) (n : ℕ) → AreFit d →
-      n ≡ min (length (lacking v d)) (2 ^ 64 - 1) → SoFar v leaves_out items [] d →
+      n ≡ min (length (lacked v d)) (2 ^ 64 - 1) → SoFar v leaves_out items [] d →
       GathersAll v leaves_out items d n
   ends d n fit number s =
       let all = sym (append-nil s.before) ∙ s.parts in record {

@@ -33,12 +33,12 @@ fits_after before c =
     else not (before == quote) || is_separator c
 
 -- whether a byte may come after all these
-abbrev pub fits : List ℕ → ℕ → Bool
-fits before c = not (is_closed before) || fits_after (last_byte before) c
+abbrev pub may_come : List ℕ → ℕ → Bool
+may_come before c = not (is_closed before) || fits_after (last_byte before) c
 
 -- each of the first n bytes may come where it does
 abbrev pub FitUpTo : ℕ → List ℕ → Type 0
-FitUpTo n text = (i : ℕ) → i < n → fits (take i text) (get_or text i 0) ≡ true
+FitUpTo n text = (i : ℕ) → i < n → may_come (take i text) (get_or text i 0) ≡ true
 
 -- all quotes stand where they may, and the last field is closed
 pub record AreQuotesWell (text : List ℕ) : Type 0 where
@@ -49,7 +49,7 @@ pub record AreQuotesWell (text : List ℕ) : Type 0 where
 pub record IsFirstAtFault (text : List ℕ) (i : ℕ) : Type 0 where
   pub inside : i < length text
   pub fit : FitUpTo i text
-  pub fault : fits (take i text) (get_or text i 0) ≡ false
+  pub fault : may_come (take i text) (get_or text i 0) ≡ false
 
 -- why quotes are refused: the first byte at fault, else that the last field isn't closed
 abbrev pub RefusesQuotes : List ℕ → Reason → Type 0

@@ -24,8 +24,8 @@ abbrev pub is_lacking : ℕ → Payload → Bool
 is_lacking v p = nat_lt v (smallest_version p)
 
 -- those of the payloads that version v lacks
-abbrev pub lacking : ℕ → List Payload → List Payload
-lacking v d = filter (is_lacking v) d
+abbrev pub lacked : ℕ → List Payload → List Payload
+lacked v d = filter (is_lacking v) d
 
 -- Why a payload is refused after these others, if it is: the version lacks it and such are not left
 -- out, another ASPA of its customer came before, or no reader would accept it. What came before
@@ -59,7 +59,7 @@ pub record GathersAll (v : ℕ) (leaves_out : Bool) (items : List Item) (d : Lis
     (left_out : ℕ) : Type 0 where
   pub payloads : HoldsJust d (map item_payload items)
   pub none : first_refused v leaves_out [] items ≡ None
-  pub others : left_out ≡ min (length (lacking v d)) (2 ^ 64 - 1)
+  pub others : left_out ≡ min (length (lacked v d)) (2 ^ 64 - 1)
   pub sendable : AllByRecursion IsSendable d
 
 -- the first item that is refused is named, unless memory ran out

@@ -2,10 +2,14 @@ pub mod CsvItems
 pub mod CsvQuotes
 pub mod CsvRows
 pub mod Gathering
+pub mod JsonNames
+pub mod JsonPayloads
+pub mod JsonValues
 pub mod MakeInfo
 pub mod Making
 pub mod MakeStatus
 pub mod MakeWords
 pub mod PrivateAdding
 pub mod PrivateCsv
+pub mod PrivateJson
 pub mod PrivateWords

@@ -26,11 +26,11 @@ told_status (Ok t) false = 3
 told_status (Err f) flushed = 3
 
 -- some text was written, or a part of it and then the writer failed
-abbrev pub PutsText : {T : Type 0} → Result T Fault → WriterState → WriterState → Type 0
-PutsText answer old new = (text : List ℕ) × PutsForm answer old new text
+abbrev pub PutsSomeText : {T : Type 0} → Result T Fault → WriterState → WriterState → Type 0
+PutsSomeText answer old new = (text : List ℕ) × PutsForm answer old new text
 
 -- a text is written, then the output flushed once, and both decide the status
 abbrev pub TellsText : ℕ → WriterState → WriterState → Type 0
 TellsText status before after = (answer : Result (Unit {0}) Fault) × (flushed : Bool)
-    × (mid : WriterState) × PutsText answer before mid × Flushes flushed mid after
+    × (mid : WriterState) × PutsSomeText answer before mid × Flushes flushed mid after
     × (status ≡ told_status answer flushed)

@@ -20,8 +20,8 @@ use std::alloc::Global;
 /// whose first field is `ASN` or `asn`.
 ///
 /// The first quote at fault decides, as `check_quotes` has it; else the first line that is
-/// something else, with the reasons `NotText`, `UriColumn`, `Asn`, `Prefix`, `MaxLength` and `MaxLengthRule`,
-/// in this order; `Memory` ends reading, too.
+/// something else, with the reasons `NotText`, `UriColumn`, `Asn`, `Prefix`, `MaxLength` and
+/// `MaxLengthRule`, in this order; `Memory` ends reading, too.
 pub fn read_csv<'a>(alloc: Global, text: &'a [u8]) -> Result<Vec<Item<'a>>, Refusal<'a>>
     ensures items { IfOk result (λ v. IsCsvOf text.now v.items) }
     ensures refused { IfErr result (λ r. RefusesCsv text.now r.reason) }

@@ -6,7 +6,7 @@ ghost use Rattle.rtr_payload.specs.Meanings.{origin_of, payload_of};
 ghost use Rattle.rtr_data.specs.Contents.{AreFit};
 ghost use Rattle.rtr_data.specs.Deltas.{data_for};
 ghost use Rattle.rtr_data.specs.Sequences.{HasBytes, IsInRange};
-ghost use Rattle.rtr_vrps.specs.Gathering.{Gathers, is_lacking, lacking};
+ghost use Rattle.rtr_vrps.specs.Gathering.{Gathers, is_lacking, lacked};
 ghost use Rattle.rtr_vrps.specs.PrivateAdding.{AddsPayload};
 
 use crate::item::{Item, Reason, Refusal};
@@ -53,7 +53,7 @@ pub fn gather<'a>(
 
 /// How many of the payloads the version hasn't, or 2^64 - 1 where there are more.
 fn count_lacking(version: u8, payloads: &Data) -> usize
-    ensures count { result ≡ min (length (lacking version payloads.now)) (2 ^ 64 - 1) }
+    ensures count { result ≡ min (length (lacked version payloads.now)) (2 ^ 64 - 1) }
     ensures fit { AreFit payloads.now }
 {
     let (_, keys, aspas) = payloads.parts();

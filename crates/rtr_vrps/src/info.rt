@@ -1,7 +1,7 @@
 //! What the program says of itself.
 
 ghost use Rattle.std.specs.Prelude.{◌≡◌};
-ghost use Rattle.rtr_vrps.specs.MakeInfo.{PutsText, TellsText, info_by_words, info_named};
+ghost use Rattle.rtr_vrps.specs.MakeInfo.{PutsSomeText, TellsText, info_by_words, info_named};
 
 use rtr_units::fault::Fault;
 use rtr_units::piece::put;
@@ -92,7 +92,7 @@ pub fn tell_info<W: Sink, F: Write>(info: Info, output: &mut W, faults: &mut F) 
 
 /// Writes the text that is asked for.
 fn put_text<W: Sink>(info: Info, output: &mut W) -> Result<(), Fault>
-    ensures { PutsText result (W.state output.old) (W.state output.new) }
+    ensures { PutsSomeText result (W.state output.old) (W.state output.new) }
 {
     let text = match info {
         Info::Help => HELP,

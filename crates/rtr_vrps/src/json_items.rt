@@ -1,10 +1,24 @@
 //! Payloads in JSON, as validators print them.
 
+ghost use Rattle.std.specs.Prelude.{◌≡◌, false, IfOk, OnOk};
+ghost use Rattle.std.specs.List.{list_any};
+ghost use Rattle.json.specs.Value.{items_view, members_view, value_view};
+ghost use Rattle.rtr_vrps.specs.JsonPayloads.{AreAuthorizations, AreCustomerAspas};
+ghost use Rattle.rtr_vrps.specs.JsonPayloads.{AreFamilyPayloads};
+ghost use Rattle.rtr_vrps.specs.JsonPayloads.{AreItemPayloads, ArePayloadsIn, ArePayloadsOfEach};
+ghost use Rattle.rtr_vrps.specs.JsonPayloads.{AreTopPayloads, HasItemsOf, HasTopItems};
+ghost use Rattle.rtr_vrps.specs.JsonPayloads.{IsCustomerAspa, IsItemPayload, IsJsonOf};
+ghost use Rattle.rtr_vrps.specs.JsonPayloads.{has_payloads, holds_payloads, is_array};
+ghost use Rattle.rtr_vrps.specs.JsonValues.{items_list, members_list};
+ghost use Rattle.rtr_vrps.specs.MakeWords.{ignored_by_words};
+ghost use Rattle.rtr_vrps.specs.PrivateJson.{AddsOne, AddsPayloads};
+
 use crate::item::{Item, Place, Reason, Refusal};
 use crate::json_looks::has_payloads;
 use crate::json_names::{Holding, Kind, family_named, holding_named};
-use crate::json_objects::Object;
+use crate::json_objects::Spot;
 use crate::json_values::{asn_of_text, providers_of};
+use crate::quotes::without_mark;
 use crate::words::is_ignored;
 use json::{Error, MAX_DEPTH, Reader, Scratch, Token, Value};
 use rtr_payload::payload::Payload;
@@ -30,68 +44,41 @@ pub fn read_json<'a>(
     text: &'a [u8],
     words: &[String],
     scratch: &'a mut Scratch,
-) -> Result<Vec<Item<'a>>, Refusal<'a>> {
-    let Ok(text) = std::str::from_utf8(text) else {
+) -> Result<Vec<Item<'a>>, Refusal<'a>>
+    ensures { IfOk result (λ v. IsJsonOf (ignored_by_words words.now) text.now v.items) }
+{
+    let rest = without_mark(text);
+    let Ok(rest) = std::str::from_utf8(rest) else {
         return Err(refusal(Place::Input, Reason::NotText));
     };
-    let value = parsed(alloc, text, scratch)?;
-    let Value::Object(members) = &value else {
-        return Err(refusal(Place::Input, Reason::NotObject));
-    };
-    let mut found = Found {
-        alloc,
-        items: Vec::new(alloc),
-        arrays: 0,
-    };
-    for (name, value) in members.iter() {
-        if !is_ignored(words, *name) {
-            found.member(*name, value)?;
-        }
+    match Value::parse(alloc, rest, scratch) {
+        Ok(value) => items_of_value(alloc, words, &value),
+        Err(Error::OutOfMemory) => Err(refusal(Place::Input, Reason::Memory)),
+        Err(_) => Err(not_json(alloc, text.len(), rest)),
     }
-    if found.arrays == 0 {
-        return Err(refusal(Place::Input, Reason::NoArray));
-    }
-    Ok(found.items)
 }
 
 fn refusal(place: Place<'_>, reason: Reason) -> Refusal<'_> {
     Refusal { place, reason }
 }
 
-/// The mark of the byte order.
-const MARK: &str = "\u{feff}";
-
-/// The value that the whole text is.
-fn parsed<'a>(
-    alloc: Global,
-    text: &'a str,
-    scratch: &'a mut Scratch,
-) -> Result<Value<'a>, Refusal<'a>> {
-    let rest = text.strip_prefix(MARK).unwrap_or(text);
-    let Ok(mut reader) = Reader::new(rest, scratch) else {
-        return Err(refusal(Place::Input, Reason::Memory));
+/// The refusal of a text that ends an input of so many bytes, and is no JSON or nests too deep.
+fn not_json<'a>(alloc: Global, length: usize, text: &str) -> Refusal<'a> {
+    let before = length.saturating_sub(text.len());
+    let mut scratch = Scratch::new(alloc);
+    let Ok(mut reader) = Reader::new(text, &mut scratch) else {
+        return refusal(Place::Input, Reason::Memory);
     };
-    match Value::read(alloc, &mut reader, MAX_DEPTH) {
-        Ok(value) => {
-            if reader.next().is_some() {
-                return Err(not_json(alloc, text, rest, reader.offset()));
-            }
-            Ok(value)
-        }
-        Err(Error::OutOfMemory) => Err(refusal(Place::Input, Reason::Memory)),
-        Err(_) => Err(not_json(alloc, text, rest, reader.offset())),
+    if Value::read(alloc, &mut reader, MAX_DEPTH).is_ok() {
+        let _extra = reader.next();
     }
-}
-
-/// The refusal of a text whose rest is no JSON from this offset on, or nests too deep.
-fn not_json<'a>(alloc: Global, text: &str, rest: &str, offset: usize) -> Refusal<'a> {
-    let before = text.len().saturating_sub(rest.len());
-    let reason = match is_too_deep(alloc, rest) {
+    let reason = match is_too_deep(alloc, text) {
         Some(true) => Reason::TooDeep,
         Some(false) => Reason::NotJson,
         None => Reason::Memory,
     };
-    refusal(Place::Offset(before.saturating_add(offset) as u64), reason)
+    let offset = before.saturating_add(reader.offset());
+    refusal(Place::Offset(offset as u64), reason)
 }
 
 /// Whether more arrays and objects stand open at some place than may nest, if there is memory to
@@ -117,104 +104,287 @@ fn is_too_deep(alloc: Global, text: &str) -> Option<bool> {
     Some(false)
 }
 
-/// What was found so far.
-#[derive(Drop)]
-struct Found<'a> {
+/// The items of the object that the document has to be.
+fn items_of_value<'a>(
     alloc: Global,
-    items: Vec<Item<'a>>,
-    /// How many arrays of payloads there were.
-    arrays: u64,
+    words: &[String],
+    value: &Value<'a>,
+) -> Result<Vec<Item<'a>>, Refusal<'a>>
+    ensures { IfOk result
+        (λ v. HasItemsOf (ignored_by_words words.now) (value_view value.now) v.items) }
+{
+    match value {
+        Value::Object(members) => items_of(alloc, words, members),
+        _ => Err(refusal(Place::Input, Reason::NotObject)),
+    }
 }
 
-impl<'a> Found<'a> {
-    /// Takes the payloads of a member of the object at the top.
-    fn member(&mut self, name: &'a str, value: &Value<'a>) -> Result<(), Refusal<'a>> {
-        match holding_named(name) {
-            Some(Holding::Payloads(kind)) => self.payloads(name, kind, value),
-            Some(Holding::Authorizations) => self.authorizations(name, value),
-            Some(Holding::Metadata) => Ok(()),
-            None if has_payloads(value) => Err(refusal(Place::Unknown(name), Reason::UnknownName)),
-            None => Ok(()),
+/// The items of the members of the object at the top.
+fn items_of<'a>(
+    alloc: Global,
+    words: &[String],
+    members: &[(&'a str, Value<'a>)],
+) -> Result<Vec<Item<'a>>, Refusal<'a>>
+    ensures { IfOk result (λ v. HasTopItems (ignored_by_words words.now)
+        (members_list (members_view members.now)) v.items) }
+{
+    let mut items = Vec::new(alloc);
+    for member in members {
+        match add_member(alloc, words, member.0, &member.1, &mut items) {
+            Ok(()) => {}
+            Err(refusal) => return Err(refusal),
         }
     }
+    if has_array(words, members) {
+        Ok(items)
+    } else {
+        Err(refusal(Place::Input, Reason::NoArray))
+    }
+}
 
-    /// Takes the ASPAs that are listed for each family of addresses.
-    fn authorizations(&mut self, array: &'a str, value: &Value<'a>) -> Result<(), Refusal<'a>> {
-        let Value::Object(members) = value else {
-            return Err(refusal(Place::Array(array), Reason::NotObject));
-        };
-        for (name, value) in members.iter() {
-            match family_named(*name) {
-                Some(family) => self.payloads(family, Kind::Aspas, value)?,
-                None if has_payloads(value) => {
-                    return Err(refusal(Place::Entry(array, *name), Reason::UnknownName));
-                }
-                None => {}
-            }
+/// Whether a member has payloads by its name.
+fn has_array(words: &[String], members: &[(&str, Value<'_>)]) -> bool
+    ensures { result ≡ list_any (λ m. is_array (ignored_by_words words.now) m.0)
+        (members_list (members_view members.now)) }
+{
+    for member in members {
+        if is_array(words, member.0) {
+            return true;
         }
-        Ok(())
     }
+    false
+}
 
-    /// Takes the items of an array, for which stayrtr writes `null` where it has none, or ASPAs by
-    /// their customers, as FORT writes them.
-    fn payloads(
-        &mut self,
-        array: &'a str,
-        kind: Kind,
-        value: &Value<'a>,
-    ) -> Result<(), Refusal<'a>> {
-        self.arrays = self.arrays.saturating_add(1);
-        match value {
-            Value::Null => Ok(()),
-            Value::Array(list) => self.list(array, kind, list),
-            Value::Object(members) if kind == Kind::Aspas => self.customers(array, members),
-            _ => Err(refusal(Place::Array(array), Reason::NotArray)),
-        }
-    }
+/// Whether a member of this name has payloads.
+fn is_array(words: &[String], name: &str) -> bool
+    ensures { result ≡ is_array (ignored_by_words words.now) name.now }
+{
+    !is_ignored(words, name) && holds_payloads(holding_named(name))
+}
 
-    /// Takes the items of a list.
-    fn list(&mut self, array: &'a str, kind: Kind, list: &[Value<'a>]) -> Result<(), Refusal<'a>> {
-        let mut index: u64 = 0;
-        for item in list.iter() {
-            let place = Place::Item(array, index);
-            let Value::Object(members) = item else {
-                return Err(refusal(place, Reason::NotObject));
-            };
-            let object = Object {
-                array,
-                index,
-                members,
-            };
-            self.push(place, object.payload(self.alloc, kind)?)?;
-            index = index.saturating_add(1);
-        }
-        Ok(())
+fn holds_payloads(holding: Option<Holding>) -> bool
+    ensures { result ≡ holds_payloads holding }
+{
+    match holding {
+        Some(Holding::Payloads(_) | Holding::Authorizations) => true,
+        _ => false,
     }
+}
 
-    /// Takes the ASPAs whose customers are the members' names, and whose providers their values.
-    fn customers(
-        &mut self,
-        array: &'a str,
-        members: &[(&'a str, Value<'a>)],
-    ) -> Result<(), Refusal<'a>> {
-        for (name, value) in members.iter() {
-            let place = Place::Entry(array, *name);
-            let customer = match asn_of_text(*name) {
-                Ok(customer) => customer,
-                Err(reason) => return Err(refusal(place, reason)),
-            };
-            match providers_of(self.alloc, value) {
-                Ok(providers) => self.push(place, Payload::aspa(customer, providers))?,
-                Err(reason) => return Err(refusal(place, reason)),
-            }
-        }
-        Ok(())
+/// Adds the payloads of a member of the object at the top, unless its name is to be ignored.
+fn add_member<'a>(
+    alloc: Global,
+    words: &[String],
+    name: &'a str,
+    value: &Value<'a>,
+    items: &mut Vec<Item<'a>>,
+) -> Result<(), Refusal<'a>>
+    ensures { OnOk result (AddsPayloads
+        (AreTopPayloads (ignored_by_words words.now) name.now (value_view value.now))
+        items.old.items items.new.items) }
+{
+    if is_ignored(words, name) {
+        return Ok(());
     }
+    match holding_named(name) {
+        Some(Holding::Payloads(kind)) => add_payloads(alloc, name, kind, value, items),
+        Some(Holding::Authorizations) => add_authorizations(alloc, name, value, items),
+        Some(Holding::Metadata) => Ok(()),
+        None => check_unknown(Place::Unknown(name), value),
+    }
+}
 
-    fn push(&mut self, place: Place<'a>, payload: Payload) -> Result<(), Refusal<'a>> {
-        match self.items.push(Item { place, payload }) {
-            Ok(()) => Ok(()),
-            Err(_) => Err(refusal(Place::Input, Reason::Memory)),
+/// Refuses what looks like payloads at this place.
+fn check_unknown<'a>(place: Place<'a>, value: &Value<'_>) -> Result<(), Refusal<'a>>
+    ensures { OnOk result (has_payloads (value_view value.now) ≡ false) }
+{
+    if has_payloads(value) {
+        return Err(refusal(place, Reason::UnknownName));
+    }
+    Ok(())
+}
+
+/// Adds the ASPAs that are listed for each family of addresses.
+fn add_authorizations<'a>(
+    alloc: Global,
+    array: &'a str,
+    value: &Value<'a>,
+    items: &mut Vec<Item<'a>>,
+) -> Result<(), Refusal<'a>>
+    ensures { OnOk result (AddsPayloads (AreAuthorizations (value_view value.now))
+        items.old.items items.new.items) }
+{
+    match value {
+        Value::Object(members) => add_families(alloc, array, members, items),
+        _ => Err(refusal(Place::Array(array), Reason::NotObject)),
+    }
+}
+
+fn add_families<'a>(
+    alloc: Global,
+    array: &'a str,
+    members: &[(&'a str, Value<'a>)],
+    items: &mut Vec<Item<'a>>,
+) -> Result<(), Refusal<'a>>
+    ensures { OnOk result (AddsPayloads
+        (ArePayloadsOfEach AreFamilyPayloads (members_list (members_view members.now)))
+        items.old.items items.new.items) }
+{
+    for member in members {
+        match add_family(alloc, array, member.0, &member.1, items) {
+            Ok(()) => {}
+            Err(refusal) => return Err(refusal),
         }
     }
+    Ok(())
+}
+
+/// Adds the ASPAs under the name of a family.
+fn add_family<'a>(
+    alloc: Global,
+    array: &'a str,
+    name: &'a str,
+    value: &Value<'a>,
+    items: &mut Vec<Item<'a>>,
+) -> Result<(), Refusal<'a>>
+    ensures { OnOk result (AddsPayloads (AreFamilyPayloads name.now (value_view value.now))
+        items.old.items items.new.items) }
+{
+    match family_named(name) {
+        Some(family) => add_payloads(alloc, family, Kind::Aspas, value, items),
+        None => check_unknown(Place::Entry(array, name), value),
+    }
+}
+
+/// Adds the payloads of an array, for which stayrtr writes `null` where it has none, or ASPAs by
+/// their customers, as FORT writes them.
+fn add_payloads<'a>(
+    alloc: Global,
+    array: &'a str,
+    kind: Kind,
+    value: &Value<'a>,
+    items: &mut Vec<Item<'a>>,
+) -> Result<(), Refusal<'a>>
+    ensures { OnOk result (AddsPayloads (ArePayloadsIn kind (value_view value.now))
+        items.old.items items.new.items) }
+{
+    match (kind, value) {
+        (_, Value::Null) => Ok(()),
+        (_, Value::Array(list)) => add_list(alloc, array, kind, list, items),
+        (Kind::Aspas, Value::Object(members)) => add_customers(alloc, array, members, items),
+        _ => Err(refusal(Place::Array(array), Reason::NotArray)),
+    }
+}
+
+/// Adds the payloads of the items of a list.
+fn add_list<'a>(
+    alloc: Global,
+    array: &'a str,
+    kind: Kind,
+    list: &[Value<'a>],
+    items: &mut Vec<Item<'a>>,
+) -> Result<(), Refusal<'a>>
+    ensures { OnOk result (AddsPayloads (AreItemPayloads kind (items_list (items_view list.now)))
+        items.old.items items.new.items) }
+{
+    let mut spot = Spot { array, index: 0 };
+    for item in list {
+        match add_item(alloc, spot, kind, item, items) {
+            Ok(()) => {}
+            Err(refusal) => return Err(refusal),
+        }
+        spot.index = spot.index.saturating_add(1);
+    }
+    Ok(())
+}
+
+/// Adds the payload that an item of an array is.
+fn add_item<'a>(
+    alloc: Global,
+    spot: Spot<'a>,
+    kind: Kind,
+    item: &Value<'a>,
+    items: &mut Vec<Item<'a>>,
+) -> Result<(), Refusal<'a>>
+    ensures { OnOk result (AddsOne (IsItemPayload kind (value_view item.now))
+        items.old.items items.new.items) }
+{
+    match payload_of(alloc, spot, kind, item) {
+        Ok(payload) => push(items, spot.place(), payload),
+        Err(refusal) => Err(refusal),
+    }
+}
+
+/// The payload that an item of an array is.
+fn payload_of<'a>(
+    alloc: Global,
+    spot: Spot<'a>,
+    kind: Kind,
+    item: &Value<'a>,
+) -> Result<Payload, Refusal<'a>>
+    ensures { IfOk result (IsItemPayload kind (value_view item.now)) }
+{
+    match item {
+        Value::Object(members) => spot.payload(alloc, kind, members),
+        _ => Err(refusal(spot.place(), Reason::NotObject)),
+    }
+}
+
+fn push<'a>(
+    items: &mut Vec<Item<'a>>,
+    place: Place<'a>,
+    payload: Payload,
+) -> Result<(), Refusal<'a>>
+    ensures { OnOk result (AddsOne (λ p. p ≡ payload) items.old.items items.new.items) }
+{
+    match items.push(Item { place, payload }) {
+        Ok(()) => Ok(()),
+        Err(_) => Err(refusal(Place::Input, Reason::Memory)),
+    }
+}
+
+/// Adds the ASPAs whose customers are the names of the members, and whose providers the values.
+fn add_customers<'a>(
+    alloc: Global,
+    array: &'a str,
+    members: &[(&'a str, Value<'a>)],
+    items: &mut Vec<Item<'a>>,
+) -> Result<(), Refusal<'a>>
+    ensures { OnOk result (AddsPayloads (AreCustomerAspas (members_list (members_view members.now)))
+        items.old.items items.new.items) }
+{
+    for member in members {
+        match add_customer(alloc, array, member.0, &member.1, items) {
+            Ok(()) => {}
+            Err(refusal) => return Err(refusal),
+        }
+    }
+    Ok(())
+}
+
+/// Adds the ASPA of the customer that the name is.
+fn add_customer<'a>(
+    alloc: Global,
+    array: &'a str,
+    name: &'a str,
+    value: &Value<'a>,
+    items: &mut Vec<Item<'a>>,
+) -> Result<(), Refusal<'a>>
+    ensures { OnOk result (AddsOne (IsCustomerAspa name.now (value_view value.now))
+        items.old.items items.new.items) }
+{
+    let place = Place::Entry(array, name);
+    match aspa_of(alloc, name, value) {
+        Ok(payload) => push(items, place, payload),
+        Err(reason) => Err(refusal(place, reason)),
+    }
+}
+
+/// The ASPA of the customer that the name is, with the providers in the value.
+fn aspa_of(alloc: Global, name: &str, value: &Value<'_>) -> Result<Payload, Reason>
+    ensures { IfOk result (IsCustomerAspa name.now (value_view value.now)) }
+{
+    let customer = asn_of_text(name)?;
+    let providers = providers_of(alloc, value)?;
+    Ok(Payload::aspa(customer, providers))
 }

@@ -1,5 +1,10 @@
 //! The names that validators give to arrays and parts of payloads.
 
+ghost use Rattle.std.specs.Prelude.{◌≡◌, ◌==◌, bytes_eq, is_some, option_map};
+ghost use Rattle.rtr_vrps.specs.JsonNames.{holding_named, is_family, is_joiner, is_part};
+ghost use Rattle.rtr_vrps.specs.JsonNames.{is_plainly_one_of, key_names, plain};
+ghost use Rattle.rtr_vrps.specs.PrivateJson.{after_byte};
+
 /// What the payloads of an array are.
 #[derive(Clone, Copy, Debug, PartialEq, Eq)]
 pub enum Kind {
@@ -43,7 +48,9 @@ pub enum Part {
 
 impl Part {
     /// Whether a member of this name is the part.
-    pub fn is_named(self, name: &str) -> bool {
+    pub fn is_named(self, name: &str) -> bool
+        ensures { result ≡ is_part self name.now }
+    {
         match self {
             Part::Asn => is_plainly(name, "asn"),
             Part::Prefix => is_plainly(name, "prefix"),
@@ -69,12 +76,16 @@ impl Part {
     }
 }
 
-fn is_key_info(name: &str) -> bool {
+fn is_key_info(name: &str) -> bool
+    ensures { result ≡ is_part Part.KeyInfo name.now }
+{
     is_plainly(name, "pubkey") || is_plainly(name, "routerpublickey") || is_plainly(name, "spki")
 }
 
 /// What stands under this name of the object at the top, if the name is known.
-pub fn holding_named(name: &str) -> Option<Holding> {
+pub fn holding_named(name: &str) -> Option<Holding>
+    ensures { result ≡ holding_named name.now }
+{
     if is_plainly(name, "roas") {
         Some(Holding::Payloads(Kind::Origins))
     } else if holds_keys(name) {
@@ -90,12 +101,16 @@ pub fn holding_named(name: &str) -> Option<Holding> {
     }
 }
 
-fn holds_keys(name: &str) -> bool {
+fn holds_keys(name: &str) -> bool
+    ensures { result ≡ is_plainly_one_of key_names name.now }
+{
     is_plainly(name, "bgpseckeys") || is_plainly(name, "routerkeys")
 }
 
 /// What a refusal calls the ASPAs for the family of addresses of this name, if it is one.
-pub fn family_named(name: &str) -> Option<&'static str> {
+pub fn family_named(name: &str) -> Option<&'static str>
+    ensures { is_some result ≡ is_family name.now }
+{
     if is_plainly(name, "ipv4") {
         Some("provider_authorizations.ipv4")
     } else if is_plainly(name, "ipv6") {
@@ -106,24 +121,35 @@ pub fn family_named(name: &str) -> Option<&'static str> {
 }
 
 /// Whether a name is this one, without regard to case, `_` and `-`.
-fn is_plainly(name: &str, plain: &str) -> bool {
-    let mut left = plain.as_bytes();
+fn is_plainly(name: &str, known: &str) -> bool
+    ensures { result ≡ bytes_eq known.now (plain name.now) }
+{
+    let mut left = known.as_bytes();
     for byte in name.as_bytes() {
-        if is_joiner(*byte) {
-            continue;
+        let byte = *byte;
+        if !is_joiner(byte) {
+            let Some(rest) = after_first(left, byte.to_ascii_lowercase()) else {
+                return false;
+            };
+            left = rest;
         }
-        let Some(first) = left.first() else {
-            return false;
-        };
-        if byte.to_ascii_lowercase() != *first {
-            return false;
-        }
-        left = left.get(1..).unwrap_or(&[]);
     }
     left.is_empty()
 }
 
+/// The bytes after the first, if that is this one.
+fn after_first(bytes: &[u8], byte: u8) -> Option<&[u8]>
+    ensures { option_map (λ rest. rest.now) result ≡ after_byte bytes.now byte }
+{
+    if bytes.is_empty() || bytes[0] != byte {
+        return None;
+    }
+    Some(&bytes[1..])
+}
+
 /// Whether the byte joins the words of a name.
-fn is_joiner(byte: u8) -> bool {
+fn is_joiner(byte: u8) -> bool
+    ensures { result ≡ is_joiner byte }
+{
     byte == b'_' || byte == b'-'
 }

@@ -1,5 +1,12 @@
 //! Payloads that are objects in JSON, by the names of their members.
 
+ghost use Rattle.std.specs.Prelude.{◌≡◌, ◌∷◌, [], IfOk};
+ghost use Rattle.json.specs.Value.{members_view, value_view};
+ghost use Rattle.rtr_vrps.specs.JsonPayloads.{Has, IsPayloadObject, MayHave, values_of};
+ghost use Rattle.rtr_vrps.specs.JsonValues.{IsAsnValue, IsMaxLengthValue, IsPrefixValue};
+ghost use Rattle.rtr_vrps.specs.JsonValues.{members_list};
+ghost use Rattle.rtr_vrps.specs.PrivateJson.{IsOnly};
+
 use crate::item::{Place, Reason, Refusal};
 use crate::json_names::{Kind, Part};
 use crate::json_values::{
@@ -18,35 +25,49 @@ struct Member<'v, 'a> {
     value: &'v Value<'a>,
 }
 
-/// An object that is to be a payload, and where it stands.
+/// An item of an array.
 #[derive(Clone, Copy)]
-pub struct Object<'v, 'a> {
+pub struct Spot<'a> {
     /// The name of its array.
     pub array: &'a str,
     /// How many items of the array come before it.
     pub index: u64,
-    /// Its members.
-    pub members: &'v [(&'a str, Value<'a>)],
 }
 
-impl<'v, 'a> Object<'v, 'a> {
-    /// The payload of this kind that the object is. The first part that is missing or wrong
-    /// decides:
+impl<'a> Spot<'a> {
+    /// Where the item as a whole stands.
+    pub fn place(self) -> Place<'a> {
+        Place::Item(self.array, self.index)
+    }
+
+    /// The payload of this kind that an object of these members is. The first part that is missing
+    /// or wrong decides:
     /// - of an origin the prefix, the max length, the ASN, and the rule between the two lengths;
     /// - of a router key the ASN, the identifier, and the key;
     /// - of an ASPA the customer, and the providers.
-    pub fn payload(self, alloc: Global, kind: Kind) -> Result<Payload, Refusal<'a>> {
+    pub fn payload(
+        self,
+        alloc: Global,
+        kind: Kind,
+        members: &[(&'a str, Value<'a>)],
+    ) -> Result<Payload, Refusal<'a>>
+        ensures { IfOk result (λ p. IsPayloadObject kind
+            (members_list (members_view members.now)) p) }
+    {
         match kind {
-            Kind::Origins => self.origin(),
-            Kind::RouterKeys => self.router_key(alloc),
-            Kind::Aspas => self.aspa(alloc),
+            Kind::Origins => self.origin(members),
+            Kind::RouterKeys => self.router_key(alloc, members),
+            Kind::Aspas => self.aspa(alloc, members),
         }
     }
 
-    fn origin(self) -> Result<Payload, Refusal<'a>> {
-        let prefix = self.prefix()?;
-        let max_length = self.max_length()?;
-        let asn = self.asn(Part::Asn)?;
+    fn origin(self, members: &[(&'a str, Value<'a>)]) -> Result<Payload, Refusal<'a>>
+        ensures { IfOk result (λ p. IsPayloadObject Kind.Origins
+            (members_list (members_view members.now)) p) }
+    {
+        let prefix = self.prefix(members)?;
+        let max_length = self.max_length(members)?;
+        let asn = self.asn(Part::Asn, members)?;
         match MaxLenPrefix::new(prefix, max_length) {
             Ok(prefix) => Ok(Payload::origin(prefix, asn)),
             Err(error) => {
@@ -56,23 +77,33 @@ impl<'v, 'a> Object<'v, 'a> {
         }
     }
 
-    fn router_key(self, alloc: Global) -> Result<Payload, Refusal<'a>> {
-        let asn = self.asn(Part::Asn)?;
-        let member = self.needed(Part::KeyIdentifier)?;
+    fn router_key(
+        self,
+        alloc: Global,
+        members: &[(&'a str, Value<'a>)],
+    ) -> Result<Payload, Refusal<'a>>
+        ensures { IfOk result (λ p. IsPayloadObject Kind.RouterKeys
+            (members_list (members_view members.now)) p) }
+    {
+        let asn = self.asn(Part::Asn, members)?;
+        let member = self.needed(Part::KeyIdentifier, members)?;
         let key_identifier = match key_identifier_of(alloc, member.value) {
             Ok(key_identifier) => key_identifier,
             Err(reason) => return Err(self.refusal_of(member.name, reason)),
         };
-        let member = self.needed(Part::KeyInfo)?;
+        let member = self.needed(Part::KeyInfo, members)?;
         match key_info_of(alloc, member.value) {
             Ok(key_info) => Ok(Payload::router_key(key_identifier, asn, key_info)),
             Err(reason) => Err(self.refusal_of(member.name, reason)),
         }
     }
 
-    fn aspa(self, alloc: Global) -> Result<Payload, Refusal<'a>> {
-        let customer = self.asn(Part::Customer)?;
-        let member = self.needed(Part::Providers)?;
+    fn aspa(self, alloc: Global, members: &[(&'a str, Value<'a>)]) -> Result<Payload, Refusal<'a>>
+        ensures { IfOk result (λ p. IsPayloadObject Kind.Aspas
+            (members_list (members_view members.now)) p) }
+    {
+        let customer = self.asn(Part::Customer, members)?;
+        let member = self.needed(Part::Providers, members)?;
         match providers_of(alloc, member.value) {
             Ok(providers) => Ok(Payload::aspa(customer, providers)),
             Err(reason) => Err(self.refusal_of(member.name, reason)),
@@ -80,8 +111,11 @@ impl<'v, 'a> Object<'v, 'a> {
     }
 
     /// Its prefix.
-    fn prefix(self) -> Result<Prefix, Refusal<'a>> {
-        let member = self.needed(Part::Prefix)?;
+    fn prefix(self, members: &[(&'a str, Value<'a>)]) -> Result<Prefix, Refusal<'a>>
+        ensures { IfOk result (Has Part.Prefix IsPrefixValue
+            (members_list (members_view members.now))) }
+    {
+        let member = self.needed(Part::Prefix, members)?;
         match prefix_of(member.value) {
             Ok(prefix) => Ok(prefix),
             Err(reason) => Err(self.refusal_of(member.name, reason)),
@@ -89,8 +123,11 @@ impl<'v, 'a> Object<'v, 'a> {
     }
 
     /// Its max length, if it has one.
-    fn max_length(self) -> Result<Option<u8>, Refusal<'a>> {
-        let Some(member) = self.part(Part::MaxLength)? else {
+    fn max_length(self, members: &[(&'a str, Value<'a>)]) -> Result<Option<u8>, Refusal<'a>>
+        ensures { IfOk result (MayHave Part.MaxLength IsMaxLengthValue
+            (members_list (members_view members.now))) }
+    {
+        let Some(member) = self.part(Part::MaxLength, members)? else {
             return Ok(None);
         };
         match max_length_of(member.value) {
@@ -100,8 +137,10 @@ impl<'v, 'a> Object<'v, 'a> {
     }
 
     /// The ASN that is this part.
-    fn asn(self, part: Part) -> Result<Asn, Refusal<'a>> {
-        let member = self.needed(part)?;
+    fn asn(self, part: Part, members: &[(&'a str, Value<'a>)]) -> Result<Asn, Refusal<'a>>
+        ensures { IfOk result (Has part IsAsnValue (members_list (members_view members.now))) }
+    {
+        let member = self.needed(part, members)?;
         match asn_of(member.value) {
             Ok(asn) => Ok(asn),
             Err(reason) => Err(self.refusal_of(member.name, reason)),
@@ -109,23 +148,40 @@ impl<'v, 'a> Object<'v, 'a> {
     }
 
     /// The member that is this part. `Missing` where there is none.
-    fn needed(self, part: Part) -> Result<Member<'v, 'a>, Refusal<'a>> {
-        match self.part(part)? {
+    fn needed<'v>(
+        self,
+        part: Part,
+        members: &'v [(&'a str, Value<'a>)],
+    ) -> Result<Member<'v, 'a>, Refusal<'a>>
+        ensures { IfOk result (λ m. values_of part (members_list (members_view members.now))
+            ≡ value_view m.value.now ∷ []) }
+    {
+        match self.part(part, members)? {
             Some(member) => Ok(member),
             None => Err(self.refusal_of(part.usual_name(), Reason::Missing)),
         }
     }
 
     /// The member that is this part, if there is one. `Twice` where there are more.
-    fn part(self, part: Part) -> Result<Option<Member<'v, 'a>>, Refusal<'a>> {
+    fn part<'v>(
+        self,
+        part: Part,
+        members: &'v [(&'a str, Value<'a>)],
+    ) -> Result<Option<Member<'v, 'a>>, Refusal<'a>>
+        ensures { IfOk result (IsOnly part (members_list (members_view members.now))) }
+    {
         let mut found: Option<Member<'v, 'a>> = None;
-        for (name, value) in self.members.iter() {
-            let name = *name;
-            if part.is_named(name) {
-                if found.is_some() {
-                    return Err(self.refusal_of(name, Reason::Twice));
+        for member in members {
+            if part.is_named(member.0) {
+                match found {
+                    Some(_) => return Err(self.refusal_of(member.0, Reason::Twice)),
+                    None => {
+                        found = Some(Member {
+                            name: member.0,
+                            value: &member.1,
+                        });
+                    }
                 }
-                found = Some(Member { name, value });
             }
         }
         Ok(found)

@@ -1,5 +1,16 @@
 //! What values of JSON mean as parts of payloads.
 
+ghost use Rattle.std.specs.Prelude.{◌≡◌, IfOk, Ok, length};
+ghost use Rattle.base64.specs.Engines.{url_safe_pad_indifferent};
+ghost use Rattle.base64.specs.GeneralPurpose.{decode_of};
+ghost use Rattle.json.specs.Json.{string};
+ghost use Rattle.json.specs.Value.{items_view, value_view};
+ghost use Rattle.rtr_base.specs.Numerals.{IsSerialText};
+ghost use Rattle.rtr_base.specs.ReadTexts.{IsAsnText, IsLenText};
+ghost use Rattle.rtr_vrps.specs.JsonValues.{AreAsnValues, AreProviderValues, IsAsnValue};
+ghost use Rattle.rtr_vrps.specs.JsonValues.{IsBase64, IsKeyIdentifierValue, IsKeyInfoValue};
+ghost use Rattle.rtr_vrps.specs.JsonValues.{IsMaxLengthValue, IsPrefixValue, items_list};
+
 use crate::item::Reason;
 use base64::DecodeAllocError;
 use base64::engine::general_purpose::{STANDARD_PAD_INDIFFERENT, URL_SAFE_PAD_INDIFFERENT};
@@ -12,27 +23,30 @@ use rtr_payload::pdu::{KeyInfoVecError, ProviderAsns, ProviderIterError, RouterK
 use std::alloc::Global;
 
 /// An ASN: a number, or a text with or without `AS` before it.
-pub fn asn_of(value: &Value<'_>) -> Result<Asn, Reason> {
+pub fn asn_of(value: &Value<'_>) -> Result<Asn, Reason>
+    ensures { IfOk result (λ n. IsAsnValue (value_view value.now) n) }
+{
     match value {
-        Value::Number(_) => match short_number(value) {
-            Some(number) => Ok(Asn::from_u32(number)),
-            None => Err(Reason::Asn),
-        },
+        Value::Number(text) => asn_of_number(*text),
         Value::String(text) => asn_of_text(*text),
         _ => Err(Reason::Asn),
     }
 }
 
-/// The number of 32 bits that a value is.
-fn short_number(value: &Value<'_>) -> Option<u32> {
-    match u32::try_from(value.as_u64()?) {
-        Ok(number) => Some(number),
-        Err(_) => None,
+/// The ASN that a number is.
+fn asn_of_number(text: &str) -> Result<Asn, Reason>
+    ensures { IfOk result (λ n. IsSerialText text.now n) }
+{
+    match text.parse::<u32>() {
+        Ok(number) => Ok(Asn::from_u32(number)),
+        Err(_) => Err(Reason::Asn),
     }
 }
 
 /// The ASN that a text is.
-pub fn asn_of_text(text: &str) -> Result<Asn, Reason> {
+pub fn asn_of_text(text: &str) -> Result<Asn, Reason>
+    ensures { IfOk result (λ n. IsAsnText text.now n) }
+{
     match text.parse::<Asn>() {
         Ok(asn) => Ok(asn),
         Err(_) => Err(Reason::Asn),
@@ -40,7 +54,9 @@ pub fn asn_of_text(text: &str) -> Result<Asn, Reason> {
 }
 
 /// A prefix, in a text.
-pub fn prefix_of(value: &Value<'_>) -> Result<Prefix, Reason> {
+pub fn prefix_of(value: &Value<'_>) -> Result<Prefix, Reason>
+    ensures { IfOk result (λ p. IsPrefixValue (value_view value.now) p) }
+{
     match text_of(value)?.parse::<Prefix>() {
         Ok(prefix) => Ok(prefix),
         Err(error) => Err(Reason::Prefix(error)),
@@ -48,17 +64,28 @@ pub fn prefix_of(value: &Value<'_>) -> Result<Prefix, Reason> {
 }
 
 /// A max length: a number of at most 255.
-pub fn max_length_of(value: &Value<'_>) -> Result<u8, Reason> {
-    let Some(number) = value.as_u64() else {
-        return Err(Reason::MaxLength);
-    };
-    match u8::try_from(number) {
+pub fn max_length_of(value: &Value<'_>) -> Result<u8, Reason>
+    ensures { IfOk result (λ n. IsMaxLengthValue (value_view value.now) n) }
+{
+    match value {
+        Value::Number(text) => length_of_number(*text),
+        _ => Err(Reason::MaxLength),
+    }
+}
+
+/// The max length that a number is.
+fn length_of_number(text: &str) -> Result<u8, Reason>
+    ensures { IfOk result (λ n. IsLenText text.now n) }
+{
+    match text.parse::<u8>() {
         Ok(length) => Ok(length),
         Err(_) => Err(Reason::MaxLength),
     }
 }
 
-fn text_of<'a>(value: &Value<'a>) -> Result<&'a str, Reason> {
+fn text_of<'a>(value: &Value<'a>) -> Result<&'a str, Reason>
+    ensures { IfOk result (λ text. value_view value.now ≡ string text.now) }
+{
     match value {
         Value::String(text) => Ok(*text),
         _ => Err(Reason::NotString),
@@ -66,14 +93,23 @@ fn text_of<'a>(value: &Value<'a>) -> Result<&'a str, Reason> {
 }
 
 /// The identifier of a key: 40 hex digits, or its 20 bytes as base64, as FORT prints it.
-pub fn key_identifier_of(alloc: Global, value: &Value<'_>) -> Result<KeyIdentifier, Reason> {
+pub fn key_identifier_of(alloc: Global, value: &Value<'_>) -> Result<KeyIdentifier, Reason>
+    ensures { IfOk result (λ k. IsKeyIdentifierValue (value_view value.now) k) }
+{
     let text = text_of(value)?;
-    if text.len() != 27 && text.len() != 28 {
-        return match text.parse::<KeyIdentifier>() {
-            Ok(identifier) => Ok(identifier),
-            Err(error) => Err(Reason::KeyIdentifier(error)),
-        };
+    if text.len() == 27 || text.len() == 28 {
+        return key_identifier_of_base64(alloc, text);
     }
+    match text.parse::<KeyIdentifier>() {
+        Ok(identifier) => Ok(identifier),
+        Err(error) => Err(Reason::KeyIdentifier(error)),
+    }
+}
+
+/// The identifier of a key whose 20 bytes are this base64.
+fn key_identifier_of_base64(alloc: Global, text: &str) -> Result<KeyIdentifier, Reason>
+    ensures { IfOk result (λ k. IsBase64 text.now k × (length k ≡ 20)) }
+{
     let bytes = decoded(alloc, text)?;
     match <[u8; 20]>::try_from(bytes.as_slice()) {
         Ok(bytes) => Ok(KeyIdentifier::from(bytes)),
@@ -82,7 +118,9 @@ pub fn key_identifier_of(alloc: Global, value: &Value<'_>) -> Result<KeyIdentifi
 }
 
 /// A key, in base64.
-pub fn key_info_of(alloc: Global, value: &Value<'_>) -> Result<RouterKeyInfo, Reason> {
+pub fn key_info_of(alloc: Global, value: &Value<'_>) -> Result<RouterKeyInfo, Reason>
+    ensures { IfOk result (λ k. IsKeyInfoValue (value_view value.now) k) }
+{
     let bytes = decoded(alloc, text_of(value)?)?;
     match RouterKeyInfo::from_vec(alloc, bytes) {
         Ok(info) => Ok(info),
@@ -92,13 +130,21 @@ pub fn key_info_of(alloc: Global, value: &Value<'_>) -> Result<RouterKeyInfo, Re
 }
 
 /// The bytes of base64, with either alphabet of RFC 4648, with or without padding.
-fn decoded(alloc: Global, text: &str) -> Result<Vec<u8>, Reason> {
-    let bytes = if text.contains('-') || text.contains('_') {
-        URL_SAFE_PAD_INDIFFERENT.decode(alloc, text.as_bytes())
-    } else {
-        STANDARD_PAD_INDIFFERENT.decode(alloc, text.as_bytes())
-    };
-    match bytes {
+fn decoded(alloc: Global, text: &str) -> Result<Vec<u8>, Reason>
+    ensures { IfOk result (λ v. IsBase64 text.now v.items) }
+{
+    match STANDARD_PAD_INDIFFERENT.decode(alloc, text.as_bytes()) {
+        Ok(bytes) => Ok(bytes),
+        Err(DecodeAllocError::OutOfMemory) => Err(Reason::Memory),
+        Err(_) => decoded_url_safe(alloc, text),
+    }
+}
+
+/// The bytes of base64 with the alphabet for URLs.
+fn decoded_url_safe(alloc: Global, text: &str) -> Result<Vec<u8>, Reason>
+    ensures { IfOk result (λ v. decode_of url_safe_pad_indifferent text.now ≡ Ok v.items) }
+{
+    match URL_SAFE_PAD_INDIFFERENT.decode(alloc, text.as_bytes()) {
         Ok(bytes) => Ok(bytes),
         Err(DecodeAllocError::OutOfMemory) => Err(Reason::Memory),
         Err(_) => Err(Reason::Base64),
@@ -106,7 +152,9 @@ fn decoded(alloc: Global, text: &str) -> Result<Vec<u8>, Reason> {
 }
 
 /// The providers in an array of ASNs: in order, each once.
-pub fn providers_of(alloc: Global, value: &Value<'_>) -> Result<ProviderAsns, Reason> {
+pub fn providers_of(alloc: Global, value: &Value<'_>) -> Result<ProviderAsns, Reason>
+    ensures { IfOk result (λ ps. AreProviderValues (value_view value.now) ps) }
+{
     let Value::Array(list) = value else {
         return Err(Reason::NotArray);
     };
@@ -121,12 +169,17 @@ pub fn providers_of(alloc: Global, value: &Value<'_>) -> Result<ProviderAsns, Re
 }
 
 /// The ASNs of the items.
-fn asns_of(alloc: Global, list: &[Value<'_>]) -> Result<Vec<Asn>, Reason> {
+fn asns_of(alloc: Global, list: &[Value<'_>]) -> Result<Vec<Asn>, Reason>
+    ensures { IfOk result (λ v. AreAsnValues (items_list (items_view list.now)) v.items) }
+{
     let mut asns: Vec<Asn> = Vec::new(alloc);
-    for item in list.iter() {
-        let asn = asn_of(item)?;
-        if asns.push(asn).is_err() {
-            return Err(Reason::Memory);
+    for item in list {
+        match asn_of(item) {
+            Ok(asn) => match asns.push(asn) {
+                Ok(()) => {}
+                Err(_) => return Err(Reason::Memory),
+            },
+            Err(reason) => return Err(reason),
         }
     }
     Ok(asns)

@@ -79,7 +79,7 @@ fn has_mark(text: &[u8]) -> bool
 fn is_fine(closed: bool, before: u8, byte: u8) -> bool
     ensures { result ≡ (not closed || fits_after before byte) }
 {
-    !closed || may_follow(before, byte)
+    (before != QUOTE && byte != QUOTE) || !closed || may_follow(before, byte)
 }
 
 /// Whether the byte may follow the one before it where no field in quotes is open.

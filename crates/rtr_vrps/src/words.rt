@@ -102,9 +102,9 @@ struct Said {
 
 /// What the words after the program's name ask for, if they ask for something: `--csv` or `--json`,
 /// and each of the options at most once, in any order, but for `--ignore`, which may come again
-/// with `--json`. Without `--version` it is 2. The session and the serial number are 0 and the timings
-/// those of RFC 8210 section 6, if they aren't given. Version 0 has no timings: none may be given
-/// with it.
+/// with `--json`. Without `--version` it is 2. The session and the serial number are 0 and the
+/// timings those of RFC 8210 section 6, if they aren't given. Version 0 has no timings: none may be
+/// given with it.
 pub fn asked(words: &[String]) -> Option<Request>
     ensures { result ≡ request_by_words words.now }
 {

@@ -1,0 +1,34 @@
+-- Providers that were sorted, taken once each and written are those that were given.
+use Rattle.std.proofs.Common.{◌≡◌, ℕ, List, map, length, refl, sym, subst, ◌∙◌}
+use Rattle.std.proofs.Common.{Contains, eqb, nat_cmp}
+use Rattle.std.proofs.lemmas.Iterator.{items_from_drains}
+use Rattle.std.proofs.lemmas.Iterator.Adapters.{YieldsList-from_vec}
+use Rattle.std.proofs.lemmas.List.{map-id}
+use Rattle.std.proofs.lemmas.List.Kept.{Contains-dedup_nat, Contains-from_dedup}
+use Rattle.std.proofs.lemmas.List.Sorted.{Contains-permutation, IsPermutation-sym}
+use Rattle.std.proofs.lemmas.Map.Keys.{IsStrictlyIncreasing-dedup}
+use Rattle.std.specs.Iterator.{Drains}
+use Rattle.std.specs.List.{dedup}
+use Rattle.std.specs.List.Sorted.{IsPermutation, IsSorted}
+use Rattle.std.specs.declared.vec.IntoIter.{IntoIter}
+use Rattle.std.specs.Vec.Iter.{into_iter_items, into_iter_len, into_iter_steps}
+use Rattle.rtr_vrps.specs.JsonValues.{IsSetOf}
+
+pub set_of : (given sorted once : List ℕ) → IsPermutation given sorted → IsSorted nat_cmp sorted →
+    once ≡ dedup eqb sorted → IsSetOf given once
+set_of given sorted once p s is =
+    subst (IsSetOf given) (sym is) (record {
+      in_order = IsStrictlyIncreasing-dedup sorted s;
+      same = λ n. (
+        λ h. Contains-dedup_nat sorted n (Contains-permutation given sorted n p h),
+        λ h. Contains-permutation sorted given n (IsPermutation-sym given sorted p)
+            (Contains-from_dedup eqb sorted n h),
+      );
+    })
+
+-- what an iterator over a vector gives is what the vector has
+pub drained : {Z : Type 0} (s : IntoIter ℕ Z) (xs ys : List ℕ) → into_iter_items s ≡ xs →
+    into_iter_len s ≡ length xs → Drains into_iter_steps s ys → ys ≡ xs
+drained s xs ys items len d =
+    sym (map-id ys)
+    ∙ items_from_drains ys (d.1.0, d.1.1, λ w. (d.0, d.1.2)) (YieldsList-from_vec xs items len)

@@ -1,0 +1,15 @@
+use Rattle.std.proofs.Common.{take}
+use Rattle.json.specs.Value.{items_view, members_view, value_view}
+use Rattle.rtr_vrps.specs.JsonPayloads.{AreCustomerAspas, AreFamilyPayloads, AreItemPayloads}
+use Rattle.rtr_vrps.specs.JsonPayloads.{ArePayloadsOfEach, AreTopPayloads}
+use Rattle.rtr_vrps.specs.JsonValues.{items_list, members_list}
+use Rattle.rtr_vrps.specs.MakeWords.{ignored_by_words}
+use Rattle.rtr_vrps.specs.PrivateJson.{AddsPayloads}
+use Rattle.rtr_vrps.proofs.json_items.add_families.Given as goal
+
+abbrev pub invariant-loop-member : goal.invariant-loop-member
+invariant-loop-member l =
+    AddsPayloads
+    (ArePayloadsOfEach AreFamilyPayloads
+    (members_list (members_view (take l.member-index l.members))))
+    l.initial.items.items l.items.items

@@ -1,0 +1,16 @@
+use Rattle.std.proofs.Common.{Some, refl, sym, ap, subst, ◌∙◌}
+use Rattle.std.specs.Bool.{MatchBool}
+use Rattle.json.specs.Value.{value_view}
+use Rattle.rtr_vrps.specs.JsonNames.{holding_named}
+use Rattle.rtr_vrps.specs.JsonPayloads.{ArePayloadsBy, AreTopPayloads}
+use Rattle.rtr_vrps.specs.MakeWords.{ignored_by_words}
+use Rattle.rtr_vrps.proofs.JsonSoFar.{nothing, top_none}
+use Rattle.rtr_vrps.proofs.json_items.add_member.Goals as goal
+
+pub returns-in-Some-Metadata : goal.returns-in-Some-Metadata
+returns-in-Some-Metadata c =
+    let ignored = ignored_by_words c.args.words.now in
+    nothing (AreTopPayloads ignored c.args.name.now (value_view c.args.value.now)) _
+    (top_none ignored c.args.name.now (value_view c.args.value.now)
+    (sym c.is_ignored.ensures ∙ c.if-is_ignored.false)
+    (sym c.holding_named.ensures ∙ c.in-Some-Metadata.is ∙ ap Some c.in-Some-Metadata.field-0-is))

@@ -1,0 +1,5 @@
+use Rattle.rtr_base.proofs.Parsing.{reads_len}
+use Rattle.rtr_vrps.proofs.json_values.length_of_number.Goals as goal
+
+pub returns-in-Ok : goal.returns-in-Ok
+returns-in-Ok c = reads_len c.args.text.now c.in-Ok.length c.in-Ok.ensures.value.0

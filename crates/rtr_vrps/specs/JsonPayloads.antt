@@ -1,0 +1,186 @@
+-- Which payloads a document of JSON has, by the names of `JsonNames`: this library's own, after
+-- what validators print.
+use Rattle.std.specs.Prelude.{◌≡◌, ⊤, ℕ, Bool, true, false, not, ◌&&◌, ◌||◌, List, [], ◌∷◌, ◌++◌}
+use Rattle.std.specs.Prelude.{map, Option, Some, None, if◌then◌else◌}
+use Rattle.std.specs.Bool.{MatchBool}
+use Rattle.std.specs.List.{list_any}
+use Rattle.json.specs.Json.{Json, null, boolean, number, string, array, object, document}
+use Rattle.json.specs.Json.{Items, no_items, item, Members, no_members, member}
+use Rattle.csv.specs.Reading.{strip_bom}
+use Rattle.rtr_base.specs.Addresses.{IsMaxLenPrefix}
+use Rattle.rtr_payload.specs.declared.payload.Aspa.{Aspa}
+use Rattle.rtr_payload.specs.declared.payload.Payload.{Payload}
+use Rattle.rtr_payload.specs.declared.payload.Payload.TheVariants as payloads
+use Rattle.rtr_payload.specs.declared.payload.RouteOrigin.{RouteOrigin}
+use Rattle.rtr_payload.specs.declared.payload.RouterKey.{RouterKey}
+use Rattle.rtr_base.specs.ReadTexts.{IsAsnText}
+use Rattle.rtr_vrps.specs.JsonNames.{holding_named, is_family, is_part}
+use Rattle.rtr_vrps.specs.JsonValues.{IsAsnValue, IsPrefixValue, IsMaxLengthValue, IsKeyInfoValue}
+use Rattle.rtr_vrps.specs.JsonValues.{IsKeyIdentifierValue, AreProviderValues, items_list}
+use Rattle.rtr_vrps.specs.JsonValues.{members_list}
+use Rattle.rtr_vrps.specs.MakeWords.{is_one_of}
+use Rattle.rtr_vrps.specs.declared.item.Item.{Item}
+use Rattle.rtr_vrps.specs.declared.json_names.Holding.{Holding}
+use Rattle.rtr_vrps.specs.declared.json_names.Holding.TheVariants as holdings
+use Rattle.rtr_vrps.specs.declared.json_names.Kind.{Kind}
+use Rattle.rtr_vrps.specs.declared.json_names.Kind.TheVariants.{Origins, RouterKeys, Aspas}
+use Rattle.rtr_vrps.specs.declared.json_names.Part.{Part}
+use Rattle.rtr_vrps.specs.declared.json_names.Part.TheVariants as parts
+
+-- ---- an object that is a payload
+
+-- the values of the members that are this part
+abbrev pub values_of : Part → List (List ℕ × Json) → List Json
+values_of p [] = []
+values_of p (m ∷ ms) = if is_part p m.0 then m.1 ∷ values_of p ms else values_of p ms
+
+-- one member is this part, and no other, and its value means this
+abbrev pub Has : {T : Type 0} → Part → (Json → T → Type 0) → List (List ℕ × Json) → T → Type 0
+Has p Means ms x = (j : Json) × (values_of p ms ≡ j ∷ []) × Means j x
+
+-- none is, or one is and means this
+abbrev pub MayHave : {T : Type 0} → Part → (Json → T → Type 0) → List (List ℕ × Json) →
+    Option T → Type 0
+MayHave p Means ms None = values_of p ms ≡ []
+MayHave p Means ms (Some x) = Has p Means ms x
+
+pub record IsOriginObject (ms : List (List ℕ × Json)) (o : RouteOrigin) : Type 0 where
+  pub prefix : Has parts.Prefix IsPrefixValue ms o.prefix.prefix
+  pub max_length : MayHave parts.MaxLength IsMaxLengthValue ms o.prefix.max_len
+  pub asn : Has parts.Asn IsAsnValue ms o.asn
+  pub valid : IsMaxLenPrefix o.prefix
+
+pub record IsKeyObject (ms : List (List ℕ × Json)) (k : RouterKey) : Type 0 where
+  pub asn : Has parts.Asn IsAsnValue ms k.asn
+  pub key_identifier : Has parts.KeyIdentifier IsKeyIdentifierValue ms k.key_identifier
+  pub key_info : Has parts.KeyInfo IsKeyInfoValue ms k.key_info
+
+pub record IsAspaObject (ms : List (List ℕ × Json)) (a : Aspa) : Type 0 where
+  pub customer : Has parts.Customer IsAsnValue ms a.customer
+  pub providers : Has parts.Providers AreProviderValues ms a.providers
+
+abbrev pub IsPayloadObject : Kind → List (List ℕ × Json) → Payload → Type 0
+IsPayloadObject Origins ms p = (o : RouteOrigin) × (p ≡ payloads.Origin o) × IsOriginObject ms o
+IsPayloadObject RouterKeys ms p = (k : RouterKey) × (p ≡ payloads.RouterKey k) × IsKeyObject ms k
+IsPayloadObject Aspas ms p = (a : Aspa) × (p ≡ payloads.Aspa a) × IsAspaObject ms a
+
+-- ---- what is refused under names that aren't known
+
+abbrev pub holds_part : List (List ℕ × Json) → Part → Bool
+holds_part ms p = list_any (λ m. is_part p m.0) ms
+
+-- an object has what a payload has: an ASN and a prefix, an ASN and a key or its identifier, or a
+-- customer and providers
+abbrev pub is_like_payload : List (List ℕ × Json) → Bool
+is_like_payload ms = (holds_part ms parts.Asn && holds_part ms parts.Prefix)
+    || ((holds_part ms parts.Asn
+    && (holds_part ms parts.KeyIdentifier || holds_part ms parts.KeyInfo))
+    || (holds_part ms parts.Customer && holds_part ms parts.Providers))
+
+-- a value is such an object, or has one in it at any depth
+abbrev mutual
+  pub has_payloads : Json → Bool
+  has_payloads null = false
+  has_payloads (boolean b) = false
+  has_payloads (number s) = false
+  has_payloads (string s) = false
+  has_payloads (array js) = items_have_payloads js
+  has_payloads (object ms) = is_like_payload (members_list ms) || members_have_payloads ms
+
+  pub items_have_payloads : Items → Bool
+  items_have_payloads no_items = false
+  items_have_payloads (item j js) = has_payloads j || items_have_payloads js
+
+  pub members_have_payloads : Members → Bool
+  members_have_payloads no_members = false
+  members_have_payloads (member k j ms) = has_payloads j || members_have_payloads ms
+
+-- ---- the payloads of a document
+
+-- an object with the parts of a payload
+abbrev pub IsItemPayload : Kind → Json → Payload → Type 0
+IsItemPayload kind (object ms) p = IsPayloadObject kind (members_list ms) p
+IsItemPayload kind other p = ⊥
+
+-- a payload of each item, in order
+abbrev pub AreItemPayloads : Kind → List Json → List Payload → Type 0
+AreItemPayloads kind [] [] = ⊤
+AreItemPayloads kind (j ∷ js) (p ∷ ps) = IsItemPayload kind j p × AreItemPayloads kind js ps
+AreItemPayloads kind js ps = ⊥
+
+-- the ASPA of the customer that a name is, with the providers in its value
+abbrev pub IsCustomerAspa : List ℕ → Json → Payload → Type 0
+IsCustomerAspa name j p = (a : Aspa) × (p ≡ payloads.Aspa a) × IsAsnText name a.customer
+    × AreProviderValues j a.providers
+
+-- one of each member, in order
+abbrev pub AreCustomerAspas : List (List ℕ × Json) → List Payload → Type 0
+AreCustomerAspas [] [] = ⊤
+AreCustomerAspas (m ∷ ms) (p ∷ ps) = IsCustomerAspa m.0 m.1 p × AreCustomerAspas ms ps
+AreCustomerAspas ms ps = ⊥
+
+-- the payloads of this kind in a value: an array of them, none in `null`, or ASPAs by customers
+abbrev pub ArePayloadsIn : Kind → Json → List Payload → Type 0
+ArePayloadsIn kind null ps = ps ≡ []
+ArePayloadsIn kind (array js) ps = AreItemPayloads kind (items_list js) ps
+ArePayloadsIn Aspas (object ms) ps = AreCustomerAspas (members_list ms) ps
+ArePayloadsIn kind other ps = ⊥
+
+-- what lies under a name that isn't known: nothing that looks like payloads, and so none
+abbrev pub AreNoPayloads : Json → List Payload → Type 0
+AreNoPayloads j ps = (has_payloads j ≡ false) × (ps ≡ [])
+
+-- the payloads in the values of members one after the other, by what each has
+abbrev pub ArePayloadsOfEach : (List ℕ → Json → List Payload → Type 0) → List (List ℕ × Json) →
+    List Payload → Type 0
+ArePayloadsOfEach Each [] ps = ps ≡ []
+ArePayloadsOfEach Each (m ∷ ms) ps = (first : List Payload) × (later : List Payload)
+    × (ps ≡ first ++ later) × Each m.0 m.1 first × ArePayloadsOfEach Each ms later
+
+-- of a member for a family of addresses the ASPAs
+abbrev pub AreFamilyPayloads : List ℕ → Json → List Payload → Type 0
+AreFamilyPayloads name j ps =
+    MatchBool (is_family name) (ArePayloadsIn Aspas j ps) (AreNoPayloads j ps)
+
+abbrev pub AreAuthorizations : Json → List Payload → Type 0
+AreAuthorizations (object ms) ps = ArePayloadsOfEach AreFamilyPayloads (members_list ms) ps
+AreAuthorizations other ps = ⊥
+
+abbrev pub ArePayloadsBy : Option Holding → Json → List Payload → Type 0
+ArePayloadsBy (Some (holdings.Payloads kind)) j ps = ArePayloadsIn kind j ps
+ArePayloadsBy (Some holdings.Authorizations) j ps = AreAuthorizations j ps
+ArePayloadsBy (Some holdings.Metadata) j ps = ps ≡ []
+ArePayloadsBy None j ps = AreNoPayloads j ps
+
+-- of a member of the object at the top, unless its name is one to ignore
+abbrev pub AreTopPayloads : List (List ℕ) → List ℕ → Json → List Payload → Type 0
+AreTopPayloads ignored name j ps =
+    MatchBool (is_one_of ignored name) (ps ≡ []) (ArePayloadsBy (holding_named name) j ps)
+
+-- whether payloads stand under a name by what it holds
+abbrev pub holds_payloads : Option Holding → Bool
+holds_payloads (Some (holdings.Payloads kind)) = true
+holds_payloads (Some holdings.Authorizations) = true
+holds_payloads (Some holdings.Metadata) = false
+holds_payloads None = false
+
+abbrev pub is_array : List (List ℕ) → List ℕ → Bool
+is_array ignored name = not (is_one_of ignored name) && holds_payloads (holding_named name)
+
+-- payloads stand under some name of these members, and the items have the payloads of all of them,
+-- in order
+pub record HasTopItems (ignored : List (List ℕ)) (ms : List (List ℕ × Json)) (items : List Item) :
+    Type 0 where
+  pub some : list_any (λ m. is_array ignored m.0) ms ≡ true
+  pub payloads : ArePayloadsOfEach (AreTopPayloads ignored) ms (map (λ i. i.payload) items)
+
+-- a value is an object with these items
+abbrev pub HasItemsOf : List (List ℕ) → Json → List Item → Type 0
+HasItemsOf ignored (object ms) items = HasTopItems ignored (members_list ms) items
+HasItemsOf ignored other items = ⊥
+
+-- the document (RFC 8259), without a mark of its byte order, is an object with these items
+pub record IsJsonOf (ignored : List (List ℕ)) (text : List ℕ) (items : List Item) : Type 0 where
+  pub value : Json
+  pub whole : document (strip_bom text) ≡ Some value
+  pub has : HasItemsOf ignored value items

@@ -1,0 +1,35 @@
+-- What functions on parts of a document leave. Only contracts of private functions cite these.
+use Rattle.std.specs.Prelude.{◌≡◌, ℕ, ◌==◌, List, [], ◌∷◌, ◌++◌, map, Option, Some, None}
+use Rattle.std.specs.Prelude.{if◌then◌else◌}
+use Rattle.json.specs.Json.{Json}
+use Rattle.json.specs.Value.{value_view}
+use Rattle.rtr_payload.specs.declared.payload.Payload.{Payload}
+use Rattle.rtr_vrps.specs.JsonPayloads.{values_of}
+use Rattle.rtr_vrps.specs.declared.item.Item.{Item}
+use Rattle.rtr_vrps.specs.declared.json_names.Part.{Part}
+use Rattle.rtr_vrps.specs.declared.json_objects.Member.{Member}
+
+-- the rest of the bytes, where the first is this one
+abbrev pub after_byte : List ℕ → ℕ → Option (List ℕ)
+after_byte [] x = None
+after_byte (y ∷ ys) x = if y == x then Some ys else None
+
+-- the only member that is this part, if one is
+abbrev pub IsOnly : Part → List (List ℕ × Json) → Option Member → Type 0
+IsOnly p ms None = values_of p ms ≡ []
+IsOnly p ms (Some m) = values_of p ms ≡ value_view m.value.now ∷ []
+
+abbrev pub payloads_of : List Item → List Payload
+payloads_of items = map (λ i. i.payload) items
+
+-- items came, of which this holds
+pub record AddsPayloads (Holds : List Payload → Type 0) (old new : List Item) : Type 0 where
+  pub more : List Item
+  pub added : new ≡ old ++ more
+  pub payloads : Holds (payloads_of more)
+
+-- one item came, whose payload means this
+pub record AddsOne (Means : Payload → Type 0) (old new : List Item) : Type 0 where
+  pub item : Item
+  pub meant : Means item.payload
+  pub added : new ≡ old ++ item ∷ []
