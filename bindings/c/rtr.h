@@ -558,13 +558,14 @@ static inline uint8_t rtr_order(const uint8_t *input, size_t input_length,
                              index_length, rtr_writable(output), output_length, answer);
 }
 
-/* Route origin validation (RFC 6811) by the VRPs, the prefixes, of data in canonical form: what
- * rtr_apply writes. Make the tables anew for each data: they belong to these bytes, and are 2328 of
- * their own. Any number of threads may ask at once. Over other bytes, or with other tables, a call
- * returns, reads nothing else, and answers something.
+/* Route origin validation (RFC 6811 section 2) by the prefixes of data in canonical form, as
+ * rtr_apply_in_order and rtr_apply write them; a prefix with its AS is called a VRP here. The
+ * tables say where they lie in the data: make them anew for each data. Any number of threads may
+ * ask at once. Over other bytes, or with other tables, a call returns, reads nothing else, and
+ * answers something.
  *
- * A VRP covers a route where its prefix has the route's in it; it matches the route where it covers
- * it, the route is from its AS, which isn't 0, and the route's prefix length is at most its max
+ * A VRP covers a route where the route's prefix lies in its own; it matches the route where it
+ * covers it, its AS is the route's and isn't 0, and the route's prefix length is at most its max
  * length. */
 
 /* Makes the tables of the data, in one pass. */
@@ -580,9 +581,9 @@ static inline uint8_t rtr_validate(const uint8_t *data, size_t data_length,
     return rtr_validate_nonnull(rtr_readable(data), data_length, tables, route);
 }
 
-/* Whether a VRP covers the route, of the payloads from the place `from` on, counted from 0: the first
- * one is then in `covering`, and else 0 is in all of it. To see all of them, in the order of
- * payloads, go on from covering->place + 1. */
+/* Whether a VRP covers the route, of the payloads from the place `from` on, counted from 0: the
+ * first one is then in `covering`, and else 0 is in all of it, also where the route is none. To see
+ * all of them, in the order of payloads, go on from covering->place + 1. */
 static inline bool rtr_covering(const uint8_t *data, size_t data_length,
                                 const struct rtr_tables *tables, const struct rtr_route *route,
                                 size_t from, struct rtr_covering *covering)
