@@ -1,5 +1,5 @@
 -- Answers that agree.
-use Rattle.std.proofs.Common.{◌≡◌, ℕ, ◌<◌, ◌≤◌, ◌↔◌, refl, arith, inl, inr, Option, Some, None}
+use Rattle.std.proofs.Common.{◌≡◌, ℕ, ◌↔◌, refl, arith, inl, inr, Option, Some, None}
 use Rattle.std.proofs.lemmas.Bool.{cases_lt}
 use Rattle.rtr_base.specs.Addresses.{PrefixParts}
 use Rattle.rtr_units.specs.PrefixUnits.{OriginParts}

@@ -1,6 +1,6 @@
 -- The payloads of a list, as its proofs go through it.
-use Rattle.std.proofs.Common.{◌≡◌, ℕ, ◌<◌, ◌⊎◌, inl, inr, refl, suc, zero, arith}
-use Rattle.std.proofs.Common.{List, [], ◌∷◌, length, slice_index_or}
+use Rattle.std.proofs.Common.{◌≡◌, ◌⊎◌, inl, inr, suc, zero, arith}
+use Rattle.std.proofs.Common.{List, [], ◌∷◌}
 use Rattle.std.specs.List.{Contains}
 use Rattle.rtr_payload.specs.Payloads.{Payload}
 

@@ -1,5 +1,5 @@
 -- The VRPs that cover, at their places in data.
-use Rattle.std.proofs.Common.{◌≡◌, ℕ, ◌+◌, ◌-◌, ◌*◌, ◌≤◌, ◌<◌, inl, inr, sym, ap, arith, suc, zero}
+use Rattle.std.proofs.Common.{◌≡◌, ℕ, ◌+◌, ◌-◌, ◌*◌, ◌<◌, inl, inr, sym, ap, arith, suc, zero}
 use Rattle.std.proofs.Common.{List, [], ◌∷◌, subst, ◌∙◌, drop, Option, Some, None, slice_get}
 use Rattle.std.proofs.lemmas.Bool.{cases_lt}
 use Rattle.rtr_base.specs.Addresses.{Family, v4, v6, PrefixParts}
@@ -11,7 +11,7 @@ use Rattle.rtr_validation.specs.Validity.{Covers}
 use Rattle.rtr_validation.specs.Covering.{IsFirstCovering}
 use Rattle.rtr_validation.specs.Tables.{AreAtLeast, AreTables, vrp_at}
 use Rattle.rtr_validation.specs.PrivateCovering.{IsOrderedTable, UnitFrom}
-use Rattle.rtr_validation.specs.PrivateTable.{AreSorted, IsTable, route}
+use Rattle.rtr_validation.specs.PrivateTable.{AreSorted, route}
 use Rattle.rtr_validation.specs.declared.finding.CoveringVrp.{CoveringVrp}
 use Rattle.rtr_validation.specs.declared.tables.Tables.{Tables}
 use Rattle.rtr_validation.proofs.Among.{IsAmong}

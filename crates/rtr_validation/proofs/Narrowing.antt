@@ -1,11 +1,11 @@
 -- What tables say of the units around a route.
-use Rattle.std.proofs.Common.{◌≡◌, ℕ, ◌+◌, ◌-◌, ◌*◌, ◌/◌, ◌%◌, ◌^◌, ◌≤◌, ◌<◌, List, sym, ap, arith}
+use Rattle.std.proofs.Common.{◌≡◌, ℕ, ◌+◌, ◌-◌, ◌*◌, ◌/◌, ◌^◌, ◌≤◌, ◌<◌, List, sym, ap, arith}
 use Rattle.std.proofs.Common.{subst, ◌∙◌, ◌⊎◌, slice_index, slice_set, length, inl, inr}
 use Rattle.std.proofs.lemmas.List.{get_or-set_other, get_or-set_same}
 use Rattle.std.proofs.lemmas.Bool.{cases_lt}
 use Rattle.std.proofs.lemmas.Nat.{div-add-mod'}
 use Rattle.std.proofs.Math.Nat.{lt-div-mul-add}
-use Rattle.rtr_base.specs.Addresses.{v4, width}
+use Rattle.rtr_base.specs.Addresses.{v4}
 use Rattle.rtr_validation.specs.PrivateTable.{AreSorted, IsUpperBound, IsTable, route}
 use Rattle.rtr_validation.specs.Tables.{AreAtLeast, AreAtLeastBy, AreTables, IsStart}
 use Rattle.rtr_validation.specs.Tables.{order_key, vrp_at}

@@ -1,5 +1,5 @@
 -- The origins of a set.
-use Rattle.std.proofs.Common.{◌≡◌, ℕ, ◌<◌, ◌⊎◌, inl, inr, refl, sym, ap, arith, subst, suc}
+use Rattle.std.proofs.Common.{◌≡◌, ℕ, inl, inr, refl, sym, ap, arith, subst, suc}
 use Rattle.std.proofs.Common.{zero}
 use Rattle.std.proofs.Common.{List, [], ◌∷◌, ◌++◌, map, Bool, true, false}
 use Rattle.std.proofs.lemmas.Bool.{true≢false}
@@ -10,15 +10,15 @@ use Rattle.std.specs.List.{Contains}
 use Rattle.rtr_base.specs.Addresses.{PrefixParts}
 use Rattle.rtr_units.specs.PrefixUnits.{OriginParts}
 use Rattle.rtr_payload.specs.Meanings.{key_of, origin_of}
-use Rattle.rtr_payload.specs.Payloads.{Payload, origin}
+use Rattle.rtr_payload.specs.Payloads.{origin}
 use Rattle.rtr_payload.specs.declared.payload.RouteOrigin.{RouteOrigin}
 use Rattle.rtr_payload.specs.declared.payload.RouterKey.{RouterKey}
 use Rattle.rtr_data.specs.Contents.{entry_of, joined}
 use Rattle.rtr_validation.specs.Covering.{vrp}
 use Rattle.rtr_validation.specs.PrivateSets.{OriginsPassed}
-use Rattle.rtr_validation.specs.PrivateTable.{OneSays, answer_of}
+use Rattle.rtr_validation.specs.PrivateTable.{answer_of}
 use Rattle.rtr_validation.specs.Validity.{Covers, IsValidity, Matches}
-use Rattle.rtr_validation.specs.declared.validity.Validity.TheVariants.{NotFound, Valid, Invalid}
+use Rattle.rtr_validation.specs.declared.validity.Validity.TheVariants.{Valid}
 use Rattle.rtr_validation.proofs.Among.{IsAmong, among, contained}
 
 -- ---- which origins are among the payloads of a set

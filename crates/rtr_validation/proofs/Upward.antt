@@ -1,10 +1,10 @@
 -- From the first that may cover up.
-use Rattle.std.proofs.Common.{◌≡◌, ℕ, ◌+◌, ◌-◌, ◌*◌, ◌≤◌, ◌<◌, List, inl, inr, refl, sym, subst}
-use Rattle.std.proofs.Common.{arith, ◌⊎◌, ◌∙◌}
+use Rattle.std.proofs.Common.{◌≡◌, ℕ, ◌+◌, ◌*◌, ◌≤◌, ◌<◌, List, inl, inr, sym, subst}
+use Rattle.std.proofs.Common.{arith, ◌∙◌}
 use Rattle.std.proofs.lemmas.Bool.{cases_lt}
 use Rattle.rtr_base.specs.Addresses.{Family, PrefixParts, width, cleared}
 use Rattle.rtr_validation.specs.PrivateTable.{AreSorted, IsNextPlace, IsPastShorter, IsTable}
-use Rattle.rtr_validation.specs.PrivateTable.{IsUpperBound, NoneBetween, route_key}
+use Rattle.rtr_validation.specs.PrivateTable.{NoneBetween, route_key}
 use Rattle.rtr_validation.specs.Tables.{order_key, vrp_at}
 use Rattle.rtr_validation.specs.Validity.{Covers, first_bits}
 use Rattle.rtr_validation.proofs.Bits.{key_above, key_within, longer, origin_clear}

@@ -1,4 +1,4 @@
-use Rattle.std.proofs.Common.{◌-◌, ◌<◌, ◌≤◌, ◌∙◌, arith, inl, inr, refl}
+use Rattle.std.proofs.Common.{◌-◌, ◌≤◌, ◌∙◌, arith, inl, inr, refl}
 use Rattle.std.proofs.lemmas.Bool.{cases_lt}
 use Rattle.rtr_base.specs.Addresses.{family_of}
 use Rattle.rtr_validation.specs.PrivateTable.{route}

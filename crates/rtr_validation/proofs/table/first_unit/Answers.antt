@@ -1,4 +1,4 @@
-use Rattle.std.proofs.Common.{ℕ, ◌<◌, arith, ap, inl, inr, refl, subst}
+use Rattle.std.proofs.Common.{ℕ, arith, ap, inl, inr, refl, subst}
 use Rattle.std.proofs.lemmas.Bool.{cases_lt}
 use Rattle.rtr_base.specs.Addresses.{family_of}
 use Rattle.rtr_units.specs.PrefixUnits.{OriginParts}

@@ -1,4 +1,4 @@
-use Rattle.std.proofs.Common.{◌-◌, ◌<◌, ◌≤◌}
+use Rattle.std.proofs.Common.{◌-◌, ◌≤◌}
 use Rattle.rtr_base.specs.Addresses.{family_of}
 use Rattle.rtr_validation.specs.PrivateTable.{IsTable, NoneBetween, route}
 use Rattle.rtr_validation.proofs.table.first_unit.Given as goal

@@ -1,5 +1,5 @@
 use Rattle.std.proofs.Common.{arith}
-use Rattle.rtr_validation.proofs.Narrowing.{start_is, start_of_none}
+use Rattle.rtr_validation.proofs.Narrowing.{start_is}
 use Rattle.rtr_validation.proofs.tables.start_of.Goals as goal
 
 pub returns : goal.returns
