@@ -2,7 +2,7 @@
 -- never grows.
 use Rattle.std.proofs.Common.{◌≡◌, ◌≢◌, ◌⊎◌, ℕ, Bool, true, false, ◌+◌, ◌*◌, ◌<◌, ◌≤◌, min}
 use Rattle.std.proofs.Common.{max}
-use Rattle.std.proofs.Common.{Option, None, if◌then◌else◌, refl, sym, ap, ap₂, ◌∙◌, subst}
+use Rattle.std.proofs.Common.{Some, None, if◌then◌else◌, refl, sym, ap, ap₂, ◌∙◌, subst}
 use Rattle.std.proofs.Common.{inl, inr, arith, ◌&&◌}
 use Rattle.std.proofs.Math.Nat.{add-mul, mul-le-mul_right}
 use Rattle.std.proofs.lemmas.Bool.{cases_lt}
@@ -19,16 +19,17 @@ use Rattle.rtr_router.specs.declared.event.Action.{Action}
 use Rattle.rtr_router.specs.declared.event.Action.TheVariants as actions
 use Rattle.rtr_router.specs.declared.event.Cause.TheVariants as causes
 use Rattle.rtr_router.specs.Rules.{Asks, Begins, Completes, Connects}
-use Rattle.rtr_router.specs.Rules.{FallsOver}
+use Rattle.rtr_router.specs.Rules.{Fails, FallsOver, HasLost}
 use Rattle.rtr_router.specs.Rules.{Fresh, Keeps, Loses, MayAnswer, Rule, SameKnown, Waits}
 use Rattle.rtr_router.specs.Rules.{awaits_changes, is_answering, query}
-use Rattle.rtr_router.specs.Heeding.{HeedsAsked, HeedsTick, asks_for_all, ends_for}
+use Rattle.rtr_router.specs.Heeding.{HeedsAsked, HeedsLoss, HeedsTick, asks_for_all, ends_for}
 use Rattle.rtr_router.specs.Heeding.{ends_with}
 use Rattle.rtr_router.specs.Pace.{Paces, PacesAsk, PacesConnect, PacesDrop, PacesFailure}
 use Rattle.rtr_router.specs.Pace.{PacesFall, PacesWait, SameDue, due_in, rest, wakes_at}
 use Rattle.rtr_router.specs.Step.{IsInTime, IsStep}
 use Rattle.rtr_router.specs.Recovery.{AnswersWell, GoesOnWell, IsMadeWell, IsServed, IsServedBy}
 use Rattle.rtr_router.specs.Recovery.{connection_time, restarts, served_until}
+use Rattle.rtr_router.specs.Recovery.AnswersWell.{answers_anew, refuses_session, closes_session}
 use Rattle.rtr_router.specs.Recovery.AnswersWell.{not_yet, notifies, responds, resets_well}
 use Rattle.rtr_router.specs.Recovery.AnswersWell.{refuses_version, answers_lower, closes_silently}
 use Rattle.rtr_router.specs.Recovery.GoesOnWell.{not_more_yet, notifies_inside, sends_payload}
@@ -133,6 +134,12 @@ fail_le n n' d d' p x y l h e f g = omega arith
 
 min_le : (d a b : ℕ) → d ≡ min a b → d ≤ a
 min_le d a b e = omega arith
+
+self_le : (x : ℕ) → x ≤ x
+self_le x = omega arith
+
+more_le : (a p x : ℕ) → p + x ≤ a + p + x
+more_le a p x = omega arith
 
 -- ---- how many connections
 
@@ -390,43 +397,30 @@ on_fall s r r' n n' e t w d =
         (lower r r' e w.by.over)
         (ap (λ (x : ℕ). x * (s.highest + 1)) (restarts_same r r' w.data_then.has_data w.by.resync))
 
--- changes are refused: a reset query follows
-on_refused :
-    (s : Settings) (r r' : Router) (n n' : ℕ) (code : Option ℕ) → r.settings ≡ s
-    → r.phase ≡ phases.Applying → r.changes ≡ true → n' ≤ max n r.due
-    → Rule r n' (events.NotApplied code) (ends_with false code causes.NotApplied) r'
-    → PacesFailure r n' false r' → UnderWay r → Kept s r r' n n'
-on_refused s r r' n n' code g p c t w d x =
-    kept phases.Applying phases.Offline s r r' n n' p w.phase tt
+-- a serial query fails, or the changes that answer it: a reset query follows
+on_failure :
+    (p : Phase) (s : Settings) (r r' : Router) (n n' : ℕ) → r.settings ≡ s
+    → r.phase ≡ p → is_answering p ≡ true → r.changes ≡ true → n' ≤ max n r.due
+    → s.pause + after s r * connection_time s ≤ left p s r
+    → SameKnown r r' → r'.phase ≡ phases.Offline → Fails r r' → PacesFailure r n' false r'
+    → UnderWay r → Kept s r r' n n'
+on_failure p s r r' n n' g q answers c t room same phase w d x =
+    kept p phases.Offline s r r' n n' q phase tt
     (fail_le n n' r.due r'.due s.pause (after s r * connection_time s)
-    (all s r' * connection_time s)
-    (s.pause + after s r * connection_time s) t
+    (all s r' * connection_time s) (left p s r) t
     (d.due ∙ ap (λ (b : Bool). n' + (if b then r.settings.pause else rest r)) since
     ∙ ap (λ (x : Settings). n' + x.pause) g)
-    (times (all s r') (after s r) (connection_time s) fewer)
-    (self_le (s.pause + after s r * connection_time s)))
+    (times (all s r') (after s r) (connection_time s) fewer) room)
   where
-    self_le : (x : ℕ) → x ≤ x
-    self_le x = omega arith
-
-    answering : (p : Phase) → p ≡ phases.Applying → (b : Bool) → b ≡ true
-        → (is_answering p && b) ≡ true
-    answering phases.Applying e b f = f
-    answering phases.Offline e b f = cc
-    answering phases.Connecting e b f = cc
-    answering phases.Asked e b f = f
-    answering phases.Reading e b f = f
-    answering phases.Waiting e b f = cc
-
     since : awaits_changes r ≡ true
-    since = answering r.phase p r.changes c
+    since = ap₂ (λ (x y : Bool). x && y) (ap (λ (p : Phase). is_answering p) q ∙ answers) c
 
     was : restarts r ≡ 2
     was = ap₂ (λ (d y : Bool). if d then (if y then 1 else 2) else 0) (x.has_data c) (x.resync c)
 
     is : restarts r' ≡ 1
     is = ap₂ (λ (d y : Bool). if d then (if y then 1 else 2) else 0)
-        (w.data_then.has_data ∙ x.has_data c) (w.by.since since)
+        (same.has_data ∙ x.has_data c) (w.since since)
 
     opens : opening s r' ≡ s.highest
     opens = ap (λ (b : Bool). if b then r'.version else s.highest) (d.fell ∙ x.fell)
@@ -440,15 +434,15 @@ on_refused s r r' n n' code g p c t w d x =
         (ap (λ (x : ℕ). x * (s.highest + 1)) is)
         (ap (λ (x : ℕ). x * (s.highest + 1)) was)
 
--- data expire on a connection
-on_expiry :
-    (p : Phase) (s : Settings) (r r' : Router) (n n' : ℕ) (e : Event) → r.settings ≡ s
+-- data are dropped on a connection
+on_loss :
+    (p : Phase) (s : Settings) (r r' : Router) (n n' : ℕ) → r.settings ≡ s
     → r.phase ≡ p → r.fell ≡ false → r.has_data ≡ true → n' ≤ max n r.due
     → s.pause + after s r * connection_time s ≤ left p s r
-    → Rule r n' e (ends_with true None causes.Expired) r' → PacesFailure r n' true r'
+    → HasLost r r' → r'.phase ≡ phases.Offline → PacesFailure r n' true r'
     → Kept s r r' n n'
-on_expiry p s r r' n n' e g q f h t room w d =
-    kept p phases.Offline s r r' n n' q w.phase tt
+on_loss p s r r' n n' g q f h t room lost phase d =
+    kept p phases.Offline s r r' n n' q phase tt
     (fail_le n n' r.due r'.due s.pause (after s r * connection_time s)
     (all s r' * connection_time s)
     (left p s r) t (d.due ∙ ap (λ (x : Settings). n' + x.pause) g)
@@ -463,7 +457,7 @@ on_expiry p s r r' n n' e g q f h t room w d =
     fewer : all s r' ≤ after s r
     fewer = one r.version s.highest (opening s r') (restarts r' * (s.highest + 1))
         (restarts r * (s.highest + 1)) opens
-        (ap (λ (x : ℕ). x * (s.highest + 1)) (no_restarts r' w.data_then.has_data))
+        (ap (λ (x : ℕ). x * (s.highest + 1)) (no_restarts r' lost.has_data))
         (times 1 (restarts r) (s.highest + 1) (some_restarts r h))
 
 -- and without one
@@ -541,7 +535,7 @@ expired p s r r' n n' e a g q h t has late w = go p q h
         let d : Done r n' e (ends_with true None causes.Expired) r' =
         done r r' n' e a (ends_with true None causes.Expired) w
         ((w.expires has late).online differs) in
-        on_expiry p s r r' n n' e g q f has t room d.rule d.paces
+        on_loss p s r r' n n' g q f has t room d.rule.data_then d.rule.phase d.paces
 
     room_more : (a p x : ℕ) → p + x ≤ a + p + x
     room_more a p x = omega arith
@@ -674,6 +668,56 @@ asked most s r r' n n' e a g q h t fresh soon (answers_lower u v l unagreed x) w
     go false c (inr k) = let f : r.changes ≡ true = k.1 in cc
 asked most s r r' n n' e a g q h t fresh soon (closes_silently l unagreed x) w =
     fell_away s r r' n n' events.Lost a t w ((w.heeds fresh soon).falls (q, unagreed) x)
+asked most s r r' n n' e a g q h t fresh soon (answers_anew u k v c x) w =
+    go r.has_data refl
+  where
+    heeds : HeedsAsked r u a
+    heeds = (w.heeds fresh soon).asked q
+
+    go : (b : Bool) → r.has_data ≡ b → Kept s r r' n n'
+    go false f = let has : r.has_data ≡ true = h.has_data c in cc
+    go true f =
+        let flushed : a ≡ ends_with true (Some 0) causes.OtherSession =
+        heeds.other_session k v c x
+        ∙ ap (λ (b : Bool). ends_with b (Some 0) causes.OtherSession) f in
+        let d : Done r n' (events.Came u) (ends_with true (Some 0) causes.OtherSession) r' =
+        done r r' n' (events.Came u) a (ends_with true (Some 0) causes.OtherSession) w
+        flushed in
+        on_loss phases.Asked s r r' n n' g q h.fell f t
+        (more_le (if r.changes then s.response_limit else 0) s.pause
+        (after s r * connection_time s))
+        d.rule.data_then d.rule.phase d.paces
+asked most s r r' n n' e a g q h t fresh soon (refuses_session u k c x y) w =
+    let d : Done r n' (events.Came u) (ends_for causes.Reported) r' =
+    done r r' n' (events.Came u) a (ends_for causes.Reported) w
+    (((w.heeds fresh soon).asked q).reported k x y) in
+    on_failure phases.Asked s r r' n n' g q refl c t
+    (more_le (if r.changes then s.response_limit else 0) s.pause (after s r * connection_time s))
+    d.rule.data_then d.rule.phase d.rule.by d.paces h
+asked most s r r' n n' e a g q h t fresh soon (closes_session c) w = go r.agreed refl
+  where
+    heeds : HeedsLoss r a
+    heeds = w.heeds fresh soon
+
+    lost : a ≡ ends_for causes.Lost → Kept s r r' n n'
+    lost f =
+        let d : Done r n' events.Lost (ends_for causes.Lost) r' =
+        done r r' n' events.Lost a (ends_for causes.Lost) w f in
+        on_failure phases.Asked s r r' n n' g q refl c t
+        (more_le (if r.changes then s.response_limit else 0) s.pause
+        (after s r * connection_time s))
+        d.rule.data_then d.rule.phase d.rule.by d.paces h
+
+    online : r.phase ≢ phases.Offline
+    online f = let p : r.phase ≡ phases.Asked = q in cc
+
+    silent : r.agreed ≡ false → (r.floor < r.version) ⊎ (r.version ≤ r.floor) → Kept s r r' n n'
+    silent f (inl l) = fell_away s r r' n n' events.Lost a t w (heeds.falls (q, f) l)
+    silent f (inr l) = lost (heeds.answered (q, f) l)
+
+    go : (b : Bool) → r.agreed ≡ b → Kept s r r' n n'
+    go true f = lost (heeds.ends online (inr f))
+    go false f = silent f (cases_lt r.floor r.version)
 
 reading :
     (s : Settings) (r r' : Router) (n n' : ℕ) (e : Event) (a : Action)
@@ -711,7 +755,9 @@ applying s r r' n n' e a g q h t fresh soon (are_refused code c) w unshown =
     let d : Done r n' (events.NotApplied code) (ends_with false code causes.NotApplied) r' =
     done r r' n' (events.NotApplied code) a (ends_with false code causes.NotApplied) w
     (w.heeds fresh soon (inr q)) in
-    on_refused s r r' n n' code g q c t d.rule d.paces h
+    on_failure phases.Applying s r r' n n' g q refl c t
+    (self_le (s.pause + after s r * connection_time s))
+    d.rule.data_then d.rule.phase d.rule.by d.paces h
 
 offline :
     (s : Settings) (r r' : Router) (n n' : ℕ) (a : Action)

@@ -14,17 +14,18 @@ use Rattle.rtr_router.specs.declared.event.Event.TheVariants as events
 use Rattle.rtr_router.specs.declared.event.Action.{Action}
 use Rattle.rtr_router.specs.declared.event.Action.TheVariants as actions
 use Rattle.rtr_router.specs.Rules.{IsPayloadOf, opening_version}
-use Rattle.rtr_router.specs.Heeding.{HasRoom, IsOfResponse}
+use Rattle.rtr_router.specs.Heeding.{HasRoom, IsComplaint, IsOfResponse, StandsStill}
 use Rattle.rtr_router.specs.Pace.{wakes_at}
 use Rattle.rtr_router.specs.Step.{IsInTime, IsStep}
 
 -- ---- the cache
 
 -- What a cache that has data, and no version above `most`, may send where an answer is awaited
--- (sections 7 and 8): notifies; in the version of the query, where it has that one, a cache
--- response, to a serial query one of the session of the data, or a cache reset to a serial query;
--- for a higher version a report of code 4 or of a lower version, an answer in its own, or a close
--- without a word, if that is news to the router.
+-- (sections 5.1, 7 and 8): notifies; in the version of the query, where it has that one, a cache
+-- response, or a cache reset to a serial query; to a serial query of a session that it doesn't know
+-- also a cache response of its own session, a report, or a close; for a higher version a report of
+-- code 4 or of a lower version, an answer in its own, or a close without a word, if that is news to
+-- the router.
 pub data AnswersWell (most : ℕ) (r : Router) : Event → Type 0 where
   not_yet : AnswersWell most r events.Tick
   notifies :
@@ -37,6 +38,15 @@ pub data AnswersWell (most : ℕ) (r : Router) : Event → Type 0 where
   resets_well :
       (u : Head) → u.kind ≡ kinds.CacheReset → u.version ≡ r.version → r.changes ≡ true
       → AnswersWell most r (events.Came u)
+  answers_anew :
+      (u : Head) → u.kind ≡ kinds.CacheResponse → u.version ≡ r.version → r.changes ≡ true
+      → u.session ≢ r.known.session
+      → AnswersWell most r (events.Came u)
+  refuses_session :
+      (u : Head) → u.kind ≡ kinds.ErrorReport → r.changes ≡ true
+      → IsComplaint r u → StandsStill r u
+      → AnswersWell most r (events.Came u)
+  closes_session : r.changes ≡ true → AnswersWell most r events.Lost
   refuses_version :
       (u : Head) → most < r.version → r.agreed ≡ false
       → u.kind ≡ kinds.ErrorReport → (u.code ≡ 4) ⊎ (u.version < r.version)
@@ -99,8 +109,8 @@ pub data IsServed (most : ℕ) (r₀ : Router) (start : ℕ) : Router → ℕ �
 abbrev pub connection_time : Settings → ℕ
 connection_time s = s.connect_limit + s.response_limit + s.response_limit + s.pause
 
--- how often a router that has data may have to begin anew: where changes are refused, and where the
--- data expire
+-- how often a router that has data may have to begin anew: where a serial query, or the changes
+-- that answer it, are refused, and where the data are dropped
 abbrev pub restarts : Router → ℕ
 restarts r = if r.has_data then (if r.resync then 1 else 2) else 0
 
