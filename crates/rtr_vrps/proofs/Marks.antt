@@ -1,5 +1,5 @@
 -- A text without the mark of its byte order.
-use Rattle.std.proofs.Common.{◌≡◌, ℕ, Bool, true, false, cond, List, [], ◌∷◌, drop, refl, sym, ap}
+use Rattle.std.proofs.Common.{◌≡◌, ℕ, Bool, true, cond, List, [], ◌∷◌, drop, ap}
 use Rattle.std.proofs.Common.{◌∙◌, ◌&&◌, ◌-◌, suc, nat_le, length, take, arith}
 use Rattle.std.proofs.lemmas.Bool.Decides.{nat_tests}
 use Rattle.std.proofs.lemmas.List.{length-drop, take_all}

@@ -5,7 +5,6 @@ use Rattle.std.proofs.Common.{Global}
 use Rattle.std.proofs.lemmas.List.{append-nil, take_all}
 use Rattle.json.specs.Json.{Json}
 use Rattle.json.specs.Value.{members_view, value_view}
-use Rattle.json.specs.declared.value.Value.{Value}
 use Rattle.rtr_vrps.specs.JsonNames.{is_part}
 use Rattle.rtr_vrps.specs.JsonPayloads.{values_of}
 use Rattle.rtr_vrps.specs.JsonValues.{members_list}

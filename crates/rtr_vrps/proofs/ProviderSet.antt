@@ -1,6 +1,6 @@
 -- Providers that were sorted, taken once each and written are those that were given.
-use Rattle.std.proofs.Common.{◌≡◌, ℕ, List, map, length, refl, sym, subst, ◌∙◌}
-use Rattle.std.proofs.Common.{Contains, eqb, nat_cmp}
+use Rattle.std.proofs.Common.{◌≡◌, ℕ, List, length, sym, subst, ◌∙◌}
+use Rattle.std.proofs.Common.{eqb, nat_cmp}
 use Rattle.std.proofs.lemmas.Iterator.{items_from_drains}
 use Rattle.std.proofs.lemmas.Iterator.Adapters.{YieldsList-from_vec}
 use Rattle.std.proofs.lemmas.List.{map-id}

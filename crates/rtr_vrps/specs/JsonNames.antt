@@ -1,13 +1,12 @@
 -- The names under which validators print payloads in JSON, each in plain form: in small letters,
 -- without `_` and `-`. This one table is what code and contracts go by.
-use Rattle.std.specs.Prelude.{ℕ, ◌==◌, ◌||◌, Bool, not, List, [], ◌∷◌, codes, bytes_eq}
-use Rattle.std.specs.Prelude.{Option, Some, None, map, filter, if◌then◌else◌}
+use Rattle.std.specs.Prelude.{ℕ, ◌==◌, ◌||◌, Bool, List, [], ◌∷◌, codes}
+use Rattle.std.specs.Prelude.{Option, Some, None, if◌then◌else◌}
 use Rattle.std.specs.Char.{to_ascii_lowercase}
 use Rattle.rtr_vrps.specs.MakeWords.{is_one_of}
 use Rattle.rtr_vrps.specs.declared.json_names.Holding.{Holding}
 use Rattle.rtr_vrps.specs.declared.json_names.Holding.TheVariants.{Authorizations, Metadata}
 use Rattle.rtr_vrps.specs.declared.json_names.Holding.TheVariants.{Payloads}
-use Rattle.rtr_vrps.specs.declared.json_names.Kind.{Kind}
 use Rattle.rtr_vrps.specs.declared.json_names.Kind.TheVariants.{Origins, RouterKeys, Aspas}
 use Rattle.rtr_vrps.specs.declared.json_names.Part.{Part}
 use Rattle.rtr_vrps.specs.declared.json_names.Part.TheVariants as parts

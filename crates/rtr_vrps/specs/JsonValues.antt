@@ -1,11 +1,11 @@
 -- What values of JSON mean as parts of payloads: this library's own, after what validators print;
 -- base64 by RFC 4648.
-use Rattle.std.specs.Prelude.{◌≡◌, ◌≢◌, ◌⊎◌, ◌↔◌, ⊤, ℕ, List, [], ◌∷◌, length}
+use Rattle.std.specs.Prelude.{◌≡◌, ◌⊎◌, ◌↔◌, ⊤, ℕ, List, [], ◌∷◌, length}
 use Rattle.std.specs.Prelude.{Ok, Contains}
 use Rattle.std.specs.List.Sorted.{IsStrictlyIncreasing}
 use Rattle.base64.specs.Engines.{standard_pad_indifferent, url_safe_pad_indifferent}
 use Rattle.base64.specs.GeneralPurpose.{decode_of}
-use Rattle.json.specs.Json.{Json, number, string, array, object, Items, no_items, item}
+use Rattle.json.specs.Json.{Json, number, string, array, Items, no_items, item}
 use Rattle.json.specs.Json.{Members, no_members, member}
 use Rattle.rtr_base.specs.Addresses.{PrefixParts}
 use Rattle.rtr_base.specs.Numerals.{IsSerialText}

@@ -55,6 +55,7 @@ fn check_bytes<'a>(text: &[u8]) -> Result<(), Refusal<'a>>
 }
 
 /// Whether no field in quotes is open after the byte, where none, or one, was before it.
+#[inline(always)]
 fn closed_after(closed: bool, byte: u8) -> bool
     ensures { result ≡ (if byte == quote then not closed else closed) }
 {
@@ -76,6 +77,7 @@ fn has_mark(text: &[u8]) -> bool
 }
 
 /// Whether the byte may follow the one before it, where a field in quotes is open or none is.
+#[inline(always)]
 fn is_fine(closed: bool, before: u8, byte: u8) -> bool
     ensures { result ≡ (not closed || fits_after before byte) }
 {
@@ -83,6 +85,7 @@ fn is_fine(closed: bool, before: u8, byte: u8) -> bool
 }
 
 /// Whether the byte may follow the one before it where no field in quotes is open.
+#[inline(always)]
 fn may_follow(before: u8, byte: u8) -> bool
     ensures { result ≡ fits_after before byte }
 {
@@ -94,6 +97,7 @@ fn may_follow(before: u8, byte: u8) -> bool
 }
 
 /// Whether the byte stands between fields.
+#[inline(always)]
 fn is_separator(byte: u8) -> bool
     ensures { result ≡ is_separator byte }
 {

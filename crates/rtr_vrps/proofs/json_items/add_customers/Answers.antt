@@ -1,5 +1,3 @@
-use Rattle.std.proofs.Common.{refl}
-use Rattle.rtr_vrps.specs.JsonPayloads.{AreFamilyPayloads}
 use Rattle.rtr_vrps.proofs.JsonSoFar.{nothing, customer_step, customer_all}
 use Rattle.rtr_vrps.proofs.json_items.add_customers.Goals as goal
 

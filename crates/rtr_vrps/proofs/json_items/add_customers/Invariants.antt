@@ -1,9 +1,7 @@
 use Rattle.std.proofs.Common.{take}
-use Rattle.json.specs.Value.{items_view, members_view, value_view}
-use Rattle.rtr_vrps.specs.JsonPayloads.{AreCustomerAspas, AreFamilyPayloads, AreItemPayloads}
-use Rattle.rtr_vrps.specs.JsonPayloads.{ArePayloadsOfEach, AreTopPayloads}
-use Rattle.rtr_vrps.specs.JsonValues.{items_list, members_list}
-use Rattle.rtr_vrps.specs.MakeWords.{ignored_by_words}
+use Rattle.json.specs.Value.{members_view}
+use Rattle.rtr_vrps.specs.JsonPayloads.{AreCustomerAspas}
+use Rattle.rtr_vrps.specs.JsonValues.{members_list}
 use Rattle.rtr_vrps.specs.PrivateJson.{AddsPayloads}
 use Rattle.rtr_vrps.proofs.json_items.add_customers.Given as goal
 

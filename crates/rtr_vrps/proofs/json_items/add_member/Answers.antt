@@ -1,8 +1,6 @@
-use Rattle.std.proofs.Common.{Some, refl, sym, ap, subst, ◌∙◌}
-use Rattle.std.specs.Bool.{MatchBool}
+use Rattle.std.proofs.Common.{Some, sym, ap, ◌∙◌}
 use Rattle.json.specs.Value.{value_view}
-use Rattle.rtr_vrps.specs.JsonNames.{holding_named}
-use Rattle.rtr_vrps.specs.JsonPayloads.{ArePayloadsBy, AreTopPayloads}
+use Rattle.rtr_vrps.specs.JsonPayloads.{AreTopPayloads}
 use Rattle.rtr_vrps.specs.MakeWords.{ignored_by_words}
 use Rattle.rtr_vrps.proofs.JsonSoFar.{nothing, top_none}
 use Rattle.rtr_vrps.proofs.json_items.add_member.Goals as goal

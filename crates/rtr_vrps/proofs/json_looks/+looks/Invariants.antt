@@ -1,6 +1,4 @@
-use Rattle.std.proofs.Common.{length}
-use Rattle.json.specs.Tree.{items_tokens, json_tokens, members_tokens}
-use Rattle.json.specs.Value.{items_view, members_view, value_view}
+use Rattle.json.specs.Value.{items_view, members_view}
 use Rattle.rtr_vrps.specs.JsonPayloads.{items_have_payloads, members_have_payloads}
 use Rattle.rtr_vrps.proofs.AnySoFar.{AnySoFar}
 use Rattle.rtr_vrps.proofs.json_looks.+looks.Given as goal

@@ -1,5 +1,5 @@
 use Rattle.std.proofs.Common.{refl, sym, subst, ap, arith, ◌∙◌, ◌+◌, get_or}
-use Rattle.rtr_vrps.specs.CsvQuotes.{RefusesQuotes, quote}
+use Rattle.rtr_vrps.specs.CsvQuotes.{RefusesQuotes}
 use Rattle.rtr_vrps.proofs.QuotesSoFar.{LookedAt, faulty, looked, none_yet, open_quote}
 use Rattle.rtr_vrps.proofs.QuotesSoFar.{refused_by, well}
 use Rattle.rtr_vrps.proofs.quotes.check_bytes.Goals as goal
