@@ -1,0 +1,83 @@
+"""Two answers cut at each byte: into two reads, or by a cache that closes, breaks or stalls."""
+from cases import NEW
+from outcomes import NEXT
+from scene import SECOND
+from states import OLD, SERIAL, again_serial, answer, data_of, first_reset
+from units import end, ipv4, response, split
+
+LIMIT = 120 * SECOND
+VERSION = 1
+ALL = response(VERSION) + data_of(VERSION, SERIAL, OLD)
+CHANGES = (response(VERSION) + ipv4(VERSION, NEW) + ipv4(VERSION, OLD[0], 0)
+           + end(VERSION, NEXT))
+CHANGED = OLD[1:] + (NEW,)
+
+
+def begun(name, changes, how):
+    """A router that has asked for all, or for changes."""
+    answered = "changes are asked for" if changes else "all is asked for"
+    about = f"{answered[0].upper()}{answered[1:]}, and the answer is cut: {how}."
+    return (again_serial if changes else first_reset)(name, about, VERSION)
+
+
+def left(data):
+    """What of some bytes is no whole unit."""
+    rest = data
+    for one in split(data):
+        if len(one) >= 8 and len(one) == int.from_bytes(one[4:8], "big"):
+            rest = rest[len(one):]
+    return rest
+
+
+def in_two(place, changes):
+    """The bytes come in two reads: the data are those of the whole answer."""
+    data = CHANGES if changes else ALL
+    name = f"cut-{'changes' if changes else 'all'}-{place}-reads"
+    state = begun(name, changes, f"it comes in two reads, of {place} bytes and the others")
+    scene = state.scene
+    scene.cache_cut(scene.now + 100, data[:place])
+    scene.cache_cut(scene.now + 100, data[place:])
+    shown = data_of(VERSION, NEXT, CHANGED) if changes else data_of(VERSION, SERIAL, OLD)
+    scene.shows(scene.now, shown)
+    return scene
+
+
+def goes_on(scene):
+    """The next connection, a second later, asks for all."""
+    scene.asks(scene.now + SECOND, VERSION)
+    answer(scene, scene.now + 100, VERSION, NEXT, (NEW,))
+
+
+def ended(place, changes, how):
+    """The cache closes, breaks or stalls after so many bytes: nothing of it is shown."""
+    data = (CHANGES if changes else ALL)[:place]
+    name = f"cut-{'changes' if changes else 'all'}-{place}-{how}"
+    state = begun(name, changes, f"after {place} bytes the cache {how}")
+    scene = state.scene
+    scene.cache_cut(scene.now + 100, data)
+    if how == "stalls":
+        time = state.asked + LIMIT
+        scene.passes(time)
+    elif how == "closes":
+        scene.closes(scene.now + 100)
+    else:
+        scene.breaks(scene.now + 100)
+    rest = left(data)
+    if how == "closes" and rest:
+        scene.reports(scene.now, VERSION, 0, rest, "unexpected end of input")
+    scene.ends(scene.now)
+    if place == 0 and not changes and how != "stalls":  # silence (section 7)
+        scene.asks(scene.now, VERSION - 1)
+    else:
+        goes_on(scene)
+    return scene
+
+
+def scenes():
+    for changes in (False, True):
+        length = len(CHANGES if changes else ALL)
+        for place in range(length):
+            if place:
+                yield in_two(place, changes)
+            for how in ("closes", "breaks", "stalls"):
+                yield ended(place, changes, how)
