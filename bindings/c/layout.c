@@ -68,6 +68,66 @@ AT(rtr_covering, asn, 8);
 AT(rtr_covering, prefix_length, 12);
 AT(rtr_covering, max_length, 13);
 AT(rtr_covering, mismatch, 14);
+
+_Static_assert(sizeof(struct rtr_settings) == 40, "rtr_settings");
+AT(rtr_settings, most_bytes, 0);
+AT(rtr_settings, pause, 8);
+AT(rtr_settings, connect_limit, 12);
+AT(rtr_settings, response_limit, 16);
+AT(rtr_settings, refresh, 20);
+AT(rtr_settings, retry, 24);
+AT(rtr_settings, expire, 28);
+AT(rtr_settings, most_units, 32);
+AT(rtr_settings, chance, 36);
+AT(rtr_settings, highest, 38);
+
+_Static_assert(sizeof(struct rtr_known) == 20, "rtr_known");
+AT(rtr_known, serial, 0);
+AT(rtr_known, refresh, 4);
+AT(rtr_known, retry, 8);
+AT(rtr_known, expire, 12);
+AT(rtr_known, session, 16);
+AT(rtr_known, version, 18);
+
+_Static_assert(sizeof(struct rtr_router) == 136, "rtr_router");
+AT(rtr_router, settings, 0);
+AT(rtr_router, expires, 40);
+AT(rtr_router, asked, 48);
+AT(rtr_router, due, 56);
+AT(rtr_router, bytes, 64);
+AT(rtr_router, known, 72);
+AT(rtr_router, answer, 92);
+AT(rtr_router, wait, 112);
+AT(rtr_router, units, 116);
+AT(rtr_router, note, 120);
+AT(rtr_router, session, 124);
+AT(rtr_router, phase, 126);
+AT(rtr_router, version, 127);
+AT(rtr_router, floor, 128);
+AT(rtr_router, agreed, 129);
+AT(rtr_router, fell, 130);
+AT(rtr_router, changes, 131);
+AT(rtr_router, resync, 132);
+AT(rtr_router, answered, 133);
+AT(rtr_router, noted, 134);
+AT(rtr_router, has_data, 135);
+
+_Static_assert(sizeof(struct rtr_action) == 40, "rtr_action");
+AT(rtr_action, start, 0);
+AT(rtr_action, taken, 8);
+AT(rtr_action, wanted, 16);
+AT(rtr_action, serial, 24);
+AT(rtr_action, session, 28);
+AT(rtr_action, code, 30);
+AT(rtr_action, kind, 32);
+AT(rtr_action, version, 33);
+AT(rtr_action, cause, 34);
+AT(rtr_action, status, 35);
+AT(rtr_action, detail, 36);
+AT(rtr_action, changes, 37);
+AT(rtr_action, drops, 38);
+AT(rtr_action, reports, 39);
+
 #endif
 
 _Static_assert(sizeof(struct rtr_route) == 24, "rtr_route");

@@ -591,6 +591,200 @@ static inline bool rtr_covering(const uint8_t *data, size_t data_length,
     return rtr_covering_nonnull(rtr_readable(data), data_length, tables, route, from, covering);
 }
 
+/* A router's end of the protocol: what to do when, without sockets, clock and memory (RFC 8210;
+ * docs/SESSIONS.md has its states). A program has a struct rtr_router for each cache, tells it what
+ * happens, and does what the action says that is answered:
+ *
+ *   RTR_WAIT     nothing, until something comes or the time is rtr_router_wakes
+ *   RTR_CONNECT  open a connection; then call rtr_router_connected or rtr_router_lost
+ *   RTR_ASK      send what rtr_router_query writes
+ *   RTR_BEGIN    forget the units that were kept: a response begins
+ *   RTR_KEEP     keep the `taken` bytes that the input begins with, behind those that were kept
+ *   RTR_APPLY    make the changes that were kept, with the end of data at `start` of the input, in
+ *                their order: of the data, or of none unless `changes`. rtr_apply_in_order does.
+ *                Then call rtr_router_applied or rtr_router_not_applied
+ *   RTR_SHOW     what they made are the data now
+ *   RTR_NO_DATA  the cache has no data yet; it is asked again
+ *   RTR_DROP     the data have expired: there are none any more
+ *   RTR_END      drop the data if it `drops`, send what rtr_router_report writes if it `reports`,
+ *                and close the connection, or what would have become one, for this `cause`
+ *
+ * After each action but RTR_WAIT it calls rtr_router_tick, and rtr_router_read with what is left of
+ * the input behind `taken`, until both answer RTR_WAIT with nothing taken. After RTR_END nothing
+ * more of that connection is told. Times are in milliseconds, by a clock that doesn't go back, and
+ * below 2^63. A struct is plain: it may be copied, and read, but for `phase` in the units of its
+ * fields, as in crates/rtr_router. */
+
+/* What a program may set. Times are in milliseconds. */
+struct rtr_settings {
+    uint64_t most_bytes;     /* of the payload units of an answer; 128 MiB */
+    uint32_t pause;          /* between two queries or connections, at least; 1 second */
+    uint32_t connect_limit;  /* to make a connection; 30 seconds */
+    uint32_t response_limit; /* from a query to the end of data that answers it; 2 minutes */
+    uint32_t refresh, retry, expire; /* where not 0, in place of the cache's (RFC 8210 section 6) */
+    uint32_t most_units;     /* of the payload units of an answer; 4 million */
+    uint16_t chance;         /* a random number: waits that grow are shortened by chance / 131072 */
+    uint8_t highest;         /* the version that a connection begins in: 0, 1 or 2 */
+};
+
+/* What names data, and their times in seconds. */
+struct rtr_known {
+    uint32_t serial, refresh, retry, expire;
+    uint16_t session;
+    uint8_t version;
+};
+
+struct rtr_router {
+    struct rtr_settings settings;
+    uint64_t expires, asked, due, bytes;
+    struct rtr_known known;  /* of the data, if it `has_data` */
+    struct rtr_known answer;
+    uint32_t wait, units, note; /* units: payload units of the response so far */
+    uint16_t session;
+    uint8_t phase, version, floor;
+    bool agreed, fell, changes, resync, answered, noted, has_data;
+};
+
+enum rtr_action_kind {
+    RTR_WAIT,
+    RTR_CONNECT,
+    RTR_ASK,
+    RTR_BEGIN,
+    RTR_KEEP,
+    RTR_APPLY,
+    RTR_SHOW,
+    RTR_NO_DATA,
+    RTR_DROP,
+    RTR_END
+};
+
+/* Why a connection ends; rtr_cause_text says it in words. */
+enum rtr_cause {
+    RTR_CAUSE_LOST,
+    RTR_CAUSE_SLOW,
+    RTR_CAUSE_FAULTY,          /* a unit is refused, for `status` */
+    RTR_CAUSE_REPORTED,        /* by the unit between `start` and `taken` */
+    RTR_CAUSE_OUT_OF_PLACE,
+    RTR_CAUSE_NO_SUCH_PAYLOAD,
+    RTR_CAUSE_OTHER_VERSION,
+    RTR_CAUSE_HIGHER_VERSION,
+    RTR_CAUSE_OTHER_SESSION,
+    RTR_CAUSE_OLD_SERIAL,
+    RTR_CAUSE_OTHER_DATA,
+    RTR_CAUSE_TOO_LONG,
+    RTR_CAUSE_NOT_APPLIED,     /* changes are refused, for `status` */
+    RTR_CAUSE_EXPIRED,
+    RTR_CAUSE_LOWER            /* no failure: it connects again at once, in a lower version */
+};
+
+/* What is to be done. Fields that an action doesn't have are 0. */
+struct rtr_action {
+    size_t start;    /* where in the input the unit begins that it is about */
+    size_t taken;    /* how many bytes of the input are done with, that unit among them; of a unit
+                        that is refused none, since the connection ends */
+    size_t wanted;   /* after rtr_router_read, if no whole unit is there, as in an rtr_unit */
+    uint32_t serial; /* of a serial query */
+    uint16_t session;
+    uint16_t code;   /* of the report */
+    uint8_t kind;    /* an rtr_action_kind */
+    uint8_t version; /* of a query or a report */
+    uint8_t cause;   /* an rtr_cause */
+    uint8_t status;  /* an rtr_status, or 0 */
+    uint8_t detail;  /* as in an rtr_answer */
+    bool changes, drops, reports;
+};
+
+/* The usual settings, with this version, or 2 if it is higher. */
+void rtr_settings_usual(struct rtr_settings *settings, uint8_t highest);
+
+/* Begins a router without data, whatever the struct holds; its first rtr_router_tick connects. */
+void rtr_router_init(struct rtr_router *router, const struct rtr_settings *settings);
+
+/* Time passed. */
+void rtr_router_tick(struct rtr_router *router, uint64_t now, struct rtr_action *action);
+
+/* The connection is there. */
+void rtr_router_connected(struct rtr_router *router, uint64_t now, struct rtr_action *action);
+
+/* None could be made, or it is gone, and rtr_router_read has nothing left. */
+void rtr_router_lost(struct rtr_router *router, uint64_t now, struct rtr_action *action);
+
+/* All changes of the answer were made. */
+void rtr_router_applied(struct rtr_router *router, uint64_t now, struct rtr_action *action);
+
+/* None was made, since rtr_apply_in_order answered this status; with RTR_OK, since there was no
+ * memory, for a unit or for the changes. */
+void rtr_router_not_applied(struct rtr_router *router, uint64_t now, uint8_t status,
+                            struct rtr_action *action);
+
+/* When rtr_router_tick is to be called, if nothing comes before. It may have passed. */
+uint64_t rtr_router_wakes(const struct rtr_router *router);
+
+/* The archive's call for rtr_router_read, which takes no null pointer. */
+void rtr_router_read_nonnull(struct rtr_router *router, uint64_t now,
+                             const uint8_t *input, size_t input_length, bool ended,
+                             struct rtr_action *action);
+
+/* Tells the router of the units that the input begins with: of payload units of a response as many
+ * as there are (RTR_KEEP), and otherwise of one. Where the peer has closed, `ended`, what is left
+ * of a unit is refused. RTR_WAIT with nothing taken: no whole unit is there. */
+static inline void rtr_router_read(struct rtr_router *router, uint64_t now,
+                                   const uint8_t *input, size_t input_length, bool ended,
+                                   struct rtr_action *action)
+{
+    rtr_router_read_nonnull(router, now, rtr_readable(input), input_length, ended, action);
+}
+
+/* The archive's call for rtr_router_query, which takes no null pointer. */
+size_t rtr_router_query_nonnull(const struct rtr_action *action, uint8_t *output,
+                                size_t output_length);
+
+/* Writes the query of RTR_ASK, and answers its length: 8 or 12; 0 if the output is shorter. */
+static inline size_t rtr_router_query(const struct rtr_action *action, uint8_t *output,
+                                      size_t output_length)
+{
+    return rtr_router_query_nonnull(action, rtr_writable(output), output_length);
+}
+
+/* The archive's call for rtr_router_report, which takes no null pointer. */
+bool rtr_router_report_nonnull(const struct rtr_action *action,
+                               const uint8_t *input, size_t input_length,
+                               uint8_t *output, size_t output_length, size_t *written);
+
+/* Writes the report that RTR_END owes about the unit that this input begins with: that at `start`,
+ * or the change at the offset that rtr_apply_in_order answered. False, with `written` 0, if none is
+ * owed or the output is too short; 65535 bytes are always enough. */
+static inline bool rtr_router_report(const struct rtr_action *action,
+                                     const uint8_t *input, size_t input_length,
+                                     uint8_t *output, size_t output_length, size_t *written)
+{
+    return rtr_router_report_nonnull(action, rtr_readable(input), input_length,
+                                     rtr_writable(output), output_length, written);
+}
+
+/* A text for a cause, never null; any number may be passed. */
+static inline const char *rtr_cause_text(uint8_t cause)
+{
+    static const char *const texts[] = {
+        "the cache closed the connection",
+        "the cache is too slow",
+        "unit is refused",
+        "the cache reports an error",
+        "unit is not allowed here",
+        "version does not have such payloads",
+        "unit of another version than the session",
+        "answer of a higher version than the query",
+        "unit of another session",
+        "serial number before that of the query",
+        "other data at the serial number of the query",
+        "the answer is too long",
+        "changes are refused",
+        "the data have expired",
+        "the cache may have a lower version",
+    };
+    return cause < sizeof texts / sizeof texts[0] ? texts[cause] : "unknown cause";
+}
+
 /* A text for a status, never null; any number may be passed. */
 static inline const char *rtr_status_text(uint8_t status)
 {

@@ -3,7 +3,7 @@ from cases import NEW
 from outcomes import NEXT
 from scene import SECOND
 from states import OLD, SERIAL, again_serial, answer, data_of, first_reset
-from units import end, ipv4, response, split
+from units import SESSION, end, ipv4, response, split
 
 LIMIT = 120 * SECOND
 VERSION = 1
@@ -42,10 +42,15 @@ def in_two(place, changes):
     return scene
 
 
-def goes_on(scene):
-    """The next connection, a second later, asks for all."""
-    scene.asks(scene.now + SECOND, VERSION)
-    answer(scene, scene.now + 100, VERSION, NEXT, (NEW,))
+def goes_on(scene, again):
+    """The next connection, a second later, asks for what changed again, or for all."""
+    if again:
+        scene.asks(scene.now + SECOND, VERSION, SERIAL, SESSION)
+        scene.cache(scene.now + 100, CHANGES)
+        scene.shows(scene.now, data_of(VERSION, NEXT, CHANGED))
+    else:
+        scene.asks(scene.now + SECOND, VERSION)
+        answer(scene, scene.now + 100, VERSION, NEXT, (NEW,))
 
 
 def ended(place, changes, how):
@@ -69,7 +74,7 @@ def ended(place, changes, how):
     if place == 0 and not changes and how != "stalls":  # silence (section 7)
         scene.asks(scene.now, VERSION - 1)
     else:
-        goes_on(scene)
+        goes_on(scene, changes and how == "stalls")
     return scene
 
 

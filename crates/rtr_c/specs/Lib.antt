@@ -9,3 +9,5 @@ pub mod DataAnswers
 pub mod Kept
 pub mod PrivateRanges
 pub mod Routes
+pub mod Routers
+pub mod RouterActions

@@ -76,7 +76,7 @@ pub extern "C" fn rtr_error_code_nonnull(status: u8, input: &[u8], code: &mut u1
 
 /// The error code of a status (RFC 8210 section 12), as `ViewFault::code`, and as
 /// `ChangeError::code` of rtr_data.
-fn code_of(status: u8) -> Option<ErrorCode>
+pub(crate) fn code_of(status: u8) -> Option<ErrorCode>
     ensures { option_map (λ c. c.0) result ≡ status_code status }
 {
     match status {

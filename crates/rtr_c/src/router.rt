@@ -1,0 +1,222 @@
+//! A router's machine, in numbers.
+
+ghost use Rattle.std.specs.Prelude.{◌≡◌};
+ghost use Rattle.rtr_c.specs.Routers.{shown_known, phase_number, phase_of, router_of, settings_of};
+
+use rtr_router::head::Known;
+use rtr_router::router::{Phase, Router};
+use rtr_router::settings::Settings;
+
+/// What a caller sets: as `rtr_router::settings::Settings`.
+#[repr(C)]
+#[derive(Clone, Copy)]
+pub struct RtrSettings {
+    pub most_bytes: u64,
+    pub pause: u32,
+    pub connect_limit: u32,
+    pub response_limit: u32,
+    pub refresh: u32,
+    pub retry: u32,
+    pub expire: u32,
+    pub most_units: u32,
+    pub chance: u16,
+    pub highest: u8,
+}
+
+// The fields stand one after the other, and one byte is left at the end.
+const _: () = prove!(size_of::<RtrSettings>() == 40);
+
+/// What names data, and their times in seconds: as `rtr_router::head::Known`.
+#[repr(C)]
+#[derive(Clone, Copy)]
+pub struct RtrKnown {
+    pub serial: u32,
+    pub refresh: u32,
+    pub retry: u32,
+    pub expire: u32,
+    pub session: u16,
+    pub version: u8,
+}
+
+// The fields stand one after the other, and one byte is left at the end.
+const _: () = prove!(size_of::<RtrKnown>() == 20);
+
+/// A router's end of a session: as `rtr_router::router::Router`, with a number for the phase.
+#[repr(C)]
+#[derive(Clone, Copy)]
+pub struct RtrRouter {
+    pub settings: RtrSettings,
+    pub expires: u64,
+    pub asked: u64,
+    pub due: u64,
+    pub bytes: u64,
+    pub known: RtrKnown,
+    pub answer: RtrKnown,
+    pub wait: u32,
+    pub units: u32,
+    pub note: u32,
+    pub session: u16,
+    /// 0 without a connection, 1 while one is made, 2 while the first unit of an answer is awaited,
+    /// 3 in a response, 4 while its changes are made, 5 while the router waits. Any other number
+    /// stands for 0.
+    pub phase: u8,
+    pub version: u8,
+    pub floor: u8,
+    pub agreed: bool,
+    pub fell: bool,
+    pub changes: bool,
+    pub resync: bool,
+    pub answered: bool,
+    pub noted: bool,
+    pub has_data: bool,
+}
+
+// The fields stand one after the other.
+const _: () = prove!(size_of::<RtrRouter>() == 136);
+
+/// The settings that the struct stands for.
+pub(crate) fn settings_from(settings: &RtrSettings) -> Settings
+    ensures { result ≡ settings_of settings.now }
+{
+    Settings {
+        highest: settings.highest,
+        pause: settings.pause,
+        connect_limit: settings.connect_limit,
+        response_limit: settings.response_limit,
+        refresh: settings.refresh,
+        retry: settings.retry,
+        expire: settings.expire,
+        most_units: settings.most_units,
+        most_bytes: settings.most_bytes,
+        chance: settings.chance,
+    }
+}
+
+/// The struct that stands for settings.
+pub(crate) fn settings_to(settings: &Settings) -> RtrSettings
+    ensures { settings_of result ≡ settings.now }
+{
+    RtrSettings {
+        most_bytes: settings.most_bytes,
+        pause: settings.pause,
+        connect_limit: settings.connect_limit,
+        response_limit: settings.response_limit,
+        refresh: settings.refresh,
+        retry: settings.retry,
+        expire: settings.expire,
+        most_units: settings.most_units,
+        chance: settings.chance,
+        highest: settings.highest,
+    }
+}
+
+fn known_from(known: &RtrKnown) -> Known
+    ensures { result ≡ shown_known known.now }
+{
+    Known {
+        version: known.version,
+        session: known.session,
+        serial: known.serial,
+        refresh: known.refresh,
+        retry: known.retry,
+        expire: known.expire,
+    }
+}
+
+fn known_to(known: &Known) -> RtrKnown
+    ensures { shown_known result ≡ known.now }
+{
+    RtrKnown {
+        serial: known.serial,
+        refresh: known.refresh,
+        retry: known.retry,
+        expire: known.expire,
+        session: known.session,
+        version: known.version,
+    }
+}
+
+fn phase_from(phase: u8) -> Phase
+    ensures { result ≡ phase_of phase }
+{
+    match phase {
+        1 => Phase::Connecting,
+        2 => Phase::Asked,
+        3 => Phase::Reading,
+        4 => Phase::Applying,
+        5 => Phase::Waiting,
+        _ => Phase::Offline,
+    }
+}
+
+fn phase_to(phase: Phase) -> u8
+    ensures number { result ≡ phase_number phase }
+    ensures same { phase_of result ≡ phase }
+{
+    match phase {
+        Phase::Offline => 0,
+        Phase::Connecting => 1,
+        Phase::Asked => 2,
+        Phase::Reading => 3,
+        Phase::Applying => 4,
+        Phase::Waiting => 5,
+    }
+}
+
+/// The machine that the struct stands for.
+pub(crate) fn router_from(router: &RtrRouter) -> Router
+    ensures { result ≡ router_of router.now }
+{
+    Router {
+        settings: settings_from(&router.settings),
+        phase: phase_from(router.phase),
+        version: router.version,
+        agreed: router.agreed,
+        fell: router.fell,
+        floor: router.floor,
+        changes: router.changes,
+        resync: router.resync,
+        answered: router.answered,
+        wait: router.wait,
+        session: router.session,
+        units: router.units,
+        bytes: router.bytes,
+        noted: router.noted,
+        note: router.note,
+        answer: known_from(&router.answer),
+        has_data: router.has_data,
+        known: known_from(&router.known),
+        expires: router.expires,
+        asked: router.asked,
+        due: router.due,
+    }
+}
+
+/// The struct that stands for a machine.
+pub(crate) fn router_to(router: &Router) -> RtrRouter
+    ensures { router_of result ≡ router.now }
+{
+    RtrRouter {
+        settings: settings_to(&router.settings),
+        expires: router.expires,
+        asked: router.asked,
+        due: router.due,
+        bytes: router.bytes,
+        known: known_to(&router.known),
+        answer: known_to(&router.answer),
+        wait: router.wait,
+        units: router.units,
+        note: router.note,
+        session: router.session,
+        phase: phase_to(router.phase),
+        version: router.version,
+        floor: router.floor,
+        agreed: router.agreed,
+        fell: router.fell,
+        changes: router.changes,
+        resync: router.resync,
+        answered: router.answered,
+        noted: router.noted,
+        has_data: router.has_data,
+    }
+}

@@ -1,0 +1,215 @@
+//! A router's machine: one call for each thing that happens, and what it wants sent.
+
+ghost use Rattle.std.specs.Prelude.{◌≡◌, ℕ, Option, false, min};
+ghost use Rattle.std.specs.Option.{unwrap_or};
+ghost use Rattle.rtr_views.specs.Placing.{Places};
+ghost use Rattle.rtr_router.specs.declared.router.Phase.TheVariants as phases;
+ghost use Rattle.rtr_router.specs.Pace.{wakes_at};
+ghost use Rattle.rtr_router.specs.declared.event.Event.TheVariants as events;
+ghost use Rattle.rtr_conversation.specs.Reading.{Hears};
+ghost use Rattle.rtr_conversation.specs.Sent.{query_bytes};
+ghost use Rattle.rtr_conversation.specs.declared.telling.Told.{Told};
+ghost use Rattle.rtr_c.specs.Numbers.{status_code};
+ghost use Rattle.rtr_c.specs.RouterActions.{IsRouterStep, PlacesReport, query_of, read_told};
+ghost use Rattle.rtr_c.specs.RouterActions.{with_status};
+ghost use Rattle.rtr_c.specs.Routers.{clock, router_of, settings_of};
+ghost use Rattle.rtr_c.specs.declared.router_action.RtrAction.{RtrAction};
+
+use crate::answer::{fault_detail, fault_status};
+use crate::next::wanted;
+use crate::numbers::code_of;
+use crate::router::{RtrRouter, RtrSettings, router_from, router_to, settings_from, settings_to};
+use crate::router_action::{
+    KEEP, RtrAction, action_to, ending_from, plain, query_from, refusal_from,
+};
+use rtr_conversation::{Told, place_ending, place_query, tell};
+use rtr_router::event::Event;
+use rtr_router::router::Router;
+use rtr_router::settings::Settings;
+
+/// The last time that a machine is told.
+const LAST: u64 = u64::MAX / 2;
+
+/// The usual settings, as `rtr_router::settings::Settings::usual`.
+#[unsafe(no_mangle)]
+pub extern "C" fn rtr_settings_usual(settings: &mut RtrSettings, highest: u8)
+    ensures highest { settings.new.highest ≡ min highest 2 }
+    ensures pause { settings.new.pause ≡ 1000 }
+    ensures connect_limit { settings.new.connect_limit ≡ 30000 }
+    ensures response_limit { settings.new.response_limit ≡ 120000 }
+    ensures times { (settings.new.refresh ≡ 0) × (settings.new.retry ≡ 0)
+        × (settings.new.expire ≡ 0) }
+    ensures most_units { settings.new.most_units ≡ 4000000 }
+    ensures most_bytes { settings.new.most_bytes ≡ 134217728 }
+    ensures chance { settings.new.chance ≡ 0 }
+{
+    *settings = settings_to(&Settings::usual(highest));
+}
+
+/// Begins a router without data, whatever the struct holds, as `rtr_router::router::Router::new`.
+#[unsafe(no_mangle)]
+pub extern "C" fn rtr_router_init(router: &mut RtrRouter, settings: &RtrSettings)
+    ensures settings { settings_of router.new.settings ≡
+        record (settings_of settings.now) { highest = min settings.now.highest 2 } }
+    ensures phase { (router_of router.new).phase ≡ phases.Offline }
+    ensures has_data { router.new.has_data ≡ false }
+    ensures fell { router.new.fell ≡ false }
+    ensures floor { router.new.floor ≡ 0 }
+    ensures resync { router.new.resync ≡ false }
+    ensures answered { router.new.answered ≡ false }
+    ensures wait { router.new.wait ≡ 1000 }
+    ensures version { router.new.known.version ≡ 0 }
+    ensures asked { router.new.asked ≡ 0 }
+    ensures due { router.new.due ≡ 0 }
+{
+    *router = router_to(&Router::new(settings_from(settings)));
+}
+
+/// When the router is to be told that time passed, if nothing comes before.
+#[unsafe(no_mangle)]
+pub extern "C" fn rtr_router_wakes(router: &RtrRouter) -> u64
+    ensures { result ≡ wakes_at (router_of router.now) }
+{
+    router_from(router).wakes()
+}
+
+/// A step of the machine.
+fn step(router: &mut RtrRouter, now: u64, event: Event) -> RtrAction
+    ensures { IsRouterStep router.old (clock now) event result router.new }
+{
+    let mut machine = router_from(router);
+    let action = machine.step(now.min(LAST), event);
+    *router = router_to(&machine);
+    action_to(action, machine.version)
+}
+
+/// Time passed.
+#[unsafe(no_mangle)]
+pub extern "C" fn rtr_router_tick(router: &mut RtrRouter, now: u64, action: &mut RtrAction)
+    ensures { IsRouterStep router.old (clock now) events.Tick action.new router.new }
+{
+    *action = step(router, now, Event::Tick);
+}
+
+/// The connection is there.
+#[unsafe(no_mangle)]
+pub extern "C" fn rtr_router_connected(router: &mut RtrRouter, now: u64, action: &mut RtrAction)
+    ensures { IsRouterStep router.old (clock now) events.Connected action.new router.new }
+{
+    *action = step(router, now, Event::Connected);
+}
+
+/// None could be made, or it is gone, and what came over it was read.
+#[unsafe(no_mangle)]
+pub extern "C" fn rtr_router_lost(router: &mut RtrRouter, now: u64, action: &mut RtrAction)
+    ensures { IsRouterStep router.old (clock now) events.Lost action.new router.new }
+{
+    *action = step(router, now, Event::Lost);
+}
+
+/// All changes of the response were made.
+#[unsafe(no_mangle)]
+pub extern "C" fn rtr_router_applied(router: &mut RtrRouter, now: u64, action: &mut RtrAction)
+    ensures { IsRouterStep router.old (clock now) events.Applied action.new router.new }
+{
+    *action = step(router, now, Event::Applied);
+}
+
+/// None was made, for what has this status, or a unit couldn't be kept.
+#[unsafe(no_mangle)]
+pub extern "C" fn rtr_router_not_applied(
+    router: &mut RtrRouter,
+    now: u64,
+    status: u8,
+    action: &mut RtrAction,
+)
+    ensures { (told : RtrAction) × (action.new ≡ with_status told status)
+        × IsRouterStep router.old (clock now) (events.NotApplied (status_code status)) told
+        router.new }
+{
+    let code = match code_of(status) {
+        Some(code) => Some(code.0),
+        None => None,
+    };
+    *action = RtrAction {
+        status,
+        ..step(router, now, Event::NotApplied(code))
+    };
+}
+
+/// Tells the router of the units that the input begins with, as `rtr_conversation::tell`.
+#[unsafe(no_mangle)]
+pub extern "C" fn rtr_router_read_nonnull(
+    router: &mut RtrRouter,
+    now: u64,
+    input: &[u8],
+    ended: bool,
+    action: &mut RtrAction,
+)
+    ensures { (told : Told) × Hears (router_of router.old) (clock now) input.now ended told
+        (router_of router.new)
+        × (action.new ≡ read_told told input.now (router_of router.new).version) }
+{
+    let mut machine = router_from(router);
+    let told = tell(&mut machine, now.min(LAST), input, ended);
+    *router = router_to(&machine);
+    *action = told_to(&told, input, machine.version);
+}
+
+/// What came of the units of an input, in numbers.
+fn told_to(told: &Told, input: &[u8], version: u8) -> RtrAction
+    ensures { result ≡ read_told told.now input.now version }
+{
+    match told {
+        Told::Awaits => RtrAction {
+            wanted: wanted(input),
+            ..plain(0)
+        },
+        Told::Kept(taken) => RtrAction {
+            taken: *taken,
+            ..plain(KEEP)
+        },
+        Told::Acted { start, end, action } => RtrAction {
+            start: *start,
+            taken: *end,
+            ..action_to(*action, version)
+        },
+        Told::Refused { fault, action } => RtrAction {
+            status: fault_status(fault),
+            detail: fault_detail(fault),
+            ..action_to(*action, version)
+        },
+    }
+}
+
+/// Writes the query that an action tells of, as `rtr_conversation::place_query`. Answers its length
+/// in bytes, 8 or 12, or 0 if the output is shorter.
+#[unsafe(no_mangle)]
+pub extern "C" fn rtr_router_query_nonnull(action: &RtrAction, output: &mut [u8]) -> usize
+    ensures { (n : Option ℕ) × Places n (query_bytes (query_of action.now)) output.old output.new
+        × (result ≡ unwrap_or n 0) }
+{
+    place_query(&query_from(action), output).unwrap_or(0)
+}
+
+/// Writes the report that an action owes about the unit that the input begins with, as
+/// `rtr_conversation::place_ending`. Answers whether it is written.
+#[unsafe(no_mangle)]
+pub extern "C" fn rtr_router_report_nonnull(
+    action: &RtrAction,
+    input: &[u8],
+    output: &mut [u8],
+    written: &mut usize,
+) -> bool
+    ensures { PlacesReport action.now input.now output.old output.new written.new result }
+{
+    let placed = place_ending(
+        action.version,
+        &ending_from(action),
+        refusal_from(action.status),
+        input,
+        output,
+    );
+    *written = placed.unwrap_or(0);
+    placed.is_some()
+}

@@ -1,0 +1,5 @@
+pub mod Heads
+pub mod PrivateHeads
+pub mod Reading
+pub mod PrivateReading
+pub mod Sent

@@ -1,0 +1,17 @@
+-- A unit at the front of an input, told to a router's machine. Only contracts of private functions
+-- cite this.
+use Rattle.std.specs.Prelude.{ℕ, ◌<◌, ◌≤◌, List, length, take}
+use Rattle.rtr_router.specs.Step.{IsStep}
+use Rattle.rtr_router.specs.declared.event.Action.{Action}
+use Rattle.rtr_router.specs.declared.event.Event.TheVariants as events
+use Rattle.rtr_router.specs.declared.head.Head.{Head}
+use Rattle.rtr_router.specs.declared.router.Router.{Router}
+use Rattle.rtr_conversation.specs.Heads.{HasHead}
+
+pub record Comes (r : Router) (n : ℕ) (input : List ℕ) (a : Action) (size : ℕ) (r' : Router) :
+    Type 0 where
+  pub head : Head
+  pub unit : HasHead (take size input) head
+  pub some : 0 < size
+  pub within : size ≤ length input
+  pub step : IsStep r n (events.Came head) a r'

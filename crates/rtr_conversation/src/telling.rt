@@ -1,0 +1,165 @@
+//! What comes, told to the machine.
+
+ghost use Rattle.std.specs.Prelude.{◌≡◌, ◌<◌, ◌≤◌, ◌^◌, ℕ, Bool, Option, [], length, take};
+ghost use Rattle.std.specs.Prelude.{IfOk, IfErr, OnErr};
+ghost use Rattle.rtr_units.specs.Codes.{code_of};
+ghost use Rattle.rtr_units.specs.Header.{type_field};
+ghost use Rattle.rtr_views.specs.Owed.{owed, read_fault};
+ghost use Rattle.rtr_session.specs.SessionViews.{IsSessionFault};
+ghost use Rattle.rtr_conversation.specs.PrivateReading.{Comes};
+ghost use Rattle.rtr_conversation.specs.Reading.{Hears, KeepsAll, fault_of};
+ghost use Rattle.rtr_router.specs.Step.{IsStep};
+ghost use Rattle.rtr_router.specs.declared.event.Event.TheVariants as events;
+
+use crate::head::head_of;
+use rtr_payload::pdu::{Aspa, RouterKey};
+use rtr_router::event::{Action, Event};
+use rtr_router::head::Fault;
+use rtr_router::router::Router;
+use rtr_session::laws::bounded_lengths;
+use rtr_session::{Report, SessionFault, SessionView};
+use rtr_units::numbers::u32_at;
+use rtr_units::prefixes::{Ipv4Prefix, Ipv6Prefix};
+use rtr_units::unit::Unit;
+use rtr_views::fault::ViewFault;
+
+/// What came of the units of an input.
+#[derive(Drop)]
+pub enum Told {
+    /// No whole unit is there.
+    Awaits,
+    /// The input begins with payload units of this many bytes in all, which are to be kept.
+    Kept(usize),
+    /// The unit between these places of the input made the machine take this action. What comes
+    /// before the first of them are payload units that the machine had kept until then: where there
+    /// are some, the action ends the connection, and they don't matter any more.
+    Acted {
+        start: usize,
+        end: usize,
+        action: Action,
+    },
+    /// The input begins with a unit that is refused for this fault, or that the end of the input
+    /// cuts off.
+    Refused {
+        fault: ViewFault,
+        action: Action,
+    },
+}
+
+/// Tells the machine of the units that the input begins with: of payload units that it keeps as
+/// many as there are, and otherwise of one. Where the peer has closed, `ended`, a unit that isn't
+/// whole is refused.
+pub fn tell(router: &mut Router, now: u64, input: &[u8], ended: bool) -> Told
+    requires { now < 2 ^ 63 }
+    ensures { Hears router.old now input.now ended result router.new }
+{
+    match came(router, now, input) {
+        Ok((Action::Keep, size)) => tell_on(router, now, input, size),
+        Ok((action, end)) => Told::Acted {
+            start: 0,
+            end,
+            action,
+        },
+        Err(refusal) => refuse(router, now, input, ended, refusal.fault),
+    }
+}
+
+/// The same after this many bytes of payload units, which the machine keeps.
+fn tell_on(router: &mut Router, now: u64, input: &[u8], size: usize) -> Told
+    requires now { now < 2 ^ 63 }
+    requires some { 0 < size }
+    requires within { size ≤ length input.now }
+    ensures { (before : Router) (ended : Bool) →
+        KeepsAll now before (take size input.now) router.old →
+        Hears before now input.now ended result router.new }
+{
+    let mut kept = size;
+    for _ in 0..input.len() {
+        let (_, rest) = input.split_at(kept);
+        if !begins_payload(rest) {
+            return Told::Kept(kept);
+        }
+        match came(router, now, rest) {
+            Ok((Action::Keep, size)) => kept += size,
+            Ok((action, size)) => {
+                return Told::Acted {
+                    start: kept,
+                    end: kept + size,
+                    action,
+                };
+            }
+            Err(_) => return Told::Kept(kept),
+        }
+    }
+    Told::Kept(kept)
+}
+
+/// Whether the type of a payload unit stands in its place.
+fn begins_payload(input: &[u8]) -> bool {
+    input.len() >= 2
+        && matches!(
+            input[1],
+            Ipv4Prefix::PDU | Ipv6Prefix::PDU | RouterKey::PDU | Aspa::PDU
+        )
+}
+
+/// Tells the machine of the unit that the input begins with. The answer is what it does, and the
+/// size of the unit.
+#[inline(always)]
+fn came(router: &mut Router, now: u64, input: &[u8]) -> Result<(Action, usize), SessionFault>
+    requires { now < 2 ^ 63 }
+    ensures unit { IfOk result (λ p. Comes router.old now input.now p.0 p.1 router.new) }
+    ensures same { OnErr result (router.new ≡ router.old) }
+    ensures fault { IfErr result (λ e. IsSessionFault input.now e.fault e.size) }
+{
+    let (view, size) = match SessionView::first(input) {
+        Ok(first) => first,
+        Err(refusal) => return Err(refusal),
+    };
+    bounded_lengths();
+    let head = head_of(&view, u32_at(input, 4));
+    Ok((router.step(now, Event::Came(head)), size))
+}
+
+/// Tells the machine of a unit that is refused, unless more of it may come.
+fn refuse(router: &mut Router, now: u64, input: &[u8], ended: bool, fault: ViewFault) -> Told
+    requires now { now < 2 ^ 63 }
+    ensures { (size : Option ℕ) → IsSessionFault input.now fault size →
+        Hears router.old now input.now ended result router.new }
+{
+    if input.is_empty() {
+        return Told::Awaits;
+    }
+    match fault {
+        ViewFault::Short if !ended => Told::Awaits,
+        fault => {
+            let action = faulty(router, now, input, &fault);
+            Told::Refused { fault, action }
+        }
+    }
+}
+
+/// Tells the machine of a unit that is refused for this fault.
+fn faulty(router: &mut Router, now: u64, input: &[u8], fault: &ViewFault) -> Action
+    requires now { now < 2 ^ 63 }
+    requires some { 0 < length input.now }
+    ensures { IsStep router.old now (events.Faulty (fault_of input.now fault.now)) result
+        router.new }
+{
+    let code = owed(input, fault);
+    let version = input[0];
+    router.step(now, Event::Faulty(Fault { version, code }))
+}
+
+/// The code of the report that is owed about a refused unit (RFC 8210 sections 5.11 and 12).
+fn owed(input: &[u8], fault: &ViewFault) -> Option<u16>
+    ensures { result ≡ owed (type_field input.now) (code_of (read_fault [] fault.now)) }
+{
+    if input.len() >= 2 && input[1] == Report::PDU {
+        return None;
+    }
+    match fault.code() {
+        Some(code) => Some(code.0),
+        None => None,
+    }
+}
