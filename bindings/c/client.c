@@ -292,6 +292,7 @@ int main(int count, char **words)
         return 2;
     }
     rtr_client_init(&c, (uint8_t)(version[0] - '0'));
+    c.settings.chance = (uint16_t)(now() ^ getpid());
     signal(SIGINT, once ? SIG_DFL : end);
     signal(SIGTERM, once ? SIG_DFL : end);
     int status = follow(&c, host, port, once, json);

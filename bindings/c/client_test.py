@@ -265,17 +265,17 @@ def refusals():
         (sequence([other]), "withdrawal of an unknown record, at byte 0", UNKNOWN),
         (sequence([other, one]), "withdrawal of an unknown record, at byte 0", UNKNOWN),
         (sequence([old]), "unit of another version than the session", OTHER_VERSION),
+        (response() + end(1, 3), "unit of another version than the session", OTHER_VERSION),
         (response() + end(1, session=1), "unit of another session", CORRUPT),
         (response(0) + key(1, b"", version=0), "version does not have such payloads", NO_TYPE),
         (unit(3, 3, 1), "answer of a higher version than the query", NO_VERSION),
     ]
     rows += [(sent, misplaced, NO_TYPE) for sent in (
         one, end(1), unit(2, 8, 0), reset_query(2), response() + response(),
-        response() + notify(1), response() + unit(2, 8, 0))]
+        response() + unit(2, 8, 0))]
     at_8 = [
         ("unit type is not allowed here", NO_TYPE, unit(2, 5, 0)),
         ("unit type is not allowed here", NO_TYPE, unit(2, 255, 0)),
-        ("version is not supported here", NO_VERSION, end(1, 3)),
         ("unit is longer than 65535 bytes", CORRUPT, b"\2\x09\1\0\xff\xff\xff\xff"),
         ("unit is longer than 65535 bytes", None, b"\2\x0a\0\0\xff\xff\xff\xff"),
         ("invalid unit length", CORRUPT, b"\2\4\0\0\0\0\0\x15"),
@@ -351,8 +351,8 @@ def test_hostile():
     rows = [
         (slow, "the cache is too slow"),
         (flood(b"", notify(1)), "the cache is too slow"),
-        (flood(response(), withdrawal), "the answer has too many bytes"),
-        (flood(response(), key(1, b"x" * 65503)), "the answer has too many bytes"),
+        (flood(response(), withdrawal), "the answer is too long"),
+        (flood(response(), key(1, b"x" * 65503)), "the answer is too long"),
     ]
     for script, text in rows:
         run = Run(script)

@@ -52,7 +52,7 @@ enum rtr_client_event {
 enum rtr_client_failure {
     RTR_CLIENT_LOST,     /* none was made, it broke, or the cache closed it */
     RTR_CLIENT_SLOW,     /* the cache didn't answer, take a query or finish an answer in time */
-    RTR_CLIENT_TOO_LONG, /* an answer has more than `most_bytes` */
+    RTR_CLIENT_TOO_LONG, /* an answer has too many units or bytes */
     RTR_CLIENT_REFUSED,  /* a unit, or changes, are refused for `status` */
     RTR_CLIENT_BREACH,   /* the rules of a session don't allow a unit */
     RTR_CLIENT_REPORTED, /* the cache reports `code` */
@@ -71,16 +71,11 @@ enum rtr_client_failure {
 /* The longest unit, and the longest query. */
 enum { RTR_CLIENT_UNIT = 65535, RTR_CLIENT_QUERY = 12 };
 
-/* Times are in milliseconds, by a clock that never goes back. */
+/* Times are in milliseconds, by a clock that never goes back and isn't below zero. */
 struct rtr_client {
     /* Set by rtr_client_init. A program may set others before its first rtr_client_next. */
-    int64_t connect_limit;  /* to make a connection; 30 seconds */
-    int64_t response_limit; /* from a query to the end of data that answers it */
-    int64_t report_limit;   /* to send a report before a connection is closed; 2 seconds */
-    int64_t pause;          /* at least between two queries, and two connections; 1 second */
-    size_t most_bytes;      /* of an answer */
-    /* Where not 0, these stand for the times of the end of data (RFC 8210 section 6). */
-    int64_t refresh, retry, expire;
+    struct rtr_settings settings;
+    int64_t report_limit; /* to send a report before a connection is closed; 2 seconds */
 
     /* To be read. Bytes stay until the next call of rtr_client_next or rtr_client_free. */
     uint8_t *data;         /* in canonical form (rtr.h); null where there are none */
@@ -98,16 +93,15 @@ struct rtr_client {
     char text[400];        /* of a failure, or of a cache that has no data yet */
 
     /* Its own. */
-    uint8_t state, version, highest, events[4], count;
-    bool agreed, answered, serial, resync, soon, fell, closed, broken;
-    int64_t now, asked, due, expires;
-    uint16_t session;
-    uint64_t offset; /* of the last unit, from the first byte of the connection */
+    struct rtr_router router;
+    struct rtr_unit next_end;
+    uint8_t events[4], count;
+    bool begun, connected, closed, broken;
+    uint64_t now, offset; /* of the input, from the first byte of the connection */
     char reason[200];
-    struct rtr_unit last;
-    uint8_t *answer;
-    size_t answer_length, answer_room, answer_units;
-    size_t start, filled, size, sent, unsent;
+    uint8_t *answer, *made;
+    size_t answer_length, answer_room, made_length;
+    size_t start, filled, sent, unsent;
     uint8_t input[2 * RTR_CLIENT_UNIT];
     uint8_t output[2 * RTR_CLIENT_QUERY + RTR_CLIENT_UNIT];
 };

@@ -1,0 +1,218 @@
+/* Plays scenes of a router and its cache (tests/transcripts) by the client without sockets, with a
+ * made clock, and prints what it does otherwise than they say.
+ *
+ * usage: scenes < SCENES */
+#include "testing.h"
+#include <inttypes.h>
+#include <stdarg.h>
+#include "rtr_client.h"
+
+enum { LONGEST_LINE = 1 << 18 };
+
+/* Steps, a line each. */
+struct steps {
+    char text[1 << 20];
+    size_t length;
+};
+
+static struct rtr_client c;
+static int64_t now;
+static bool connected;
+static struct steps wanted, seen;
+static char name[256];
+static unsigned played, differ;
+
+static void add(struct steps *to, const char *format, ...)
+{
+    va_list values;
+    va_start(values, format);
+    size_t left = sizeof to->text - to->length;
+    int count = vsnprintf(to->text + to->length, left, format, values);
+    va_end(values);
+    CHECK(count >= 0 && (size_t)count < left);
+    to->length += (size_t)count;
+}
+
+static void add_hex(struct steps *to, const uint8_t *bytes, size_t length)
+{
+    for (size_t i = 0; i < length; i++)
+        add(to, "%02x", bytes[i]);
+}
+
+/* Notes what the client sends: queries, and reports. */
+static void sends(void)
+{
+    size_t length;
+    struct rtr_unit unit;
+    for (;;) {
+        const uint8_t *output = rtr_client_output(&c, &length);
+        if (length == 0)
+            return;
+        CHECK(rtr_next(output, length, &unit) == RTR_OK);
+        add(&seen, "%" PRId64 " router> ", now);
+        if (unit.kind == RTR_ERROR_REPORT) {
+            add(&seen, "report %u %u %s", unit.version, unit.code, unit.part_length ? "" : "-");
+            add_hex(&seen, output + unit.part_start, unit.part_length);
+            add(&seen, " %.*s", (int)unit.text_length, (const char *)output + unit.text_start);
+        } else {
+            add_hex(&seen, output, unit.size);
+        }
+        add(&seen, "\n");
+        rtr_client_sent(&c, unit.size);
+    }
+}
+
+static void shows(void)
+{
+    struct rtr_unit unit;
+    add(&seen, "%" PRId64 " shows {", now);
+    for (size_t at = 0; at < c.data_length; at += unit.size) {
+        CHECK(rtr_next(c.data + at, c.data_length - at, &unit) == RTR_OK);
+        add(&seen, " ");
+        add_hex(&seen, c.data + at, unit.size);
+    }
+    add(&seen, " }\n");
+}
+
+/* Has the client go on until it waits. */
+static void settle(void)
+{
+    for (;;) {
+        enum rtr_client_event event = rtr_client_next(&c, now);
+        if (event == RTR_CLIENT_WAIT || event == RTR_CLIENT_CLOSE)
+            sends();
+        if (event == RTR_CLIENT_WAIT)
+            return;
+        if (event == RTR_CLIENT_DATA)
+            shows();
+        connected = connected && event != RTR_CLIENT_CLOSE;
+        static const char *const words[] = {
+            [RTR_CLIENT_CONNECT] = "connects", [RTR_CLIENT_CLOSE] = "closes",
+            [RTR_CLIENT_DROPPED] = "drops", [RTR_CLIENT_NO_DATA] = "no data",
+            [RTR_CLIENT_FAILED] = NULL};
+        if (words[event])
+            add(&seen, "%" PRId64 " %s\n", now, words[event]);
+    }
+}
+
+/* The clock comes to this time. */
+static void pass(int64_t time)
+{
+    while (c.wakes <= time) {
+        now = c.wakes > now ? c.wakes : now;
+        settle();
+    }
+    now = time;
+}
+
+static void compare(void)
+{
+    if (strcmp(wanted.text, seen.text) != 0 && name[0]) {
+        printf("%s: wanted\n%sseen\n%s", name, wanted.text, seen.text);
+        name[0] = 0;
+        differ++;
+    }
+    wanted.length = seen.length = 0;
+    wanted.text[0] = seen.text[0] = 0;
+}
+
+/* The bytes of a word in hexadecimal come. */
+static void comes(const char *hex)
+{
+    size_t length, count = 0;
+    uint8_t *to = rtr_client_room(&c, &length);
+    for (unsigned value; sscanf(hex, " %2x", &value) == 1; count++) {
+        CHECK(count < length);
+        to[count] = (uint8_t)value;
+        hex += strspn(hex, " ") + 2;
+    }
+    if (connected)
+        rtr_client_received(&c, count);
+}
+
+static void set(const char *key, uint64_t value)
+{
+    struct rtr_settings *s = &c.settings;
+    if (!strcmp(key, "version"))
+        s->highest = (uint8_t)value;
+    else if (!strcmp(key, "chance"))
+        s->chance = (uint16_t)value;
+    else if (!strcmp(key, "most-bytes"))
+        s->most_bytes = value;
+    else
+        *(!strcmp(key, "pause")            ? &s->pause
+          : !strcmp(key, "connect-limit")  ? &s->connect_limit
+          : !strcmp(key, "response-limit") ? &s->response_limit
+          : !strcmp(key, "refresh")        ? &s->refresh
+          : !strcmp(key, "retry")          ? &s->retry
+          : !strcmp(key, "expire")         ? &s->expire
+                                           : &s->most_units) = (uint32_t)value;
+}
+
+/* A step that the cache takes at this time, or none. */
+static void given(int64_t time, const char *step)
+{
+    pass(time);
+    if (step)
+        compare();
+    if (step && !strncmp(step, "> ", 2))
+        comes(step + 2);
+    else if (step && !strcmp(step, " accepts"))
+        connected = true, rtr_client_connected(&c);
+    else if (step)
+        rtr_client_lost(&c, strcmp(step, " closes") ? "it broke" : NULL);
+    if (step)
+        settle();
+}
+
+/* A step that the client has to take, with one space between words and none in a query. */
+static void wants(char *step)
+{
+    unsigned place = 0;
+    bool query = false;
+    for (char *word = strtok(step, " "); word; word = strtok(NULL, " "), place++) {
+        query = place == 2 ? query && strcmp(word, "report") : query || !strcmp(word, "router>");
+        add(&wanted, "%s%s", place == 0 || (query && place > 2) ? "" : " ", word);
+    }
+    add(&wanted, "\n");
+}
+
+static void line(char *text)
+{
+    int at = 0;
+    int64_t time;
+    char key[64];
+    uint64_t value;
+    text[strcspn(text, "#\n")] = 0;
+    for (size_t length = strlen(text); length > 0 && text[length - 1] == ' ';)
+        text[--length] = 0;
+    if (!strncmp(text, "scene ", 6)) {
+        compare();
+        rtr_client_free(&c);
+        rtr_client_init(&c, 1);
+        now = 0;
+        connected = false;
+        snprintf(name, sizeof name, "%.255s", text + 6);
+        played++;
+    } else if (sscanf(text, "router %63s %" SCNu64, key, &value) == 2) {
+        set(key, value);
+    } else if (sscanf(text, "at %" SCNd64, &time) == 1) {
+        given(time, NULL);
+    } else if (sscanf(text, "%" SCNd64 " cache%n", &time, &at) == 1 && at) {
+        given(time, text + at);
+    } else if (text[0]) {
+        wants(text);
+    }
+}
+
+int main(void)
+{
+    static char text[LONGEST_LINE];
+    while (fgets(text, sizeof text, stdin))
+        line(text);
+    compare();
+    rtr_client_free(&c);
+    if (differ || !played)
+        printf("scenes by the client in C: %u of %u differ\n", differ, played);
+    return differ || !played;
+}
