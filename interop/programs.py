@@ -9,7 +9,7 @@ from processes import Missing
 TOP = os.path.join(os.path.dirname(os.path.abspath(__file__)), "..")
 FOLDER = os.environ.get("RTR_PROGRAMS", os.path.join(TOP, "prebuilt", "x86_64"))
 SHOWN = os.path.relpath(FOLDER, TOP)
-NAMES = ("rtr_list", "rtr_normalise", "rtr_diff", "rtr_clean", "rtr_make", "rtr_validate")
+NAMES = ("rtr_list", "rtr_normalise", "rtr_diff", "rtr_clean", "rtr_make")
 SECONDS = 180
 
 # The fields of a line of `rtr_list --json` that `rtr_diff --json` doesn't print.

@@ -6,7 +6,7 @@ import random
 import subprocess
 import sys
 
-import programs
+import ours
 import recorder
 import routers
 from payloads import Origin
@@ -55,38 +55,45 @@ def text_of(route):
     return validity.shown(route.prefix, route.width, route.length)
 
 
-def by_us(file, routes):
-    """What `rtr_validate` says of the routes, by this recording."""
-    lines = "".join(f"{text_of(route)} AS{route.asn}\n" for route in routes)
-    status, answers, said = programs.run(["rtr_validate", file], lines.encode())
-    if status:
-        raise ValueError(f"rtr_validate ends with {status}: {said}")
-    words = [line.split(" ", 2)[2] for line in answers.decode().splitlines()]
-    return [word.split(":")[0] for word in words]
+def lines_of(routes):
+    """The routes as the two programs in C read them."""
+    return "".join(f"{4 if route.width == 32 else 6} {text_of(route).replace('/', ' ')} {route.asn}\n"
+                   for route in routes)
 
 
-def compiled(folder):
-    """The program over rtrlib's manager."""
-    compiler = program("cc", "gcc", "clang")
-    out = os.path.join(folder, "rtr_mgr")
-    source = os.path.join(TOP, "interop", "rtr_mgr.c")
-    words = [compiler, "-std=c11", "-D_DEFAULT_SOURCE", "-O1", "-o", out, source, "-lrtr"]
-    done = subprocess.run(words, capture_output=True, text=True, timeout=SECONDS, check=False)
+def compiled(folder, name, *words):
+    """A program of this folder in C."""
+    out = os.path.join(folder, name)
+    command = [program("cc", "gcc", "clang"), "-std=c11", "-D_DEFAULT_SOURCE", "-O1", "-o", out,
+               os.path.join(TOP, "interop", f"{name}.c"), *words]
+    done = subprocess.run(command, capture_output=True, text=True, timeout=SECONDS, check=False)
+    return None if done.returncode else out
+
+
+def answers(words, routes):
+    """The numbers that a program says of the routes."""
+    done = subprocess.run(words, input=lines_of(routes), capture_output=True, text=True,
+                          timeout=SECONDS, check=False)
     if done.returncode:
-        raise Missing("librtr-dev isn't installed")
-    return out
+        raise OSError(f"{words[0]} ends with {done.returncode}: {done.stderr[-300:]}")
+    return [int(line) for line in done.stdout.splitlines()]
+
+
+def by_us(folder, sequence, routes):
+    """What `rtr_validate` says of the routes, by this sequence."""
+    path = compiled(folder, "routes", "-I", os.path.join(TOP, "bindings", "c"),
+                    os.path.join(TOP, ours.ARCHIVE))
+    if path is None:
+        raise Missing(f"{ours.ARCHIVE} is older than rtr_validate")
+    return [validity.VALIDITIES[number] for number in answers([path, sequence], routes)]
 
 
 def by_rtrlib(folder, port, routes):
     """What rtrlib's manager says of the routes, by the data of a cache."""
-    lines = "".join(
-        f"{4 if route.width == 32 else 6} {text_of(route).replace('/', ' ')} {route.asn}\n"
-        for route in routes)
-    done = subprocess.run([compiled(folder), str(port)], input=lines, capture_output=True, text=True,
-                          timeout=SECONDS, check=False)
-    if done.returncode:
-        raise OSError(f"rtr_mgr ends with {done.returncode}: {done.stderr[-300:]}")
-    return [OF_RTRLIB[int(line)] for line in done.stdout.splitlines()]
+    path = compiled(folder, "rtr_mgr", "-lrtr")
+    if path is None:
+        raise Missing("librtr-dev isn't installed")
+    return [OF_RTRLIB[number] for number in answers([path, str(port)], routes)]
 
 
 def by_bird(bird, routes):
@@ -112,10 +119,10 @@ def compare(results, maker, folder):
         cache = maker(place, 1)
         with cache.serve(listed), contextlib.ExitStack() as stack:
             with recorder.Session(cache.port, place, "recorded") as session:
-                answer = session.ask(recorder.reset_query(1)).content
-            file = cache.keep("recording", answer)
+                answer = session.ask(recorder.reset_query(1))
+            file = cache.keep("sequence", answer.sequence())
             with Pair(results, PART, "rtr_validate", "v1", "this tree") as other:
-                other.equal("its answers", by_us(file, routes), states)
+                other.equal("its answers", by_us(place, file, routes), states)
             with Pair(results, PART, "rtrlib", "v1", package_version("librtr0")) as other:
                 theirs = by_rtrlib(place, cache.port, routes)
                 other.equal("rtr_mgr_validate", theirs, states)
