@@ -3,8 +3,8 @@
 use crate::answer::Answer;
 use crate::row::{Row, Way};
 use crate::{
-    data, deltas, fixed, into, meanings, parts, payloads, placing, sequences, session, variable,
-    views,
+    data, deltas, fixed, into, meanings, parts, payloads, placing, routes, sequences, session,
+    variable, views,
 };
 
 /// Makes the call of a row in one way, and answers its result, if there is such a call. All modules
@@ -17,6 +17,7 @@ pub fn call(row: &Row<'_>, way: Way) -> Option<Answer> {
         .or(meanings::answer(row))
         .or(data::answer(row, way))
         .or(deltas::answer(row))
+        .or(routes::answer(row))
         .or(variable::answer(row, way))
         .or(session::answer(row, way))
         .or(placing::answer(row))

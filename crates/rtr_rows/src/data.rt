@@ -72,7 +72,7 @@ fn error_name(error: ChangeError) -> &'static str {
 }
 
 /// What the announcements and withdrawals of these bytes make of nothing.
-fn data_of(row: &Row<'_>, bytes: &[u8]) -> Data {
+pub fn data_of(row: &Row<'_>, bytes: &[u8]) -> Data {
     let mut data = Data::new(row.alloc);
     for (action, payload) in changes_of(row, bytes) {
         let _ = change(&mut data, action, payload);

@@ -24,6 +24,7 @@ mod meanings;
 mod parts;
 mod payloads;
 mod placing;
+mod routes;
 mod row;
 mod sequences;
 mod session;

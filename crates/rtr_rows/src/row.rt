@@ -13,6 +13,7 @@ pub struct Setting<'a> {
 
 /// The keys of settings that are numbers, and the greatest number of each.
 const NUMBERS: &[(&str, u64)] = &[
+    ("asn", 4294967295),
     ("breaks", u64::MAX),
     ("code", 65535),
     ("count", 4294967295),
