@@ -13,20 +13,35 @@ import (
 // What a Client and a Server refuse of a session, each in a Breach that says which unit it was.
 var (
 	// ErrOtherVersion is of a unit whose version isn't the one that the session has.
-	ErrOtherVersion = errors.New("unit of another version than the session")
-	// ErrNoVersion is of a unit whose version isn't supported at all.
+	ErrOtherVersion = errors.New(causeOtherVersion.String())
+	// ErrHigherVersion is of an answer whose version is above that of the query.
+	ErrHigherVersion = errors.New(causeHigherVersion.String())
+	// ErrNoVersion is of a query whose version isn't supported at all.
 	ErrNoVersion = errors.New("version is not supported")
 	// ErrOtherSession is of a unit of a cache whose session isn't that of its data.
-	ErrOtherSession = errors.New("unit of another session")
+	ErrOtherSession = errors.New(causeOtherSession.String())
 	// ErrSerialBack is of an end of data whose serial number comes before that of the query.
-	ErrSerialBack = errors.New("serial number before that of the query")
+	ErrSerialBack = errors.New(causeOldSerial.String())
+	// ErrOtherData is of an end of data with changes at the serial number of the query.
+	ErrOtherData = errors.New(causeOtherData.String())
 	// ErrNoQuery is of a unit of a client that is no query.
 	ErrNoQuery = errors.New("unit is not a query")
 	// ErrMisplaced is of a unit of a cache that may not stand where it came.
-	ErrMisplaced = errors.New("unit is not allowed here")
+	ErrMisplaced = errors.New(causeOutOfPlace.String())
 	// ErrNoPayload is of a payload unit that its version doesn't have.
-	ErrNoPayload = errors.New("version does not have such payloads")
+	ErrNoPayload = errors.New(causeNoSuchPayload.String())
 )
+
+// breaches are the reasons of breaches, by the cause that the machine names.
+var breaches = map[cause]error{
+	causeOutOfPlace:    ErrMisplaced,
+	causeNoSuchPayload: ErrNoPayload,
+	causeOtherVersion:  ErrOtherVersion,
+	causeHigherVersion: ErrHigherVersion,
+	causeOtherSession:  ErrOtherSession,
+	causeOldSerial:     ErrSerialBack,
+	causeOtherData:     ErrOtherData,
+}
 
 // ErrTooSlow is of a peer that let a limit of time pass.
 var ErrTooSlow = errors.New("rtr: the peer is too slow")
@@ -82,6 +97,37 @@ func (r *Reported) Error() string {
 	return fmt.Sprintf("rtr: the peer reports: %v: %.200q", r.Code, r.Text)
 }
 
+// breachOf is the breach that the machine names, of the unit that these bytes begin with, of which
+// it has a copy.
+func breachOf(why cause, code ErrorCode, input []byte) error {
+	size, err := UnitSize(input)
+	if err != nil {
+		size = header
+	}
+	if size > len(input) {
+		size = len(input)
+	}
+	return breach(breaches[why], code, input[:size])
+}
+
+// owned is the error with a copy of the unit, if it is a Fault.
+func owned(err error) error {
+	var fault *Fault
+	if errors.As(err, &fault) {
+		fault.Unit = clone(fault.Unit)
+	}
+	return err
+}
+
+// reportedIn is what the error report says that these bytes begin with.
+func reportedIn(input []byte) error {
+	unit, _, err := Next(input)
+	if err != nil {
+		return err
+	}
+	return reported(&unit)
+}
+
 // reported is what an error report says.
 func reported(unit *Unit) error {
 	return &Reported{Version: unit.Version, Code: unit.Code, Text: string(unit.Text)}
@@ -116,15 +162,16 @@ func isTimeout(err error) bool {
 // closed while bytes of the peer are unread is reset, and the report may be lost.
 const lingerBytes = 1 << 20
 
-// sendLast writes a last unit to a connection, if there is one, and lets the peer read it.
-func sendLast(connection net.Conn, unit *Unit, patience time.Duration) {
-	if unit == nil {
+// sendLast writes the bytes of a last unit to a connection, if there are some, and lets the peer
+// read them.
+func sendLast(connection net.Conn, last []byte, patience time.Duration) {
+	if len(last) == 0 {
 		return
 	}
 	if connection.SetDeadline(time.Now().Add(patience)) != nil {
 		return
 	}
-	if NewWriter(connection).Write(unit) != nil {
+	if _, err := connection.Write(last); err != nil {
 		return
 	}
 	if half, ok := connection.(interface{ CloseWrite() error }); !ok || half.CloseWrite() != nil {

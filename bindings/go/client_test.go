@@ -96,7 +96,8 @@ func TestClientWithoutLimits(t *testing.T) {
 	}
 }
 
-// An answer of as many bytes, or units, as are allowed is taken, and one of one more isn't.
+// An answer of as many bytes of payload units, or units, as are allowed is taken, and one of one
+// more isn't.
 func TestClientLimitsMet(t *testing.T) {
 	noLeaks(t)
 	data := parsed(t, join(ipv4, announced6, ending(1, 7, 9)))
@@ -108,9 +109,9 @@ func TestClientLimitsMet(t *testing.T) {
 		units  uint64
 		reason error
 	}{
-		{len(data.Bytes()), 3, nil},
-		{len(data.Bytes()) - 1, 3, NoRoom},
-		{len(data.Bytes()), 2, TooMany},
+		{len(ipv4) + len(announced6), 3, nil},
+		{len(ipv4) + len(announced6) - 1, 3, ErrTooLong},
+		{len(ipv4) + len(announced6), 2, ErrTooLong},
 	} {
 		client := quick(address)
 		client.Version, client.Limits.Bytes, client.Limits.Units = 1, one.bytes, one.units
@@ -446,7 +447,7 @@ var clientStates = map[string]struct {
 	},
 	"a higher version": {
 		[][]scene{{{reset1, changed(full(7, 1), 0, 2)}}, {{reset1, full(7, 3)}}},
-		[]uint32{3}, []error{ErrNoVersion},
+		[]uint32{3}, []error{ErrHigherVersion},
 	},
 	"another version later": {
 		[][]scene{
@@ -489,7 +490,7 @@ func TestChangesBetweenVersions(t *testing.T) {
 	noLeaks(t)
 	address := fakeCache(t, play(t, nil, scene{reset1, join(full(7, 1, key), report(1, 1))}),
 		play(t, nil, scene{asked(1, 7, 1), all0}), play(t, nil, scene{reset0, join(all0, report(0, 1))}),
-		play(t, nil, scene{asked(0, 7, 3), []byte{}}), play(t, nil, scene{reset1, full(7, 4, key)}))
+		play(t, nil, scene{reset1, []byte{}}), play(t, nil, scene{reset1, full(7, 4, key)}))
 	client := quick(address)
 	client.Version, client.Expire = 1, time.Second
 	updates, failures := follow(t, client, func(update Update) bool {
@@ -512,7 +513,7 @@ func TestRetry(t *testing.T) {
 	noLeaks(t)
 	address := fakeCache(t, play(t, nil, scene{reset1, join(full(7, 1), report(1, 1))}),
 		play(t, nil, scene{asked(1, 7, 1), report(1, 0)}), play(t, nil, scene{reset1, nil}),
-		play(t, nil, scene{reset0, nil}), play(t, nil, scene{reset1, full(7, 3)}))
+		play(t, nil, scene{reset1, full(7, 3)}))
 	client := quick(address)
 	client.Version, client.Retry = 1, 800*time.Millisecond
 	begun := time.Now()
@@ -573,37 +574,6 @@ func TestFetchFalls(t *testing.T) {
 	defer lock.Unlock()
 	if !errors.Is(err, ErrClosed) || !bytes.Equal(versions, []byte{2, 1, 0}) {
 		t.Fatal(versions, err)
-	}
-}
-
-// The times of an end of data, kept within RFC 8210 section 6, and those that stand for them.
-func TestTimes(t *testing.T) {
-	const day = 24 * time.Hour
-	second := time.Second
-	for _, one := range []struct {
-		version                uint8
-		timing                 Timing
-		client                 Client
-		refresh, retry, expire time.Duration
-	}{
-		{1, Timing{60, 50, 700}, Client{}, 60 * second, 50 * second, 700 * second},
-		{2, Timing{0, 0, 0}, Client{}, second, second, 600 * second},
-		{1, Timing{1 << 31, 1 << 31, 1 << 31}, Client{}, day, 2 * time.Hour, 2 * day},
-		{0, Timing{1, 2, 3}, Client{}, time.Hour, 600 * second, 2 * time.Hour},
-		{1, Timing{60, 50, 700}, Client{Refresh: 1, Retry: 2, Expire: 3}, 1, 2, 3},
-	} {
-		data, err := NewData(one.version, 7, 1, one.timing)
-		if err != nil {
-			t.Fatal(err)
-		}
-		f := follower{client: &one.client, data: data}
-		if f.refresh() != one.refresh || f.retry() != one.retry || f.expire() != one.expire {
-			t.Fatal(one, f.refresh(), f.retry(), f.expire())
-		}
-	}
-	f := follower{client: &Client{}}
-	if f.refresh() != time.Hour || f.retry() != 600*second || f.expire() != 2*time.Hour {
-		t.Fatal(f.refresh(), f.retry(), f.expire())
 	}
 }
 

@@ -3,328 +3,238 @@
 package rtr
 
 import (
-	"bufio"
-	"context"
 	"errors"
-	"fmt"
 	"io"
-	"net"
-	"time"
 )
 
-// conversation is one connection of a Client to its cache.
-type conversation struct {
-	*follower
-	ctx        context.Context
-	connection net.Conn
-	reader     *Reader
-	writer     *Writer
-	version    uint8 // of the session, once it is agreed on, and before that the one it asks in
-	agreed     bool  // the cache answered in this version
-	serial     bool  // the last query was a serial query
-	asked      time.Time
+// follower is a Client that runs: the machine, which says what is to be done, and the connection
+// and the data with which it is done.
+type follower struct {
+	client  *Client
+	once    bool // it ends after the first data, or the first failure
+	changed func(Update) error
+	peer    peer
+	machine machine
+	data    Data
+
+	connected bool
+	buffer    []byte
+	input     []byte // what came and isn't done with, a part of the buffer
+	offset    int64  // where it begins in what the connection gave
+	closed    error  // why the cache sends no more
+	came      []byte // what the last action is done with
+	unit      []byte // the unit that it is about, and what follows that
+	kept      []byte // the units of an answer
+	made      Data   // what its changes made
+	err       error  // why no connection was made, or why the changes are refused
+	stopped   error  // why the follower ends
 }
 
-// follow connects to the cache, and follows it until the connection ends. It says why it did, or
-// that the cache wants a lower version, which is then set.
-func (f *follower) follow(ctx context.Context) (fell bool, err error) {
-	f.soon = false
-	dialer := net.Dialer{Deadline: f.soonest(time.Now().Add(f.client.Limits.Dial))}
-	connection, err := dialer.DialContext(ctx, "tcp", f.client.Address)
-	if err != nil && f.dropExpired() {
-		return false, ErrExpired
+// errDone ends a follower that has what was wanted.
+var errDone = errors.New("rtr: done")
+
+// run does what the machine says until the caller wants no more.
+func (f *follower) run() error {
+	f.buffer = make([]byte, 2*chunk)
+	next := f.machine.tick(f.peer.now())
+	for f.stopped == nil {
+		next = f.perform(next)
 	}
-	if err != nil {
-		return false, err
-	}
-	defer connection.Close()
-	defer closeAtEnd(ctx, connection)()
-	c := &conversation{
-		follower: f, ctx: ctx, connection: connection, version: f.version,
-		reader: NewReader(bufio.NewReaderSize(connection, chunk)), writer: NewWriter(connection),
-	}
-	err = c.converse()
-	if err := f.ended(ctx); err != nil {
-		return false, err
-	}
-	if version, lower := c.lower(err); lower {
-		f.version, f.resync = version, true
-		return true, nil
-	}
-	sendLast(connection, owedReport(err, c.version), f.client.Limits.Report)
-	return false, err
+	f.peer.close(nil)
+	return f.stopped
 }
 
-// closeAtEnd closes a connection when the context ends, until the function is called that it
-// answers.
-func closeAtEnd(ctx context.Context, connection net.Conn) func() {
-	done, ended := make(chan struct{}), make(chan struct{})
-	go func() {
-		defer close(ended)
-		select {
-		case <-ctx.Done():
-			connection.Close()
-		case <-done:
-		}
-	}()
-	return func() {
-		close(done)
-		<-ended
+// perform does what the machine says, and answers what it says then.
+func (f *follower) perform(a action) action {
+	switch a.kind {
+	case actionWait:
+		return f.wait()
+	case actionConnect:
+		return f.connect()
+	case actionAsk:
+		return f.ask(a)
+	case actionApply:
+		return f.apply(bool(a.changes))
+	case actionBegin:
+		f.kept = f.kept[:0]
+	case actionKeep:
+		f.kept = append(f.kept, f.came...)
+		return f.wait()
+	case actionShow:
+		f.show(f.made)
+	case actionNoData:
+		f.failed(reportedIn(f.unit))
+	case actionDrop, actionEnd:
+		f.end(a)
 	}
+	return f.machine.tick(f.peer.now())
 }
 
-// errLower is of a cache that answered a serial query in a lower version than it was asked in.
-type errLower uint8
-
-func (v errLower) Error() string {
-	return fmt.Sprintf("rtr: the cache has version %d", uint8(v))
-}
-
-// lower is the version to ask in after a conversation that ended so, if the cache has none as high
-// as it was asked in (RFC 8210 section 7): it says so by a report, or by a report or an answer in
-// a lower version, or closes the connection without a word on a reset query.
-func (c *conversation) lower(err error) (uint8, bool) {
-	var lower errLower
-	var report *Reported
-	switch {
-	case c.agreed || c.version == 0 || err == nil:
-		return 0, false
-	case errors.As(err, &lower):
-		return uint8(lower), true
-	case errors.As(err, &report):
-		// The version of the report needn't be the highest that the cache has.
-		older := report.Version < c.version
-		return c.version - 1, older || report.Code == UnsupportedProtocolVersion
-	}
-	var fault *Fault
-	silent := c.reader.Offset() == 0 && !errors.As(err, &fault) && !errors.Is(err, ErrTooSlow)
-	return c.version - 1, silent && !c.serial && !errors.Is(err, ErrExpired)
-}
-
-// converse asks, and asks again, until something ends it.
-func (c *conversation) converse() error {
+// wait tells the machine what came, or that its time came.
+func (f *follower) wait() action {
 	for {
-		err := c.fetch()
-		wait := c.refresh()
+		if next, ok := f.read(); ok {
+			return next
+		}
+		until := f.machine.wakes()
 		switch {
-		case c.once && err == nil:
-			return nil
-		case c.agreed && !c.once && isNoData(err):
-			c.client.failed(err)
-			wait = c.retry()
+		case f.peer.now() >= until:
+			return f.machine.tick(f.peer.now())
+		case !f.connected:
+			f.stop(f.peer.rest(until))
+			return f.machine.tick(f.peer.now())
+		}
+		switch err := f.receive(until); {
+		case err == io.EOF:
+			f.closed = ErrClosed
+		case isTimeout(err):
+			return f.machine.tick(f.peer.now())
 		case err != nil:
-			return err
-		}
-		if err := c.idle(time.Now().Add(wait)); err != nil {
-			return err
+			f.closed = err
 		}
 	}
 }
 
-// isNoData says whether a cache reports that it has no data yet (RFC 8210 section 8.4).
-func isNoData(err error) bool {
-	var report *Reported
-	return errors.As(err, &report) && report.Code == NoDataAvailable
-}
-
-// fetch asks for changes, or for all data, and takes the answer.
-func (c *conversation) fetch() error {
-	for {
-		c.serial = !c.data.IsZero() && !c.resync && c.data.Version() == c.version
-		if err := c.ask(); err != nil {
-			return err
-		}
-		unit, err := c.response()
-		if err != nil {
-			if c.serial && !errors.Is(err, ErrTooSlow) && !isNoData(err) {
-				// Some caches refuse the serial query of a session that they don't know.
-				c.reset()
-			}
-			return err
-		}
-		switch {
-		case unit.Kind == CacheResponse:
-			return c.receive(unit.Session)
-		case unit.Kind == CacheReset && c.serial:
-			// RFC 8210 section 8.3
-			c.resync = true
-		default:
-			return breach(ErrMisplaced, UnsupportedPDUType, c.reader.Bytes())
-		}
-	}
-}
-
-// ask sends a serial query or a reset query, and sets the time for its answer.
-func (c *conversation) ask() error {
-	query := Unit{Kind: ResetQuery, Version: c.version}
-	if c.serial {
-		query = Unit{
-			Kind: SerialQuery, Version: c.version,
-			Session: c.data.Session(), Serial: c.data.Serial(),
-		}
-	}
-	c.asked = time.Now()
-	deadline := c.soonest(c.asked.Add(c.client.Limits.Response))
-	if err := c.connection.SetDeadline(deadline); err != nil {
-		return err
-	}
-	return c.problem(c.writer.Write(&query))
-}
-
-// problem names an error of the connection. Where it is the time that the data expired, they are
-// dropped.
-func (c *conversation) problem(err error) error {
+// read tells the machine of the units that came, and says whether there was one.
+func (f *follower) read() (action, bool) {
 	switch {
-	case err == io.EOF:
-		return ErrClosed
-	case isTimeout(err) && c.dropExpired():
-		return ErrExpired
-	case isTimeout(err):
-		return fmt.Errorf("%w: %v", ErrTooSlow, err)
+	case !f.connected:
+		return action{}, false
+	case len(f.input) == 0 && f.closed != nil:
+		return f.lost(f.closed), true
+	case len(f.input) == 0:
+		return action{}, false
 	}
+	a := f.machine.read(f.peer.now(), f.input, f.closed != nil)
+	f.came, f.unit, f.input = f.input[:a.taken], f.input[a.start:], f.input[a.taken:]
+	f.offset += int64(a.taken)
+	return a, a.kind != actionWait || a.taken > 0
+}
+
+// receive reads what the cache sends until the time.
+func (f *follower) receive(until uint64) error {
+	if cap(f.input)-len(f.input) < chunk {
+		f.input = append(f.buffer[:0], f.input...)
+	}
+	n, err := f.peer.read(f.input[len(f.input):cap(f.input)], until)
+	f.input = f.input[:len(f.input)+n]
 	return err
 }
 
-// response reads the first unit of an answer. The first answer says what version the session has
-// (RFC 8210 section 7). Notifies in between say nothing new.
-func (c *conversation) response() (*Unit, error) {
-	for {
-		unit, err := c.next()
-		if err != nil {
-			return nil, err
-		}
-		switch {
-		case unit.Kind == SerialNotify:
-			continue
-		case c.agreed:
-		case unit.Version > c.version:
-			return nil, breach(ErrNoVersion, UnsupportedProtocolVersion, c.reader.Bytes())
-		case unit.Version < c.version && c.serial:
-			return nil, errLower(unit.Version)
-		}
-		c.version, c.agreed = unit.Version, true
-		return unit, nil
+// connect makes a connection.
+func (f *follower) connect() action {
+	f.input, f.offset, f.closed = f.buffer[:0], 0, nil
+	until := f.machine.wakes()
+	err := f.peer.connect(until)
+	switch {
+	case err == nil:
+		f.connected = true
+		return f.machine.connected(f.peer.now())
+	case isTimeout(err) && f.peer.now() >= until:
+		return f.machine.tick(f.peer.now())
 	}
+	return f.lost(err)
 }
 
-// next reads a unit, of the version that was agreed on. A report is an error.
-func (c *conversation) next() (*Unit, error) {
-	unit, err := c.reader.Next()
-	if err != nil {
-		return nil, c.problem(err)
-	}
-	if unit.Kind == ErrorReport {
-		if unit.Version == c.version && unit.Code == NoDataAvailable {
-			c.agreed = true
-		}
-		return nil, reported(unit)
-	}
-	if c.agreed {
-		return unit, c.checkVersion(unit)
-	}
-	return unit, nil
+// lost tells the machine that there is no connection, or none any more.
+func (f *follower) lost(err error) action {
+	f.err = err
+	f.stop(f.peer.ended())
+	return f.machine.lost(f.peer.now())
 }
 
-// checkVersion refuses a unit of another version than the session has.
-func (c *conversation) checkVersion(unit *Unit) error {
-	if unit.Version != c.version {
-		return breach(ErrOtherVersion, UnexpectedProtocolVersion, c.reader.Bytes())
+// ask sends a query.
+func (f *follower) ask(a action) action {
+	err := f.peer.write(queryOf(a), f.machine.wakes())
+	if err != nil && !isTimeout(err) {
+		return f.lost(err)
 	}
-	return nil
+	return f.machine.tick(f.peer.now())
 }
 
-// checkPayload refuses a unit that a response of this version can't have.
-func (c *conversation) checkPayload(unit *Unit) error {
-	if err := c.checkVersion(unit); err != nil {
-		return err
+// apply makes the changes of an answer: of the data, or of none.
+func (f *follower) apply(changes bool) action {
+	end := f.unit[:len(f.unit)-len(f.input)]
+	f.kept = append(f.kept, end...)
+	base := f.data
+	if !changes {
+		base = Data{bytes: end} // without payloads
 	}
-	if !unit.Kind.In(c.version) {
-		return breach(ErrNoPayload, UnsupportedPDUType, c.reader.Bytes())
-	}
-	return nil
-}
-
-// receive reads what follows a cache response, and makes all of the changes or none.
-func (c *conversation) receive(session uint16) error {
-	if c.serial && session != c.data.Session() {
-		return c.otherSession()
-	}
-	sequence := c.reader.Sequence(c.client.Limits.Units)
-	read, err := sequence.collect(c.client.Limits.Bytes, c.checkPayload)
-	if err != nil {
-		return c.interrupted(err)
-	}
-	end := sequence.Unit()
-	if end.Session != session {
-		return c.otherSession()
-	}
-	base, err := NewData(c.version, session, end.Serial, Timing{})
-	if c.serial {
-		base = c.data
-		if order, ok := CompareSerials(end.Serial, base.Serial()); ok && order < 0 {
-			c.reset()
-			return breach(ErrSerialBack, CorruptData, c.reader.Bytes())
-		}
-	}
-	if err != nil {
-		return err
-	}
-	data, err := ApplyInOrder(base, read)
-	if err != nil {
-		if c.serial {
-			c.reset()
-		}
-		return err
-	}
-	return c.take(data)
-}
-
-// interrupted is why a response ended before its end of data: it may have been a report.
-func (c *conversation) interrupted(err error) error {
+	f.made, f.err = ApplyInOrder(base, f.kept)
 	var fault *Fault
-	if errors.As(err, &fault) && fault.Status == UnitType && Kind(fault.Detail) == ErrorReport {
-		_, err = c.next()
-		return err
+	switch {
+	case f.err == nil:
+		return f.machine.applied(f.peer.now())
+	case errors.As(f.err, &fault):
+		f.unit = fault.Unit
+		return f.machine.notApplied(f.peer.now(), fault.Status)
 	}
-	return c.problem(err)
+	return f.machine.notApplied(f.peer.now(), OK)
 }
 
-// otherSession ends a session whose cache has begun another one, after the last unit said so: the
-// data are dropped (RFC 8210 section 5.1).
-func (c *conversation) otherSession() error {
-	err := breach(ErrOtherSession, CorruptData, c.reader.Bytes())
-	c.soon = c.soon || !c.data.IsZero()
-	c.drop()
-	return err
-}
-
-// idle waits for a notify of new data, or until it is time for the next query.
-func (c *conversation) idle(until time.Time) error {
-	for {
-		if err := c.connection.SetReadDeadline(c.soonest(until)); err != nil {
-			return err
-		}
-		unit, err := c.next()
-		if errors.Is(err, ErrTooSlow) {
-			return nil
-		}
-		if err != nil {
-			return err
-		}
-		switch {
-		case unit.Kind != SerialNotify:
-			return breach(ErrMisplaced, UnsupportedPDUType, c.reader.Bytes())
-		case c.data.IsZero():
-			return c.pauseAfterQuery()
-		case unit.Session != c.data.Session():
-			return c.otherSession()
-		case unit.Serial != c.data.Serial():
-			return c.pauseAfterQuery()
-		}
+// show gives other data to the caller: the zero Data where there are none any more.
+func (f *follower) show(data Data) {
+	old := f.data
+	f.data, f.made = data, Data{}
+	changes, err := changesBetween(old, data)
+	if err != nil {
+		f.stop(err)
+	}
+	if f.stopped == nil {
+		f.stop(f.changed(Update{data, changes}))
+	}
+	if f.once {
+		f.stop(errDone)
 	}
 }
 
-// pauseAfterQuery waits until another query may follow the last one.
-func (c *conversation) pauseAfterQuery() error {
-	return c.wait(c.ctx, time.Until(c.asked.Add(c.client.Limits.Pause)))
+// end drops the data where they have to go, and ends the connection with the report that is owed.
+func (f *follower) end(a action) {
+	reason := f.reason(a)
+	if bool(a.drops) && !f.data.IsZero() {
+		f.show(Data{})
+	}
+	f.peer.close(owedBy(a, f.unit))
+	f.connected, f.input = false, nil
+	if cause(a.cause) != causeLower {
+		f.failed(reason)
+	}
+}
+
+// failed tells the caller of a failure; one that wants data once ends with it.
+func (f *follower) failed(err error) {
+	if f.once {
+		f.stop(err)
+	}
+	if f.stopped == nil && f.client.Failed != nil {
+		f.client.Failed(err)
+	}
+}
+
+// stop ends the follower where there is an error.
+func (f *follower) stop(err error) {
+	if f.stopped == nil {
+		f.stopped = err
+	}
+}
+
+// reason is why a connection ends.
+func (f *follower) reason(a action) error {
+	switch cause(a.cause) {
+	case causeLost:
+		return f.err
+	case causeNotApplied:
+		return owned(f.err)
+	case causeSlow:
+		return ErrTooSlow
+	case causeTooLong:
+		return ErrTooLong
+	case causeExpired:
+		return ErrExpired
+	case causeReported:
+		return reportedIn(f.unit)
+	case causeFaulty:
+		return owned(refusal(Status(a.status), uint8(a.detail), f.unit, f.offset))
+	}
+	return breachOf(cause(a.cause), ErrorCode(a.code), f.unit)
 }

@@ -185,17 +185,18 @@ func clientRefusals() map[string]refusedResponse {
 	all := map[string]refusedResponse{
 		// The rows of docs/PROTOCOL.md.
 		"1: no header": {1, join(ipv4, end[:7]), Short, 0, end[:7], "unexpected end of input"},
-		"1: nothing":   {1, ipv4, Short, 0, nil, "unexpected end of input"},
-		"3: version 3": {1, header(3, 7, 24), UnitVersion, 4, header(3, 7, 24),
-			"version 3 is not supported here"},
+		"1: nothing":   {1, ipv4, ErrClosed, noReport, nil, ""},
+		"3: version 3": {1, header(3, 7, 24), ErrOtherVersion, 8, header(3, 7, 24),
+			"unit of another version than the session"},
 		"6: no providers": {2, changed(withdrawn, 2, 1), EmptyProviders, 9,
 			changed(withdrawn, 2, 1)[:8], "ASPA unit has no providers"},
-		"7: a cut unit":  {1, join(ipv4, ipv4[:19]), Short, 0, ipv4[:19], "unexpected end of input"},
-		"8: length over": {1, longPrefix, PrefixRule, 0, longPrefix, "prefix length too large"},
+		"7: a cut unit": {1, join(ipv4, ipv4[:19]), Short, 0, ipv4[:19], "unexpected end of input"},
+		"8: length over": {1, longPrefix, PrefixRule, 0, longPrefix,
+			"prefix fields are not allowed"},
 		"8: max length over": {1, changed(ipv4, 10, 33), PrefixRule, 0, changed(ipv4, 10, 33),
-			"max-length too large"},
+			"prefix fields are not allowed"},
 		"8: max length under": {1, changed(announced6, 10, 31), PrefixRule, 0,
-			changed(announced6, 10, 31), "max-length smaller than prefix length"},
+			changed(announced6, 10, 31), "prefix fields are not allowed"},
 		// The rules of a session and of data.
 		"a duplicate": {1, join(ipv4, announced6, ipv4, end), Duplicate, 7, ipv4,
 			"duplicate announcement"},
@@ -213,14 +214,14 @@ func clientRefusals() map[string]refusedResponse {
 			"version does not have such payloads"},
 		"another session": {1, ending(1, 7, 1), ErrOtherSession, 0, ending(1, 7, 1),
 			"unit of another session"},
-		"many units": {1, bytes.Repeat(ipv4, 101), TooMany, noReport, nil, ""},
-		"many bytes": {1, bytes.Repeat(changed(longKey(), 0, 1), 2), NoRoom, noReport, nil, ""},
+		"many units": {1, bytes.Repeat(ipv4, 101), ErrTooLong, noReport, nil, ""},
+		"many bytes": {1, bytes.Repeat(changed(longKey(), 0, 1), 2), ErrTooLong, noReport, nil, ""},
 	}
 	for kind := 0; kind < 256; kind++ {
-		if !Kind(kind).inSequence() && Kind(kind) != ErrorReport {
+		if kind == 5 || kind > int(ASPA) {
 			unit := header(1, byte(kind), 12)
 			all[fmt.Sprintf("2: type %d", kind)] = refusedResponse{1, unit, UnitType, 5, unit,
-				fmt.Sprintf("unit type %d is not allowed here", kind)}
+				"unit type is not allowed here"}
 		}
 	}
 	for _, kind := range []byte{9, 11} {
@@ -322,9 +323,9 @@ func TestHostileCaches(t *testing.T) {
 		reason error
 	}{
 		"notifies":       {flood(nil, bytes.Repeat(serialNotify, 1000)), ErrTooSlow},
-		"units":          {flood(response(1, 7), bytes.Repeat(ipv4, 1000)), TooMany},
-		"long units":     {flood(response(1, 7), longKey()), NoRoom},
-		"noise":          {flood(nil, bytes.Repeat([]byte{255}, 1000)), UnitType},
+		"units":          {flood(response(1, 7), bytes.Repeat(ipv4, 1000)), ErrTooLong},
+		"long units":     {flood(response(1, 7), longKey()), ErrTooLong},
+		"noise":          {flood(nil, bytes.Repeat([]byte{255}, 1000)), ErrHigherVersion},
 		"zeros":          {flood(nil, make([]byte, 1000)), UnitLength},
 		"four gigabytes": {flood([]byte{1, 10, 0, 0, 255, 255, 255, 255}, make([]byte, 1000)), TooLong},
 		"trickle":        {trickle, ErrTooSlow},

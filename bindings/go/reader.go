@@ -214,16 +214,8 @@ func (s *Sequence) Err() error {
 // Errors: those of Err, and a Fault with NoRoom at the unit that doesn't fit. Units that were taken
 // before are lost.
 func (s *Sequence) Collect(most int) ([]byte, error) {
-	return s.collect(most, func(*Unit) error { return nil })
-}
-
-// collect is Collect of units that pass a check.
-func (s *Sequence) collect(most int, check func(*Unit) error) ([]byte, error) {
 	var all []byte
 	for s.Scan() {
-		if err := check(s.unit); err != nil {
-			return nil, err
-		}
 		unit := s.reader.Bytes()
 		if len(unit) > most-len(all) {
 			return nil, &Fault{Status: NoRoom, Offset: s.reader.offset}

@@ -184,7 +184,10 @@ func (c *served) refuse(err error, asked bool) {
 			report.Version = report.Enclosed[0]
 		}
 	}
-	sendLast(c.connection, report, c.server.Limits.Unit)
+	if report != nil {
+		last, _ := report.AppendBinary(nil)
+		sendLast(c.connection, last, c.server.Limits.Unit)
+	}
 }
 
 // answer answers a query (RFC 8210 section 8).

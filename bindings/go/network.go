@@ -1,0 +1,123 @@
+//go:build cgo && linux && (amd64 || arm64)
+
+package rtr
+
+import (
+	"context"
+	"io"
+	"math"
+	"net"
+	"time"
+)
+
+// peer is the cache of a follower: a clock, and at most one connection. Times are in milliseconds
+// of the clock, which doesn't go back. Where a time is over, the error is a timeout.
+type peer interface {
+	now() uint64
+	// ended is why nothing more is wanted, if that is so.
+	ended() error
+	// rest waits without a connection until the time.
+	rest(until uint64) error
+	connect(until uint64) error
+	read(buffer []byte, until uint64) (int, error)
+	write(bytes []byte, until uint64) error
+	// close sends a last unit, if there is one, and ends the connection, if there is one.
+	close(last []byte)
+}
+
+// network is a peer over TCP. Its context ends what it waits for.
+type network struct {
+	ctx        context.Context
+	address    string
+	patience   time.Duration // for the last unit
+	begun      time.Time
+	connection net.Conn
+	release    func() // the context closes the connection no longer
+}
+
+func (n *network) now() uint64 {
+	return uint64(time.Since(n.begun).Milliseconds())
+}
+
+func (n *network) ended() error {
+	return n.ctx.Err()
+}
+
+// at is a time of the clock.
+func (n *network) at(until uint64) time.Time {
+	if most := uint64(math.MaxInt64 / time.Millisecond); until > most {
+		until = most
+	}
+	return n.begun.Add(time.Duration(until) * time.Millisecond)
+}
+
+func (n *network) rest(until uint64) error {
+	timer := time.NewTimer(time.Until(n.at(until)))
+	defer timer.Stop()
+	select {
+	case <-n.ctx.Done():
+		return n.ctx.Err()
+	case <-timer.C:
+		return nil
+	}
+}
+
+func (n *network) connect(until uint64) error {
+	dialer := net.Dialer{Deadline: n.at(until)}
+	connection, err := dialer.DialContext(n.ctx, "tcp", n.address)
+	if err != nil {
+		return err
+	}
+	n.connection, n.release = connection, closeAtEnd(n.ctx, connection)
+	return nil
+}
+
+func (n *network) read(buffer []byte, until uint64) (int, error) {
+	if err := n.connection.SetReadDeadline(n.at(until)); err != nil {
+		return 0, err
+	}
+	count, err := n.connection.Read(buffer)
+	if count == 0 && err == nil {
+		err = io.ErrNoProgress
+	}
+	if count > 0 {
+		err = nil
+	}
+	return count, err
+}
+
+func (n *network) write(bytes []byte, until uint64) error {
+	if err := n.connection.SetWriteDeadline(n.at(until)); err != nil {
+		return err
+	}
+	_, err := n.connection.Write(bytes)
+	return err
+}
+
+func (n *network) close(last []byte) {
+	if n.connection == nil {
+		return
+	}
+	sendLast(n.connection, last, n.patience)
+	n.release()
+	n.connection.Close()
+	n.connection = nil
+}
+
+// closeAtEnd closes a connection when the context ends, until the function is called that it
+// answers.
+func closeAtEnd(ctx context.Context, connection net.Conn) func() {
+	done, ended := make(chan struct{}), make(chan struct{})
+	go func() {
+		defer close(ended)
+		select {
+		case <-ctx.Done():
+			connection.Close()
+		case <-done:
+		}
+	}()
+	return func() {
+		close(done)
+		<-ended
+	}
+}

@@ -1,0 +1,276 @@
+//go:build cgo && linux && (amd64 || arm64)
+
+package rtr
+
+import (
+	"bufio"
+	"encoding/hex"
+	"errors"
+	"fmt"
+	"io"
+	"os"
+	"os/exec"
+	"path/filepath"
+	"strconv"
+	"strings"
+	"testing"
+	"time"
+)
+
+// step is a line of a scene that the cache or the clock does (tests/transcripts/README.md).
+type step struct {
+	time uint64
+	what string // accepts, refuses, closes, breaks, > for bytes, or at
+	data []byte
+}
+
+// played is a scene: a peer with a made clock, and what the client does.
+type played struct {
+	name         string
+	client       Client
+	chance       uint16
+	given        []step
+	wanted, seen []string
+	clock        uint64
+	open, broken bool // open from a connect to a close
+	over         bool
+}
+
+func (p *played) now() uint64 { return p.clock }
+
+func (p *played) ended() error {
+	if p.over {
+		return errDone
+	}
+	return nil
+}
+
+// notes puts down what the client does.
+func (p *played) notes(format string, values ...any) {
+	p.seen = append(p.seen, fmt.Sprintf("%d ", p.clock)+fmt.Sprintf(format, values...))
+}
+
+// next is the next step, if it comes before the time; else the clock comes to the time.
+func (p *played) next(until uint64) (step, error) {
+	if len(p.given) == 0 {
+		p.over = true
+		return step{}, errDone
+	}
+	one := p.given[0]
+	if one.time >= until && until > p.clock {
+		p.clock = until
+		return step{}, os.ErrDeadlineExceeded
+	}
+	p.given = p.given[1:]
+	p.clock = one.time
+	return one, nil
+}
+
+func (p *played) rest(until uint64) error {
+	for {
+		if _, err := p.next(until); errors.Is(err, os.ErrDeadlineExceeded) {
+			return nil
+		} else if err != nil {
+			return err
+		}
+	}
+}
+
+var errBroken = errors.New("broken")
+
+func (p *played) connect(until uint64) error {
+	p.notes("connects")
+	p.open, p.broken = true, false
+	for {
+		one, err := p.next(until)
+		switch {
+		case err != nil:
+			return err
+		case one.what == "accepts":
+			return nil
+		case one.what == "refuses":
+			return errBroken
+		}
+	}
+}
+
+func (p *played) read(buffer []byte, until uint64) (int, error) {
+	for {
+		one, err := p.next(until)
+		switch {
+		case err != nil:
+			return 0, err
+		case one.what == ">":
+			return copy(buffer, one.data), nil
+		case one.what == "closes":
+			return 0, io.EOF
+		case one.what == "breaks":
+			p.broken = true
+			return 0, errBroken
+		}
+	}
+}
+
+func (p *played) write(bytes []byte, until uint64) error {
+	p.notes("router> %x", bytes)
+	return nil
+}
+
+func (p *played) close(last []byte) {
+	if unit, _, err := Next(last); err == nil && !p.broken {
+		about := "-"
+		if len(unit.Enclosed) > 0 {
+			about = hex.EncodeToString(unit.Enclosed)
+		}
+		p.notes("router> report %d %d %s %s", unit.Version, unit.Code, about, unit.Text)
+	}
+	if p.open && !p.over {
+		p.notes("closes")
+	}
+	p.open = false
+}
+
+// play has a client do what the scene asks for, and says what it does otherwise.
+func (p *played) play() error {
+	client := p.client
+	client.Limits = client.Limits.orUsual()
+	client.Failed = func(err error) {
+		var report *Reported
+		if p.open && errors.As(err, &report) {
+			p.notes("no data")
+		}
+	}
+	f := &follower{client: &client, peer: p, machine: newMachine(&client, p.chance)}
+	f.changed = func(update Update) error {
+		if update.Data.IsZero() {
+			p.notes("drops")
+			return nil
+		}
+		parts := []string{"shows {"}
+		for bytes := update.Data.Bytes(); len(bytes) > 0; {
+			size := unitLength(bytes)
+			parts = append(parts, hex.EncodeToString(bytes[:size]))
+			bytes = bytes[size:]
+		}
+		p.notes("%s }", strings.Join(parts, " "))
+		return nil
+	}
+	if err := f.run(); err != errDone {
+		return err
+	}
+	wanted, seen := strings.Join(p.wanted, "\n"), strings.Join(p.seen, "\n")
+	if wanted != seen {
+		return fmt.Errorf("%s: wanted\n%s\nseen\n%s", p.name, wanted, seen)
+	}
+	return nil
+}
+
+// take takes a line of the scene.
+func (p *played) take(line string) error {
+	words := strings.Fields(line)
+	if words[0] == "router" {
+		return p.set(words[1], words[2])
+	}
+	if words[0] == "at" {
+		words = []string{words[1], "cache", "at"}
+	}
+	time, err := strconv.ParseUint(words[0], 10, 64)
+	if err != nil {
+		return err
+	}
+	switch {
+	case words[1] == "cache>":
+		data, err := hex.DecodeString(strings.Join(words[2:], ""))
+		p.given = append(p.given, step{time, ">", data})
+		return err
+	case words[1] == "cache":
+		p.given = append(p.given, step{time, words[2], nil})
+	case words[1] == "router>" && words[2] != "report":
+		p.wanted = append(p.wanted, words[0]+" router> "+strings.Join(words[2:], ""))
+	default:
+		p.wanted = append(p.wanted, strings.Join(words, " "))
+	}
+	return nil
+}
+
+// set takes a setting of the scene.
+func (p *played) set(name, value string) error {
+	number, err := strconv.ParseUint(value, 10, 32)
+	span := time.Duration(number) * time.Millisecond
+	switch name {
+	case "version":
+		p.client.Version = uint8(number)
+	case "chance":
+		p.chance = uint16(number)
+	case "pause":
+		p.client.Limits.Pause = span
+	case "connect-limit":
+		p.client.Limits.Dial = span
+	case "response-limit":
+		p.client.Limits.Response = span
+	case "refresh":
+		p.client.Refresh = span
+	case "retry":
+		p.client.Retry = span
+	case "expire":
+		p.client.Expire = span
+	case "most-units":
+		p.client.Limits.Units = number + 1 // with the end of data
+	case "most-bytes":
+		p.client.Limits.Bytes = int(number)
+	default:
+		return fmt.Errorf("no setting %s", name)
+	}
+	return err
+}
+
+// scenesOf are the scenes of a file.
+func scenesOf(t *testing.T, path string) []*played {
+	file, err := os.Open(path)
+	if err != nil {
+		t.Fatal(err)
+	}
+	defer file.Close()
+	var all []*played
+	for lines := bufio.NewScanner(file); lines.Scan(); {
+		line, _, _ := strings.Cut(lines.Text(), "#")
+		if words := strings.Fields(line); len(words) == 2 && words[0] == "scene" {
+			all = append(all, &played{name: words[1]})
+		} else if len(words) > 0 {
+			if err := all[len(all)-1].take(line); err != nil {
+				t.Fatalf("%s: %s: %v", path, line, err)
+			}
+		}
+	}
+	return all
+}
+
+// A client does in each scene what the scene says.
+func TestTranscripts(t *testing.T) {
+	const transcripts = "../../tests/transcripts"
+	made := t.TempDir()
+	if out, err := exec.Command(transcripts+"/make", made).CombinedOutput(); err != nil {
+		if errors.Is(err, exec.ErrNotFound) {
+			t.Skip("there is no python3 to make scenes")
+		}
+		t.Fatalf("%v: %s", err, out)
+	}
+	count := 0
+	for _, folder := range []string{transcripts + "/scenes", made} {
+		paths, err := filepath.Glob(folder + "/*.scene")
+		if err != nil {
+			t.Fatal(err)
+		}
+		for _, path := range paths {
+			for _, one := range scenesOf(t, path) {
+				count++
+				if err := one.play(); err != nil {
+					t.Error(err)
+				}
+			}
+		}
+	}
+	if count < 300 {
+		t.Errorf("only %d scenes", count)
+	}
+}
