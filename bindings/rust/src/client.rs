@@ -5,12 +5,12 @@ use crate::fault::ErrorCode;
 use crate::following::Follower;
 use crate::owned_data::{Changes, Data};
 use crate::reader::Refusal;
-use crate::timed::{report_on, Stop};
+use crate::timed::Stop;
 use crate::unit::ErrorReport;
 use std::fmt;
 use std::io;
 use std::ops::ControlFlow;
-use std::string::{String, ToString};
+use std::string::String;
 use std::time::Duration;
 use std::vec::Vec;
 
@@ -76,22 +76,12 @@ pub enum Breach {
     OtherSession,
     /// The serial number of the end of data comes before that of the query.
     SerialBack,
+    /// There are other data at the very serial number of the query.
+    OtherData,
     /// A unit of this kind may not stand where it came.
     Misplaced,
     /// The version doesn't have payloads of this kind.
     NoPayload,
-}
-
-impl Breach {
-    /// The code that it is reported with (RFC 8210 section 12).
-    pub fn code(self) -> ErrorCode {
-        match self {
-            Breach::OtherVersion => ErrorCode::UNEXPECTED_PROTOCOL_VERSION,
-            Breach::HigherVersion => ErrorCode::UNSUPPORTED_PROTOCOL_VERSION,
-            Breach::OtherSession | Breach::SerialBack => ErrorCode::CORRUPT_DATA,
-            Breach::Misplaced | Breach::NoPayload => ErrorCode::UNSUPPORTED_PDU_TYPE,
-        }
-    }
 }
 
 impl fmt::Display for Breach {
@@ -101,6 +91,7 @@ impl fmt::Display for Breach {
             Breach::HigherVersion => "answer of a higher version than the query",
             Breach::OtherSession => "unit of another session",
             Breach::SerialBack => "serial number before that of the query",
+            Breach::OtherData => "other data at the serial number of the query",
             Breach::Misplaced => "unit is not allowed here",
             Breach::NoPayload => "version does not have such payloads",
         })
@@ -117,10 +108,8 @@ pub enum ClientError {
     Closed,
     /// The cache let a limit of time pass.
     TooSlow,
-    /// The answer has more bytes than are allowed.
-    TooManyBytes,
-    /// The answer has more units than are allowed.
-    TooManyUnits,
+    /// The answer has more bytes or units than are allowed.
+    TooLong,
     /// The cache didn't refresh the data in time, and they were dropped (RFC 8210 section 6).
     Expired,
     /// The client was stopped.
@@ -138,30 +127,13 @@ pub enum ClientError {
     Breach {
         /// Why.
         reason: Breach,
+        /// The code of the report that was sent about it (RFC 8210 section 12).
+        code: ErrorCode,
         /// The bytes of the unit.
         unit: Vec<u8>,
     },
     /// The cache sent an error report.
     Reported(ErrorReport<Vec<u8>>),
-}
-
-impl ClientError {
-    /// The report that is owed to the cache, in the version of the session, if one is: none about a
-    /// report (RFC 8210 section 5.11).
-    pub fn report(&self, version: u8) -> Option<ErrorReport<Vec<u8>>> {
-        let (code, unit) = match self {
-            ClientError::Refused(refusal) => (refusal.fault.code(&refusal.unit)?, &refusal.unit),
-            ClientError::Data { error, unit } => (error.fault.code(unit)?, unit),
-            ClientError::Breach { reason, unit } => (reason.code(), unit),
-            _ => return None,
-        };
-        let text = match self {
-            ClientError::Refused(refusal) => refusal.fault.to_string(),
-            ClientError::Data { error, .. } => error.fault.to_string(),
-            other => other.to_string(),
-        };
-        Some(report_on(version, code, unit, &text))
-    }
 }
 
 impl fmt::Display for ClientError {
@@ -170,8 +142,7 @@ impl fmt::Display for ClientError {
             ClientError::Io(error) => error.fmt(f),
             ClientError::Closed => f.write_str("the cache closed the connection"),
             ClientError::TooSlow => f.write_str("the cache is too slow"),
-            ClientError::TooManyBytes => f.write_str("the answer has too many bytes"),
-            ClientError::TooManyUnits => f.write_str("the answer has too many units"),
+            ClientError::TooLong => f.write_str("the answer is too long"),
             ClientError::Expired => f.write_str("the data have expired"),
             ClientError::Stopped => f.write_str("the client was stopped"),
             ClientError::Refused(refusal) => refusal.fmt(f),

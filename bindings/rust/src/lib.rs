@@ -70,8 +70,6 @@ use std::{error, net};
 
 #[cfg(feature = "std")]
 mod client;
-#[cfg(feature = "std")]
-mod conversation;
 mod data;
 mod fault;
 #[cfg(feature = "std")]
@@ -80,9 +78,13 @@ mod kind;
 #[cfg(feature = "std")]
 mod lines;
 #[cfg(feature = "std")]
+mod machine;
+#[cfg(feature = "std")]
 mod owned_data;
 #[cfg(feature = "std")]
 mod reader;
+#[cfg(feature = "std")]
+mod router;
 mod sequence;
 #[cfg(feature = "std")]
 mod server;
@@ -110,6 +112,8 @@ pub use lines::{change_json, change_line};
 pub use owned_data::{order, Changes, Data};
 #[cfg(feature = "std")]
 pub use reader::{Error, Reader, Refusal, Sequence};
+#[cfg(feature = "std")]
+pub use router::{Router, Step};
 pub use sequence::{normalise, normalise_for, same_meaning, NotCompared, Progress, Stopped};
 #[cfg(feature = "std")]
 pub use server::{Server, ServerOptions};

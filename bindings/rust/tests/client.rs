@@ -249,8 +249,6 @@ fn follows_a_server() {
     assert!(matches!(client.fetch(), Err(ClientError::Io(_))));
     assert!(holds(|| threads("rtr ") == 0), "threads are left");
 }
-
-const RESET_QUERY_2: [u8; 8] = [2, 2, 0, 0, 0, 0, 0, 8];
 const UNSUPPORTED: ErrorCode = ErrorCode::UNSUPPORTED_PROTOCOL_VERSION;
 
 fn told_of(version: u8, serial: u32) -> Told {
@@ -279,27 +277,6 @@ fn lower_versions() {
         });
         assert_eq!(told, [told_of(0, 1)]);
     }
-}
-
-/// All data come in a lower version, and then the changes are asked for in that one.
-#[test]
-fn answers_of_lower_versions() {
-    let _alone = alone();
-    let cache = Played::new();
-    let told = follow(cache.address(), options(), |log| {
-        let mut peer = cache.asked(&reset_query(2));
-        peer.send(&all(1, 1));
-        assert!(told_last(log, &told_of(1, 1)));
-        drop(peer);
-        // The next one has no version 1 any more.
-        let mut peer = cache.asked(&serial_query(1, SESSION, 1));
-        peer.send(&all(0, 2));
-        let mut peer = cache.asked(&reset_query(0));
-        peer.send(&all(0, 2));
-        assert!(told_last(log, &told_of(0, 2)));
-        peer
-    });
-    assert_eq!(told.len(), 3, "{told:?}");
 }
 
 /// Where no version is left it says so.
@@ -377,6 +354,7 @@ fn no_data_and_expired_data() {
         expire: Some(milliseconds(500)),
         ..options()
     };
+    let expired = Told::Failed("the data have expired".to_string());
     let told = follow(cache.address(), options, |log| {
         let mut peer = cache.asked(&reset_query(2));
         for _ in 0..2 {
@@ -388,15 +366,12 @@ fn no_data_and_expired_data() {
         let came = Instant::now();
         drop(peer);
         // It connects again and again. After a serial query without an answer it asks for all data,
-        // and then in lower versions.
+        // in the version that the cache answered in.
         drop(cache.asked(&serial_query(2, SESSION, 1)));
-        for version in [2, 1, 0] {
-            drop(cache.asked(&reset_query(version)));
-        }
-        assert!(holds(|| log.lock().unwrap().told.contains(&Told::Dropped)));
+        drop(cache.asked(&reset_query(2)));
+        assert!(holds(|| log.lock().unwrap().told.contains(&expired)));
         assert!(came.elapsed() >= milliseconds(400));
     });
-    let expired = Told::Failed("the data have expired".to_string());
     let place = told.iter().position(|told| *told == Told::Dropped).unwrap();
     assert_eq!(told[..2], [told[0].clone(), told[0].clone()]);
     assert_eq!(told[2], Told::Data(data(1)));
@@ -449,9 +424,13 @@ fn caches_that_stop() {
             peer.send(&delta[..length]);
             drop(peer);
             let serial = if length == delta.len() { 2 } else { 1 };
-            let query = serial_query(2, SESSION, serial);
-            // Without a word in answer it asks for all data.
-            drop(cache.asked(if length == 0 { &RESET_QUERY_2 } else { &query }));
+            // Where the answer isn't whole it asks for all data.
+            let query = if length == delta.len() {
+                serial_query(2, SESSION, serial)
+            } else {
+                reset_query(2)
+            };
+            drop(cache.asked(&query));
             assert!(log.lock().unwrap().told.contains(&Told::Data(data(serial))));
         });
         let had = told.iter().filter(|told| !matches!(told, Told::Failed(_)));
@@ -503,7 +482,7 @@ fn misplaced() -> Vec<Refused> {
         "unit of another session",
         Some(ErrorCode::CORRUPT_DATA),
     )];
-    let inside = [response(2, SESSION), notify(2, SESSION, 1), reset_query(2)];
+    let inside = [response(2, SESSION), reset_query(2)];
     rows.extend(inside.map(|unit| (answer(2, &unit), text, code)));
     let first = [
         end_of(1),
@@ -553,6 +532,15 @@ fn bad_answers() {
     }
     for row in common::hostile_lengths() {
         let (_, kind, _, _, fault) = row;
+        let input = common::hostile_input(row);
+        if input[0] != 2 && kind != 10 {
+            // The version comes first (RFC 8210 section 7).
+            let other = "unit of another version than the session".to_string();
+            let bytes = [response(2, SESSION), input].concat();
+            let code = Some(ErrorCode::UNEXPECTED_PROTOCOL_VERSION);
+            assert_eq!(fetch_refused(&cache, &bytes), (other, code));
+            continue;
+        }
         let code = match fault {
             _ if kind == 10 => None,
             Fault::UnitType(_) => Some(ErrorCode::UNSUPPORTED_PDU_TYPE),
@@ -560,7 +548,7 @@ fn bad_answers() {
             Fault::EmptyProviders => Some(ErrorCode::ASPA_PROVIDER_LIST_ERROR),
             _ => Some(ErrorCode::CORRUPT_DATA),
         };
-        let bytes = [response(2, SESSION), common::hostile_input(row)].concat();
+        let bytes = [response(2, SESSION), input].concat();
         assert_eq!(
             fetch_refused(&cache, &bytes),
             (format!("{fault}, at byte 8"), code)
@@ -675,7 +663,7 @@ fn slow(bytes: Vec<u8>) -> Plays {
 #[test]
 fn hostile_caches() {
     let _alone = alone();
-    let (too_slow, too_long) = ("the cache is too slow", "the answer has too many bytes");
+    let (too_slow, too_long) = ("the cache is too slow", "the answer is too long");
     let mut key = vec![2, 9, 1, 0, 0, 0, 0xff, 0xff];
     key.resize(65535, 0);
     let four_gigabytes = [2, 9, 1, 0, 0xff, 0xff, 0xff, 0xff];
@@ -710,26 +698,20 @@ fn hostile_caches() {
     };
     let plays = Box::new(|mut peer: Peer| peer.send(&all(2, 1)));
     let (error, _) = fetch_played(plays, options);
-    assert!(matches!(error, ClientError::TooManyUnits));
+    assert!(matches!(error, ClientError::TooLong));
 }
 
-/// An answer of as many bytes, or units, as are allowed is taken, and one of one more isn't.
+/// An answer of as many bytes of payload units, or units, as are allowed is taken, and one of one
+/// more isn't.
 #[test]
 fn limits() {
     let _alone = alone();
-    let (bytes, units) = (data(1).as_bytes().len(), data(1).len() as u64 + 1);
+    let bytes = data(1).as_bytes().len() - end_of(1).len();
+    let units = data(1).len() as u64 + 1;
     let rows = [
         (bytes, units, Ok(data(1))),
-        (
-            bytes - 1,
-            units,
-            Err("the answer has too many bytes".to_string()),
-        ),
-        (
-            bytes,
-            units - 1,
-            Err("the answer has too many units".to_string()),
-        ),
+        (bytes - 1, units, Err("the answer is too long".to_string())),
+        (bytes, units - 1, Err("the answer is too long".to_string())),
     ];
     for (bytes, units, wanted) in rows {
         let options = ClientOptions {

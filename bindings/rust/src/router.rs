@@ -1,0 +1,328 @@
+//! A router's end of a session without sockets and clock.
+
+use crate::client::{Breach, ClientError, ClientOptions};
+use crate::data::DataError;
+use crate::fault::{ErrorCode, Fault};
+use crate::machine::{action, cause, Action, Machine};
+use crate::owned_data::{Changes, Data};
+use crate::reader::Refusal;
+use crate::unit::{unit_size, Unit};
+use std::collections::VecDeque;
+use std::io;
+use std::mem::take;
+use std::vec::Vec;
+
+/// What the program that carries a [`Router`] has to do next.
+#[derive(Debug)]
+#[non_exhaustive]
+pub enum Step {
+    /// Nothing, until bytes come or the time is [`Router::wakes`]. Bytes to be sent may be there.
+    Wait,
+    /// Open a connection, then call [`Router::connected`] or [`Router::lost`].
+    Connect,
+    /// Send what is left to be sent, and close the connection.
+    Close,
+    /// [`Router::data`] are other data now: these changes lead there from those before.
+    Data(Changes),
+    /// There are no data any more: these changes withdraw all that there were.
+    Dropped(Changes),
+    /// Why the connection was closed, or why there is no answer yet. The router goes on.
+    Failed(ClientError),
+}
+
+/// A router's end of a session (RFC 8210) without sockets and clock: bytes and times are given to
+/// it, and it says what is to be done. The proved machine of `rtr_router` decides that.
+///
+/// Times are in milliseconds of a clock that doesn't go back.
+#[derive(Debug)]
+pub struct Router {
+    machine: Machine,
+    data: Option<Data>,
+    /// What the changes of an answer made.
+    made: Option<Data>,
+    input: Vec<u8>,
+    /// How much of the input is done with, and how many bytes of the connection before it.
+    taken: usize,
+    before: u64,
+    /// Whether the cache sends no more.
+    ended: bool,
+    kept: Vec<u8>,
+    output: Vec<u8>,
+    steps: VecDeque<Step>,
+    told: Option<Told>,
+    error: Option<ClientError>,
+    connected: bool,
+}
+
+/// What the machine is to be told next.
+#[derive(Debug)]
+enum Told {
+    Connected,
+    Lost,
+    Applied,
+    NotApplied(u8),
+}
+
+impl Router {
+    /// A router without data, which wants a connection at once. The random number has the waits of
+    /// many routers differ.
+    pub fn new(options: &ClientOptions, random: u16) -> Router {
+        Router {
+            machine: Machine::new(options, random),
+            data: None,
+            made: None,
+            input: Vec::new(),
+            taken: 0,
+            before: 0,
+            ended: false,
+            kept: Vec::new(),
+            output: Vec::new(),
+            steps: VecDeque::new(),
+            told: None,
+            error: None,
+            connected: false,
+        }
+    }
+
+    /// All data of the cache, whole, if there are some.
+    pub fn data(&self) -> Option<&Data> {
+        self.data.as_ref()
+    }
+
+    /// The data, if there are some.
+    pub fn into_data(self) -> Option<Data> {
+        self.data
+    }
+
+    /// When [`Router::next`] is to be called, if nothing comes before.
+    pub fn wakes(&self) -> u64 {
+        self.machine.wakes()
+    }
+
+    /// The connection is there.
+    pub fn connected(&mut self) {
+        (self.taken, self.before, self.ended) = (0, 0, false);
+        self.input.clear();
+        self.output.clear();
+        self.connected = true;
+        self.error = None;
+        self.told = Some(Told::Connected);
+    }
+
+    /// No connection could be made, or it broke.
+    pub fn lost(&mut self, error: io::Error) {
+        self.error = Some(ClientError::Io(error));
+        self.ended = true;
+        if !self.connected {
+            self.told = Some(Told::Lost);
+        }
+    }
+
+    /// These bytes came. Without any, the cache sends no more.
+    pub fn received(&mut self, bytes: &[u8]) {
+        self.ended |= bytes.is_empty();
+        self.before += self.taken as u64;
+        self.input.drain(..take(&mut self.taken));
+        self.input.extend_from_slice(bytes);
+    }
+
+    /// What is to be sent.
+    pub fn output(&self) -> &[u8] {
+        &self.output
+    }
+
+    /// So many bytes of it were sent.
+    pub fn sent(&mut self, count: usize) {
+        self.output.drain(..count);
+    }
+
+    /// What is to be done now. After anything but [`Step::Wait`] call it again.
+    pub fn next(&mut self, now: u64) -> Step {
+        loop {
+            if let Some(step) = self.steps.pop_front() {
+                return step;
+            }
+            let at = self.taken;
+            let action = self.told_machine(now);
+            self.taken += action.taken;
+            if action.kind == action::WAIT && action.taken == 0 {
+                return Step::Wait;
+            }
+            self.perform(&action, at);
+        }
+    }
+
+    /// Tells the machine what happened, what came, or the time.
+    fn told_machine(&mut self, now: u64) -> Action {
+        match self.told.take() {
+            Some(Told::Connected) => return self.machine.connected(now),
+            Some(Told::Lost) => return self.machine.lost(now),
+            Some(Told::Applied) => return self.machine.applied(now),
+            Some(Told::NotApplied(status)) => return self.machine.not_applied(now, status),
+            None => {}
+        }
+        let input = &self.input[self.taken..];
+        if self.connected && (self.ended || !input.is_empty()) {
+            if input.is_empty() {
+                self.error.get_or_insert(ClientError::Closed);
+                return self.machine.lost(now);
+            }
+            let action = self.machine.read(now, input, self.ended);
+            if action.kind != action::WAIT || action.taken > 0 {
+                return action;
+            }
+        }
+        self.machine.tick(now)
+    }
+
+    /// Does what an action says about the input from there on.
+    fn perform(&mut self, action: &Action, at: usize) {
+        let unit = at + action.start;
+        match action.kind {
+            action::WAIT => {}
+            action::CONNECT => self.steps.push_back(Step::Connect),
+            action::ASK => action.append_query(&mut self.output),
+            action::BEGIN => self.kept.clear(),
+            action::KEEP => self.kept.extend_from_slice(&self.input[at..self.taken]),
+            action::APPLY => self.apply(action.changes, unit),
+            action::SHOW => self.show(),
+            action::NO_DATA => {
+                let reported = reported(&self.input[unit..]);
+                self.steps.push_back(Step::Failed(reported));
+            }
+            action::DROP => {
+                self.drop_data();
+                self.steps.push_back(Step::Failed(ClientError::Expired));
+            }
+            _ => self.end(action, unit),
+        }
+    }
+
+    /// Makes the changes of an answer, whose end of data begins there.
+    fn apply(&mut self, changes: bool, end: usize) {
+        let end = &self.input[end..self.taken];
+        self.kept.extend_from_slice(end);
+        let made = match self.data.as_ref().filter(|_| changes) {
+            Some(data) => data.apply_in_order(&self.kept),
+            // An end of data alone is data without payloads.
+            None => Data::parse(end).and_then(|none| none.apply_in_order(&self.kept)),
+        };
+        self.told = Some(match made {
+            Ok(data) => {
+                self.made = Some(data);
+                Told::Applied
+            }
+            Err(error) => {
+                self.error = Some(refused(error, &self.kept));
+                Told::NotApplied(error.fault.status())
+            }
+        });
+    }
+
+    /// What the changes made are the data now.
+    fn show(&mut self) {
+        if let Some(made) = self.made.take() {
+            let changes = match &self.data {
+                Some(old) => difference(old, &made),
+                None => difference(&empty(&made), &made),
+            };
+            self.data = Some(made);
+            self.steps.extend(changes.ok().map(Step::Data));
+        }
+    }
+
+    fn drop_data(&mut self) {
+        if let Some(data) = self.data.take() {
+            let changes = data.delta_to(&empty(&data));
+            self.steps.extend(changes.ok().map(Step::Dropped));
+        }
+    }
+
+    /// The connection ends, for a unit that begins there if for one.
+    fn end(&mut self, action: &Action, unit: usize) {
+        let error = self.reason(action, unit);
+        if action.drops {
+            self.drop_data();
+        }
+        match &error {
+            Some(ClientError::Data { unit, .. }) => action.append_report(unit, &mut self.output),
+            _ => action.append_report(&self.input[unit..], &mut self.output),
+        }
+        self.connected = false;
+        self.steps.push_back(Step::Close);
+        self.steps.extend(error.map(Step::Failed));
+    }
+
+    /// Why a connection ends, unless it does for a lower version.
+    fn reason(&mut self, action: &Action, unit: usize) -> Option<ClientError> {
+        let rest = &self.input[unit..];
+        let reason = match action.cause {
+            cause::LOST | cause::NOT_APPLIED => return self.error.take(),
+            cause::LOWER => return None,
+            cause::SLOW => return Some(ClientError::TooSlow),
+            cause::TOO_LONG => return Some(ClientError::TooLong),
+            cause::EXPIRED => return Some(ClientError::Expired),
+            cause::REPORTED => return Some(reported(rest)),
+            cause::FAULTY => {
+                let fault = Fault::of(action.status, action.detail);
+                return Some(ClientError::Refused(Refusal {
+                    fault,
+                    offset: self.before + unit as u64,
+                    unit: fault.of_unit(rest).to_vec(),
+                }));
+            }
+            cause::OUT_OF_PLACE => Breach::Misplaced,
+            cause::NO_SUCH_PAYLOAD => Breach::NoPayload,
+            cause::OTHER_VERSION => Breach::OtherVersion,
+            cause::HIGHER_VERSION => Breach::HigherVersion,
+            cause::OTHER_SESSION => Breach::OtherSession,
+            cause::OLD_SERIAL => Breach::SerialBack,
+            cause::OTHER_DATA => Breach::OtherData,
+            _ => return self.error.take(),
+        };
+        Some(ClientError::Breach {
+            reason,
+            code: ErrorCode(action.code),
+            unit: whole(rest).to_vec(),
+        })
+    }
+}
+
+/// The unit that the input begins with, as far as its header is to be believed.
+fn whole(input: &[u8]) -> &[u8] {
+    let size = unit_size(input).ok().flatten().unwrap_or(8);
+    &input[..size.min(input.len())]
+}
+
+/// What the report says that the input begins with.
+fn reported(input: &[u8]) -> ClientError {
+    match Unit::first(input) {
+        Ok((Unit::ErrorReport(report), _)) => ClientError::Reported(report.into_owned()),
+        _ => ClientError::Closed, // which the machine doesn't call a report
+    }
+}
+
+/// The error with the bytes of the unit at fault.
+fn refused(error: DataError, input: &[u8]) -> ClientError {
+    let unit = error.place.and_then(|place| input.get(place.offset..));
+    ClientError::Data {
+        error,
+        unit: unit.map(|unit| whole(unit).to_vec()).unwrap_or_default(),
+    }
+}
+
+/// Data without payloads that have the end of data of these.
+fn empty(data: &Data) -> Data {
+    let end = data.end();
+    Data::new(end.version, end.session, end.serial, end.timing).expect("its version has a form")
+}
+
+/// What leads from old data to new, of whatever versions and sessions: in the higher one of the
+/// versions, so that what the lower one lacks is withdrawn.
+fn difference(old: &Data, new: &Data) -> Result<Changes, DataError> {
+    let end = new.end();
+    let version = old.end().version.max(end.version);
+    let in_version = |data: &Data| data.for_version(version).expect("there is this version");
+    let old = in_version(old).numbered(end.session, end.serial);
+    old.delta_to(&in_version(new))
+}

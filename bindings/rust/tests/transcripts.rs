@@ -1,0 +1,242 @@
+//! A router without sockets does in each scene what the scene says (`tests/transcripts`).
+#![cfg(feature = "std")]
+
+use rtr_wire::{ClientError, ClientOptions, ErrorCode, Router, Step, Unit, Units};
+use std::fmt::Write;
+use std::io;
+use std::path::{Path, PathBuf};
+use std::process::Command;
+use std::time::Duration;
+
+const TRANSCRIPTS: &str = concat!(env!("CARGO_MANIFEST_DIR"), "/../../tests/transcripts");
+
+/// A scene that is played, with a made clock.
+struct Played {
+    name: String,
+    options: ClientOptions,
+    chance: u16,
+    router: Option<Router>,
+    now: u64,
+    connected: bool,
+    broken: bool,
+    wanted: String,
+    seen: String,
+}
+
+fn hex(bytes: &[u8]) -> String {
+    bytes.iter().map(|byte| format!("{:02x}", byte)).collect()
+}
+
+fn bytes_of(words: &[&str]) -> Vec<u8> {
+    let digits = words.concat();
+    let byte = |at| u8::from_str_radix(&digits[at..at + 2], 16).expect("hexadecimal");
+    (0..digits.len()).step_by(2).map(byte).collect()
+}
+
+/// The bytes of units, each as a word.
+fn words_of(input: &[u8]) -> String {
+    let (mut rest, mut words) = (input, String::new());
+    while let Ok((_, after)) = Unit::first(rest) {
+        write!(words, " {}", hex(&rest[..rest.len() - after.len()])).unwrap();
+        rest = after;
+    }
+    words
+}
+
+impl Played {
+    fn new(name: &str) -> Played {
+        Played {
+            name: name.to_string(),
+            options: ClientOptions::default(),
+            chance: 0,
+            router: None,
+            now: 0,
+            connected: false,
+            broken: false,
+            wanted: String::new(),
+            seen: String::new(),
+        }
+    }
+
+    fn router(&mut self) -> &mut Router {
+        let (options, chance) = (&self.options, self.chance);
+        self.router
+            .get_or_insert_with(|| Router::new(options, chance))
+    }
+
+    fn sees(&mut self, what: &str) {
+        writeln!(self.seen, "{} {}", self.now, what).unwrap();
+    }
+
+    /// Notes what the router sends: queries, and reports.
+    fn sends(&mut self) {
+        let output = self.router().output().to_vec();
+        if self.broken {
+            return;
+        }
+        for unit in Units::new(&output) {
+            let sent = match unit.expect("a whole unit") {
+                Unit::ErrorReport(report) => reported(&report),
+                other => {
+                    let mut form = [0; 12];
+                    let size = other.write(&mut form).expect("a query");
+                    hex(&form[..size])
+                }
+            };
+            self.sees(&format!("router> {}", sent));
+        }
+        self.router().sent(output.len());
+    }
+
+    /// Has the router go on until it waits.
+    fn settle(&mut self) {
+        loop {
+            let now = self.now;
+            let step = self.router().next(now);
+            if matches!(step, Step::Wait | Step::Close) {
+                self.sends();
+            }
+            match step {
+                Step::Wait => return,
+                Step::Connect => self.sees("connects"),
+                Step::Close => {
+                    self.connected = false;
+                    self.sees("closes");
+                }
+                Step::Data(_) => {
+                    let data = self.router().data().expect("there are data").clone();
+                    self.sees(&format!("shows {{{} }}", words_of(data.as_bytes())));
+                }
+                Step::Dropped(_) => self.sees("drops"),
+                Step::Failed(ClientError::Reported(report))
+                    if self.connected && report.code == ErrorCode::NO_DATA_AVAILABLE =>
+                {
+                    self.sees("no data");
+                }
+                _ => {}
+            }
+        }
+    }
+
+    /// The clock comes to this time.
+    fn pass(&mut self, time: u64) {
+        while self.router().wakes() <= time {
+            self.now = self.now.max(self.router().wakes());
+            self.settle();
+        }
+        self.now = time;
+    }
+
+    /// What the cache does, or the clock.
+    fn given(&mut self, time: u64, step: &str, words: &[&str]) {
+        self.pass(time);
+        match step {
+            ">" if self.connected => self.router().received(&bytes_of(words)),
+            "accepts" => {
+                self.connected = true;
+                self.broken = false;
+                self.router().connected();
+            }
+            "closes" => self.router().received(&[]),
+            "refuses" | "breaks" => {
+                self.broken = true;
+                let error = io::Error::new(io::ErrorKind::Other, step);
+                self.router().lost(error);
+            }
+            _ => {}
+        }
+        if step != "at" {
+            self.settle();
+        }
+    }
+
+    fn set(&mut self, name: &str, value: u64) {
+        let span = Duration::from_millis(value);
+        match name {
+            "version" => self.options.version = value as u8,
+            "chance" => self.chance = value as u16,
+            "pause" => self.options.pause = span,
+            "connect-limit" => self.options.dial = span,
+            "response-limit" => self.options.response = span,
+            "refresh" => self.options.refresh = Some(span),
+            "retry" => self.options.retry = Some(span),
+            "expire" => self.options.expire = Some(span),
+            "most-units" => self.options.units = value + 1, // with the end of data
+            "most-bytes" => self.options.bytes = value as usize,
+            _ => panic!("no setting {}", name),
+        }
+    }
+
+    fn line(&mut self, words: &[&str]) {
+        match words {
+            ["router", name, value] => self.set(name, value.parse().unwrap()),
+            ["at", time] => self.given(time.parse().unwrap(), "at", &[]),
+            [time, "cache>", bytes @ ..] => self.given(time.parse().unwrap(), ">", bytes),
+            [time, "cache", step] => self.given(time.parse().unwrap(), step, &[]),
+            [_, "router>", first, ..] if *first != "report" => {
+                writeln!(self.wanted, "{} router> {}", words[0], words[2..].concat()).unwrap();
+            }
+            _ => writeln!(self.wanted, "{}", words.join(" ")).unwrap(),
+        }
+    }
+}
+
+/// A report in the words of a scene.
+fn reported(report: &rtr_wire::ErrorReport<&[u8]>) -> String {
+    let parts = report.parts.as_ref().expect("its lengths fit");
+    let unit = match parts.unit.is_empty() {
+        true => "-".to_string(),
+        false => hex(parts.unit),
+    };
+    let text = String::from_utf8_lossy(parts.text);
+    format!(
+        "report {} {} {} {}",
+        report.version, report.code.0, unit, text
+    )
+}
+
+/// Plays the scenes of a file, and answers how many there are.
+fn play(path: &Path) -> usize {
+    let text = std::fs::read_to_string(path).expect("a file");
+    let mut scenes: Vec<Played> = Vec::new();
+    for line in text.lines() {
+        let line = line.split('#').next().unwrap_or_default();
+        let words: Vec<&str> = line.split_whitespace().collect();
+        match words.as_slice() {
+            [] => {}
+            ["scene", name] => scenes.push(Played::new(name)),
+            words => scenes.last_mut().expect("a scene").line(words),
+        }
+    }
+    for scene in &scenes {
+        assert_eq!(scene.seen, scene.wanted, "{}", scene.name);
+    }
+    scenes.len()
+}
+
+fn scenes_in(folder: &Path) -> Vec<PathBuf> {
+    let files = std::fs::read_dir(folder).expect("a folder");
+    let paths = files.map(|file| file.expect("a file").path());
+    paths
+        .filter(|path| path.extension().map_or(false, |end| end == "scene"))
+        .collect()
+}
+
+#[test]
+fn transcripts() {
+    let made = std::env::temp_dir().join(format!("rtr-scenes-{}", std::process::id()));
+    let status = Command::new(format!("{}/make", TRANSCRIPTS))
+        .arg(&made)
+        .status();
+    let mut paths = scenes_in(&Path::new(TRANSCRIPTS).join("scenes"));
+    match status {
+        Ok(status) => {
+            assert!(status.success(), "the families of scenes are made");
+            paths.extend(scenes_in(&made));
+        }
+        Err(error) => println!("no python3, so no families of scenes: {}", error),
+    }
+    let count: usize = paths.iter().map(|path| play(path)).sum();
+    let _ = std::fs::remove_dir_all(&made);
+    assert!(count >= 100, "only {} scenes", count);
+}
