@@ -21,7 +21,8 @@ use Rattle.rtr_router.specs.declared.head.Kind.TheVariants as kinds
 use Rattle.rtr_conversation.specs.Heads.{HasHead, bare_head, serial_head}
 use Rattle.rtr_conversation.specs.PrivateHeads.{shown_head}
 
-pub unit_shown : (v : SessionView) (b : List ℕ) → ShowsUnit v b → HasHead b (shown_head v (length b))
+pub unit_shown : (v : SessionView) (b : List ℕ) → ShowsUnit v b →
+    HasHead b (shown_head v (length b))
 unit_shown (session.SerialNotify x) b (is, has) = record {
   fields = serial_of serial_notify b;
   has = has;

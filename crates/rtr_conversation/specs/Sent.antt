@@ -92,6 +92,6 @@ PlacesReport v (Some code) c r b n before after =
 PlacesReport v None c r b n before after = (n ≡ None) × (after ≡ before)
 
 -- The report of this ending is placed; or none is owed, and nothing is written.
-abbrev pub PlacesEnding : ℕ → Ending → Option Refusal → List ℕ → Option ℕ → (before after : List ℕ) →
-    Type 0
+abbrev pub PlacesEnding : ℕ → Ending → Option Refusal → List ℕ → Option ℕ →
+    (before after : List ℕ) → Type 0
 PlacesEnding v x r b n before after = PlacesReport v x.report x.cause r b n before after

@@ -1,5 +1,5 @@
 use native.Mathlib.Omega.{arith}
-use Rattle.std.proofs.Common.{◌≡◌, sym, ◌∙◌}
+use Rattle.std.proofs.Common.{sym, ◌∙◌}
 use Rattle.rtr_conversation.proofs.Heads.{first_unit}
 use Rattle.rtr_conversation.proofs.telling.came.Goals as goal
 

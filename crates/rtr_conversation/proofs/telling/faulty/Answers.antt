@@ -1,4 +1,4 @@
-use Rattle.std.proofs.Common.{◌≡◌, subst}
+use Rattle.std.proofs.Common.{subst}
 use Rattle.rtr_units.specs.Header.{version_field}
 use Rattle.rtr_router.specs.Step.{IsStep}
 use Rattle.rtr_router.specs.declared.event.Event.TheVariants as events

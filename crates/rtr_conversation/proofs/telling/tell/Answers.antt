@@ -1,4 +1,4 @@
-use Rattle.std.proofs.Common.{◌≡◌, subst}
+use Rattle.std.proofs.Common.{subst}
 use Rattle.rtr_conversation.specs.PrivateReading.{Comes}
 use Rattle.rtr_conversation.proofs.Units.{acts_first, keeps_first}
 use Rattle.rtr_conversation.proofs.telling.tell.Goals as goal

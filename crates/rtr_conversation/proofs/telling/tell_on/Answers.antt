@@ -1,5 +1,5 @@
 use native.Mathlib.Omega.{arith}
-use Rattle.std.proofs.Common.{◌≡◌, drop, subst}
+use Rattle.std.proofs.Common.{drop, subst}
 use Rattle.rtr_router.specs.declared.event.Action.TheVariants as actions
 use Rattle.rtr_conversation.specs.PrivateReading.{Comes}
 use Rattle.rtr_conversation.proofs.Units.{acts_on, keeps_on, within}
