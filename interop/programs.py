@@ -1,6 +1,7 @@
 """The programs of this repository, run over recordings."""
 import json
 import os
+import re
 import subprocess
 
 import payloads
@@ -52,7 +53,8 @@ def line_of(unit):
 def found(content):
     """What `rtr_list --check` finds, a line each."""
     status, lines, said = run(["rtr_list", "--check"], content)
-    if status not in (0, 1) or said:
+    counts = r"rtr_list: looked at units \d+, answers \d+"
+    if status not in (0, 1) or not re.fullmatch(counts, said):
         raise ValueError(f"rtr_list --check ends with {status}: {said}")
     return lines.decode().splitlines()
 

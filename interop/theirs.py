@@ -22,6 +22,10 @@ ANSWERS = {
 }
 
 
+# The types of what answers a query without data: a cache reset and an error report.
+WITHOUT_DATA = (8, 10)
+
+
 def payload_lines(content):
     """What `rtr_list --json` prints of the payloads among these units, in their order."""
     return [programs.line_of(unit) for unit in programs.listed(content) if "action" in unit]
@@ -139,6 +143,8 @@ def findings(pair, recorded):
     for _, content in recorded.files():
         units += len(programs.listed(content))
         found |= {re.sub(r"^offset \d+: ", "", line) for line in programs.found(content)}
+        if any(unit[1] in WITHOUT_DATA for unit in recorder.units(content)):
+            found.discard("recording without an end of data")
     for what, answer in recorded.refused.items():
         pair.sees(what, answer.kinds())
         if not re.fullmatch(ANSWERS[what], answer.kinds()):

@@ -35,11 +35,14 @@ use std::alloc::Global;
 /// The output is flushed after each unit that ends an answer: all do but a cache response and
 /// payload units, after which an end of data comes. So what a peer waits for never waits here.
 ///
+/// The sizes of units that were passed on are added to the offset, which stays at 2^64 - 1.
+///
 /// Faults are those of `AnyUnit::read` and `pdu::Payload::into_payload`, with nothing written of
 /// the unit, `Writer`, and `TooMany` after 2^64 - 1 units.
 pub fn clean<R: Source, W: Sink>(
     alloc: Global,
     wanted: Wanted,
+    offset: &mut u64,
     input: &mut R,
     output: &mut W,
 ) -> Result<(), Fault>
@@ -47,7 +50,7 @@ pub fn clean<R: Source, W: Sink>(
         (R.state input.old) (R.state input.new) (W.state output.old) (W.state output.new) }
 {
     for count in 0..u64::MAX {
-        match pass(alloc, wanted, input, output) {
+        match pass(alloc, wanted, offset, input, output) {
             Ok(Some(_)) => {}
             Ok(None) => return Ok(()),
             Err(fault) => return Err(fault),
@@ -65,10 +68,12 @@ pub enum Passed {
     Answer(Flushed),
 }
 
-/// Reads a unit and writes what is wanted of it. Answers none where the input has ended.
+/// Reads a unit and writes what is wanted of it, and adds its size to the offset. Answers none where
+/// the input has ended.
 fn pass<R: Source, W: Sink>(
     alloc: Global,
     wanted: Wanted,
+    offset: &mut u64,
     input: &mut R,
     output: &mut W,
 ) -> Result<Option<Passed>, Fault>
@@ -86,6 +91,7 @@ fn pass<R: Source, W: Sink>(
         Err(fault) => return Err(fault),
     };
     let is_last = ends_answer(&unit);
+    let size = unit.size();
     let clean = match form(alloc, wanted, unit) {
         Ok(clean) => clean,
         Err(fault) => return Err(fault),
@@ -94,6 +100,7 @@ fn pass<R: Source, W: Sink>(
         Ok(()) => {}
         Err(fault) => return Err(fault),
     }
+    *offset = offset.saturating_add(u64::from(size));
     if !is_last {
         return Ok(Some(Passed::Part));
     }

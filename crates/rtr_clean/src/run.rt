@@ -1,116 +1,120 @@
 //! One run of the program, over any reader and writers.
 
-ghost use Rattle.std.specs.Prelude.{◌≡◌, drop, IsNone, IfSome, None};
-ghost use Rattle.std.specs.Process.{exit_status};
-ghost use Rattle.rtr_clean.specs.CleanStatus.{CleansAndFlushes};
+ghost use Rattle.std.specs.Prelude.{◌≡◌, drop, true, IsNone, IfSome, None, Err};
+ghost use Rattle.rtr_units.specs.StopCauses.{cause_of};
+ghost use Rattle.rtr_program.specs.Questions.{TellsAbout, asked_of, manual_text};
+ghost use Rattle.rtr_clean.specs.CleanStatus.{CleansAndFlushes, clean_status};
 ghost use Rattle.rtr_clean.specs.CleanWords.{form_asked};
+ghost use Rattle.rtr_clean.specs.PrivateClean.{form_held};
 
 use crate::clean::clean;
-use crate::wanted::form_wanted;
+use crate::wanted::{Wanted, form_wanted};
+use rtr_program::{Manual, about, report, usage, words_after_name};
 use rtr_units::fault::Fault;
 use rtr_units::source::{Sink, Source};
 use std::alloc::Global;
 use std::io::Write;
-use std::process::ExitCode;
+
+/// The status if all was written.
+const WELL: u8 = 0;
 
 /// The status if the input was refused.
 const REFUSED: u8 = 1;
 
-/// The status if the arguments are wrong.
-const USAGE: u8 = 2;
-
 /// The status if reading, writing, flushing or memory failed.
 const FAILED: u8 = 3;
 
-/// Runs the program with the words that it was started with, its name first, and answers the code
-/// to end with, which is the status of `run`. If there are no words, since they can't be had as
-/// texts, it prints the usage.
+/// Runs the program with the words that it was started with, its name first, and answers the exit
+/// status. Where they ask for units, they are read up to the end of the input, what is wanted of
+/// them is written, and the output is flushed once more:
+/// - 0 if both succeeded;
+/// - 1 if the input was refused;
+/// - 3 if reading, writing, flushing or memory failed.
+///
+/// A flush that fails after another status doesn't change it. Where they ask for help or the version
+/// that is written, with 0 or 3. Otherwise, and where there are no words, since they can't be had as
+/// texts, a line on `faults` says how the program is called, and the status is 2. Statuses 1 and 3
+/// come with a line there that begins with the program's name; of a pipe that nobody reads any more
+/// nothing is said. If a line can't be written, nothing else changes.
 pub fn program<R: Source, W: Sink, F: Write>(
     alloc: Global,
+    manual: &Manual,
     words: Option<Vec<String>>,
     input: &mut R,
     output: &mut W,
     faults: &mut F,
-) -> ExitCode
+) -> u8
     // Without words nothing is read or written.
     ensures no_words { IsNone words →
-        (exit_status result ≡ 2) × (input.new ≡ input.old) × (output.new ≡ output.old) }
+        (result ≡ 2) × (input.new ≡ input.old) × (output.new ≡ output.old) }
     // The same with wrong arguments after the program's name.
     ensures usage { IfSome words (λ all. form_asked (drop 1 all.items) ≡ None →
-        (exit_status result ≡ 2) × (input.new ≡ input.old) × (output.new ≡ output.old)) }
-    // If it succeeds no line is printed.
-    ensures quiet { exit_status result ≡ 0 → faults.new ≡ faults.old }
-    // Otherwise what they ask for is written, and then the output is flushed once, of which a
-    // clause sees only a failure.
-    ensures cleans { IfSome words (λ all. IfSome (form_asked (drop 1 all.items)) (λ what.
-        CleansAndFlushes what (exit_status result)
-        (R.state input.old) (R.state input.new) (W.state output.old) (W.state output.new))) }
-{
-    let status = match words {
-        Some(words) => run(alloc, words_after_name(&words), input, output, faults),
-        None => usage(faults),
-    };
-    ExitCode::from(status)
-}
-
-/// The words after the first one, which is the program's name.
-fn words_after_name(words: &[String]) -> &[String]
-    ensures { result.now ≡ drop 1 words.now }
-{
-    words.get(1..).unwrap_or(&[])
-}
-
-/// Reads units up to the end of the input and writes what the arguments ask for, flushes the output
-/// once more, and answers the exit status:
-/// - 0 if both succeeded;
-/// - 1 if the input was refused;
-/// - 2 with arguments other than `--version` and `0`, `1` or `2`;
-/// - 3 if reading, writing, flushing or memory failed.
-///
-/// A flush that fails after another status doesn't change it. Statuses other than 0 come with a
-/// line on `faults`; if that can't be written, nothing else changes.
-pub fn run<R: Source, W: Sink, F: Write>(
-    alloc: Global,
-    args: &[String],
-    input: &mut R,
-    output: &mut W,
-    faults: &mut F,
-) -> u8
-    // With wrong arguments nothing is read or written.
-    ensures usage { form_asked args.now ≡ None →
-        (result ≡ 2) × (input.new ≡ input.old) × (output.new ≡ output.old) }
+        asked_of (drop 1 all.items) ≡ None →
+        (result ≡ 2) × (input.new ≡ input.old) × (output.new ≡ output.old)) }
+    // Where they ask about the program, that is written, and nothing is read.
+    ensures asked { IfSome words (λ all. form_asked (drop 1 all.items) ≡ None →
+        IfSome (asked_of (drop 1 all.items)) (λ question. (input.new ≡ input.old) ×
+        TellsAbout (manual_text manual.now question) 3 result (W.state output.old) (W.state output.new))) }
     // If it succeeds no line is printed.
     ensures quiet { result ≡ 0 → faults.new ≡ faults.old }
     // Otherwise what they ask for is written, and then the output is flushed once, of which a
     // clause sees only a failure.
-    ensures cleans { IfSome (form_asked args.now) (λ what. CleansAndFlushes what result
-        (R.state input.old) (R.state input.new) (W.state output.old) (W.state output.new)) }
+    ensures cleans { IfSome words (λ all. IfSome (form_asked (drop 1 all.items)) (λ what.
+        CleansAndFlushes what result
+        (R.state input.old) (R.state input.new) (W.state output.old) (W.state output.new))) }
 {
-    let Some(wanted) = form_wanted(args) else {
-        return usage(faults);
+    let Some(all) = words else {
+        return usage(manual, faults);
     };
-    let answer = clean(alloc, wanted, input, output);
-    let flushed = output.flush().is_ok();
-    match answer {
-        Ok(_) if flushed => 0,
-        Ok(_) => {
-            let _ = writeln!(faults, "write failed");
-            FAILED
-        }
-        Err(fault) => {
-            let _ = writeln!(faults, "{fault}");
-            match fault {
-                Fault::Reader(_) | Fault::Writer(_) | Fault::Memory => FAILED,
-                _ => REFUSED,
+    let words = words_after_name(&all);
+    if let Some(wanted) = form_wanted(words) {
+        return run(alloc, manual.name, wanted, input, output, faults);
+    }
+    about(manual, words, FAILED, output, faults)
+}
+
+/// Reads units up to the end of the input and writes what is wanted, flushes the output once more,
+/// and answers the exit status, as `program` says.
+fn run<R: Source, W: Sink, F: Write>(
+    alloc: Global,
+    name: &str,
+    wanted: Wanted,
+    input: &mut R,
+    output: &mut W,
+    faults: &mut F,
+) -> u8
+    ensures quiet { result ≡ 0 → faults.new ≡ faults.old }
+    ensures cleans { CleansAndFlushes (form_held wanted) result
+        (R.state input.old) (R.state input.new) (W.state output.old) (W.state output.new) }
+{
+    let mut offset = 0;
+    let result = clean(alloc, wanted, &mut offset, input, output);
+    let flushed = output.flush();
+    match result {
+        Ok(()) => match flushed {
+            Ok(()) => WELL,
+            Err(error) => {
+                report(name, &Fault::Writer(error), faults);
+                FAILED
             }
-        }
+        },
+        Err(fault) => tell(name, &fault, offset, faults),
     }
 }
 
-/// Prints the usage, and answers status 2.
-fn usage<F: Write>(faults: &mut F) -> u8
-    ensures { result ≡ 2 }
+/// Says what the fault is, with the place of its unit where it is the input's, and answers the
+/// status.
+fn tell<F: Write>(name: &str, fault: &Fault, offset: u64, faults: &mut F) -> u8
+    ensures { result ≡ clean_status (Err (cause_of fault.now)) true }
 {
-    let _ = writeln!(faults, "usage: rtr_clean [--version 0|1|2]");
-    USAGE
+    match fault {
+        Fault::Reader(_) | Fault::Writer(_) | Fault::Memory => {
+            report(name, fault, faults);
+            FAILED
+        }
+        _ => {
+            let _ = writeln!(faults, "{name}: offset {offset}: {fault}");
+            REFUSED
+        }
+    }
 }

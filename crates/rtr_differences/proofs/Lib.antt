@@ -1,6 +1,4 @@
 mod Putting
 mod Going
-mod UnitTaken
-mod FileSoFar
 mod UnitPieces
 mod Statuses

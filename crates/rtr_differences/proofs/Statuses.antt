@@ -5,9 +5,10 @@ use Rattle.std.proofs.lemmas.Bool.{false≢true}
 use Rattle.rtr_units.specs.Stream.{Flushes}
 use Rattle.rtr_units.specs.StopCauses.{ReaderState, WriterState}
 use Rattle.rtr_data.specs.Data.{Change}
-use Rattle.rtr_differences.specs.DiffStatus.{HoldDifferent, HoldSame, RunsDiff, diff_status}
+use Rattle.rtr_differences.specs.DiffStatus.{HoldDifferent, HoldSame, RunsDiff, diff_status, status_of}
 use Rattle.rtr_differences.specs.Differences.{has_some}
-use Rattle.rtr_differences.specs.FilesCompared.{ComparesFiles}
+use Rattle.rtr_differences.specs.FilesCompared.{BothRead, ComparesFiles}
+use Rattle.rtr_differences.specs.declared.program.Compared.{Compared}
 use Rattle.rtr_differences.specs.declared.program.Trouble.{Trouble}
 use Rattle.rtr_differences.specs.declared.words.Form.{Form}
 
@@ -20,43 +21,55 @@ some_there [] h = absurd (false≢true (sym h))
 some_there (c ∷ cs) h = λ e. false≢true (ap has_some (sym e))
 
 module _ (form : Form) (old old_left new new_left : ReaderState) (before after : WriterState) where
-  same_by : (answer : Result Bool Trouble) (flushed : Bool) (mid : WriterState) →
+  same_both : (differs : Bool) (mid : WriterState) →
+      BothRead form (Ok differs) old old_left new new_left before mid → Flushes true mid after →
+      0 ≡ status_of differs → HoldSame form old old_left new new_left before after
+  same_both false mid both flush is = (mid, flush, (both, none_there _ both.prints.1))
+  same_both true mid both flush is = absurd (omega (arith, is))
+
+  same_by : (answer : Result Compared Trouble) (flushed : Bool) (mid : WriterState) →
       ComparesFiles form answer old old_left new new_left before mid → Flushes flushed mid after →
       0 ≡ diff_status answer flushed → HoldSame form old old_left new new_left before after
-  same_by (Ok false) true mid both flush is =
-      (mid, flush, (both, none_there _ both.prints.1))
-  same_by (Ok true) true mid both flush is = absurd (omega (arith, is))
-  same_by (Ok any) false mid both flush is = absurd (omega (arith, is))
+  same_by (Ok c) true mid compares flush is = same_both c.differs mid compares.both flush is
+  same_by (Ok c) false mid both flush is = absurd (omega (arith, is))
   same_by (Err trouble) flushed mid both flush is = absurd (omega (arith, is))
 
-  pub same : RunsDiff form 0 old old_left new new_left before after →
+  pub same : RunsDiff form (Unit {0}) 0 old old_left new new_left before after →
       HoldSame form old old_left new new_left before after
-  same (answer, flushed, mid, compares, flush, is) = same_by answer flushed mid compares flush is
+  same (answer, flushed, mid, compares, flush, is, quiet) = same_by answer flushed mid compares flush is
 
-  different_by : (answer : Result Bool Trouble) (flushed : Bool) (mid : WriterState) →
+  different_both : (differs : Bool) (mid : WriterState) →
+      BothRead form (Ok differs) old old_left new new_left before mid → Flushes true mid after →
+      1 ≡ status_of differs → HoldDifferent form old old_left new new_left before after
+  different_both true mid both flush is = (mid, flush, (both, some_there _ both.prints.1))
+  different_both false mid both flush is = absurd (omega (arith, is))
+
+  different_by : (answer : Result Compared Trouble) (flushed : Bool) (mid : WriterState) →
       ComparesFiles form answer old old_left new new_left before mid → Flushes flushed mid after →
       1 ≡ diff_status answer flushed → HoldDifferent form old old_left new new_left before after
-  different_by (Ok true) true mid both flush is =
-      (mid, flush, (both, some_there _ both.prints.1))
-  different_by (Ok false) true mid both flush is = absurd (omega (arith, is))
-  different_by (Ok any) false mid both flush is = absurd (omega (arith, is))
+  different_by (Ok c) true mid compares flush is =
+      different_both c.differs mid compares.both flush is
+  different_by (Ok c) false mid both flush is = absurd (omega (arith, is))
   different_by (Err trouble) flushed mid both flush is = absurd (omega (arith, is))
 
-  pub different : RunsDiff form 1 old old_left new new_left before after →
+  pub different : RunsDiff form (Unit {0}) 1 old old_left new new_left before after →
       HoldDifferent form old old_left new new_left before after
-  different (answer, flushed, mid, compares, flush, is) =
+  different (answer, flushed, mid, compares, flush, is, quiet) =
       different_by answer flushed mid compares flush is
 
-status_least : {E : Type 0} (answer : Result Bool E) (flushed : Bool) →
+status_of_least : (differs : Bool) → status_of differs ≤ 2
+status_of_least false = omega arith
+status_of_least true = omega arith
+
+status_least : {E : Type 0} (answer : Result Compared E) (flushed : Bool) →
     diff_status answer flushed ≤ 2
-status_least (Ok false) true = omega arith
-status_least (Ok true) true = omega arith
-status_least (Ok any) false = omega arith
+status_least (Ok c) true = status_of_least c.differs
+status_least (Ok c) false = omega arith
 status_least (Err trouble) flushed = omega arith
 
 pub at_most_2 : (form : Form) (status : ℕ) (old old_left new new_left : ReaderState)
-    (before after : WriterState) → RunsDiff form status old old_left new new_left before after →
+    (before after : WriterState) → RunsDiff form (Unit {0}) status old old_left new new_left before after →
     status ≤ 2
 at_most_2 form status old old_left new new_left before after
-    (answer, flushed, mid, compares, flush, is) =
+    (answer, flushed, mid, compares, flush, is, quiet) =
     subst (λ n. n ≤ 2) (sym is) (status_least answer flushed)

@@ -5,17 +5,18 @@ use Rattle.rtr_units.specs.AnyEnd.{end_bytes, end_meaning}
 use Rattle.rtr_units.specs.StopCauses.{ReaderState, WriterState}
 use Rattle.rtr_units.specs.declared.fault.Fault.{Fault}
 use Rattle.rtr_data.specs.Changes.{changes}
+use Rattle.rtr_recordings.specs.RecordingRead.{HoldsStopError, ReadsRecording}
+use Rattle.rtr_recordings.specs.declared.recording.Recording.{Recording}
 use Rattle.rtr_differences.specs.Differences.{differences, has_some}
-use Rattle.rtr_differences.specs.FilesRead.{HoldsStopError, ReadsContents}
 use Rattle.rtr_differences.specs.Printing.{Puts}
-use Rattle.rtr_differences.specs.declared.file.Contents.{Contents}
+use Rattle.rtr_differences.specs.declared.program.Compared.{Compared}
 use Rattle.rtr_differences.specs.declared.program.Trouble.{Trouble}
 use Rattle.rtr_differences.specs.declared.program.Trouble.TheVariants as troubles
 use Rattle.rtr_differences.specs.declared.words.Form.{Form}
 
 -- the changes from what one file holds to what the other does were printed, with whether there is
 -- one; or a front of what is printed of them was
-abbrev pub PrintsDifferences : Form → (old new : Contents) → Result Bool Fault →
+abbrev pub PrintsDifferences : Form → (old new : Recording) → Result Bool Fault →
     (before after : WriterState) → Type 0
 PrintsDifferences form old new r before after =
     Puts r before after
@@ -25,26 +26,33 @@ PrintsDifferences form old new r before after =
 -- both files hold data, and the differences were printed
 pub record BothRead (form : Form) (r : Result Bool Fault) (old old_left new new_left : ReaderState)
     (before after : WriterState) : Type 0 where
-  pub first : Contents
-  pub second : Contents
-  pub first_read : ReadsContents (Ok first) old old_left
-  pub second_read : ReadsContents (Ok second) new new_left
+  pub first : Recording
+  pub second : Recording
+  pub first_read : ReadsRecording (Ok first) old old_left
+  pub second_read : ReadsRecording (Ok second) new new_left
   pub prints : PrintsDifferences form first second r before after
+
+-- the same, with whether an answer was cut off in each
+pub record ComparesBoth (form : Form) (c : Compared) (old old_left new new_left : ReaderState)
+    (before after : WriterState) : Type 0 where
+  pub both : BothRead form (Ok c.differs) old old_left new new_left before after
+  pub old_cut : c.old_cut ≡ both.first.has_cut
+  pub new_cut : c.new_cut ≡ both.second.has_cut
 
 -- How two files were compared, by the answer: the readers have these states before and after it,
 -- the writer those. The second file is read after the first, and printing begins where both hold
 -- data.
-abbrev pub ComparesFiles : Form → Result Bool Trouble →
+abbrev pub ComparesFiles : Form → Result Compared Trouble →
     (old old_left new new_left : ReaderState) → (before after : WriterState) → Type 0
-ComparesFiles form (Ok any) old old_left new new_left before after =
-    BothRead form (Ok any) old old_left new new_left before after
+ComparesFiles form (Ok c) old old_left new new_left before after =
+    ComparesBoth form c old old_left new new_left before after
 ComparesFiles form (Err (troubles.Output f)) old old_left new new_left before after =
     BothRead form (Err f) old old_left new new_left before after
 ComparesFiles form (Err (troubles.Old stop)) old old_left new new_left before after =
-    ReadsContents (Err stop) old old_left × (new_left ≡ new) × (after ≡ before)
+    ReadsRecording (Err stop) old old_left × (new_left ≡ new) × (after ≡ before)
 ComparesFiles form (Err (troubles.New stop)) old old_left new new_left before after =
-    (first : Contents) × ReadsContents (Ok first) old old_left
-    × ReadsContents (Err stop) new new_left × (after ≡ before)
+    (first : Recording) × ReadsRecording (Ok first) old old_left
+    × ReadsRecording (Err stop) new new_left × (after ≡ before)
 
 -- the error in a reader's fault is one that the last read of its file may have given
 abbrev pub HoldsTroubleError : (old new : Error → Type 0) → Trouble → Type 0

@@ -1,8 +1,6 @@
 pub mod DiffWords
 pub mod Differences
 pub mod Printing
-pub mod FilesRead
 pub mod FilesCompared
 pub mod DiffStatus
 pub mod PrivateChanges
-pub mod PrivateReading

@@ -1,6 +1,6 @@
 //! Laws of what the program prints and ends with.
 
-ghost use Rattle.std.specs.Prelude.{◌≡◌, ◌≢◌, ◌++◌, ◌≤◌, ℕ, List};
+ghost use Rattle.std.specs.Prelude.{◌≡◌, ◌≢◌, ◌++◌, ◌≤◌, ℕ, List, ⊤};
 ghost use Rattle.rtr_units.specs.StopCauses.{ReaderState, WriterState};
 ghost use Rattle.rtr_payload.specs.Payloads.{Payload};
 ghost use Rattle.rtr_data.specs.Deltas.{change_forms, changes_for};
@@ -16,19 +16,20 @@ pub fn units_are_deltas()
         differences Units v old new end ≡ change_forms v (changes_for v old new) ++ end }
 {}
 
-/// What follows from the contract of `run`: status 0 says that both inputs hold data without a
-/// difference, status 1 that they hold data with one and that all was printed, and any other is 2.
+/// What follows from the contract of `run`, whatever it says of lines on standard error: status 0
+/// says that both inputs hold data without a difference, status 1 that they hold data with one and
+/// that all was printed, and any other is 2.
 pub fn statuses()
     ensures same { (form : Form) (old old_left new new_left : ReaderState)
         (before after : WriterState) →
-        RunsDiff form 0 old old_left new new_left before after →
+        RunsDiff form ⊤ 0 old old_left new new_left before after →
         HoldSame form old old_left new new_left before after }
     ensures different { (form : Form) (old old_left new new_left : ReaderState)
         (before after : WriterState) →
-        RunsDiff form 1 old old_left new new_left before after →
+        RunsDiff form ⊤ 1 old old_left new new_left before after →
         HoldDifferent form old old_left new new_left before after }
     ensures trouble { (form : Form) (status : ℕ) (old old_left new new_left : ReaderState)
         (before after : WriterState) →
-        RunsDiff form status old old_left new new_left before after →
+        RunsDiff form ⊤ status old old_left new new_left before after →
         status ≤ 2 }
 {}

@@ -3,13 +3,11 @@
 #![tactic(auto)]
 
 mod differences;
-mod file;
 pub mod laws;
 mod part;
 mod printer;
 mod program;
 mod words;
 
-pub use file::{Contents, Stop, read_contents};
-pub use program::{compare, print_differences, run, usage};
+pub use program::{Compared, Trouble, compare, print_differences, run};
 pub use words::{Form, Request, asked};

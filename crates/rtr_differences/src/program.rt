@@ -1,25 +1,24 @@
 //! One run of the program, over any readers and writers.
 
-ghost use Rattle.std.specs.Prelude.{◌≡◌, ◌<◌, IfErr, IfOk};
-ghost use Rattle.std.specs.Process.{exit_status};
+ghost use Rattle.std.specs.Prelude.{◌≡◌, ◌<◌, false, true, is_ok, IfErr, IfOk};
 ghost use Rattle.rtr_units.specs.AnyEnd.{end_bytes, end_meaning};
 ghost use Rattle.rtr_data.specs.Changes.{changes};
-ghost use Rattle.rtr_differences.specs.DiffStatus.{RunsDiff, diff_status};
+ghost use Rattle.rtr_differences.specs.DiffStatus.{RunsDiff, diff_status, has_no_cut};
 ghost use Rattle.rtr_differences.specs.FilesCompared.{ComparesFiles, HoldsTroubleError};
 ghost use Rattle.rtr_differences.specs.Differences.{differences, has_some, last_piece};
-ghost use Rattle.rtr_listing.specs.PrivateWords.{asks_help};
 ghost use Rattle.rtr_differences.specs.Printing.{Puts};
 
 use crate::differences::print_changes;
-use crate::file::{Contents, Stop, read_contents};
 use crate::printer::Printer;
 use crate::words::{Form, Request};
+use rtr_program::{Escaped, Failed, report};
+use rtr_recordings::{Recording, Stop, StopCause, read_recording};
 use rtr_units::end::EndOfData;
 use rtr_units::fault::Fault;
 use rtr_units::source::{Sink, Source};
 use std::alloc::Global;
+use std::io;
 use std::io::Write;
-use std::process::ExitCode;
 
 /// The status where nothing differs.
 const SAME: u8 = 0;
@@ -29,6 +28,17 @@ const DIFFERENT: u8 = 1;
 
 /// The status where the files weren't compared, or the changes not printed.
 const TROUBLE: u8 = 2;
+
+/// What comparing two files told.
+#[derive(Clone, Copy, Debug)]
+pub struct Compared {
+    /// Whether something differs.
+    pub differs: bool,
+    /// Whether an answer of the first file was left out, since the next one cut it off.
+    pub old_cut: bool,
+    /// The same of the second file.
+    pub new_cut: bool,
+}
 
 /// Why the files weren't compared, or the changes not printed.
 #[derive(Debug, Drop)]
@@ -42,28 +52,32 @@ pub enum Trouble {
 }
 
 /// Reads both files, the old first, and prints the changes from the data of the first to that of
-/// the second. Answers whether there is one.
+/// the second. Answers whether there is one, and whether an answer was left out.
 pub fn compare<O: Source, N: Source, W: Sink>(
     alloc: Global,
     form: Form,
     old: &mut O,
     new: &mut N,
     output: &mut W,
-) -> Result<bool, Trouble>
+) -> Result<Compared, Trouble>
     ensures compares { ComparesFiles form result (O.state old.old) (O.state old.new)
         (N.state new.old) (N.state new.new) (W.state output.old) (W.state output.new) }
     ensures error { IfErr result (HoldsTroubleError (O.fails old.new) (N.fails new.new)) }
 {
-    let before = match read_contents(alloc, old) {
-        Ok(contents) => contents,
+    let before = match read_recording(alloc, old) {
+        Ok(recording) => recording,
         Err(stop) => return Err(Trouble::Old(stop)),
     };
-    let after = match read_contents(alloc, new) {
-        Ok(contents) => contents,
+    let after = match read_recording(alloc, new) {
+        Ok(recording) => recording,
         Err(stop) => return Err(Trouble::New(stop)),
     };
     match print_differences(alloc, form, &before, &after, output) {
-        Ok(any) => Ok(any),
+        Ok(differs) => Ok(Compared {
+            differs,
+            old_cut: before.has_cut,
+            new_cut: after.has_cut,
+        }),
         Err(fault) => Err(Trouble::Output(fault)),
     }
 }
@@ -73,8 +87,8 @@ pub fn compare<O: Source, N: Source, W: Sink>(
 pub fn print_differences<W: Sink>(
     alloc: Global,
     form: Form,
-    old: &Contents,
-    new: &Contents,
+    old: &Recording,
+    new: &Recording,
     output: &mut W,
 ) -> Result<bool, Fault>
     ensures prints { Puts result (W.state output.old) (W.state output.new)
@@ -102,93 +116,101 @@ fn print_end<W: Sink>(form: Form, end: &EndOfData, output: &mut W) -> Result<(),
 /// Prints the changes that are asked for, flushes the output once, and answers the exit status:
 /// - 0 if nothing differs;
 /// - 1 if something does;
-/// - 2 if a file can't be read or holds no sequence, or if writing, flushing or memory failed.
+/// - 2 if a file can't be read or holds no recording, or if writing, flushing or memory failed.
 ///
-/// Status 2 comes with a line on `faults`. If that can't be written, nothing else changes.
+/// Status 2 comes with a line on `faults`, and the others with one for each file in which an answer
+/// was left out; each begins with the program's name. Of a pipe that nobody reads any more nothing
+/// is said. If a line can't be written, nothing else changes.
 pub fn run<O: Source, N: Source, W: Sink, F: Write>(
     alloc: Global,
-    asked: Request<'_>,
+    name: &str,
+    request: Request<'_>,
     old: &mut O,
     new: &mut N,
     output: &mut W,
     faults: &mut F,
-) -> ExitCode
-    ensures runs { RunsDiff asked.entry.form (exit_status result)
+) -> u8
+    ensures { RunsDiff request.entry.form (faults.new ≡ faults.old) result
         (O.state old.old) (O.state old.new) (N.state new.old) (N.state new.new)
         (W.state output.old) (W.state output.new) }
-    // Unless it ends with status 2, no line is printed on `faults`.
-    ensures quiet { exit_status result < 2 → faults.new ≡ faults.old }
 {
-    let answer = compare(alloc, asked.form, old, new, output);
-    let flushed = output.flush().is_ok();
-    ExitCode::from(report(asked, answer, flushed, faults))
+    let answer = compare(alloc, request.form, old, new, output);
+    let flushed = output.flush();
+    tell(name, request, answer, flushed, faults)
 }
 
-/// Reports what stopped the run, if something did, and answers the status to end with.
-fn report<F: Write>(
-    asked: Request<'_>,
-    answer: Result<bool, Trouble>,
-    flushed: bool,
+/// Says what stopped the run, if something did, and answers the status to end with.
+fn tell<F: Write>(
+    name: &str,
+    request: Request<'_>,
+    answer: Result<Compared, Trouble>,
+    flushed: io::Result<()>,
     faults: &mut F,
 ) -> u8
-    ensures status { result ≡ diff_status answer flushed }
-    ensures quiet { result < 2 → faults.new ≡ faults.old }
+    ensures status { result ≡ diff_status answer (is_ok flushed) }
+    ensures quiet { result < 2 → has_no_cut answer ≡ true → faults.new ≡ faults.old }
 {
-    match answer {
-        Ok(any) if flushed => { if any { DIFFERENT } else { SAME } }
-        Ok(_) => {
-            let _ = writeln!(faults, "write failed");
-            TROUBLE
-        }
+    let compared = match answer {
+        Ok(compared) => compared,
         Err(trouble) => {
-            report_trouble(asked, &trouble, faults);
+            tell_trouble(name, request, &trouble, faults);
+            return TROUBLE;
+        }
+    };
+    match flushed {
+        Ok(()) => {
+            tell_cut(name, request.old, compared.old_cut, faults);
+            tell_cut(name, request.new, compared.new_cut, faults);
+            if compared.differs { DIFFERENT } else { SAME }
+        }
+        Err(error) => {
+            report(name, &Fault::Writer(error), faults);
             TROUBLE
         }
     }
 }
 
-/// Reports what stopped the run: in a file with its name and the offset of the unit.
-fn report_trouble<F: Write>(asked: Request<'_>, trouble: &Trouble, faults: &mut F) {
-    match trouble {
-        Trouble::Old(stop) => report_stop(asked.old, stop, faults),
-        Trouble::New(stop) => report_stop(asked.new, stop, faults),
-        Trouble::Output(fault) => {
-            let _ = writeln!(faults, "{fault}");
-        }
-    }
-}
-
-/// Reports where a file stopped, and why.
-fn report_stop<F: Write>(name: &str, stop: &Stop, faults: &mut F) {
-    let offset = stop.offset;
-    let cause = &stop.cause;
-    let _ = writeln!(faults, "{name}: offset {offset}: {cause}");
-}
-
-/// Prints how the program is called, before that for help what it does, as its man page begins, and
-/// answers status 2.
-pub fn usage<F: Write>(words: &[String], faults: &mut F) -> ExitCode
-    ensures { exit_status result ≡ 2 }
+/// Says that an answer of this file was left out, if one was.
+fn tell_cut<F: Write>(name: &str, file: &str, has_cut: bool, faults: &mut F)
+    ensures { has_cut ≡ false → faults.new ≡ faults.old }
 {
-    if asks_for_help(words) {
+    if has_cut {
+        let file = Escaped(file);
         let _ = writeln!(
             faults,
-            "rtr_diff - print what differs between the data of two RTR sequences"
+            "{name}: {file}: left out: an answer without an end of data"
         );
     }
-    let _ = writeln!(
-        faults,
-        "usage: rtr_diff [--json | --units] OLD NEW, where one of them may be -"
-    );
-    ExitCode::from(TROUBLE)
 }
 
-/// Whether the one word is that for help.
-fn asks_for_help(words: &[String]) -> bool
-    ensures { result ≡ asks_help words.now }
-{
-    match words {
-        [word] => word.as_str() == "--help",
-        _ => false,
+/// Says what stopped the run.
+fn tell_trouble<F: Write>(name: &str, request: Request<'_>, trouble: &Trouble, faults: &mut F) {
+    match trouble {
+        Trouble::Old(stop) => tell_stop(name, request.old, stop, faults),
+        Trouble::New(stop) => tell_stop(name, request.new, stop, faults),
+        Trouble::Output(fault) => report(name, fault, faults),
     }
+}
+
+/// Says why a file stopped, and where, unless that is the system's doing.
+fn tell_stop<F: Write>(name: &str, file: &str, stop: &Stop, faults: &mut F) {
+    let file = Escaped(file);
+    match &stop.cause {
+        StopCause::Read(fault) if is_of_system(fault) => {
+            let failed = Failed(fault);
+            let _ = writeln!(faults, "{name}: {file}: {failed}");
+        }
+        cause => {
+            let offset = stop.offset;
+            let _ = writeln!(faults, "{name}: {file}: offset {offset}: {cause}");
+        }
+    }
+}
+
+/// Whether the fault is none of the input's.
+fn is_of_system(fault: &Fault) -> bool {
+    matches!(
+        fault,
+        Fault::Reader(_) | Fault::Writer(_) | Fault::Memory | Fault::TooMany
+    )
 }

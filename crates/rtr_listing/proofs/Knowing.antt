@@ -25,6 +25,7 @@ use Rattle.rtr_listing.specs.SequenceSoFar.{earlier, payload_named, is_same, is_
 use Rattle.rtr_listing.specs.SequenceSoFar.{action_of, payload_version, says_announced, announced}
 use Rattle.rtr_listing.specs.SequenceSoFar.{sequence_version, sequence_session}
 use Rattle.rtr_listing.specs.declared.check.Checker.{Checker}
+use Rattle.rtr_listing.specs.declared.check.Stage.TheVariants as stages
 use Rattle.rtr_listing.specs.declared.finding.Finding.{Finding}
 use Rattle.rtr_listing.specs.declared.finding.Finding.TheVariants as rules
 
@@ -85,15 +86,16 @@ module _ (fields : Fields) (units : List AnyFields) (old new : Checker) (p : Mea
       ∙ ap (repeated (is_announce (action_of fields)) units) name
 
   knows_payload : new.version ≡ Some (unwrap_or old.version (payload_version fields)) →
-      new.session ≡ old.session →
+      new.session ≡ old.session → new.stage ≡ stages.Open →
       Names old.announced new.announced p (is_announce (action_of fields)) →
       Knows new (payload fields ∷ units)
-  knows_payload version session names =
+  knows_payload version session stage names =
       record {
         version =
             version ∙ first_given old.version (payload_version fields)
             ∙ ap (λ o. earlier o (Some (payload_version fields))) known.version;
         session = session ∙ known.session ∙ nothing_later (sequence_session units);
+        stage = stage;
         announced = λ q. counted_after q (names q);
       }
 
@@ -103,10 +105,10 @@ pub payload_finds : (u : Payload) (old new : Checker) (p : Meant) (v : ℕ) (a :
     f3 ≡ f2 ++ payload_rules (unit_fields u) → Some p ≡ payload_in (unit_fields u) →
     f4 ≡ f3 ++ told (is_announce a && has_name old.announced p) rules.Twice →
     new.version ≡ Some (unwrap_or old.version v) → new.session ≡ old.session →
-    Names old.announced new.announced p (is_announce a) →
+    new.stage ≡ stages.Open → Names old.announced new.announced p (is_announce a) →
     FindsIn old (payload (unit_fields u)) new f0 f4
 payload_finds u old new p v a f0 f1 f2 f3 f4 v_is a_is one two three is four version session
-    names =
+    stage names =
     λ units known.
     let fields : Fields = unit_fields u in
     let name : Some (name_of p) ≡ payload_named fields =
@@ -126,6 +128,6 @@ payload_finds u old new p v a f0 f1 f2 f3 f4 v_is a_is one two three is four ver
           ∙ in_turn f0 (other_version (sequence_version units) (payload_version fields))
           (payload_reserved fields) (payload_rules fields) (announced_twice units (payload fields)),
       knows_payload fields units old new p known name
-          (version ∙ ap (λ n. Some (unwrap_or old.version n)) is_version) session
+          (version ∙ ap (λ n. Some (unwrap_or old.version n)) is_version) session stage
           (subst (λ x. Names old.announced new.announced p (is_announce x)) is_action names),
     )

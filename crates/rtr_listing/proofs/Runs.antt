@@ -7,12 +7,12 @@ use Rattle.std.specs.Prelude.{nat_lt, ◌||◌}
 use Rattle.std.specs.List.{concat}
 use Rattle.std.proofs.lemmas.List.{length-append}
 use Rattle.std.proofs.lemmas.List.Folds.{concat-append}
-use Rattle.std.specs.Io.KnownBytes.{Consumes, Appends}
+use Rattle.std.specs.Io.KnownBytes.{Consumes, Appends, IsAtEnd}
 use Rattle.std.proofs.KnownBytes.{Consumes-trans, Consumes-nil, Appends-trans, Appends-nil}
 use Rattle.rtr_units.specs.declared.fault.Fault.{Fault}
 use Rattle.rtr_units.specs.declared.fault.Fault.TheVariants.{TooMany}
 use Rattle.rtr_units.specs.StopCauses.{Cause, by_reader, by_writer, too_many, no_memory, wrong}
-use Rattle.rtr_units.specs.StopCauses.{cause_of}
+use Rattle.rtr_units.specs.StopCauses.{by_cause, cause_of}
 use Rattle.rtr_units.specs.Reading.{Takes}
 use Rattle.rtr_units.specs.StopCauses.{ReaderState, WriterState, reader_count, writer_count}
 use Rattle.rtr_session.specs.AnyFields.{AnyFields, HasAnyFields, any_list}
@@ -20,7 +20,7 @@ use Rattle.rtr_session.specs.AnyReading.{HasEnded, StopsInAny}
 use Rattle.rtr_listing.specs.PrivateFollowing.{HasSeen}
 use Rattle.rtr_listing.specs.Listing.{AreAnyUnits, BreaksOff, ListingEnds, Lists, Printed}
 use Rattle.rtr_listing.specs.Listing.{UnitLines}
-use Rattle.rtr_listing.specs.Listing.{offset_of, tells_broken, units_bytes}
+use Rattle.rtr_listing.specs.Listing.{end_lines, offset_of, tells_broken, units_bytes}
 use Rattle.rtr_listing.specs.PrivateLines.{HasChecked, PrintsBytes, offset_after}
 use Rattle.rtr_listing.specs.declared.check.Checker.{Checker}
 use Rattle.rtr_listing.specs.declared.run.Wanted.{Wanted}
@@ -141,22 +141,77 @@ goes_on what found more n offset next old new f u a b c h i j p took is prints c
 
 -- ---- how a run ends
 
-pub ends : (what : Wanted) (found : Bool) (n offset : ℕ) (checker : Checker) →
-    (old new : ReaderState) (before after : WriterState) (b : Option (List ℕ)) →
-    SoFar what found n offset checker old.left b before.held after.held →
-    HasEnded b new.left → new.failed ≡ old.failed → after.failed ≡ before.failed →
-    Lists what (Ok found) old new before after
-ends what found n offset checker old new before after b p ended reads writes = record {
-  units = p.units;
-  rest = [];
-  are_units = p.are_units;
-  takes = Consumes-trans old.left b new.left (units_bytes p.units) [] p.took ended.0;
-  written = concat p.lines;
-  writes = p.wrote;
-  ends = (refl, ended.1, (p.lines, p.is_printed, refl, p.shows));
-  reader_failures = reads;
-  writer_failures = writes;
-}
+-- what is printed at the end, after any units that the checker has seen
+abbrev PrintsLast : Wanted → ℕ → Checker → Result Bool Fault → Option (List ℕ) →
+    Option (List ℕ) → Type 0
+PrintsLast what offset checker r held holds = (before : List AnyFields) →
+    HasChecked what checker before → offset ≡ offset_of before →
+    PrintsBytes what (end_lines what before) r held holds
+
+pub ends : (what : Wanted) (found more : Bool) (n offset : ℕ) (checker : Checker) →
+    (old new : ReaderState) (before after : WriterState) (b i : Option (List ℕ)) →
+    SoFar what found n offset checker old.left b before.held i → HasEnded b new.left →
+    PrintsLast what offset checker (Ok more) i after.held →
+    new.failed ≡ old.failed → after.failed ≡ before.failed →
+    Lists what (Ok (found || more)) old new before after
+ends what found more n offset checker old new before after b i p ended prints reads writes =
+    let last = prints p.units p.checked p.place in
+    record {
+      units = p.units;
+      rest = [];
+      are_units = p.are_units;
+      takes = Consumes-trans old.left b new.left (units_bytes p.units) [] p.took ended.0;
+      written = concat (p.lines ++ end_lines what p.units);
+      writes =
+          subst (Appends before.held after.held)
+          (sym (concat-append p.lines (end_lines what p.units)))
+          (Appends-trans before.held i after.held (concat p.lines)
+          (concat (end_lines what p.units)) p.wrote last.0);
+      ends = (
+        refl,
+        ended.1,
+        (
+          p.lines,
+          p.is_printed,
+          refl,
+          tells_more what found more p.lines (end_lines what p.units) p.shows last.1,
+        ),
+      );
+      reader_failures = reads;
+      writer_failures = writes;
+    }
+
+ends_last : (what : Wanted) (c : Cause) (units : List AnyFields) (left : Option (List ℕ)) →
+    (lines : List (List ℕ)) (part : List ℕ) → Printed what units lines → IsAtEnd left →
+    BreaksOff c (end_lines what units) part →
+    ListingEnds what (Err c) units [] left (concat lines ++ part)
+ends_last what by_reader units left lines part p end stops = absurd stops
+ends_last what by_writer units left lines part p end stops =
+    (refl, inr (end, (lines, part, p, stops, refl)))
+ends_last what too_many units left lines part p end stops = absurd stops
+ends_last what no_memory units left lines part p end stops =
+    inl (refl, inr (end, (lines, part, p, stops, refl)))
+ends_last what (wrong r) units left lines part p end stops = absurd stops
+
+pub stops_at_end : (what : Wanted) (found : Bool) (n offset : ℕ) (checker : Checker) →
+    (e : Fault) (old new : ReaderState) (before after : WriterState) (b i : Option (List ℕ)) →
+    SoFar what found n offset checker old.left b before.held i → HasEnded b new.left →
+    PrintsLast what offset checker (Err e) i after.held →
+    Counted (Err (cause_of e)) old new before after → Lists what (Err e) old new before after
+stops_at_end what found n offset checker e old new before after b i p ended prints counted =
+    let last = prints p.units p.checked p.place in
+    record {
+      units = p.units;
+      rest = [];
+      are_units = p.are_units;
+      takes = Consumes-trans old.left b new.left (units_bytes p.units) [] p.took ended.0;
+      written = concat p.lines ++ last.0;
+      writes = Appends-trans before.held i after.held (concat p.lines) last.0 p.wrote last.1;
+      ends =
+          ends_last what (cause_of e) p.units new.left p.lines last.0 p.is_printed ended.1 last.2;
+      reader_failures = counted.0;
+      writer_failures = counted.1;
+    }
 
 ends_stopped : (what : Wanted) (c : Cause) (units : List AnyFields) (t : List ℕ) →
     (left : Option (List ℕ)) (lines : List (List ℕ)) → Printed what units lines →
@@ -192,10 +247,10 @@ ends_broken : (what : Wanted) (c : Cause) (f : AnyFields) (units : List AnyField
     BreaksOff c last part → ListingEnds what (Err c) (f ∷ units) [] left (concat earlier ++ part)
 ends_broken what by_reader f units left earlier last part p q stops = absurd stops
 ends_broken what by_writer f units left earlier last part p q stops =
-    (refl, (earlier, last, part, p, q, stops, refl))
+    (refl, inl (earlier, last, part, p, q, stops, refl))
 ends_broken what too_many f units left earlier last part p q stops = absurd stops
 ends_broken what no_memory f units left earlier last part p q stops =
-    inl (refl, (earlier, last, part, p, q, stops, refl))
+    inl (refl, inl (earlier, last, part, p, q, stops, refl))
 ends_broken what (wrong r) f units left earlier last part p q stops = absurd stops
 
 pub stops_printing : (what : Wanted) (found : Bool) (n offset : ℕ) (checker : Checker) →
@@ -242,3 +297,8 @@ reaches_limit what found n offset checker old new before after full p reads writ
   reader_failures = reads;
   writer_failures = writes;
 }
+
+-- the writer's count of failures, where it was the same before
+pub count_kept : (r : Result Bool Fault) (n m k : ℕ) → k ≡ writer_count (by_cause r) m → m ≡ n →
+    k ≡ writer_count (by_cause r) n
+count_kept r n m k is same = is ∙ ap (writer_count (by_cause r)) same

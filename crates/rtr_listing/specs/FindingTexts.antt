@@ -23,7 +23,9 @@ finding_text (rules.Version version begun) =
     ++ (codes " differs from version " ++ decimal begun ++ codes " of the sequence")
 finding_text (rules.Session session begun) =
     codes "session " ++ decimal session
-    ++ (codes " differs from session " ++ decimal begun ++ codes " of the cache response")
+    ++ (codes " differs from session " ++ decimal begun ++ codes " of the answer")
+finding_text rules.CutOff = codes "answer without an end of data"
+finding_text rules.NoAnswer = codes "recording without an end of data"
 finding_text (rules.Lacks version) =
     codes "version " ++ decimal version ++ codes " has no unit of this type"
 finding_text (rules.WithdrawnProviders layout) =

@@ -8,7 +8,6 @@ pub mod ListStatus
 pub mod ListWords
 pub mod Listing
 pub mod PrivateLines
-pub mod PrivateWords
 pub mod PrivateJson
 pub mod ReportParts
 pub mod Rules

@@ -7,6 +7,7 @@ use Rattle.rtr_units.specs.Stream.{Flushes}
 use Rattle.rtr_units.specs.StopCauses.{ReaderState, WriterState}
 use Rattle.rtr_listing.specs.Listing.{Lists}
 use Rattle.rtr_listing.specs.declared.run.Wanted.{Wanted}
+use Rattle.rtr_listing.specs.declared.run.Wanted.TheVariants.{Text, Json, Findings}
 
 -- the status by the answer, where the flush after it succeeded: 0 at the end of the input where no
 -- rule was found broken, 1 where one was and at a fault of the input, 3 otherwise
@@ -23,6 +24,12 @@ listing_status (Err (wrong fault)) = 1
 abbrev pub status_after : Result Bool Cause → Bool → ℕ
 status_after answer true = listing_status answer
 status_after answer false = 3
+
+-- whether a last line on standard error says how many units were looked at
+abbrev pub counts_units : Wanted → Bool
+counts_units Text = false
+counts_units Json = false
+counts_units Findings = true
 
 -- a run of what is asked for, then one flush of the output, and both decide the status
 abbrev pub Runs : Wanted → ℕ → ReaderState → ReaderState → WriterState → WriterState → Type 0

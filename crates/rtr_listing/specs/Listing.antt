@@ -18,7 +18,7 @@ use Rattle.rtr_session.specs.AnyReading.{StopsInAny}
 use Rattle.rtr_listing.specs.FindingTexts.{finding_of}
 use Rattle.rtr_listing.specs.JsonLines.{unit_json}
 use Rattle.rtr_listing.specs.Lines.{written_line}
-use Rattle.rtr_listing.specs.Rules.{findings}
+use Rattle.rtr_listing.specs.Rules.{end_findings, findings}
 use Rattle.rtr_listing.specs.TextLines.{unit_text}
 use Rattle.rtr_listing.specs.declared.finding.Finding.{Finding}
 use Rattle.rtr_listing.specs.declared.run.Wanted.{Wanted}
@@ -59,6 +59,12 @@ Printed what [] lines = lines ≡ []
 Printed what (newest ∷ before) lines = (earlier last : List (List ℕ))
     × Printed what before earlier × UnitLines what (offset_of before) before newest last
     × (lines ≡ earlier ++ last)
+
+-- what is printed at the end of the input, after all these units
+abbrev pub end_lines : Wanted → List AnyFields → List (List ℕ)
+end_lines Text units = []
+end_lines Json units = []
+end_lines Findings units = finding_lines (offset_of units) (end_findings units)
 
 -- whether these lines report a broken rule: whether there is one, where such are asked for
 abbrev pub tells_broken : Wanted → List (List ℕ) → Bool
@@ -101,6 +107,12 @@ PrintsPart what cause (newest ∷ before) written =
     × UnitLines what (offset_of before) before newest last × BreaksOff cause last part
     × (written ≡ concat earlier ++ part)
 
+-- the lines of all units were written, and those at the end of the input not all
+abbrev pub PrintsLastPart : Wanted → Cause → List AnyFields → Option (List ℕ) → List ℕ → Type 0
+PrintsLastPart what cause units left written = IsAtEnd left
+    × ((lines : List (List ℕ)) × (part : List ℕ) × Printed what units lines
+    × BreaksOff cause (end_lines what units) part × (written ≡ concat lines ++ part))
+
 -- ---- a run
 
 -- all lines of these units were written
@@ -108,10 +120,11 @@ abbrev pub PrintsAll : Wanted → List AnyFields → List ℕ → Type 0
 PrintsAll what units written =
     (lines : List (List ℕ)) × Printed what units lines × (written ≡ concat lines)
 
--- and they report a broken rule, or don't
+-- and those at the end of the input, and they report a broken rule, or don't
 abbrev pub PrintsToTheEnd : Wanted → Bool → List AnyFields → List ℕ → Type 0
 PrintsToTheEnd what found units written = (lines : List (List ℕ)) × Printed what units lines
-    × (written ≡ concat lines) × (found ≡ tells_broken what lines)
+    × (written ≡ concat (lines ++ end_lines what units))
+    × (found ≡ tells_broken what (lines ++ end_lines what units))
 
 -- How a run ended, by the answer: which bytes it took after the units, what it left of the input,
 -- and what it wrote.
@@ -125,13 +138,15 @@ ListingEnds what (Err by_reader) units rest left written =
     StopsInAny by_reader rest left × PrintsAll what units written
 -- by the writer's error, inside a line
 ListingEnds what (Err by_writer) units rest left written =
-    (rest ≡ []) × PrintsPart what by_writer units written
+    (rest ≡ []) × (PrintsPart what by_writer units written
+    ⊎ PrintsLastPart what by_writer units left written)
 -- at the most units that are read
 ListingEnds what (Err too_many) units rest left written =
     (length units ≡ 2 ^ 64 - 1) × (rest ≡ []) × PrintsAll what units written
--- out of memory, for the newest unit's lines or for a unit, inside which reading stopped then
+-- out of memory, for lines or for a unit, inside which reading stopped then
 ListingEnds what (Err no_memory) units rest left written =
-    ((rest ≡ []) × PrintsPart what no_memory units written)
+    ((rest ≡ []) × (PrintsPart what no_memory units written
+    ⊎ PrintsLastPart what no_memory units left written))
     ⊎ (StopsInAny no_memory rest left × PrintsAll what units written)
 -- at a fault of the input
 ListingEnds what (Err (wrong fault)) units rest left written =

@@ -9,7 +9,7 @@ use Rattle.rtr_payload.specs.UnitFields.{Fields, prefix_unit, key_unit, aspa_uni
 use Rattle.rtr_data.specs.Data.{has_name, name_cmp, name_of}
 use Rattle.rtr_session.specs.AnyFields.{AnyFields}
 use Rattle.rtr_listing.specs.Rules.{broken_in, findings}
-use Rattle.rtr_listing.specs.SequenceSoFar.{sequence, after_unit, sequence_version}
+use Rattle.rtr_listing.specs.SequenceSoFar.{sequence, after_unit, sequence_version, stage_of}
 use Rattle.rtr_listing.specs.SequenceSoFar.{sequence_session, announced, origin_under}
 use Rattle.rtr_listing.specs.declared.check.Checker.{Checker}
 use Rattle.rtr_listing.specs.declared.finding.Finding.{Finding}
@@ -31,6 +31,7 @@ Names old new p there = (q : Payload) →
 pub record Knows (checker : Checker) (units : List AnyFields) : Type 0 where
   pub version : checker.version ≡ sequence_version units
   pub session : checker.session ≡ sequence_session units
+  pub stage : checker.stage ≡ stage_of units
   pub announced : (p : Payload) →
       has_name checker.announced p ≡ announced units (name_of p)
 

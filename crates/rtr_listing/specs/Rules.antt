@@ -18,11 +18,14 @@ use Rattle.rtr_payload.specs.declared.pdu.prefix_rule.PrefixRule.TheVariants.{Le
 use Rattle.rtr_payload.specs.declared.pdu.prefix_rule.PrefixRule.TheVariants.{MaxOverflow}
 use Rattle.rtr_payload.specs.declared.pdu.prefix_rule.PrefixRule.TheVariants.{MaxUnderflow}
 use Rattle.rtr_session.specs.AnyFields.{AnyFields, reset_query, payload, end_of_data, cache_reset}
-use Rattle.rtr_session.specs.AnyFields.{error_report}
+use Rattle.rtr_session.specs.AnyFields.{cache_response, error_report}
 use Rattle.rtr_listing.specs.ReportParts.{report_parts}
 use Rattle.rtr_listing.specs.SequenceSoFar.{sequence, sequence_version, sequence_session}
+use Rattle.rtr_listing.specs.SequenceSoFar.{stage_of}
 use Rattle.rtr_listing.specs.SequenceSoFar.{payload_version}
 use Rattle.rtr_listing.specs.SequenceSoFar.{named_by, announces, announced, action_of}
+use Rattle.rtr_listing.specs.declared.check.Stage.{Stage}
+use Rattle.rtr_listing.specs.declared.check.Stage.TheVariants.{Before, Asked, Open, Whole}
 use Rattle.rtr_listing.specs.declared.finding.Finding.{Finding}
 use Rattle.rtr_listing.specs.declared.finding.Finding.TheVariants as rules
 use Rattle.rtr_listing.specs.declared.finding.Layout.{Layout}
@@ -163,10 +166,19 @@ other_session (Some begun) session =
     told (not (begun == session)) (rules.Session session begun)
 other_session None session = []
 
--- an end of data has the session of the cache response (RFC 8210 section 5.8)
-abbrev pub session_rule : List AnyFields → AnyFields → List Finding
-session_rule units (end_of_data meaning) = other_session (sequence_session units) meaning.session
-session_rule units unit = []
+-- an answer that is open has no end of data
+abbrev pub cut_answer : Stage → List Finding
+cut_answer Before = []
+cut_answer Asked = []
+cut_answer Open = rules.CutOff ∷ []
+cut_answer Whole = []
+
+-- An end of data has the session of its answer (RFC 8210 section 5.8), and a cache response comes
+-- after the end of data of the one before (section 8.1).
+abbrev pub answer_rule : List AnyFields → AnyFields → List Finding
+answer_rule units (end_of_data meaning) = other_session (sequence_session units) meaning.session
+answer_rule units (cache_response version session) = cut_answer (stage_of units)
+answer_rule units unit = []
 
 abbrev pub repeated : Bool → List AnyFields → Option Payload → List Finding
 repeated announcing units (Some p) = told (announcing && announced units p) rules.Twice
@@ -182,11 +194,25 @@ announced_twice units unit = repeated (announces unit) units (named_by unit)
 -- what the unit breaks in a sequence with these units before it
 abbrev pub broken_in : List AnyFields → AnyFields → List Finding
 broken_in units unit =
-    version_rule units unit ++ reserved unit ++ field_rules unit ++ session_rule units unit ++
+    version_rule units unit ++ reserved unit ++ field_rules unit ++ answer_rule units unit ++
     announced_twice units unit
 
 -- What the unit breaks after all units that were read before it, newest first: the version of its
--- sequence, reserved bytes and flags, what its fields say, and the session and the payloads of its
+-- sequence, reserved bytes and flags, what its fields say, and the answer and the payloads of its
 -- sequence, in this order.
 abbrev pub findings : List AnyFields → AnyFields → List Finding
 findings history unit = broken_in (sequence history) unit
+
+-- ---- at the end of the input
+
+-- what is missing: an end of data, where an answer is open, or neither an answer nor a query came
+-- (this program's own)
+abbrev pub missing_at : Stage → List Finding
+missing_at Before = rules.NoAnswer ∷ []
+missing_at Asked = []
+missing_at Open = rules.CutOff ∷ []
+missing_at Whole = []
+
+-- what all units break together, newest first
+abbrev pub end_findings : List AnyFields → List Finding
+end_findings history = missing_at (stage_of (sequence history))

@@ -15,17 +15,19 @@ use Rattle.rtr_payload.specs.RouteOrigins.{meant_origin}
 use Rattle.rtr_payload.specs.UnitFields.{Fields, prefix_unit, key_unit, aspa_unit}
 use Rattle.rtr_payload.specs.declared.pdu.prefix_rule.PrefixRule.{PrefixRule}
 use Rattle.rtr_session.specs.AnyFields.{AnyFields}
-use Rattle.rtr_session.specs.AnyFields.{cache_response, payload, end_of_data}
+use Rattle.rtr_session.specs.AnyFields.{cache_response, payload, end_of_data, serial_query}
+use Rattle.rtr_session.specs.AnyFields.{reset_query}
+use Rattle.rtr_listing.specs.declared.check.Stage.{Stage}
+use Rattle.rtr_listing.specs.declared.check.Stage.TheVariants.{Before, Asked, Open, Whole}
 
 -- the sequence after a unit, where it was `units` before: a cache response begins one (RFC 8210
--- section 5.5), and an end of data ends it (section 5.8)
+-- section 5.5), and so does an end of data, which ends the one before it (section 5.8)
 abbrev pub after_unit : AnyFields → List AnyFields → List AnyFields
 after_unit (cache_response version session) units = cache_response version session ∷ []
-after_unit (end_of_data meaning) units = []
+after_unit (end_of_data meaning) units = end_of_data meaning ∷ []
 after_unit unit units = unit ∷ units
 
--- the sequence that the next unit goes on with: the units after the last end of data, from the last
--- cache response on
+-- the sequence that the next unit goes on with: from the last cache response or end of data on
 abbrev pub sequence : List AnyFields → List AnyFields
 sequence [] = []
 sequence (newest ∷ before) = after_unit newest (sequence before)
@@ -56,14 +58,36 @@ given_version unit = None
 abbrev pub sequence_version : List AnyFields → Option ℕ
 sequence_version units = oldest given_version units
 
--- the session that a unit gives its sequence: cache responses alone do (RFC 8210 section 5.5)
+-- the session that a unit gives its sequence: cache responses do (RFC 8210 section 5.5), and the end
+-- of data before a sequence without one (this program's own)
 abbrev pub given_session : AnyFields → Option ℕ
 given_session (cache_response version session) = Some session
+given_session (end_of_data meaning) = Some meaning.session
 given_session unit = None
 
--- its session is that of the cache response that began it
+-- its session is that of the cache response, or the end of data, from which it goes
 abbrev pub sequence_session : List AnyFields → Option ℕ
 sequence_session units = oldest given_session units
+
+-- ---- answers
+
+-- a query, which a router sends, comes before an answer
+abbrev pub asked_at : Stage → Stage
+asked_at Before = Asked
+asked_at Asked = Asked
+asked_at Open = Open
+asked_at Whole = Whole
+
+-- Where the units leave the answers: one is open after a cache response and after a payload unit,
+-- and an end of data makes it whole (RFC 8210 section 8.1).
+abbrev pub stage_of : List AnyFields → Stage
+stage_of [] = Before
+stage_of (cache_response version session ∷ units) = Open
+stage_of (payload fields ∷ units) = Open
+stage_of (end_of_data meaning ∷ units) = Whole
+stage_of (serial_query version session serial ∷ units) = asked_at (stage_of units)
+stage_of (reset_query version session ∷ units) = asked_at (stage_of units)
+stage_of (unit ∷ units) = stage_of units
 
 -- ---- payloads
 

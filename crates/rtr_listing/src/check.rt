@@ -1,6 +1,6 @@
 //! What breaks the protocol's rules, unit by unit.
 
-ghost use Rattle.std.specs.Prelude.{◌≡◌, ◌++◌, ◌&&◌, [], IfOk, OnOk, Some, None, false, true};
+ghost use Rattle.std.specs.Prelude.{◌≡◌, ◌++◌, ◌&&◌, List, [], IfOk, OnOk, Some, None, false, true};
 ghost use Rattle.rtr_base.specs.declared.action.Action.TheVariants.{Announce};
 ghost use Rattle.rtr_units.specs.AnyEnd.{end_meaning};
 ghost use Rattle.rtr_units.specs.Header.{version_field, session_field};
@@ -8,13 +8,15 @@ ghost use Rattle.rtr_units.specs.FixedUnits.{fixed_bytes};
 ghost use Rattle.rtr_payload.specs.Meanings.{payload_of, payload_of_ref};
 ghost use Rattle.rtr_payload.specs.UnitBytes.{unit_bytes, unit_fields};
 ghost use Rattle.rtr_payload.specs.UnitFields.{HasFields};
-ghost use Rattle.rtr_session.specs.AnyFields.{HasAnyFields, payload as payload_fields};
+ghost use Rattle.rtr_session.specs.AnyFields.{AnyFields, HasAnyFields, payload as payload_fields};
 ghost use Rattle.rtr_session.specs.AnyUnits.{any_bytes, any_fields};
 ghost use Rattle.rtr_data.specs.Contents.{IsFit};
 ghost use Rattle.rtr_data.specs.Data.{has_name, takes_place};
 ghost use Rattle.rtr_listing.specs.PrivateFollowing.{Finds, FindsIn, HasSeen, Names};
-ghost use Rattle.rtr_listing.specs.Rules.{told, other_version, other_session};
-ghost use Rattle.rtr_listing.specs.SequenceSoFar.{is_announce};
+ghost use Rattle.rtr_listing.specs.Rules.{told, other_version, other_session, cut_answer};
+ghost use Rattle.rtr_listing.specs.Rules.{end_findings};
+ghost use Rattle.rtr_listing.specs.SequenceSoFar.{asked_at, is_announce};
+ghost use Rattle.rtr_listing.specs.declared.check.Stage.TheVariants as stages;
 ghost use Rattle.rtr_listing.specs.declared.finding.Finding.TheVariants as broken;
 
 use crate::finding::Finding;
@@ -29,6 +31,19 @@ use rtr_units::queries::CacheResponse;
 use rtr_units::unit::Unit;
 use std::alloc::{AllocError, Global};
 
+/// Where the units leave the answers.
+#[derive(Clone, Copy)]
+pub enum Stage {
+    /// Before the first one, with no query.
+    Before,
+    /// Before the first one, after a query, as in what a router sends.
+    Asked,
+    /// Inside one.
+    Open,
+    /// After the end of data of one.
+    Whole,
+}
+
 /// What is known of the sequence that is read.
 ///
 /// A sequence goes from a cache response, or from the beginning of the input, to an end of data
@@ -38,8 +53,10 @@ pub struct Checker {
     alloc: Global,
     /// The version of the sequence, once a unit of it was read.
     version: Option<u8>,
-    /// The session of the cache response that began the sequence.
+    /// The session of the cache response that began the sequence, or of the end of data before it.
     session: Option<u16>,
+    /// Where the units leave the answers.
+    stage: Stage,
     /// What is announced in the sequence and not withdrawn after that.
     announced: Data,
 }
@@ -53,6 +70,7 @@ impl Checker {
             alloc,
             version: None,
             session: None,
+            stage: Stage::Before,
             announced: Data::new(alloc),
         }
     }
@@ -69,12 +87,16 @@ impl Checker {
     {
         found.clear();
         match unit {
-            AnyUnit::SerialNotify(_) | AnyUnit::SerialQuery(_) => Ok(()),
-            AnyUnit::ResetQuery(unit) => unit_rules::reserved_session(unit.session(), found),
-            AnyUnit::CacheResponse(unit) => {
-                self.begin(unit);
+            AnyUnit::SerialNotify(_) => Ok(()),
+            AnyUnit::SerialQuery(_) => {
+                self.ask();
                 Ok(())
             }
+            AnyUnit::ResetQuery(unit) => {
+                self.ask();
+                unit_rules::reserved_session(unit.session(), found)
+            }
+            AnyUnit::CacheResponse(unit) => self.begin(unit, found),
             AnyUnit::Payload(unit) => self.payload(unit, found),
             AnyUnit::EndOfData(unit) => self.end(unit, found),
             AnyUnit::CacheReset(unit) => unit_rules::reserved_session(unit.session(), found),
@@ -82,15 +104,52 @@ impl Checker {
         }
     }
 
-    /// A sequence begins.
-    fn begin(&mut self, unit: &CacheResponse)
-        ensures version { self.new.version ≡ Some (version_field (fixed_bytes unit.now)) }
-        ensures session { self.new.session ≡ Some (session_field (fixed_bytes unit.now)) }
-        ensures none { self.new.announced ≡ [] }
+    /// Puts what is missing where the input ends in the place of what was found before.
+    pub fn finish(&self, found: &mut Vec<Finding>) -> Result<(), AllocError>
+        ensures { OnOk result ((history : List AnyFields) → HasSeen self.now history →
+            found.new.items ≡ end_findings history) }
     {
+        found.clear();
+        match self.stage {
+            Stage::Before => unit_rules::tell(true, Finding::NoAnswer, found),
+            Stage::Open => unit_rules::tell(true, Finding::CutOff, found),
+            Stage::Asked | Stage::Whole => Ok(()),
+        }
+    }
+
+    /// A query came.
+    fn ask(&mut self)
+        ensures version { self.new.version ≡ self.old.version }
+        ensures session { self.new.session ≡ self.old.session }
+        ensures stage { self.new.stage ≡ asked_at self.old.stage }
+        ensures announced { self.new.announced ≡ self.old.announced }
+    {
+        match self.stage {
+            Stage::Before => self.stage = Stage::Asked,
+            Stage::Asked | Stage::Open | Stage::Whole => {}
+        }
+    }
+
+    /// A sequence begins, before which an answer may be open.
+    fn begin(&mut self, unit: &CacheResponse, found: &mut Vec<Finding>) -> Result<(), AllocError>
+        ensures found { OnOk result (found.new.items ≡
+            found.old.items ++ cut_answer self.old.stage) }
+        ensures version { OnOk result
+            (self.new.version ≡ Some (version_field (fixed_bytes unit.now))) }
+        ensures session { OnOk result
+            (self.new.session ≡ Some (session_field (fixed_bytes unit.now))) }
+        ensures stage { OnOk result (self.new.stage ≡ stages.Open) }
+        ensures none { OnOk result (self.new.announced ≡ []) }
+    {
+        match self.stage {
+            Stage::Open => unit_rules::tell(true, Finding::CutOff, found)?,
+            Stage::Before | Stage::Asked | Stage::Whole => {}
+        }
         self.version = Some(unit.version());
         self.session = Some(unit.session());
+        self.stage = Stage::Open;
         self.announced = Data::new(self.alloc);
+        Ok(())
     }
 
     /// What an end of data breaks, with which the sequence ends.
@@ -99,13 +158,16 @@ impl Checker {
             other_version self.old.version (end_meaning unit.now).version ++
             other_session self.old.session (end_meaning unit.now).session) }
         ensures version { OnOk result (self.new.version ≡ None) }
-        ensures session { OnOk result (self.new.session ≡ None) }
+        ensures session { OnOk result
+            (self.new.session ≡ Some ((end_meaning unit.now).session)) }
+        ensures stage { OnOk result (self.new.stage ≡ stages.Whole) }
         ensures none { OnOk result (self.new.announced ≡ []) }
     {
         unit_rules::sequence_version(self.version, unit.version(), found)?;
         unit_rules::sequence_session(self.session, unit.session(), found)?;
         self.version = None;
-        self.session = None;
+        self.session = Some(unit.session());
+        self.stage = Stage::Whole;
         self.announced = Data::new(self.alloc);
         Ok(())
     }
@@ -119,6 +181,7 @@ impl Checker {
         let version = unit.version();
         unit_rules::sequence_version(self.version, version, found)?;
         self.version = Some(self.version.unwrap_or(version));
+        self.stage = Stage::Open;
         unit_rules::payload_reserved(unit, found)?;
         match unit_rules::payload_unit(unit, found)? {
             Some(payload) => self.count(unit.action(), payload, found),
@@ -139,6 +202,7 @@ impl Checker {
             broken.Twice) }
         ensures version { self.new.version ≡ self.old.version }
         ensures session { self.new.session ≡ self.old.session }
+        ensures stage { self.new.stage ≡ self.old.stage }
         ensures announced { OnOk result (Names self.old.announced self.new.announced
             (payload_of payload) (is_announce action)) }
     {

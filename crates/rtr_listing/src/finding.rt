@@ -19,8 +19,12 @@ pub enum Finding {
     HostBits,
     /// A sequence has one version (RFC 8210 section 7).
     Version(u8, u8),
-    /// An end of data has the session of the cache response (RFC 8210 section 5.8).
+    /// An end of data has the session of its answer (RFC 8210 section 5.8).
     Session(u16, u16),
+    /// An answer ends with an end of data (RFC 8210 sections 5.8 and 8.1).
+    CutOff,
+    /// A recording has an end of data: this program's own rule.
+    NoAnswer,
     /// Router keys came with version 1 (RFC 8210 section 5.10), ASPA units with version 2 (as in
     /// the Rust crate `rpki`).
     Lacks(u8),
@@ -71,9 +75,11 @@ impl fmt::Display for Finding {
             Finding::Session(session, begun) => {
                 write!(
                     f,
-                    "session {session} differs from session {begun} of the cache response"
+                    "session {session} differs from session {begun} of the answer"
                 )
             }
+            Finding::CutOff => f.write_str("answer without an end of data"),
+            Finding::NoAnswer => f.write_str("recording without an end of data"),
             Finding::Lacks(version) => write!(f, "version {version} has no unit of this type"),
             Finding::WithdrawnProviders(layout) => write!(
                 f,

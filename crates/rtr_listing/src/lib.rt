@@ -1,6 +1,5 @@
-//! The program `rtr_list` over any reader and writers: it lists the units of a recorded session,
-//! one on a line, or what breaks the protocol's rules in it. For other programs it has the words of
-//! a payload.
+//! What the program `rtr_list` prints unit by unit, over any reader and writers: a line of each, or
+//! what breaks the protocol's rules. For other programs it has the words of a payload.
 #![tactic(auto)]
 
 mod check;
@@ -17,4 +16,4 @@ mod unit_rules;
 
 pub use line::Line;
 pub use payload_line::{describe_payload, describe_payload_json};
-pub use run::program;
+pub use run::{Wanted, form_wanted, print_units};

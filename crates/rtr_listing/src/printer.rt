@@ -9,7 +9,7 @@ ghost use Rattle.rtr_listing.specs.FindingTexts.{finding_of};
 ghost use Rattle.rtr_listing.specs.PrivateFollowing.{HasSeen};
 ghost use Rattle.rtr_listing.specs.JsonLines.{unit_json};
 ghost use Rattle.rtr_listing.specs.Lines.{PutsLine, written_line};
-ghost use Rattle.rtr_listing.specs.Listing.{finding_lines};
+ghost use Rattle.rtr_listing.specs.Listing.{end_lines, finding_lines, offset_of};
 ghost use Rattle.rtr_listing.specs.PrivateLines.{HasChecked, Prints, PrintsUnit};
 ghost use Rattle.rtr_listing.specs.PrivateLines.{offset_after};
 ghost use Rattle.rtr_listing.specs.TextLines.{unit_text};
@@ -111,6 +111,35 @@ impl Printer {
             Wanted::Text => listed(self.print_text(unit, output)),
             Wanted::Json => listed(self.print_json(unit, output)),
             Wanted::Findings => self.print_findings(unit, output),
+        }
+    }
+
+    /// Prints what is wanted where the input ends, and answers whether a rule was found broken. Its
+    /// faults are those of `print`.
+    pub fn finish<W: Sink>(&mut self, wanted: Wanted, output: &mut W) -> Result<bool, Fault>
+        ensures lines { (before : List AnyFields) → HasChecked wanted self.old.checker before →
+            self.old.offset ≡ offset_of before → Prints wanted (end_lines wanted before) result
+            (W.state output.old) (W.state output.new) }
+        ensures no_reader { by_cause result ≢ Err by_reader }
+        ensures offset { self.new.offset ≡ self.old.offset }
+    {
+        match wanted {
+            Wanted::Text | Wanted::Json => Ok(false),
+            Wanted::Findings => self.finish_findings(output),
+        }
+    }
+
+    fn finish_findings<W: Sink>(&mut self, output: &mut W) -> Result<bool, Fault>
+        ensures lines { (before : List AnyFields) → HasSeen self.old.checker before →
+            self.old.offset ≡ offset_of before → Prints Findings (end_lines Findings before) result
+            (W.state output.old) (W.state output.new) }
+        ensures no_reader { by_cause result ≢ Err by_reader }
+        ensures offset { self.new.offset ≡ self.old.offset }
+    {
+        let offset = self.offset;
+        match self.checker.finish(&mut self.findings) {
+            Ok(()) => put_findings(&self.findings, offset, &mut self.line, output),
+            Err(_) => Err(Fault::Memory),
         }
     }
 

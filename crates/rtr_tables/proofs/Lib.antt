@@ -1,5 +1,3 @@
 mod Counts
-mod RecordingSoFar
-mod RecordingStops
 mod Rows
 mod Said

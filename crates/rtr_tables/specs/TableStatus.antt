@@ -5,22 +5,23 @@ use Rattle.rtr_units.specs.Stream.{Flushes, PutsForm}
 use Rattle.rtr_units.specs.StopCauses.{ReaderState, WriterState, cause_of}
 use Rattle.rtr_units.specs.declared.fault.Fault.{Fault}
 use Rattle.rtr_payload.specs.Payloads.{Payload}
-use Rattle.rtr_data.specs.declared.apply_error.ApplyCause.{ApplyCause}
-use Rattle.rtr_data.specs.declared.apply_error.ApplyCause.TheVariants.{Read, Change}
 use Rattle.rtr_data.specs.declared.change_error.ChangeError.TheVariants.{Memory}
 use Rattle.rtr_listing.specs.ListStatus.{listing_status}
-use Rattle.rtr_differences.specs.declared.file.Stop.{Stop}
-use Rattle.rtr_tables.specs.RecordingRead.{ReadsRecording}
+use Rattle.rtr_recordings.specs.RecordingRead.{ReadsRecording}
+use Rattle.rtr_recordings.specs.declared.recording.Recording.{Recording}
+use Rattle.rtr_recordings.specs.declared.stop.Refusal.TheVariants.{Change}
+use Rattle.rtr_recordings.specs.declared.stop.Stop.{Stop}
+use Rattle.rtr_recordings.specs.declared.stop.StopCause.{StopCause}
+use Rattle.rtr_recordings.specs.declared.stop.StopCause.TheVariants.{Read, Refused}
 use Rattle.rtr_tables.specs.Tables.{is_aspa, is_key, table_text}
 use Rattle.rtr_tables.specs.declared.words.Table.{Table}
 use Rattle.rtr_tables.specs.declared.words.Table.TheVariants.{Csv, Json}
 
--- the status where reading stopped: that of a listing for a fault, and 1 for a change that is
--- refused
-abbrev pub refused_status : ApplyCause → ℕ
+-- the status where reading stopped: that of a listing for a fault, and 1 for a unit that is refused
+abbrev pub refused_status : StopCause → ℕ
 refused_status (Read f) = listing_status (Err (cause_of f))
-refused_status (Change Memory) = 3
-refused_status (Change e) = 1
+refused_status (Refused (Change Memory)) = 3
+refused_status (Refused e) = 1
 
 -- the status after a table was written, and by whether the flush after it succeeded
 abbrev pub written_status : {T : Type 0} → Result T Fault → Bool → ℕ
@@ -50,23 +51,24 @@ abbrev pub HasEach : Table → List Payload → Type 0
 HasEach Csv d = (length (filter is_key d) ≡ 0) × (length (filter is_aspa d) ≡ 0)
 HasEach Json d = ⊤
 
--- How printing the table ends. `Quiet` says that no line was printed on standard error.
-abbrev pub EndsPrinting : Table → (Quiet : Type 0) → List Payload → ℕ →
+-- How printing the table ends. `Quiet` says that no line was printed on standard error: it holds
+-- where the table has each payload, and each answer was whole.
+abbrev pub EndsPrinting : Table → (Quiet : Type 0) → Recording → ℕ →
     (before after : WriterState) → Type 0
-EndsPrinting table Quiet d status before after =
-    (WritesTable table d status before after ⊎ FailsFirst status before after)
-    × (HasEach table d → status ≡ 0 → Quiet)
+EndsPrinting table Quiet r status before after =
+    (WritesTable table r.payloads status before after ⊎ FailsFirst status before after)
+    × (HasEach table r.payloads → r.has_cut ≡ false → status ≡ 0 → Quiet)
 
 -- How a run ends, by what was read: where the input was refused, nothing is written.
-abbrev pub EndsTable : Table → (Quiet : Type 0) → Result (List Payload) Stop → ℕ →
+abbrev pub EndsTable : Table → (Quiet : Type 0) → Result Recording Stop → ℕ →
     (before after : WriterState) → Type 0
 EndsTable table Quiet (Err stop) status before after =
     (status ≡ refused_status stop.cause) × (after ≡ before)
-EndsTable table Quiet (Ok d) status before after = EndsPrinting table Quiet d status before after
+EndsTable table Quiet (Ok r) status before after = EndsPrinting table Quiet r status before after
 
 -- the recording is read, and then the table of what it leaves is printed
 abbrev pub RunsTable : Table → (Quiet : Type 0) → ℕ → (old new : ReaderState) →
     (before after : WriterState) → Type 0
 RunsTable table Quiet status old new before after =
-    (read : Result (List Payload) Stop) × ReadsRecording read old new
+    (read : Result Recording Stop) × ReadsRecording read old new
     × EndsTable table Quiet read status before after

@@ -5,7 +5,6 @@
 mod csv_table;
 mod json_table;
 mod pieces;
-mod recording;
 mod run;
 mod words;
 

@@ -2,7 +2,8 @@
 
 use crate::samples::{decoded, expect_rows};
 use crate::support::{ONES, Pieces, Recorder};
-use rtr_listing::program;
+use rtr_program::Manual;
+use rtr_tables::program;
 use rtr_units::source::Counted;
 use std::alloc::Global;
 
@@ -28,10 +29,21 @@ rtr_list; 3 0; 01 02 00 00 00 00 00 08 -> 1
 rtr_list --json; 3 0; 01 02 00 00 00 00 00 08 -> 1
 rtr_list; 0 2; 01 02 00 00 00 00 00 08 -> 1
 rtr_list --json; 0 2; 01 02 00 00 00 00 00 08 -> 1
+rtr_list --csv; 0 0; 00 07 12 34 00 00 00 0c de ad be ef -> 1
+rtr_list --help; 0 0; -> 1
+rtr_list --version; 0 0; -> 1
 rtr_list x; 0 0; 01 02 00 00 00 00 00 08 -> 0
 rtr_list --json --check; 0 0; 01 02 00 00 00 00 00 08 -> 0
 ; 0 0; -> 0
 ";
+
+/// What the program says of itself.
+const MANUAL: Manual = Manual {
+    name: "rtr_list",
+    version: "rtr_list 0\n",
+    usage: "usage: rtr_list\n",
+    help: "rtr_list\n",
+};
 
 /// The words of the text, if there are some.
 fn words(alloc: Global, text: &str) -> Option<Vec<String>> {
@@ -57,7 +69,7 @@ fn flushes(alloc: Global, run: &str) -> Option<String> {
     let mut output = Counted::new(Recorder::failing(alloc, 7, writing));
     let mut faults = Recorder::new(alloc, usize::MAX);
     let words = words(alloc, text);
-    let _ = program(alloc, words, &mut reader, &mut output, &mut faults);
+    let _ = program(alloc, &MANUAL, words, &mut reader, &mut output, &mut faults);
     output.into_inner().flushes().to_string(alloc).ok()
 }
 

@@ -15,7 +15,7 @@ returns-in-Some c =
     c.in_ok-payload_reserved.ensures c.in_ok-payload.ensures.found
     (sym (ap (option_map payload_of) c.in-Some.is) ∙ c.in_ok-payload.ensures.named) found
     (c.count.ensures.version ∙ ap (λ v. Some v) c.unwrap_or.ensures) c.count.ensures.session
-    updates)
+    c.count.ensures.stage updates)
 
 pub count-requires : goal.count-requires
 count-requires c =

@@ -1,0 +1,2 @@
+mod RecordingSoFar
+mod RecordingStops

@@ -1,0 +1,3 @@
+pub mod Recordings
+pub mod RecordingRead
+pub mod PrivateRecordings

@@ -1,0 +1,36 @@
+//! Why reading a recording stopped.
+
+use rtr_data::ChangeError;
+use rtr_units::fault::Fault;
+
+/// Where reading a recording stopped, and why.
+#[derive(Debug, Drop)]
+pub struct Stop {
+    /// The number of bytes before the unit, or 2^64 - 1 where there are more.
+    pub offset: u64,
+    /// What is wrong there.
+    pub cause: StopCause,
+}
+
+/// Why reading a recording stopped.
+#[derive(Debug, Drop, thiserror::Error)]
+pub enum StopCause {
+    /// No unit could be read, or the input ended where an answer was open or none had come.
+    #[error("{0}")]
+    Read(Fault),
+    /// The unit was read, and is refused.
+    #[error("{0}")]
+    Refused(Refusal),
+}
+
+/// Why a unit of a recording is refused.
+#[derive(Clone, Copy, Debug, thiserror::Error)]
+pub enum Refusal {
+    /// The change that a payload unit is for is refused, or memory ran out in making it.
+    #[error("{0}")]
+    Change(ChangeError),
+    /// An end of data of another session than its answer (RFC 8210 section 5.8): its session, and
+    /// that of the answer.
+    #[error("session {0} differs from session {1} of the answer")]
+    Session(u16, u16),
+}
