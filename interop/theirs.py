@@ -142,9 +142,11 @@ def findings(pair, recorded):
     found, units = set(), 0
     for _, content in recorded.files():
         units += len(programs.listed(content))
-        found |= {re.sub(r"^offset \d+: ", "", line) for line in programs.found(content)}
-        if any(unit[1] in WITHOUT_DATA for unit in recorder.units(content)):
-            found.discard("recording without an end of data")
+        lines = {re.sub(r"^offset \d+: ", "", line) for line in programs.found(content)}
+        # What was asked may get no data, or a close without a word: ANSWERS says which.
+        if all(unit[1] in WITHOUT_DATA for unit in recorder.units(content)):
+            lines.discard("recording without an end of data")
+        found |= lines
     for what, answer in recorded.refused.items():
         pair.sees(what, answer.kinds())
         if not re.fullmatch(ANSWERS[what], answer.kinds()):
