@@ -1,0 +1,103 @@
+"""The shared library, and what calls of it take and answer in Python."""
+from __future__ import annotations
+
+import ctypes
+import os
+import pathlib
+import struct
+from typing import Any, Tuple, Union
+
+from . import _rtr
+
+# Bytes in memory, as callers give them.
+Buffer = Union[bytes, bytearray, memoryview]
+
+
+def _load() -> ctypes.CDLL:
+    """The library beside this file, or the one that RTR_WIRE_LIBRARY names."""
+    beside = pathlib.Path(__file__).with_name("librtr_wire.so")
+    path = os.environ.get("RTR_WIRE_LIBRARY") or str(beside)
+    try:
+        library = ctypes.CDLL(path)
+        version = library.rtr_wire_version()
+    except (OSError, AttributeError) as error:
+        raise ImportError(
+            "rtr_wire has a shared library for Linux with glibc on x86-64 or aarch64; "
+            f"RTR_WIRE_LIBRARY names another: {error}") from error
+    if version != _rtr.VERSION_NUMBER:
+        raise ImportError(f"{path} is of version {version}, not {_rtr.VERSION_NUMBER}")
+    for name, (answer, taken) in _rtr.PROTOTYPES.items():
+        function = getattr(library, name)
+        function.restype, function.argtypes = answer, taken
+    return library
+
+
+CALLS = _load()
+
+# The fields of a struct rtr_unit, as one tuple.
+FIELDS = struct.Struct(_rtr.UNIT_LETTERS)
+
+# What the library takes for "all of them".
+NO_LIMIT = 2**64 - 1
+
+
+def whole(buffer: Buffer) -> bytes:
+    """The bytes of a buffer: itself if they can't change, else a copy."""
+    return buffer if type(buffer) is bytes else bytes(memoryview(buffer))
+
+
+def address_of(data: bytes) -> int:
+    """Where the bytes lie. They have to be kept for as long as it is used."""
+    return ctypes.cast(ctypes.c_char_p(data), ctypes.c_void_p).value or 0
+
+
+def octet(version: int) -> int:
+    """A version as one byte: the last, which is none, for a number that no byte has."""
+    return version if 0 <= version <= 255 else 255
+
+
+def unit_size(data: bytes, at: int = 0) -> Tuple[int, int, int]:
+    """The status, the size and the detail of rtr_unit_size from there on."""
+    size, detail = ctypes.c_size_t(), ctypes.c_uint8()
+    status = CALLS.rtr_unit_size_nonnull(address_of(data) + at, len(data) - at,
+                                         ctypes.byref(size), ctypes.byref(detail))
+    return status, size.value, detail.value
+
+
+# How many bytes tell how long a unit is.
+HEADER = unit_size(b"")[1]
+
+
+def written(fields: Tuple[Any, ...], part: bytes) -> Tuple[int, bytes]:
+    """The status of rtr_write_unit for a unit with these fields, and the form."""
+    unit, length = _rtr.rtr_unit(), ctypes.c_size_t()
+    FIELDS.pack_into(unit, 0, *fields)
+    room = FIELDS.size + len(part)
+    while True:
+        output = ctypes.create_string_buffer(room)
+        status = CALLS.rtr_write_unit_nonnull(unit, part, len(part), output, room,
+                                              ctypes.byref(length))
+        if status != _rtr.Status.NO_ROOM:
+            return status, output.raw[:length.value]
+        room *= 2
+
+
+def error_code(status: int, unit: bytes) -> Union[int, None]:
+    """The error code that is owed for a status of a unit, if one is."""
+    code = ctypes.c_uint16()
+    owed = CALLS.rtr_error_code_nonnull(status, unit, len(unit), ctypes.byref(code))
+    return code.value if owed else None
+
+
+def report(action: _rtr.rtr_action, about: bytes) -> bytes:
+    """The report that an action owes about the unit that these bytes begin with, or none."""
+    room, length = FIELDS.size + len(about), ctypes.c_size_t()
+    while action.reports:
+        output = ctypes.create_string_buffer(room)
+        if CALLS.rtr_router_report_nonnull(action, about, len(about), output, room,
+                                           ctypes.byref(length)):
+            return output.raw[:length.value]
+        if room > 2 * len(about) + 2**16:
+            break
+        room *= 2
+    return b""

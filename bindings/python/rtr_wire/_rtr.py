@@ -1,0 +1,554 @@
+"""What rtr.h declares. `generate` made this file of it: don't edit it."""
+from __future__ import annotations
+
+import enum
+from ctypes import (POINTER, Structure, c_bool, c_size_t, c_uint8, c_uint16, c_uint32, c_uint64,
+                    c_void_p)
+from typing import Any
+
+VERSION = "0.2.0"
+VERSION_NUMBER = 200
+
+
+class Status(enum.IntEnum):
+    """How a call ended; each call below names the statuses that it can answer. The faults of a unit
+    are 1 to 7, and are checked in the order of docs/PROTOCOL.md.
+    """
+
+    # the call succeeded
+    OK = 0
+    # the input ends inside a unit, or before one
+    SHORT = 1
+    # `detail` is a type that is not allowed here
+    UNIT_TYPE = 2
+    # `detail` is a version that is not allowed here
+    UNIT_VERSION = 3
+    # a router key, an ASPA or a report of more than 65535 bytes
+    TOO_LONG = 4
+    # a length that doesn't suit the type
+    UNIT_LENGTH = 5
+    # an ASPA that is announced without providers
+    EMPTY_PROVIDERS = 6
+    # `detail`, an rtr_prefix_rule, is broken by a prefix
+    PREFIX = 7
+    # `limit` units were taken, and no end of data was among them
+    TOO_MANY = 8
+    # the output is too short for what comes next
+    NO_ROOM = 9
+    # rtr_write_unit: no such action, family or part
+    NO_FORM = 10
+    # a unit or an end of data that may not stand there in data or changes in canonical form
+    NOT_CANONICAL = 12
+    # the second input is of another session than the first
+    OTHER_SESSION = 13
+    # a payload other than an ASPA is announced that is there already
+    DUPLICATE = 14
+    # a payload is withdrawn that isn't there
+    UNKNOWN = 15
+    # rtr_order: an ASPA is announced and then withdrawn, so that what the changes come to
+    # depends on the data
+    UNDECIDED = 16
+    # the index has fewer places than there are units
+    NO_INDEX = 17
+
+
+class PrefixRule(enum.IntEnum):
+    """enum rtr_prefix_rule of rtr.h."""
+
+    # the prefix length is above 32 for IPv4 or 128 for IPv6
+    LENGTH_OVER = 1
+    # the max length is above that
+    MAX_LENGTH_OVER = 2
+    # the max length is below the prefix length
+    MAX_LENGTH_UNDER = 3
+
+
+class Kind(enum.IntEnum):
+    """The kinds of units, by their type."""
+
+    # RFC 8210 section 5.2
+    SERIAL_NOTIFY = 0
+    # RFC 8210 section 5.3
+    SERIAL_QUERY = 1
+    # RFC 8210 section 5.4
+    RESET_QUERY = 2
+    # RFC 8210 section 5.5
+    CACHE_RESPONSE = 3
+    # RFC 8210 section 5.6
+    IPV4_PREFIX = 4
+    # RFC 8210 section 5.7
+    IPV6_PREFIX = 6
+    # RFC 6810 and RFC 8210 section 5.8
+    END_OF_DATA = 7
+    # RFC 8210 section 5.9
+    CACHE_RESET = 8
+    # RFC 8210 section 5.10
+    ROUTER_KEY = 9
+    # RFC 8210 section 5.11
+    ERROR_REPORT = 10
+    ASPA = 11
+
+
+class SerialOrder(enum.IntEnum):
+    """The order of two serial numbers (RFC 1982 section 3.2)."""
+
+    EQUAL = 0
+    # the left one is less
+    LESS = 1
+    # the left one is greater
+    GREATER = 2
+    # they are 2^31 apart
+    NO_ORDER = 3
+
+
+class Side(enum.IntEnum):
+    """The two inputs of a comparison."""
+
+    LEFT = 1
+    RIGHT = 2
+
+
+class Validity(enum.IntEnum):
+    """What origin validation says of a route (RFC 6811 section 2)."""
+
+    # no VRP covers the route
+    NOT_FOUND = 0
+    # a VRP matches it
+    VALID = 1
+    # VRPs cover it, and none matches
+    INVALID = 2
+    # the family is neither 4 nor 6, or the prefix length is above 32 or 128
+    NO_ROUTE = 3
+
+
+class Mismatch(enum.IntEnum):
+    """Why a VRP that covers a route doesn't match it: the first of these that holds."""
+
+    # it matches
+    MATCHES = 0
+    # it is one of AS 0, which says that no route is valid
+    AS_ZERO = 1
+    # the route isn't from its AS
+    OTHER_AS = 2
+    # the route's prefix is longer than its max length
+    LONGER = 3
+
+
+class ActionKind(enum.IntEnum):
+    """enum rtr_action_kind of rtr.h."""
+
+    WAIT = 0
+    CONNECT = 1
+    ASK = 2
+    BEGIN = 3
+    KEEP = 4
+    APPLY = 5
+    SHOW = 6
+    NO_DATA = 7
+    DROP = 8
+    END = 9
+
+
+class Cause(enum.IntEnum):
+    """Why a connection ends; rtr_cause_text says it in words."""
+
+    LOST = 0
+    SLOW = 1
+    # a unit is refused, for `status`
+    FAULTY = 2
+    # by the unit between `start` and `taken`
+    REPORTED = 3
+    OUT_OF_PLACE = 4
+    NO_SUCH_PAYLOAD = 5
+    OTHER_VERSION = 6
+    HIGHER_VERSION = 7
+    OTHER_SESSION = 8
+    OLD_SERIAL = 9
+    OTHER_DATA = 10
+    TOO_LONG = 11
+    # changes are refused, for `status`
+    NOT_APPLIED = 12
+    EXPIRED = 13
+    # no failure: it connects again at once, in a lower version
+    LOWER = 14
+
+
+class rtr_answer(Structure):
+    units: int
+    forms: int
+    taken: int
+    written: int
+    wanted: int
+    status: int
+    detail: int
+
+    _fields_ = [
+        ("units", c_uint64),
+        ("forms", c_uint64),
+        ("taken", c_size_t),
+        ("written", c_size_t),
+        ("wanted", c_size_t),
+        ("status", c_uint8),
+        ("detail", c_uint8),
+    ]
+
+
+class rtr_data_answer(Structure):
+    written: int
+    offset: int
+    status: int
+    side: int
+    detail: int
+
+    _fields_ = [
+        ("written", c_size_t),
+        ("offset", c_size_t),
+        ("status", c_uint8),
+        ("side", c_uint8),
+        ("detail", c_uint8),
+    ]
+
+
+class rtr_comparison(Structure):
+    offset: int
+    wanted: int
+    status: int
+    side: int
+    detail: int
+    same: bool
+
+    _fields_ = [
+        ("offset", c_size_t),
+        ("wanted", c_size_t),
+        ("status", c_uint8),
+        ("side", c_uint8),
+        ("detail", c_uint8),
+        ("same", c_bool),
+    ]
+
+
+class rtr_unit(Structure):
+    size: int
+    wanted: int
+    part_start: int
+    part_length: int
+    text_start: int
+    text_length: int
+    asn: int
+    customer: int
+    serial: int
+    refresh: int
+    retry: int
+    expire: int
+    session: int
+    code: int
+    kind: int
+    version: int
+    action: int
+    family: int
+    prefix_length: int
+    max_length: int
+    address: Any
+    key_identifier: Any
+    detail: int
+
+    _fields_ = [
+        ("size", c_size_t),
+        ("wanted", c_size_t),
+        ("part_start", c_size_t),
+        ("part_length", c_size_t),
+        ("text_start", c_size_t),
+        ("text_length", c_size_t),
+        ("asn", c_uint32),
+        ("customer", c_uint32),
+        ("serial", c_uint32),
+        ("refresh", c_uint32),
+        ("retry", c_uint32),
+        ("expire", c_uint32),
+        ("session", c_uint16),
+        ("code", c_uint16),
+        ("kind", c_uint8),
+        ("version", c_uint8),
+        ("action", c_uint8),
+        ("family", c_uint8),
+        ("prefix_length", c_uint8),
+        ("max_length", c_uint8),
+        ("address", c_uint8 * 16),
+        ("key_identifier", c_uint8 * 20),
+        ("detail", c_uint8),
+    ]
+
+
+class rtr_route(Structure):
+    asn: int
+    family: int
+    prefix_length: int
+    address: Any
+
+    _fields_ = [
+        ("asn", c_uint32),
+        ("family", c_uint8),
+        ("prefix_length", c_uint8),
+        ("address", c_uint8 * 16),
+    ]
+
+
+class rtr_tables(Structure):
+    ipv4: int
+    ipv6: int
+    starts: Any
+    shortest_ipv4: int
+    shortest_ipv6: int
+    shortest: Any
+
+    _fields_ = [
+        ("ipv4", c_size_t),
+        ("ipv6", c_size_t),
+        ("starts", c_size_t * 256),
+        ("shortest_ipv4", c_uint8),
+        ("shortest_ipv6", c_uint8),
+        ("shortest", c_uint8 * 256),
+    ]
+
+
+class rtr_covering(Structure):
+    place: int
+    asn: int
+    prefix_length: int
+    max_length: int
+    mismatch: int
+
+    _fields_ = [
+        ("place", c_size_t),
+        ("asn", c_uint32),
+        ("prefix_length", c_uint8),
+        ("max_length", c_uint8),
+        ("mismatch", c_uint8),
+    ]
+
+
+class rtr_settings(Structure):
+    most_bytes: int
+    pause: int
+    connect_limit: int
+    response_limit: int
+    refresh: int
+    retry: int
+    expire: int
+    most_units: int
+    chance: int
+    highest: int
+
+    _fields_ = [
+        ("most_bytes", c_uint64),
+        ("pause", c_uint32),
+        ("connect_limit", c_uint32),
+        ("response_limit", c_uint32),
+        ("refresh", c_uint32),
+        ("retry", c_uint32),
+        ("expire", c_uint32),
+        ("most_units", c_uint32),
+        ("chance", c_uint16),
+        ("highest", c_uint8),
+    ]
+
+
+class rtr_known(Structure):
+    serial: int
+    refresh: int
+    retry: int
+    expire: int
+    session: int
+    version: int
+
+    _fields_ = [
+        ("serial", c_uint32),
+        ("refresh", c_uint32),
+        ("retry", c_uint32),
+        ("expire", c_uint32),
+        ("session", c_uint16),
+        ("version", c_uint8),
+    ]
+
+
+class rtr_router(Structure):
+    settings: rtr_settings
+    expires: int
+    asked: int
+    due: int
+    bytes: int
+    known: rtr_known
+    answer: rtr_known
+    wait: int
+    units: int
+    note: int
+    session: int
+    phase: int
+    version: int
+    floor: int
+    agreed: bool
+    fell: bool
+    changes: bool
+    resync: bool
+    answered: bool
+    noted: bool
+    has_data: bool
+
+    _fields_ = [
+        ("settings", rtr_settings),
+        ("expires", c_uint64),
+        ("asked", c_uint64),
+        ("due", c_uint64),
+        ("bytes", c_uint64),
+        ("known", rtr_known),
+        ("answer", rtr_known),
+        ("wait", c_uint32),
+        ("units", c_uint32),
+        ("note", c_uint32),
+        ("session", c_uint16),
+        ("phase", c_uint8),
+        ("version", c_uint8),
+        ("floor", c_uint8),
+        ("agreed", c_bool),
+        ("fell", c_bool),
+        ("changes", c_bool),
+        ("resync", c_bool),
+        ("answered", c_bool),
+        ("noted", c_bool),
+        ("has_data", c_bool),
+    ]
+
+
+class rtr_action(Structure):
+    start: int
+    taken: int
+    wanted: int
+    serial: int
+    session: int
+    code: int
+    kind: int
+    version: int
+    cause: int
+    status: int
+    detail: int
+    changes: bool
+    drops: bool
+    reports: bool
+
+    _fields_ = [
+        ("start", c_size_t),
+        ("taken", c_size_t),
+        ("wanted", c_size_t),
+        ("serial", c_uint32),
+        ("session", c_uint16),
+        ("code", c_uint16),
+        ("kind", c_uint8),
+        ("version", c_uint8),
+        ("cause", c_uint8),
+        ("status", c_uint8),
+        ("detail", c_uint8),
+        ("changes", c_bool),
+        ("drops", c_bool),
+        ("reports", c_bool),
+    ]
+
+
+# The fields of a struct rtr_unit, for the module struct.
+UNIT_LETTERS = "@NNNNNNIIIIIIHHBBBBBB16s20sB"
+
+STATUS_TEXTS = {
+    0: "accepted",
+    1: "unexpected end of input",
+    2: "unit type is not allowed here",
+    3: "version is not supported here",
+    4: "unit is longer than 65535 bytes",
+    5: "invalid unit length",
+    6: "ASPA unit has no providers",
+    7: "prefix fields are not allowed",
+    8: "too many units",
+    9: "no room in the output",
+    10: "no unit has these fields",
+    12: "not in canonical form",
+    13: "of another session",
+    14: "duplicate announcement",
+    15: "withdrawal of an unknown record",
+    16: "an ASPA is announced and then withdrawn",
+    17: "no room in the index",
+}
+
+KIND_TEXTS = {
+    0: "serial notify",
+    1: "serial query",
+    2: "reset query",
+    3: "cache response",
+    4: "IPv4 prefix",
+    6: "IPv6 prefix",
+    7: "end of data",
+    8: "cache reset",
+    9: "router key",
+    10: "error report",
+    11: "ASPA",
+}
+
+CAUSE_TEXTS = {
+    0: "the cache closed the connection",
+    1: "the cache is too slow",
+    2: "unit is refused",
+    3: "the cache reports an error",
+    4: "unit is not allowed here",
+    5: "version does not have such payloads",
+    6: "unit of another version than the session",
+    7: "answer of a higher version than the query",
+    8: "unit of another session",
+    9: "serial number before that of the query",
+    10: "other data at the serial number of the query",
+    11: "the answer is too long",
+    12: "changes are refused",
+    13: "the data have expired",
+    14: "the cache may have a lower version",
+}
+
+# What each function of the library answers, and what it takes.
+PROTOTYPES: dict[str, tuple[Any, list[Any]]] = {
+    "rtr_normalise_slice_nonnull": (c_uint8, [c_void_p, c_size_t, c_void_p, c_size_t, c_uint64,
+        POINTER(rtr_answer)]),
+    "rtr_normalise_for_slice_nonnull": (c_uint8, [c_void_p, c_size_t, c_void_p, c_size_t, c_uint64,
+        c_uint8, POINTER(rtr_answer)]),
+    "rtr_unit_size_nonnull": (c_uint8, [c_void_p, c_size_t, c_void_p, c_void_p]),
+    "rtr_next_nonnull": (c_uint8, [c_void_p, c_size_t, POINTER(rtr_unit)]),
+    "rtr_provider_nonnull": (c_bool, [POINTER(rtr_unit), c_void_p, c_size_t, c_size_t, c_void_p]),
+    "rtr_error_code_nonnull": (c_bool, [c_uint8, c_void_p, c_size_t, c_void_p]),
+    "rtr_write_unit_nonnull": (c_uint8, [POINTER(rtr_unit), c_void_p, c_size_t, c_void_p, c_size_t,
+        c_void_p]),
+    "rtr_same_meaning_nonnull": (c_uint8, [c_void_p, c_size_t, c_void_p, c_size_t, c_uint64,
+        POINTER(rtr_comparison)]),
+    "rtr_delta_nonnull": (c_uint8, [c_void_p, c_size_t, c_void_p, c_size_t, c_void_p, c_size_t,
+        POINTER(rtr_data_answer)]),
+    "rtr_apply_nonnull": (c_uint8, [c_void_p, c_size_t, c_void_p, c_size_t, c_void_p, c_size_t,
+        POINTER(rtr_data_answer)]),
+    "rtr_apply_in_order_nonnull": (c_uint8, [c_void_p, c_size_t, c_void_p, c_size_t, c_void_p,
+        c_size_t, c_void_p, c_size_t, POINTER(rtr_data_answer)]),
+    "rtr_order_nonnull": (c_uint8, [c_void_p, c_size_t, c_void_p, c_size_t, c_void_p, c_size_t,
+        POINTER(rtr_data_answer)]),
+    "rtr_tables_nonnull": (None, [c_void_p, c_size_t, POINTER(rtr_tables)]),
+    "rtr_validate_nonnull": (c_uint8, [c_void_p, c_size_t, POINTER(rtr_tables),
+        POINTER(rtr_route)]),
+    "rtr_covering_nonnull": (c_bool, [c_void_p, c_size_t, POINTER(rtr_tables), POINTER(rtr_route),
+        c_size_t, POINTER(rtr_covering)]),
+    "rtr_serial_order": (c_uint8, [c_uint32, c_uint32]),
+    "rtr_version_has": (c_bool, [c_uint8, c_uint8]),
+    "rtr_wire_version": (c_uint32, []),
+    "rtr_settings_usual": (None, [POINTER(rtr_settings), c_uint8]),
+    "rtr_router_init": (None, [POINTER(rtr_router), POINTER(rtr_settings)]),
+    "rtr_router_tick": (None, [POINTER(rtr_router), c_uint64, POINTER(rtr_action)]),
+    "rtr_router_connected": (None, [POINTER(rtr_router), c_uint64, POINTER(rtr_action)]),
+    "rtr_router_lost": (None, [POINTER(rtr_router), c_uint64, POINTER(rtr_action)]),
+    "rtr_router_applied": (None, [POINTER(rtr_router), c_uint64, POINTER(rtr_action)]),
+    "rtr_router_not_applied": (None, [POINTER(rtr_router), c_uint64, c_uint8, POINTER(rtr_action)]),
+    "rtr_router_wakes": (c_uint64, [POINTER(rtr_router)]),
+    "rtr_router_read_nonnull": (None, [POINTER(rtr_router), c_uint64, c_void_p, c_size_t, c_bool,
+        POINTER(rtr_action)]),
+    "rtr_router_query_nonnull": (c_size_t, [POINTER(rtr_action), c_void_p, c_size_t]),
+    "rtr_router_report_nonnull": (c_bool, [POINTER(rtr_action), c_void_p, c_size_t, c_void_p,
+        c_size_t, c_void_p]),
+}

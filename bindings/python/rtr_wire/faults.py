@@ -1,0 +1,183 @@
+"""What is wrong with a unit, or with a call: an exception of a class of its own for each status."""
+from __future__ import annotations
+
+from typing import Any, ClassVar, Dict, Optional, Type
+
+from . import _library, _rtr
+from ._rtr import Cause, PrefixRule, Side, Status
+
+
+class Fault(ValueError):
+    """What the library refuses. Each status has a class of its own below; they are checked in the
+    order of docs/PROTOCOL.md.
+
+    Attributes:
+        status: the status, a `Status`
+        detail: of a UnitTypeError the type, of a UnitVersionError the version, of a PrefixError
+            the `PrefixRule` that is broken; else 0
+        offset: where the unit at fault begins, in bytes from the front of the input; None where
+            no unit is at fault
+        unit: the bytes of that unit, as far as they are there and its length can be believed
+        side: of a call with two inputs, which one has the unit: 1 or 2; else 0
+        before: of `normalise` what was done before the fault; else None
+    """
+
+    status: ClassVar[Status]
+
+    def __init__(self, detail: int = 0, offset: Optional[int] = None, unit: bytes = b"",
+                 side: int = 0) -> None:
+        super().__init__(detail, offset, unit, side)
+        self.detail = detail
+        self.offset = offset
+        self.unit = unit
+        self.side = side
+        self.before: Any = None
+
+    def __str__(self) -> str:
+        text = _rtr.STATUS_TEXTS[self.status]
+        if self.status == Status.PREFIX and self.detail:
+            text += f" ({PrefixRule(self.detail).name.lower().replace('_', ' ')})"
+        elif self.detail:
+            text += f" ({self.detail})"
+        if self.offset is not None:
+            text += f", at byte {self.offset}"
+        if self.side:
+            text += f" of the {Side(self.side).name.lower()} input"
+        return text
+
+    @property
+    def code(self) -> Optional[int]:
+        """The error code that the peer is owed a report with (RFC 8210 section 12), or None: where
+        no unit is at fault, and about an error report (section 5.11).
+        """
+        return None if self.offset is None else _library.error_code(self.status, self.unit)
+
+    def report(self, version: int) -> Optional[bytes]:
+        """The error report that the peer is owed (RFC 8210 section 5.11), as bytes to be sent in a
+        session of this version, or None. It has the unit, and a text that says what is wrong.
+        """
+        code = self.code
+        if code is None:
+            return None
+        cause = Cause.FAULTY if self.status <= Status.PREFIX else Cause.NOT_APPLIED
+        action = _rtr.rtr_action(
+            kind=_rtr.ActionKind.END, cause=cause, status=self.status, detail=self.detail,
+            code=code, version=version, reports=True)
+        return _library.report(action, self.unit)
+
+
+class ShortError(Fault):
+    """The input ends inside a unit, or a sequence before its end of data."""
+
+    status = Status.SHORT
+
+
+class UnitTypeError(Fault):
+    """A unit of a type that is not allowed here."""
+
+    status = Status.UNIT_TYPE
+
+
+class UnitVersionError(Fault):
+    """A unit of a version that is not allowed here, or data of another version than others."""
+
+    status = Status.UNIT_VERSION
+
+
+class TooLongError(Fault):
+    """A router key, an ASPA or an error report of more bytes than a unit may have."""
+
+    status = Status.TOO_LONG
+
+
+class UnitLengthError(Fault):
+    """A length that doesn't suit the type."""
+
+    status = Status.UNIT_LENGTH
+
+
+class EmptyProvidersError(Fault):
+    """An ASPA that is announced without providers."""
+
+    status = Status.EMPTY_PROVIDERS
+
+
+class PrefixError(Fault):
+    """A prefix whose length or max length breaks a `PrefixRule`."""
+
+    status = Status.PREFIX
+
+
+class TooManyError(Fault):
+    """As many units as were allowed came, and no end of data was among them."""
+
+    status = Status.TOO_MANY
+
+
+class NoRoomError(Fault):
+    """The output is too short."""
+
+    status = Status.NO_ROOM
+
+
+class NoFormError(Fault):
+    """No unit has these fields."""
+
+    status = Status.NO_FORM
+
+
+class NotCanonicalError(Fault):
+    """A unit, or an end of data, that may not stand there in data or changes."""
+
+    status = Status.NOT_CANONICAL
+
+
+class OtherSessionError(Fault):
+    """Changes, or data, of another session than the data."""
+
+    status = Status.OTHER_SESSION
+
+
+class DuplicateError(Fault):
+    """A payload is announced that is there already (RFC 8210 section 12, code 7)."""
+
+    status = Status.DUPLICATE
+
+
+class UnknownError(Fault):
+    """A payload is withdrawn that isn't there (RFC 8210 section 12, code 6)."""
+
+    status = Status.UNKNOWN
+
+
+class UndecidedError(Fault):
+    """An ASPA is announced and then withdrawn, so that what comes of it depends on the data."""
+
+    status = Status.UNDECIDED
+
+
+class NoIndexError(Fault):
+    """The library had too little room to sort in."""
+
+    status = Status.NO_INDEX
+
+
+_CLASSES: Dict[int, Type[Fault]] = {one.status: one for one in Fault.__subclasses__()}
+
+
+def fault(status: int, detail: int = 0) -> Fault:
+    """The fault of a call that names no unit."""
+    return _CLASSES[status](detail)
+
+
+def refusal(status: int, detail: int, data: bytes, at: int, *, offset: Optional[int] = None,
+            side: int = 0) -> Fault:
+    """The fault of the unit that begins there in these bytes: at this offset of the input, if that
+    isn't the same place.
+    """
+    known, size, _ = _library.unit_size(data, at)
+    if status in (Status.TOO_MANY, Status.NO_ROOM):
+        size = 0
+    elif known not in (Status.OK, Status.SHORT):
+        size = _library.HEADER
+    return _CLASSES[status](detail, at if offset is None else offset, data[at:at + size], side)

@@ -1,0 +1,79 @@
+"""The rows that the other languages play, too: those of the file that a variable names, or else
+fewer, which the scripts in bindings make."""
+from __future__ import annotations
+
+import os
+import pathlib
+import struct
+import subprocess
+import sys
+from typing import Iterator, List, NamedTuple, Tuple
+
+BINDINGS = pathlib.Path(__file__).resolve().parent.parent.parent
+SAMPLES = BINDINGS.parent / "crates"
+
+
+def rows(variable: str, *script: str) -> bytes:
+    """The bytes of the rows."""
+    if path := os.environ.get(variable):
+        return pathlib.Path(path).read_bytes()
+    words = [sys.executable, BINDINGS / script[0], *script[1:]]
+    return subprocess.run(words, check=True, stdout=subprocess.PIPE).stdout
+
+
+class Taken:
+    """Takes numbers and bytes off the front of bytes."""
+
+    def __init__(self, data: bytes) -> None:
+        self.data, self.at = data, 0
+
+    def __bool__(self) -> bool:
+        return self.at < len(self.data)
+
+    def bytes(self, count: int) -> bytes:
+        self.at += count
+        return self.data[self.at - count:self.at]
+
+    def numbers(self, letters: str) -> Tuple[int, ...]:
+        return struct.unpack("<" + letters, self.bytes(struct.calcsize("<" + letters)))
+
+
+class Case(NamedTuple):
+    """A row of bindings/cases.py; the version is 255 where there is none."""
+
+    version: int
+    status: int
+    detail: int
+    units: int
+    forms: int
+    taken: int
+    input: bytes
+    form: bytes
+
+
+def cases() -> Iterator[Case]:
+    taken = Taken(rows("RTR_CASES", "cases.py", "--inputs", "300"))
+    while taken:
+        *head, length, written = taken.numbers("3B5Q")
+        yield Case(*head, taken.bytes(length), taken.bytes(written))
+
+
+class Answer(NamedTuple):
+    """What bindings/sessions.py says of one unit."""
+
+    numbers: Tuple[int, ...]
+    address: bytes
+    identifier: bytes
+    form: bytes
+
+
+def sessions() -> Iterator[Tuple[bytes, List[Answer]]]:
+    taken = Taken(rows("RTR_SESSIONS", "sessions.py", "cases"))
+    while taken:
+        length, count = taken.numbers("2Q")
+        data, answers = taken.bytes(length), []
+        for _ in range(count):
+            numbers, address = taken.numbers("22Q"), taken.bytes(16)
+            identifier, (written,) = taken.bytes(20), taken.numbers("Q")
+            answers.append(Answer(numbers, address, identifier, taken.bytes(written)))
+        yield data, answers

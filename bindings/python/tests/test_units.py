@@ -1,0 +1,237 @@
+"""Units that are made in Python, and faults."""
+import copy
+import dataclasses
+import io
+import ipaddress
+import pathlib
+import pickle
+import random
+import re
+import unittest
+
+import rtr_wire
+from rtr_wire import (Aspa, CacheReset, CacheResponse, EmptyProvidersError, EndOfData, ErrorReport,
+                      Fault, IPv4Prefix, IPv6Prefix, Kind, NoFormError, PrefixError, PrefixRule,
+                      ResetQuery, RouterKey, SerialNotify, SerialOrder, SerialQuery, Status,
+                      TooLongError, UnitLengthError, UnitVersionError, Vrp, serial_order, units,
+                      version_has)
+
+V4, V6 = ipaddress.IPv4Network("192.0.2.0/24"), ipaddress.IPv6Network("2001:db8::/32")
+
+# Units with their forms, written by hand from RFC 8210 section 5 and docs/PROTOCOL.md.
+FORMS = [
+    (SerialNotify(4660, 7, version=0), "00001234 0000000c 00000007"),
+    (SerialQuery(4660, 0xdeadbeef), "01011234 0000000c deadbeef"),
+    (ResetQuery(2), "02020000 00000008"),
+    (CacheResponse(1, 0), "00030001 00000008"),
+    (IPv4Prefix(V4, 26, 64496), "01040000 00000014 01181a00 c0000200 0000fbf0"),
+    (IPv6Prefix(V6, 48, 1, announce=False, version=2),
+     "02060000 00000020 00203000 20010db8 00000000 00000000 00000000 00000001"),
+    (EndOfData(1, 2, version=0), "00070001 0000000c 00000002"),
+    (EndOfData(1, 2, 3, 4, 5), "01070001 00000018 00000002 00000003 00000004 00000005"),
+    (CacheReset(), "01080000 00000008"),
+    (RouterKey(bytes(range(20)), 5, b"\xca\xfe\0"),
+     "01090100 00000023 00010203 04050607 08090a0b 0c0d0e0f 10111213 00000005 cafe00"),
+    (ErrorReport(3, b"\1\2\3", b"no"), "010a0003 00000015 00000003 010203 00000002 6e6f"),
+    (Aspa(9, (1, 2)), "020b0100 00000014 00000009 00000001 00000002"),
+    (Aspa(9, (1, 2), announce=False), "020b0000 0000000c 00000009"),
+]
+
+
+def any_unit(rng):
+    """A unit of any kind, with random fields of few values, so that some are equal."""
+    def number(bits):
+        return rng.choice([0, 1, 2**bits - 1, rng.getrandbits(bits)])
+
+    version, flag = rng.choice([0, 1, 2]), rng.random() < 0.5
+    some = rng.choice([b"", b"\0", b"\1\2", bytes(rng.getrandbits(8) for _ in range(9))])
+    width = rng.choice([32, 128])
+    length = rng.choice([0, 1, width // 2, width])
+    address = (number(width) >> width - length << width - length).to_bytes(width // 8, "big")
+    prefix = ipaddress.ip_network((address, length))
+    of_prefix = IPv4Prefix if width == 32 else IPv6Prefix
+    most, providers = rng.choice([length, width]), (number(32), number(32))[rng.randrange(2):]
+    return rng.choice([
+        lambda: of_prefix(prefix, most, number(32), flag, version),
+        lambda: RouterKey(bytes(20), number(32), some, flag, version),
+        lambda: Aspa(number(32), providers, flag, version),
+        lambda: EndOfData(number(16), number(32), number(32), 1, 2, version),
+        lambda: ErrorReport(number(16), some, b"text"[:rng.randrange(5)], version),
+        lambda: SerialNotify(number(16), number(32), version),
+        lambda: SerialQuery(number(16), number(32), version),
+        lambda: ResetQuery(version), lambda: CacheReset(version),
+        lambda: CacheResponse(number(16), version),
+    ])()
+
+
+class Made(unittest.TestCase):
+    """Units from their fields."""
+
+    def test_forms(self):
+        self.assertEqual({unit.KIND for unit, _ in FORMS}, set(Kind))
+        for unit, form in FORMS:
+            self.assertEqual(bytes(unit), bytes.fromhex(form))
+            self.assertEqual(next(units(bytes.fromhex(form))), unit)
+
+    def test_random(self):
+        """Equal and of one hash exactly where the forms are; read again as they were."""
+        rng = random.Random(1)
+        made = [any_unit(rng) for _ in range(3000)]
+        by_form = {}
+        for unit in made:
+            form = bytes(unit)
+            self.assertEqual(next(units(form)), unit)
+            first = by_form.setdefault(form, unit)
+            self.assertEqual((first, hash(first)), (unit, hash(unit)))
+        self.assertEqual(len(set(made)), len(by_form))
+        self.assertLess(len(by_form), len(made))
+        self.assertEqual(list(units(io.BytesIO(b"".join(map(bytes, made))))), made)
+
+    def test_meanings(self):
+        """What means nothing doesn't count."""
+        self.assertEqual(Aspa(9, (1, 2), announce=False), Aspa(9, (), announce=False))
+        self.assertNotEqual(Aspa(9, (1, 2)), Aspa(9, (2, 1)))
+        self.assertEqual(EndOfData(1, 2, 3, 4, 5, version=0), EndOfData(1, 2, version=0))
+        self.assertNotEqual(EndOfData(1, 2, 3, 4, 5), EndOfData(1, 2))
+        self.assertNotEqual(SerialNotify(1, 2), SerialQuery(1, 2))
+        self.assertNotEqual(ErrorReport(0, b"ab", b"c"), ErrorReport(0, b"a", b"bc"))
+        self.assertNotEqual(ResetQuery(), 5)
+
+    def test_frozen(self):
+        for unit, _ in FORMS:
+            for again in (copy.copy(unit), copy.deepcopy(unit), pickle.loads(pickle.dumps(unit))):
+                self.assertEqual(again, unit)
+            self.assertEqual(eval(repr(unit), {**vars(rtr_wire), **vars(ipaddress)}), unit)
+            with self.assertRaises(dataclasses.FrozenInstanceError):
+                unit.version = 0
+            read = next(units(bytes(unit)))
+            self.assertEqual(dataclasses.replace(read, version=0).version, 0)
+
+    def test_refused(self):
+        """Each unit that has no form, by the fault that rtr_write_unit has for it."""
+        key, ends = bytes(20), EndOfData(1, 2)
+        for refused, make in [
+                (PrefixError, lambda: IPv4Prefix(V4, 23, 1)),
+                (PrefixError, lambda: IPv4Prefix(V4, 33, 1)),
+                (PrefixError, lambda: IPv6Prefix(V6, 129, 1)),
+                (NoFormError, lambda: IPv4Prefix(V4, 24, 1, announce=2)),
+                (TooLongError, lambda: RouterKey(key, 1, bytes(65504))),
+                (TooLongError, lambda: ErrorReport(0, bytes(65520))),
+                (TooLongError, lambda: ErrorReport(0, bytes(60000), bytes(5520))),
+                (TooLongError, lambda: Aspa(1, (0,) * 16381)),
+                (EmptyProvidersError, lambda: Aspa(1, ())),
+                (UnitVersionError, lambda: dataclasses.replace(ends, version=3)),
+                (ValueError, lambda: IPv4Prefix(V4, 24, 2**32)),
+                (ValueError, lambda: IPv4Prefix(V4, -1, 1)),
+                (ValueError, lambda: SerialNotify(65536, 1)),
+                (ValueError, lambda: ResetQuery(256)),
+                (ValueError, lambda: ResetQuery("1")),
+                (ValueError, lambda: RouterKey(bytes(19), 1, b"")),
+                (ValueError, lambda: Aspa(1, (2**32,))),
+                (TypeError, lambda: IPv4Prefix(V6, 32, 1)),
+                (TypeError, lambda: IPv6Prefix("::/0", 32, 1)),
+                (TypeError, lambda: rtr_wire.Unit())]:
+            with self.assertRaises(refused) as caught:
+                make()
+            self.assertIs(type(caught.exception), refused)
+        self.assertEqual(len(bytes(RouterKey(key, 1, bytes(65503)))), 65535)
+        self.assertEqual(len(bytes(ErrorReport(0, bytes(60000), bytes(5519)))), 65535)
+        self.assertEqual(len(bytes(Aspa(1, (0,) * 16380))), 65532)
+
+    def test_vrps(self):
+        self.assertEqual(Vrp(V4, 5).unit(), IPv4Prefix(V4, 24, 5))
+        self.assertEqual(Vrp(V6, 5, 48).unit(2), IPv6Prefix(V6, 48, 5, version=2))
+
+    def test_versions(self):
+        """RFC 6810 has no router keys; ASPAs are of version 2."""
+        for version in range(-1, 4):
+            for kind in Kind:
+                least = {Kind.ROUTER_KEY: 1, Kind.ASPA: 2}.get(kind, 0)
+                self.assertEqual(version_has(version, kind), least <= version <= 2)
+
+    def test_serials(self):
+        """RFC 1982 section 3.2."""
+        for left, right, order in ((1, 1, SerialOrder.EQUAL), (1, 2, SerialOrder.LESS),
+                                   (0, 2**32 - 1, SerialOrder.GREATER),
+                                   (0, 2**31, SerialOrder.NO_ORDER)):
+            self.assertIs(serial_order(left, right), order)
+
+
+class Faults(unittest.TestCase):
+    """Faults, and the reports that they owe."""
+
+    # RFC 8210 section 12, and docs/PROTOCOL.md.
+    CODES = {Status.SHORT: 0, Status.UNIT_TYPE: 5, Status.UNIT_VERSION: 4, Status.TOO_LONG: 0,
+             Status.UNIT_LENGTH: 0, Status.EMPTY_PROVIDERS: 9, Status.PREFIX: 0,
+             Status.DUPLICATE: 7, Status.UNKNOWN: 6}
+    PREFIX = bytes(FORMS[4][0])
+
+    def test_codes(self):
+        names = set()
+        for one in Fault.__subclasses__():
+            fault = one(1, 40, self.PREFIX)
+            self.assertEqual(fault.code, self.CODES.get(one.status), one)
+            self.assertIsNone(one(1, None, self.PREFIX).code)
+            self.assertIsNone(one(1, 40, bytes(FORMS[10][0])).code)
+            self.assertIs(getattr(rtr_wire, one.__name__), one)
+            names.add(one.status)
+            self.assertIn("at byte 40", str(fault))
+            again = pickle.loads(pickle.dumps(fault))
+            self.assertEqual((type(again), str(again), again.unit), (one, str(fault), fault.unit))
+        self.assertEqual(names, set(Status) - {Status.OK})
+
+    def test_reports(self):
+        """A report has the version of the session, the code, the unit and a text."""
+        for one in Fault.__subclasses__():
+            report = one(1, 40, self.PREFIX).report(2)
+            if one.status not in self.CODES:
+                self.assertIsNone(report)
+                continue
+            read = next(units(report))
+            self.assertEqual((read.version, read.code), (2, self.CODES[one.status]))
+            self.assertTrue(self.PREFIX.startswith(read.enclosed) and read.enclosed)
+            self.assertGreater(len(read.text), 5)
+
+    def test_long_reports(self):
+        """Of a long unit and of one that isn't whole a report has what there is room for."""
+        key = bytes(RouterKey(bytes(20), 1, bytes(65503)))
+        read = next(units(rtr_wire.DuplicateError(0, 0, key).report(1)))
+        self.assertTrue(key.startswith(read.enclosed))
+        self.assertGreater(len(read.enclosed), 65000)
+
+    def test_details(self):
+        def prefix(lengths):
+            return f"01040000 00000014 01{lengths}00 c0000200 0000fbf0"
+
+        for form, detail, text in (
+                (prefix("211a"), PrefixRule.LENGTH_OVER, "length over"),
+                (prefix("1821"), PrefixRule.MAX_LENGTH_OVER, "max length over"),
+                (prefix("1817"), PrefixRule.MAX_LENGTH_UNDER, "max length under"),
+                ("01050000 00000014", 5, "type"), ("03070000 00000018", 3, "version")):
+            with self.assertRaises(Fault) as caught:
+                next(units(bytes.fromhex(form)))
+            self.assertEqual((caught.exception.detail, caught.exception.offset), (detail, 0))
+            self.assertIn(text, str(caught.exception))
+
+    def test_lengths(self):
+        with self.assertRaises(UnitLengthError):
+            next(units(bytes.fromhex("01040000 00000015 01211a00 c0000200 0000fbf0 00")))
+
+
+class Header(unittest.TestCase):
+    """What was generated from rtr.h."""
+
+    def test_texts(self):
+        header = pathlib.Path(__file__).resolve().parent.parent.parent / "c" / "rtr.h"
+        if not header.exists():
+            self.skipTest("no rtr.h beside")
+        text = header.read_text()
+        numbers = dict(re.findall(r"^    RTR_(\w+) = (\d+)", text, re.MULTILINE))
+        for enum in (Status, Kind, PrefixRule, rtr_wire.Side):
+            for one in enum:
+                self.assertEqual(numbers[one.name], str(int(one)))
+        self.assertIn(f'"{rtr_wire.__version__}"', text)
+
+
+if __name__ == "__main__":
+    unittest.main()
