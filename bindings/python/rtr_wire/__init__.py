@@ -2,7 +2,8 @@
 from __future__ import annotations
 
 from ._rtr import VERSION as __version__
-from ._rtr import Kind, PrefixRule, SerialOrder, Side, Status
+from ._rtr import Kind, Mismatch, PrefixRule, SerialOrder, Side, Status, Validity
+from .data import Changes, Covering, Data
 from .faults import (DuplicateError, EmptyProvidersError, Fault, NoFormError, NoIndexError,
                      NoRoomError, NotCanonicalError, OtherSessionError, PrefixError, ShortError,
                      TooLongError, TooManyError, UndecidedError, UnitLengthError, UnitTypeError,

@@ -2,10 +2,11 @@
 from __future__ import annotations
 
 import ctypes
+import mmap
 import os
 import pathlib
 import struct
-from typing import Any, Tuple, Union
+from typing import Any, Optional, Tuple, Union
 
 from . import _rtr
 
@@ -34,11 +35,12 @@ def _load() -> ctypes.CDLL:
 
 CALLS = _load()
 
-# The fields of a struct rtr_unit, as one tuple.
+# The fields of a struct rtr_unit, as one tuple; and of a struct rtr_route.
 FIELDS = struct.Struct(_rtr.UNIT_LETTERS)
+ROUTE = struct.Struct(_rtr.ROUTE_LETTERS)
 
-# What the library takes for "all of them".
-NO_LIMIT = 2**64 - 1
+# Memory of so many bytes is asked of the system, which gives it filled with zero.
+_LARGE = 1 << 18
 
 
 def whole(buffer: Buffer) -> bytes:
@@ -49,6 +51,28 @@ def whole(buffer: Buffer) -> bytes:
 def address_of(data: bytes) -> int:
     """Where the bytes lie. They have to be kept for as long as it is used."""
     return ctypes.cast(ctypes.c_char_p(data), ctypes.c_void_p).value or 0
+
+
+def memory(size: int) -> Any:
+    """So many bytes for the library to write to."""
+    if size < _LARGE:
+        return ctypes.create_string_buffer(size)
+    return (ctypes.c_char * size).from_buffer(mmap.mmap(-1, size))
+
+
+def front(output: Any, length: int) -> bytes:
+    """The first bytes of memory."""
+    return ctypes.string_at(output, length)
+
+
+def at_most(limit: Optional[int]) -> int:
+    """A limit as the library takes it."""
+    largest = 2**64 - 1
+    if limit is None:
+        return largest
+    if limit < 0:
+        raise ValueError(f"a limit of {limit}")
+    return min(limit, largest)
 
 
 def octet(version: int) -> int:
@@ -82,7 +106,7 @@ def written(fields: Tuple[Any, ...], part: bytes) -> Tuple[int, bytes]:
         room *= 2
 
 
-def error_code(status: int, unit: bytes) -> Union[int, None]:
+def error_code(status: int, unit: bytes) -> Optional[int]:
     """The error code that is owed for a status of a unit, if one is."""
     code = ctypes.c_uint16()
     owed = CALLS.rtr_error_code_nonnull(status, unit, len(unit), ctypes.byref(code))

@@ -453,8 +453,9 @@ class rtr_action(Structure):
     ]
 
 
-# The fields of a struct rtr_unit, for the module struct.
+# The fields of these structs, for the module struct.
 UNIT_LETTERS = "@NNNNNNIIIIIIHHBBBBBB16s20sB"
+ROUTE_LETTERS = "@IBB16s"
 
 STATUS_TEXTS = {
     0: "accepted",

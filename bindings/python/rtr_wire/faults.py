@@ -4,7 +4,7 @@ from __future__ import annotations
 from typing import Any, ClassVar, Dict, Optional, Type
 
 from . import _library, _rtr
-from ._rtr import Cause, PrefixRule, Side, Status
+from ._rtr import Cause, PrefixRule, Status
 
 
 class Fault(ValueError):
@@ -18,7 +18,7 @@ class Fault(ValueError):
         offset: where the unit at fault begins, in bytes from the front of the input; None where
             no unit is at fault
         unit: the bytes of that unit, as far as they are there and its length can be believed
-        side: of a call with two inputs, which one has the unit: 1 or 2; else 0
+        side: of a call on data or on two inputs, which one has the unit: 1 or 2; else 0
         before: of `normalise` what was done before the fault; else None
     """
 
@@ -41,8 +41,6 @@ class Fault(ValueError):
             text += f" ({self.detail})"
         if self.offset is not None:
             text += f", at byte {self.offset}"
-        if self.side:
-            text += f" of the {Side(self.side).name.lower()} input"
         return text
 
     @property

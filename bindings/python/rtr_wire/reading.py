@@ -135,9 +135,8 @@ def normalise(sequence: Buffer, *, version: Optional[int] = None,
     Raises a Fault whose `before` says which whole units were taken before it, in this order:
     UnitVersionError for a version that there isn't; TooManyError; ShortError to PrefixError.
     """
-    data, answer = whole(sequence), _rtr.rtr_answer()
-    most = _library.NO_LIMIT if limit is None else limit
-    output = ctypes.create_string_buffer(len(data) + FIELDS.size)
+    data, answer, most = whole(sequence), _rtr.rtr_answer(), _library.at_most(limit)
+    output = _library.memory(len(data) + FIELDS.size)
     if version is None:
         status = CALLS.rtr_normalise_slice_nonnull(
             data, len(data), output, len(output), most, answer)
@@ -145,7 +144,8 @@ def normalise(sequence: Buffer, *, version: Optional[int] = None,
         version = octet(version)
         status = CALLS.rtr_normalise_for_slice_nonnull(
             data, len(data), output, len(output), most, version, answer)
-    done = Normalised(output.raw[:answer.written], answer.units, answer.forms, answer.taken)
+    form = _library.front(output, answer.written)
+    done = Normalised(form, answer.units, answer.forms, answer.taken)
     if status == Status.OK:
         return done
     if version is None or CALLS.rtr_version_has(version, Kind.END_OF_DATA):
@@ -164,7 +164,7 @@ def same_meaning(left: Buffer, right: Buffer, *, limit: Optional[int] = None) ->
     right. Its `side` says which.
     """
     inputs, answer = (whole(left), whole(right)), _rtr.rtr_comparison()
-    most = _library.NO_LIMIT if limit is None else limit
+    most = _library.at_most(limit)
     status = CALLS.rtr_same_meaning_nonnull(
         inputs[0], len(inputs[0]), inputs[1], len(inputs[1]), most, answer)
     if status != Status.OK:

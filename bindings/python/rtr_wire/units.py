@@ -417,4 +417,7 @@ def version_has(version: int, kind: Kind) -> bool:
 
 def serial_order(left: int, right: int) -> SerialOrder:
     """The order of two serial numbers (RFC 1982 section 3.2)."""
+    for serial in (left, right):
+        if not 0 <= serial < 2**32:
+            raise ValueError(f"no serial number is {serial}")
     return SerialOrder(_library.CALLS.rtr_serial_order(left, right))

@@ -2,6 +2,7 @@
 fewer, which the scripts in bindings make."""
 from __future__ import annotations
 
+import ipaddress
 import os
 import pathlib
 import struct
@@ -77,3 +78,46 @@ def sessions() -> Iterator[Tuple[bytes, List[Answer]]]:
             identifier, (written,) = taken.bytes(20), taken.numbers("Q")
             answers.append(Answer(numbers, address, identifier, taken.bytes(written)))
         yield data, answers
+
+
+class Change(NamedTuple):
+    """A row of bindings/deltas.py: a call, and how it ends."""
+
+    call: int
+    status: int
+    side: int
+    detail: int
+    offset: int
+    first: bytes
+    second: bytes
+    output: bytes
+
+
+def changes() -> Iterator[Change]:
+    taken = Taken(rows("RTR_DELTAS", "deltas.py"))
+    while taken:
+        *head, first, second, output, _ = taken.numbers("4B5Q")
+        yield Change(*head, taken.bytes(first), taken.bytes(second), taken.bytes(output))
+
+
+class Route(NamedTuple):
+    """A route of bindings/validity.py, with the place, the AS, the prefix length, the max length
+    and the mismatch of each VRP that covers it."""
+
+    prefix: str
+    asn: int
+    validity: int
+    covering: List[Tuple[int, ...]]
+
+
+def tables() -> Iterator[Tuple[bytes, List[Route]]]:
+    taken = Taken(rows("RTR_VALIDITY", "validity.py"))
+    while taken:
+        length, count = taken.numbers("2I")
+        data, routes = taken.bytes(length), []
+        for _ in range(count):
+            family, bits, validity, many, asn = taken.numbers("4BI")
+            address = ipaddress.ip_address(taken.bytes(16)[:4 if family == 4 else 16])
+            covering = [taken.numbers("2I4B")[:5] for _ in range(many)]
+            routes.append(Route(f"{address}/{bits}", asn, validity, covering))
+        yield data, routes

@@ -1,0 +1,212 @@
+"""Data and changes: the rows of bindings/deltas.py, and random data beside Python's sets."""
+import ctypes
+import ipaddress
+import pickle
+import random
+import unittest
+from dataclasses import replace
+
+import rtr_wire
+from rtr_wire import (Aspa, Changes, Data, DuplicateError, EndOfData, Fault, IPv4Prefix, IPv6Prefix,
+                      NotCanonicalError, OtherSessionError, PrefixError, RouterKey, ShortError,
+                      Status, UnitVersionError, UnknownError, Vrp)
+from rtr_wire import _library, _rtr, data as calls
+
+from . import rows
+
+
+def applied(first, second):
+    """What rtr_apply writes, which takes changes in canonical form alone."""
+    room, answer = len(first) + len(second), _rtr.rtr_data_answer()
+    output = ctypes.create_string_buffer(room)
+    status = _library.CALLS.rtr_apply_nonnull(
+        first, len(first), second, len(second), output, room, answer)
+    if status != Status.OK:
+        raise calls._refused(answer, first, second)
+    return output.raw[:answer.written]
+
+
+CALLED = {0: lambda first, second: calls._delta(first, second, len(first) + len(second)),
+          1: applied, 2: lambda first, _: bytes(Changes.from_bytes(first)), 3: calls._applied}
+
+
+class Rows(unittest.TestCase):
+    """What is computed without the library."""
+
+    def test_rows(self):
+        count = 0
+        for one in rows.changes():
+            if one.status == Status.NO_INDEX:
+                continue
+            count += 1
+            try:
+                answer = 0, 0, 0, None, CALLED[one.call](one.first, one.second)
+            except Fault as fault:
+                answer = fault.status, fault.side, fault.detail, fault.offset, b""
+                source = (b"", one.first, one.second)[fault.side][fault.offset or 0:]
+                self.assertTrue(source.startswith(fault.unit))
+            offset = one.offset if one.side else None
+            self.assertEqual(answer, (one.status, one.side, one.detail, offset, one.output), count)
+        self.assertGreater(count, 3000)
+
+
+def any_payload(rng, version):
+    """A payload of few, so that data have some in common."""
+    asn = rng.choice([0, 1, 2**32 - 1])
+    network = ipaddress.IPv4Network(rng.choice(["10.0.0.0/8", "10.0.0.0/9", "0.0.0.0/0"]))
+    return rng.choice([
+        lambda: IPv4Prefix(network, rng.choice([network.prefixlen, 32]), asn, version=version),
+        lambda: IPv6Prefix(ipaddress.IPv6Network(rng.choice(["::/0", "2001:db8::/32"])), 128, asn,
+                           version=version),
+        lambda: RouterKey(bytes(19) + bytes([rng.randrange(3)]), asn, b"k" * rng.randrange(3),
+                          version=version),
+        lambda: Aspa(asn, (rng.randrange(3), 7), version=version),
+    ])()
+
+
+def name(unit):
+    """What names a payload: of an ASPA its customer."""
+    return unit.customer if isinstance(unit, Aspa) else unit
+
+
+def any_set(rng, version, most):
+    """Payloads, of each name one."""
+    return {name(unit): unit for unit in (any_payload(rng, version) for _ in range(most))}
+
+
+class Sets(unittest.TestCase):
+    """Data as sets."""
+
+    def test_random(self):
+        rng = random.Random(2)
+        for _ in range(100):
+            version = rng.choice([0, 1, 2])
+            sides = [any_set(rng, version, rng.choice([0, 1, 9])) for _ in range(2)]
+            ends = [EndOfData(1, serial, serial, 2, 3, version) for serial in (7, 8)]
+            old, new = (Data(rng.sample(list(side.values()), len(side)), end)
+                        for side, end in zip(sides, ends))
+            for side, end, made in zip(sides, ends, (old, new)):
+                self.check_set(side, end, made)
+            self.check_changes(sides, old, new)
+
+    def check_set(self, side, end, made):
+        """Data have these payloads and this end of data."""
+        self.assertEqual((set(made), len(made)), (set(side.values()), len(side)))
+        self.assertEqual((made.end, made.version), (end, end.version))
+        self.assertEqual((made.session, made.serial), (end.session, end.serial))
+        for unit in side.values():
+            self.assertIn(unit, made)
+            self.assertNotIn(replace(unit, version=(unit.version + 1) % 3), made)
+            self.assertNotIn(replace(unit, announce=False), made)
+        self.assertNotIn(end, made)
+        for again in (Data.from_bytes(bytes(made)), Data.from_bytes(bytearray(bytes(made)) + b"x"),
+                      Data(made, end), pickle.loads(pickle.dumps(made))):
+            self.assertEqual((again, hash(again)), (made, hash(made)))
+
+    def check_changes(self, sides, old, new):
+        """The delta has what differs, and leads from one to the other."""
+        delta = old.delta(new)
+        wanted = {unit for unit in sides[1].values() if unit not in set(sides[0].values())}
+        wanted |= {replace(unit, announce=False) for key, unit in sides[0].items()
+                   if key not in sides[1]}
+        self.assertEqual((set(delta), len(delta), delta.end), (wanted, len(wanted), new.end))
+        for changes in (delta, bytes(delta), memoryview(bytes(delta) + b"more")):
+            self.assertEqual(old.apply(changes), new)
+        self.assertEqual(Changes.from_bytes(bytes(delta)), delta)
+        self.assertEqual(pickle.loads(pickle.dumps(delta)), delta)
+
+    def test_in_order(self):
+        """Changes are made as they came."""
+        one = IPv4Prefix(ipaddress.IPv4Network("10.0.0.0/8"), 8, 1)
+        gone, end = replace(one, announce=False), EndOfData(1, 2)
+        data = Data([one], EndOfData(1, 1))
+        for changes, refused, place in (([gone, one], None, 0), ([one], DuplicateError, 0),
+                                        ([gone, gone], UnknownError, 1), ([gone], None, 0)):
+            sent = b"".join(map(bytes, [*changes, end]))
+            if refused is None:
+                self.assertEqual(set(data.apply(sent)), set(changes) - {gone})
+                continue
+            with self.assertRaises(refused) as caught:
+                data.apply(sent)
+            fault = caught.exception
+            self.assertEqual((fault.offset, fault.unit), (20 * place, bytes(changes[place])))
+            self.assertEqual(fault.code, {DuplicateError: 7, UnknownError: 6}[refused])
+        self.assertEqual(list(data), [one])
+
+    def test_refused(self):
+        network, end = ipaddress.IPv4Network("10.0.0.0/8"), EndOfData(1, 1)
+        one, data = IPv4Prefix(network, 8, 1), Data((), end)
+        for refused, make in (
+                (DuplicateError, lambda: Data([one, one], end)),
+                (UnknownError, lambda: Data([replace(one, announce=False)], end)),
+                (NotCanonicalError, lambda: Data([replace(one, version=0)], end)),
+                (ShortError, lambda: Data.from_bytes(bytes(one))),
+                (ShortError, lambda: data.apply(b"")),
+                (PrefixError, lambda: Data.from_vrps([Vrp(network, 1, 7)])),
+                (OtherSessionError, lambda: data.apply(bytes(EndOfData(2, 1)))),
+                (OtherSessionError, lambda: data.delta(Data((), EndOfData(2, 1)))),
+                (UnitVersionError, lambda: data.delta(Data((), EndOfData(1, 1, version=0)))),
+                (UnitVersionError, lambda: data.for_version(3)),
+                (ValueError, lambda: data.validate("10.0.0.0/8", 2**32)),
+                (ValueError, lambda: data.validate("10.0.0.0/33", 1)),
+                (TypeError, lambda: data.apply("text"))):
+            with self.assertRaises(refused) as caught:
+                make()
+            self.assertIs(type(caught.exception), refused)
+
+    def test_vrps(self):
+        """Data of VRPs, of which two are the same."""
+        vrps = [Vrp(ipaddress.ip_network(prefix), 1, most) for prefix, most in (
+            ("2001:db8::/32", None), ("10.0.0.0/8", 8), ("10.0.0.0/8", None), ("10.0.0.0/8", 9))]
+        data = Data.from_vrps(vrps, EndOfData(5, 6))
+        self.assertEqual([(str(unit.prefix), unit.max_length) for unit in data],
+                         [("10.0.0.0/8", 8), ("10.0.0.0/8", 9), ("2001:db8::/32", 32)])
+        self.assertEqual(repr(data), "<Data of 3 payloads, session 5, serial 6, version 1>")
+
+    def test_versions(self):
+        """What a version lacks isn't in its data; a change of version withdraws it."""
+        end = EndOfData(1, 2, version=2)
+        data = Data([Aspa(1, (2,)), RouterKey(bytes(20), 1, b"", version=2),
+                     IPv4Prefix(ipaddress.IPv4Network("10.0.0.0/8"), 8, 1, version=2)], end)
+        self.assertEqual([len(data.for_version(version)) for version in (0, 1, 2)], [1, 2, 3])
+        lower = data.for_version(0).with_end(EndOfData(9, 1, version=0))
+        self.assertEqual({(type(unit), unit.announce) for unit in calls.difference(data, lower)},
+                         {(Aspa, False), (RouterKey, False)})
+        self.assertEqual(len(calls.difference(lower, data)), 2)
+        self.assertEqual({unit.announce for unit in calls.difference(None, data)}, {True})
+        self.assertEqual({unit.announce for unit in calls.difference(data, None)}, {False})
+
+    def test_large(self):
+        """A table for which the system is asked for memory."""
+        vrps = [Vrp(ipaddress.IPv4Network((i << 8, 24)), 64496) for i in range(20000)]
+        old = Data.from_vrps(vrps[:-1], EndOfData(1, 1))
+        new = Data.from_vrps(vrps[1:], EndOfData(1, 2))
+        self.assertEqual((len(old), len(old.delta(new))), (19999, 2))
+        self.assertEqual(old.apply(old.delta(new)), new)
+        self.assertIn(vrps[5].unit(), old)
+
+
+class Routes(unittest.TestCase):
+    """The rows of bindings/validity.py."""
+
+    def test_rows(self):
+        seen = dict.fromkeys(rtr_wire.Validity, 0)
+        for sequence, routes in rows.tables():
+            data = Data.from_bytes(sequence)
+            vrps = [(unit.prefix, unit.asn, unit.max_length) for unit in data]
+            for number, route in enumerate(routes):
+                got = data.validate(route.prefix, route.asn)
+                self.assertEqual(got, route.validity)
+                seen[got] += 1
+                if number % 8:
+                    continue  # each of these rows costs a list of networks
+                wanted = [(vrps[place], mismatch)
+                          for place, _, _, _, mismatch in route.covering]
+                network = ipaddress.ip_network(route.prefix, strict=False)
+                covering = list(data.covering(network, route.asn))[:255]
+                self.assertEqual([(tuple(vrp), mismatch) for vrp, mismatch in covering], wanted)
+        self.assertGreater(min(seen[one] for one in list(seen)[:3]), 100)
+
+
+if __name__ == "__main__":
+    unittest.main()
