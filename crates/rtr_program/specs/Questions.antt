@@ -1,5 +1,5 @@
 -- What a program is asked about itself, and what it answers: these programs' own.
-use Rattle.std.specs.Prelude.{◌≡◌, ℕ, Bool, true, ◌&&◌, is_ok, Option, Some, None, List, [], ◌∷◌}
+use Rattle.std.specs.Prelude.{◌≡◌, ℕ, Bool, ◌&&◌, is_ok, Option, Some, None, List, [], ◌∷◌}
 use Rattle.std.specs.Prelude.{map, codes, bytes_eq, if◌then◌else◌, Result}
 use Rattle.std.specs.Prelude.{String, string_bytes}
 use Rattle.rtr_units.specs.Stream.{Flushes, PutsForm}
