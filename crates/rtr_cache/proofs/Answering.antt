@@ -1,0 +1,236 @@
+-- What a cache of ours sends makes its data of those that a query is about.
+use Rattle.std.proofs.Common.{◌≡◌, ◌⊎◌, ℕ, Bool, true, false, if◌then◌else◌, map, refl, sym}
+use Rattle.std.proofs.Common.{Option, Some, None, List, [], ◌∷◌, ◌++◌, ap, ◌∙◌, subst, inl, inr}
+use Rattle.std.proofs.Common.{append_assoc, append-nil}
+use Rattle.rtr_router.specs.declared.head.Head.{Head}
+use Rattle.rtr_router.specs.declared.head.Query.{Query}
+use Rattle.rtr_router.specs.declared.head.Kind.TheVariants as kinds
+use Rattle.rtr_router.specs.declared.router.Router.{Router}
+use Rattle.rtr_router.specs.Rules.{IsPayloadOf}
+use Rattle.rtr_cache.specs.declared.cache.Cache.{Cache}
+use Rattle.rtr_cache.specs.declared.event.Present.{Present}
+use Rattle.rtr_cache.specs.declared.event.CacheEvent.{CacheEvent}
+use Rattle.rtr_cache.specs.declared.event.CacheEvent.TheVariants as told
+use Rattle.rtr_cache.specs.declared.event.Answer.{Answer}
+use Rattle.rtr_cache.specs.declared.event.Answer.TheVariants as answers
+use Rattle.rtr_cache.specs.declared.event.OwedReport.{OwedReport}
+use Rattle.rtr_cache.specs.CacheRules.{CacheRule}
+use Rattle.rtr_cache.specs.Worlds.{Sent, Source, TellsCache}
+use Rattle.rtr_cache.specs.Worlds.{WasPresent, cache_writes, change_unit}
+use Rattle.rtr_cache.specs.Worlds.{data_end}
+use Rattle.rtr_cache.specs.Worlds.{query_head, report_sent, response}
+
+-- ---- what is on its way to the router
+
+-- notifies alone
+abbrev pub Quiet : (C : Type 0) → List (Sent C) → Type 0
+Quiet C [] = Unit {0}
+Quiet C (x ∷ xs) = (x.head.kind ≡ kinds.SerialNotify) × Quiet C xs
+
+pub record EndsHere (D C : Type 0) (S : Source D C) (had : List Present) (old : Option D)
+    (kept : List C) (x : Sent C) (xs : List (Sent C)) : Type 0 where
+  pub kind : x.head.kind ≡ kinds.EndOfData
+  pub makes : S.make old kept ≡ Some (S.data_at x.head.version x.head.session x.head.serial)
+  pub was : WasPresent had x.head.session x.head.serial
+  pub rest : Quiet C xs
+
+-- the rest of a response, which with what is kept makes data of the cache of the old ones
+abbrev pub Left : (D C : Type 0) → Source D C → List Present → Option D → List C → List (Sent C)
+    → Type 0
+Left D C S had old kept [] = ⊥
+Left D C S had old kept (x ∷ xs) =
+    (IsPayloadOf 2 x.head.kind × Left D C S had old (kept ++ x.body) xs)
+    ⊎ EndsHere D C S had old kept x xs
+
+-- the data that a query is about
+abbrev pub old_of : (D C : Type 0) → Source D C → Query → Option D
+old_of D C S q = if q.changes then Some (S.data_at q.version q.session q.serial) else None
+
+abbrev pub AnswersQuery : (D C : Type 0) → Source D C → List Present → Query → Sent C
+    → List (Sent C) → Type 0
+AnswersQuery D C S had q x xs =
+    ((x.head.kind ≡ kinds.CacheResponse) × Left D C S had (old_of D C S q) [] xs)
+    ⊎ (((x.head.kind ≡ kinds.CacheReset) × Quiet C xs)
+    ⊎ ((x.head.kind ≡ kinds.ErrorReport) × Quiet C xs))
+
+-- the answer to a query, if one comes
+abbrev pub Coming : (D C : Type 0) → Source D C → List Present → Query → List (Sent C) → Type 0
+Coming D C S had q [] = Unit {0}
+Coming D C S had q (x ∷ xs) =
+    ((x.head.kind ≡ kinds.SerialNotify) × Coming D C S had q xs)
+    ⊎ AnswersQuery D C S had q x xs
+
+-- the query is on its way, or its answer is
+abbrev pub UnderWay : (D C : Type 0) → Source D C → List Present → Query → List Head → List (Sent C)
+    → Type 0
+UnderWay D C S had q tc tr =
+    ((tc ≡ query_head q ∷ []) × Quiet C tr) ⊎ ((tc ≡ []) × Coming D C S had q tr)
+
+pub quiet_more : (C : Type 0) (xs ys : List (Sent C)) → Quiet C xs → Quiet C ys → Quiet C (xs ++ ys)
+quiet_more C [] ys p q = q
+quiet_more C (x ∷ xs) ys p q = (p.0, quiet_more C xs ys p.1 q)
+
+pub left_more : (D C : Type 0) (S : Source D C) (had : List Present) (old : Option D)
+    (kept : List C) (xs ys : List (Sent C)) → Left D C S had old kept xs → Quiet C ys
+    → Left D C S had old kept (xs ++ ys)
+left_more D C S had old kept [] ys p q = absurd p
+left_more D C S had old kept (x ∷ xs) ys (inl p) q =
+    inl (p.0, left_more D C S had old (kept ++ x.body) xs ys p.1 q)
+left_more D C S had old kept (x ∷ xs) ys (inr p) q =
+    inr (record { kind = p.kind; makes = p.makes; was = p.was; rest = quiet_more C xs ys p.rest q })
+
+pub quiet_coming : (D C : Type 0) (S : Source D C) (had : List Present) (q : Query)
+    (xs : List (Sent C)) → Quiet C xs → Coming D C S had q xs
+quiet_coming D C S had q [] p = tt
+quiet_coming D C S had q (x ∷ xs) p = inl (p.0, quiet_coming D C S had q xs p.1)
+
+pub coming_more : (D C : Type 0) (S : Source D C) (had : List Present) (q : Query)
+    (xs ys : List (Sent C)) → Coming D C S had q xs → Quiet C ys → Coming D C S had q (xs ++ ys)
+coming_more D C S had q [] ys p w = quiet_coming D C S had q ys w
+coming_more D C S had q (x ∷ xs) ys (inl p) w = inl (p.0, coming_more D C S had q xs ys p.1 w)
+coming_more D C S had q (x ∷ xs) ys (inr (inl p)) w =
+    inr (inl (p.0, left_more D C S had (old_of D C S q) [] xs ys p.1 w))
+coming_more D C S had q (x ∷ xs) ys (inr (inr (inl p))) w =
+    inr (inr (inl (p.0, quiet_more C xs ys p.1 w)))
+coming_more D C S had q (x ∷ xs) ys (inr (inr (inr p))) w =
+    inr (inr (inr (p.0, quiet_more C xs ys p.1 w)))
+
+pub coming_after : (D C : Type 0) (S : Source D C) (had : List Present) (q : Query)
+    (xs ys : List (Sent C)) → Quiet C xs → Coming D C S had q ys → Coming D C S had q (xs ++ ys)
+coming_after D C S had q [] ys p w = w
+coming_after D C S had q (x ∷ xs) ys p w = inl (p.0, coming_after D C S had q xs ys p.1 w)
+
+-- what was there stays so at news
+pub left_news : (D C : Type 0) (S : Source D C) (had : List Present) (p : Present) (old : Option D)
+    (kept : List C) (xs : List (Sent C)) → Left D C S had old kept xs
+    → Left D C S (p ∷ had) old kept xs
+left_news D C S had p old kept [] w = w
+left_news D C S had p old kept (x ∷ xs) (inl w) =
+    inl (w.0, left_news D C S had p old (kept ++ x.body) xs w.1)
+left_news D C S had p old kept (x ∷ xs) (inr w) =
+    inr (record { kind = w.kind; makes = w.makes; was = inr w.was; rest = w.rest })
+
+pub coming_news : (D C : Type 0) (S : Source D C) (had : List Present) (p : Present) (q : Query)
+    (xs : List (Sent C)) → Coming D C S had q xs → Coming D C S (p ∷ had) q xs
+coming_news D C S had p q [] w = w
+coming_news D C S had p q (x ∷ xs) (inl w) = inl (w.0, coming_news D C S had p q xs w.1)
+coming_news D C S had p q (x ∷ xs) (inr (inl w)) =
+    inr (inl (w.0, left_news D C S had p (old_of D C S q) [] xs w.1))
+coming_news D C S had p q (x ∷ xs) (inr (inr w)) = inr (inr w)
+
+-- ---- what a cache writes
+
+pub left_written : (D C : Type 0) (S : Source D C) (had : List Present) (v : ℕ) (p : Present)
+    (old : Option D) (kept bs : List C) → WasPresent had p.session p.serial
+    → S.make old (kept ++ bs) ≡ Some (S.data_at v p.session p.serial)
+    → Left D C S had old kept (map (change_unit D C S v) bs ++ data_end D C S v p ∷ [])
+left_written D C S had v p old kept [] was e =
+    inr (record {
+      kind = refl;
+      makes = ap (λ k. S.make old k) (sym (append-nil kept)) ∙ e;
+      was = was;
+      rest = tt;
+    })
+left_written D C S had v p old kept (b ∷ bs) was e =
+    inl (
+      S.is_payload b,
+      left_written D C S had v p old (kept ++ b ∷ []) bs was
+          (ap (λ k. S.make old k) (append_assoc kept (b ∷ []) bs) ∙ e),
+    )
+
+pub response_comes : (D C : Type 0) (S : Source D C) (had : List Present) (v : ℕ) (p : Present)
+    (q : Query) (old : Option D) → WasPresent had p.session p.serial → old_of D C S q ≡ old
+    → Coming D C S had q (response D C S v p old)
+response_comes D C S had v p q old was e =
+    let new : D = S.data_at v p.session p.serial in
+    let rest : List (Sent C) =
+    map (change_unit D C S v) (S.delta old new) ++ data_end D C S v p ∷ [] in
+    let left : Left D C S had old [] rest =
+    left_written D C S had v p old [] (S.delta old new) was (S.leads old new) in
+    inr (inl (refl, subst (λ o. Left D C S had o [] rest) (sym e) left))
+
+-- a query's kind says what it asks for
+pub for_all : (D C : Type 0) (S : Source D C) (q : Query) (c : Bool) → q.changes ≡ c
+    → (if c then kinds.SerialQuery else kinds.ResetQuery) ≡ kinds.ResetQuery
+    → old_of D C S q ≡ None
+for_all D C S q true e k = cc
+for_all D C S q false e k =
+    ap (λ (c : Bool). if c then Some (S.data_at q.version q.session q.serial) else None) e
+
+pub for_changes : (D C : Type 0) (S : Source D C) (q : Query) (c : Bool) → q.changes ≡ c
+    → (if c then kinds.SerialQuery else kinds.ResetQuery) ≡ kinds.SerialQuery
+    → old_of D C S q ≡ Some (S.data_at q.version q.session q.serial)
+for_changes D C S q true e k =
+    ap (λ (c : Bool). if c then Some (S.data_at q.version q.session q.serial) else None) e
+for_changes D C S q false e k = cc
+
+pub at_same : (D C : Type 0) (S : Source D C) (v v' s s' n n' : ℕ) → v ≡ v' → s ≡ s' → n ≡ n'
+    → Some (S.data_at v s n) ≡ Some (S.data_at v' s' n')
+at_same D C S v v' s s' n n' a b c = cc
+
+-- the cache has had what it has
+abbrev pub IsOld : List Present → Present → Type 0
+IsOld had p = p.has ≡ true → WasPresent had p.session p.serial
+
+pub report_comes : (D C : Type 0) (S : Source D C) (had : List Present) (q : Query)
+    (r : Option OwedReport) → Coming D C S had q (report_sent C r)
+report_comes D C S had q None = tt
+report_comes D C S had q (Some r) = inr (inr (inr (refl, tt)))
+
+pub answer_comes : (D C : Type 0) (S : Source D C) (had : List Present) (c c' : Cache) (n : ℕ)
+    (p : Present) (q : Query) (kept : Bool) (a : Answer) → IsOld had p
+    → CacheRule c n p (told.Came (query_head q) kept) a c'
+    → Coming D C S had q (cache_writes D C S c'.version p a)
+answer_comes D C S had c c' n p q kept answers.Wait was w = tt
+answer_comes D C S had c c' n p q kept answers.All was w =
+    response_comes D C S had c'.version p q None (was w.1.query.has)
+    (for_all D C S q q.changes refl w.1.query.kind)
+answer_comes D C S had c c' n p q kept (answers.Changes since) was w =
+    let version : q.version ≡ c'.version = sym (ap (λ (c : Cache). c.version) w.1.after) in
+    response_comes D C S had c'.version p q (Some (S.data_at c'.version p.session since))
+    (was w.1.query.has)
+    (for_changes D C S q q.changes refl w.1.query.kind
+    ∙ at_same D C S q.version c'.version q.session p.session q.serial since version
+    w.1.known.session (sym w.1.since_is))
+answer_comes D C S had c c' n p q kept answers.Reset was w = inr (inr (inl (refl, tt)))
+answer_comes D C S had c c' n p q kept answers.NoData was w = inr (inr (inr (refl, tt)))
+answer_comes D C S had c c' n p q kept answers.Notify was w = absurd w
+answer_comes D C S had c c' n p q kept (answers.End x) was w =
+    report_comes D C S had q x.report
+
+-- by itself a cache writes notifies alone
+pub unreported : (C : Type 0) (r : Option OwedReport) → r ≡ None → Quiet C (report_sent C r)
+unreported C None e = tt
+unreported C (Some r) e = cc
+
+pub notifies : (D C : Type 0) (S : Source D C) (c c' : Cache) (n : ℕ) (p : Present) (e : CacheEvent)
+    (a : Answer) → TellsCache e → CacheRule c n p e a c'
+    → Quiet C (cache_writes D C S c'.version p a)
+notifies D C S c c' n p e answers.Wait t w = tt
+notifies D C S c c' n p told.Tick answers.Notify t w = (refl, tt)
+notifies D C S c c' n p told.Lost answers.Notify t w = absurd w
+notifies D C S c c' n p told.Tick (answers.End x) t w = unreported C x.report (w.1.silent tt)
+notifies D C S c c' n p told.Lost (answers.End x) t w = unreported C x.report (w.1.silent tt)
+notifies D C S c c' n p told.Tick answers.All t w = absurd w
+notifies D C S c c' n p told.Tick (answers.Changes since) t w = absurd w
+notifies D C S c c' n p told.Tick answers.Reset t w = absurd w
+notifies D C S c c' n p told.Tick answers.NoData t w = absurd w
+notifies D C S c c' n p told.Lost answers.All t w = absurd w
+notifies D C S c c' n p told.Lost (answers.Changes since) t w = absurd w
+notifies D C S c c' n p told.Lost answers.Reset t w = absurd w
+notifies D C S c c' n p told.Lost answers.NoData t w = absurd w
+notifies D C S c c' n p told.Full _ t w = absurd t
+notifies D C S c c' n p (told.Came u kept) _ t w = absurd t
+notifies D C S c c' n p (told.Faulty f) _ t w = absurd t
+
+-- what a router asks, where it asks for changes or not
+abbrev pub asking : Router → Bool → Query
+asking r changes =
+    if changes
+    then record {
+      changes = true;
+      version = r.version;
+      session = r.known.session;
+      serial = r.known.serial;
+    }
+    else record { changes = false; version = r.version; session = 0; serial = 0 }

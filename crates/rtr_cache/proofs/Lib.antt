@@ -1,0 +1,4 @@
+pub mod Agreement
+pub mod Answering
+pub mod Peace
+pub mod Speaking

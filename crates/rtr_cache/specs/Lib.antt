@@ -1,0 +1,5 @@
+pub mod ReasonTexts
+pub mod CacheRules
+pub mod Serving
+pub mod CacheSteps
+pub mod Worlds

@@ -1,0 +1,29 @@
+//! What holds of a router and a cache that are joined.
+
+ghost use Rattle.std.specs.Prelude.{◌≡◌, ◌∷◌, ℕ, List, true};
+ghost use Rattle.rtr_cache.specs.Worlds.{Agrees, GoesOn, IsListening, IsPeaceful, IsReached, Sent};
+ghost use Rattle.rtr_cache.specs.Worlds.{Source, World};
+ghost use Rattle.rtr_router.specs.Rules.{Fresh};
+ghost use Rattle.rtr_router.specs.Step.{IsInTime, IsStep};
+ghost use Rattle.rtr_router.specs.declared.event.Action.{Action};
+ghost use Rattle.rtr_router.specs.declared.event.Event.TheVariants as events;
+ghost use Rattle.rtr_router.specs.declared.router.Router.{Router};
+
+/// Over any number of connections, each cut anywhere, with new data, sessions and notifies at the
+/// cache at any time: whenever a router has data, what it shows are those that the cache had under
+/// their session and serial number, as the router's version has them.
+pub fn agreement<D, C>()
+    ensures { (S : Source D C) (w : World D C)
+        → IsReached D C S w → w.router.has_data ≡ true → Agrees D C S w }
+{}
+
+/// Over what a cache of ours sends a router of ours ends no connection, in any such run, unless
+/// that is of another session, goes back in serial numbers, is above the limits of an answer, or is
+/// a report; while the data haven't expired, and no limit of time is over.
+pub fn peace<D, C>()
+    ensures { (S : Source D C) (w : World D C) (x : Sent C) (rest : List (Sent C)) (n : ℕ)
+        (a : Action) (after : Router) → IsReached D C S w → w.to_router ≡ x ∷ rest
+        → IsListening w.router.phase → Fresh w.router n → IsInTime w.router n
+        → IsPeaceful w.router x.head → IsStep w.router n (events.Came x.head) a after
+        → GoesOn a }
+{}

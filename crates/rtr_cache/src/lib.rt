@@ -1,0 +1,11 @@
+//! The cache's end of a connection of the RPKI to Router protocol (RFC 8210), as a machine without
+//! sockets, clock and memory: it is told what happens, and says what to do.
+#![tactic(auto)]
+
+pub mod cache;
+mod closing;
+pub mod event;
+pub mod laws;
+pub mod settings;
+#[cfg(test)]
+mod tests;
