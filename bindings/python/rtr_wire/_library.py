@@ -2,9 +2,9 @@
 from __future__ import annotations
 
 import ctypes
-import mmap
 import os
 import pathlib
+import platform
 import struct
 from typing import Any, Optional, Tuple, Union
 
@@ -39,8 +39,8 @@ CALLS = _load()
 FIELDS = struct.Struct(_rtr.UNIT_LETTERS)
 ROUTE = struct.Struct(_rtr.ROUTE_LETTERS)
 
-# Memory of so many bytes is asked of the system, which gives it filled with zero.
-_LARGE = 1 << 18
+# Memory of so many bytes isn't filled with zero.
+_LARGE = 1 << 16
 
 
 def whole(buffer: Buffer) -> bytes:
@@ -54,14 +54,19 @@ def address_of(data: bytes) -> int:
 
 
 def memory(size: int) -> Any:
-    """So many bytes for the library to write to."""
-    if size < _LARGE:
+    """So many bytes for the library to write to, which nobody else sees until it did."""
+    if size < _LARGE or platform.python_implementation() != "CPython":
         return ctypes.create_string_buffer(size)
-    return (ctypes.c_char * size).from_buffer(mmap.mmap(-1, size))
+    # A bytes object with open contents, as the interpreter's C API allows to fill one.
+    made = ctypes.pythonapi.PyBytes_FromStringAndSize
+    made.restype, made.argtypes = ctypes.py_object, [ctypes.c_void_p, ctypes.c_ssize_t]
+    return made(None, size)
 
 
 def front(output: Any, length: int) -> bytes:
     """The first bytes of memory."""
+    if type(output) is bytes and len(output) == length:
+        return output
     return ctypes.string_at(output, length)
 
 

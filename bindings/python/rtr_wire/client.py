@@ -67,7 +67,7 @@ class Client:
             may take, and answers what has the methods of a socket
     """
 
-    def __init__(self, host: str = "", port: int = 323, settings: Settings = Settings(), *,
+    def __init__(self, host: str = "", port: int = 0, settings: Settings = Settings(), *,
                  ssl: Optional[tls.SSLContext] = None, failed: Optional[Told] = None,
                  connect: Optional[Callable[[float], socket.socket]] = None) -> None:
         self.host, self.port, self.settings = host, port, settings
@@ -202,7 +202,7 @@ class AsyncClient:
         connect: makes the pair of streams in the place of TCP and TLS
     """
 
-    def __init__(self, host: str = "", port: int = 323, settings: Settings = Settings(), *,
+    def __init__(self, host: str = "", port: int = 0, settings: Settings = Settings(), *,
                  ssl: Optional[tls.SSLContext] = None, failed: Optional[Told] = None,
                  connect: Optional[Callable[[], Awaitable[Streams]]] = None) -> None:
         self.host, self.port, self.settings = host, port, settings

@@ -19,67 +19,90 @@ Network = Union[ipaddress.IPv4Network, ipaddress.IPv6Network]
 _One = TypeVar("_One", bound="_Canonical")
 
 
-def _refused(answer: _rtr.rtr_data_answer, *inputs: bytes) -> Fault:
+class Part(NamedTuple):
+    """The front of memory: bytes, or what the library wrote, of which bytes are made where they are
+    wanted."""
+
+    memory: Any
+    length: int
+
+
+def _all_of(data: bytes) -> Part:
+    """All of these bytes."""
+    return Part(data, len(data))
+
+
+def _refused(answer: _rtr.rtr_data_answer, *inputs: Part) -> Fault:
     """What is wrong with one of these inputs, or with both beside each other."""
     if answer.side == 0:
         return fault(answer.status, answer.detail)
-    return refusal(answer.status, answer.detail, inputs[answer.side - 1], answer.offset,
-                   side=answer.side)
+    data = front(*inputs[answer.side - 1])
+    return refusal(answer.status, answer.detail, data, answer.offset, side=answer.side)
 
 
-def _delta(old: bytes, new: bytes, room: int) -> bytes:
+def _delta(old: Part, new: Part) -> Part:
     """What rtr_delta writes."""
+    room = old.length + new.length
     output, answer = memory(room), _rtr.rtr_data_answer()
-    status = CALLS.rtr_delta_nonnull(old, len(old), new, len(new), output, room, answer)
+    status = CALLS.rtr_delta_nonnull(
+        old.memory, old.length, new.memory, new.length, output, room, answer)
     if status != Status.OK:
         raise _refused(answer, old, new)
-    return front(output, answer.written)
+    return Part(output, answer.written)
 
 
-def _index(changes: bytes) -> Tuple[Any, int]:
+def _index(changes: Part) -> Tuple[Any, int]:
     """Room for an index of changes, and its places: no unit is shorter than a header."""
-    places = len(changes) // HEADER
+    places = changes.length // HEADER
     return memory(ctypes.sizeof(ctypes.c_size_t) * (places + 1)), places
 
 
-def _ordered(changes: bytes) -> bytes:
+def _ordered(changes: Part) -> Part:
     """What rtr_order writes."""
-    room, (index, places) = len(changes), _index(changes)
+    room, (index, places) = changes.length, _index(changes)
     output, answer = memory(room), _rtr.rtr_data_answer()
     status = CALLS.rtr_order_nonnull(
-        changes, len(changes), index, places, output, room, answer)
+        changes.memory, changes.length, index, places, output, room, answer)
     if status != Status.OK:
         raise _refused(answer, changes)
-    return front(output, answer.written)
+    return Part(output, answer.written)
 
 
-def _applied(data: bytes, changes: bytes) -> bytes:
+def _applied(data: Part, changes: Part) -> Part:
     """What rtr_apply_in_order writes."""
-    room, (index, places) = len(data) + len(changes), _index(changes)
+    room, (index, places) = data.length + changes.length, _index(changes)
     output, answer = memory(room), _rtr.rtr_data_answer()
     status = CALLS.rtr_apply_in_order_nonnull(
-        data, len(data), changes, len(changes), index, places, output, room, answer)
+        data.memory, data.length, changes.memory, changes.length, index, places, output, room,
+        answer)
     if status != Status.OK:
         raise _refused(answer, data, changes)
-    return front(output, answer.written)
+    return Part(output, answer.written)
 
 
 class _Canonical(Collection[Payload]):
     """Payload units in canonical form, and an end of data."""
 
-    _bytes: bytes
+    _part: Part
     _length: Optional[int]
     _end: Optional[EndOfData]
     _forms: Optional[FrozenSet[bytes]]
     _tables: Optional[_rtr.rtr_tables]
 
     @classmethod
-    def _of(cls: Type[_One], form: bytes) -> _One:
-        """Those of these bytes, which are in canonical form."""
+    def _of(cls: Type[_One], part: Part) -> _One:
+        """Those of this memory, which is in canonical form."""
         made = object.__new__(cls)
-        made._bytes = form
+        made._part = part
         made._length = made._end = made._forms = made._tables = None
         return made
+
+    @property
+    def _bytes(self) -> bytes:
+        """Their bytes, which stand in the place of the memory from then on."""
+        all_bytes = front(*self._part)
+        self._part = _all_of(all_bytes)
+        return all_bytes
 
     def __bytes__(self) -> bytes:
         return self._bytes
@@ -169,7 +192,7 @@ class Changes(_Canonical):
         that is announced, or withdrawn, twice with nothing in between; UndecidedError for an ASPA
         that is announced and in the end withdrawn.
         """
-        return cls._of(_ordered(whole(sequence)))
+        return cls._of(_ordered(_all_of(whole(sequence))))
 
     def __reduce__(self) -> Tuple[Any, ...]:
         return Changes.from_bytes, (self._bytes,)
@@ -214,8 +237,8 @@ class Data(_Canonical):
         that announces what is there then, or withdraws what isn't.
         """
         changes = whole(sequence)
-        form = cls._of(normalise(changes).form)
-        return cls._of(_applied(bytes(form.end), changes))
+        form = cls._of(_all_of(normalise(changes).form))
+        return cls._of(_applied(_all_of(bytes(form.end)), _all_of(changes)))
 
     @classmethod
     def from_vrps(cls, vrps: Iterable[Vrp], end: EndOfData = EndOfData(0, 0)) -> Data:
@@ -240,16 +263,15 @@ class Data(_Canonical):
         UnknownError for the first that announces what is there then, or withdraws what isn't,
         which the cache is owed a report about (RFC 8210 section 12).
         """
-        made = changes._bytes if isinstance(changes, Changes) else whole(changes)
-        return self._of(_applied(self._bytes, made))
+        made = changes._part if isinstance(changes, Changes) else _all_of(whole(changes))
+        return self._of(_applied(self._part, made))
 
     def delta(self, new: Data) -> Changes:
         """What leads a router from these data to the new ones: `apply` makes them of it.
 
         Raises UnitVersionError or OtherSessionError for data of another version or session.
         """
-        room = len(self._bytes) + len(new._bytes)
-        return Changes._of(_delta(self._bytes, new._bytes, room))
+        return Changes._of(_delta(self._part, new._part))
 
     def for_version(self, version: int) -> Data:
         """The data that clients of a version may have: without the payloads that it lacks, in this
@@ -257,7 +279,7 @@ class Data(_Canonical):
 
         Raises UnitVersionError for a version that there isn't.
         """
-        return self._of(normalise(self._bytes, version=version).form)
+        return self._of(_all_of(normalise(self._bytes, version=version).form))
 
     def with_end(self, end: EndOfData) -> Data:
         """The same payloads with another end of data, of the same version."""
@@ -270,9 +292,8 @@ class Data(_Canonical):
 
         Raises ValueError for a text that is no prefix, or a number that is no AS.
         """
-        route = _route(prefix, asn)
-        return Validity(CALLS.rtr_validate_nonnull(
-            self._bytes, len(self._bytes), self._looked_up(), route))
+        route, (memory, length) = _route(prefix, asn), self._part
+        return Validity(CALLS.rtr_validate_nonnull(memory, length, self._looked_up(), route))
 
     def covering(self, prefix: Union[Network, str], asn: int) -> Iterator[Covering]:
         """The VRPs that cover such a route, in the order of payloads, and why each doesn't match.
@@ -284,8 +305,8 @@ class Data(_Canonical):
     def _covering(self, network: Network, route: _rtr.rtr_route) -> Iterator[Covering]:
         found, place = _rtr.rtr_covering(), 0
         family, address = type(network), network.network_address.packed
-        while CALLS.rtr_covering_nonnull(self._bytes, len(self._bytes), self._looked_up(), route,
-                                         place, found):
+        tables, (memory, length) = self._looked_up(), self._part
+        while CALLS.rtr_covering_nonnull(memory, length, tables, route, place, found):
             place = found.place + 1
             covers = family((address, found.prefix_length), strict=False)
             yield Covering(Vrp(covers, found.asn, found.max_length), Mismatch(found.mismatch))
@@ -293,8 +314,8 @@ class Data(_Canonical):
     def _looked_up(self) -> _rtr.rtr_tables:
         """Where the prefixes lie: made once, when it is first asked for."""
         if self._tables is None:
-            tables = _rtr.rtr_tables()
-            CALLS.rtr_tables_nonnull(self._bytes, len(self._bytes), tables)
+            tables, (memory, length) = _rtr.rtr_tables(), self._part
+            CALLS.rtr_tables_nonnull(memory, length, tables)
             self._tables = tables
         return self._tables
 

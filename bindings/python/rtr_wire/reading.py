@@ -49,15 +49,23 @@ class Units(Iterator[AnyUnit]):
         return self._before + self._at
 
     def __next__(self) -> AnyUnit:
+        return next(iter(self))
+
+    def __iter__(self) -> Iterator[AnyUnit]:
+        told, unit = self._told, self._unit
         while True:
-            data, at = self._data, self._at
-            status = _next_unit(self._address + at, len(data) - at, self._told)
-            if not status:
-                told = _unpack(self._unit)
-                self._at = at + told[0]
-                return MAKERS[told[KIND_PLACE]](told, data, at)
-            if status != Status.SHORT or not self._grown():
-                self._refuse(status)
+            data, at, address = self._data, self._at, self._address
+            length, status = len(data), 0
+            while data is self._data:
+                status = _next_unit(address + at, length - at, told)
+                if status:
+                    break
+                fields = _unpack(unit)
+                self._at = at + fields[0]
+                yield MAKERS[fields[KIND_PLACE]](fields, data, at)
+                at = self._at
+            if status and (status != Status.SHORT or not self._grown()) and self._ends(status):
+                return
 
     def _grown(self) -> bool:
         """Whether more bytes came of a unit that isn't whole, or of none."""
@@ -71,11 +79,11 @@ class Units(Iterator[AnyUnit]):
             self._address = address_of(self._data)
         return bool(more)
 
-    def _refuse(self, status: int) -> None:
-        """Raises what is wrong with the next unit, or ends where there is none."""
+    def _ends(self, status: int) -> bool:
+        """Whether there is no next unit; raises what is wrong with it where there is one."""
         data, at = self._data, self._at
         if status == Status.SHORT and at == len(data):
-            raise StopIteration
+            return True
         # After a fault the size is that of a prefix, and else 0.
         self._at += self._unit.size
         raise refusal(status, self._unit.detail, data, at, offset=self._before + at)

@@ -22,12 +22,17 @@ def applied(first, second):
     status = _library.CALLS.rtr_apply_nonnull(
         first, len(first), second, len(second), output, room, answer)
     if status != Status.OK:
-        raise calls._refused(answer, first, second)
+        raise calls._refused(answer, calls._all_of(first), calls._all_of(second))
     return output.raw[:answer.written]
 
 
-CALLED = {0: lambda first, second: calls._delta(first, second, len(first) + len(second)),
-          1: applied, 2: lambda first, _: bytes(Changes.from_bytes(first)), 3: calls._applied}
+def called(call):
+    """A call of the package, over bytes."""
+    return lambda *inputs: _library.front(*call(*map(calls._all_of, inputs)))
+
+
+CALLED = {0: called(calls._delta), 1: applied, 2: lambda first, _: bytes(Changes.from_bytes(first)),
+          3: called(calls._applied)}
 
 
 class Rows(unittest.TestCase):

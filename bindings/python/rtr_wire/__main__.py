@@ -1,0 +1,111 @@
+"""What the package does from a command line.
+
+usage: python -m rtr_wire fetch HOST:PORT [--version 0|1|2] [--tls] [--ca FILE] [--output FILE]
+       python -m rtr_wire validate FILE PREFIX ASN
+
+fetch asks a cache for all of its data, and writes them as a sequence, in canonical form, on
+standard output or to a file. --tls speaks TLS, and --ca names a file of certificates that are
+trusted in the place of the system's. validate says whether a route is valid by such a file (RFC
+6811), or standard input where it is -, and which VRPs cover it, each with why it doesn't match.
+
+Statuses: 0 if all went well, 1 if the data didn't come or aren't data, 2 for other arguments.
+"""
+from __future__ import annotations
+
+import argparse
+import pathlib
+import ssl
+import sys
+from typing import List, Optional, Tuple
+
+from . import Client, Data, Fault, SessionError, Settings
+from ._rtr import VERSION
+
+
+def _address(text: str) -> Tuple[str, int]:
+    """HOST:PORT, of which the host may stand in brackets."""
+    host, _, port = text.rpartition(":")
+    if not host or not port.isdecimal():
+        raise argparse.ArgumentTypeError(f"{text!r} isn't HOST:PORT")
+    return host.strip("[]"), int(port)
+
+
+def _asn(text: str) -> int:
+    """A number, which may stand after AS."""
+    digits = text[2:] if text[:2].upper() == "AS" else text
+    if not digits.isdecimal():
+        raise argparse.ArgumentTypeError(f"{text!r} is no AS")
+    return int(digits)
+
+
+def _arguments(words: Optional[List[str]]) -> argparse.Namespace:
+    parser = argparse.ArgumentParser(
+        prog="python -m rtr_wire", description=__doc__, allow_abbrev=False,
+        formatter_class=argparse.RawDescriptionHelpFormatter)
+    parser.add_argument("--version", action="version", version=f"rtr_wire {VERSION}")
+    commands = parser.add_subparsers(dest="command", required=True)
+    fetch = commands.add_parser("fetch", allow_abbrev=False)
+    fetch.add_argument("address", type=_address, metavar="HOST:PORT")
+    fetch.add_argument("--version", type=int, choices=(0, 1, 2), default=Settings().version)
+    fetch.add_argument("--tls", action="store_true")
+    fetch.add_argument("--ca", metavar="FILE")
+    fetch.add_argument("--output", metavar="FILE", type=pathlib.Path)
+    validate = commands.add_parser("validate", allow_abbrev=False)
+    validate.add_argument("file", metavar="FILE")
+    validate.add_argument("prefix", metavar="PREFIX")
+    validate.add_argument("asn", metavar="ASN", type=_asn)
+    asked = parser.parse_args(words)
+    if asked.command == "fetch":
+        asked.tls = asked.tls or asked.ca is not None
+        if asked.output is None and sys.stdout.isatty():
+            fetch.error("data aren't text for a terminal: name a file by --output")
+    return asked
+
+
+def _fetch(asked: argparse.Namespace) -> None:
+    """Writes the data of a cache."""
+    context = ssl.create_default_context(cafile=asked.ca) if asked.tls else None
+    host, port = asked.address
+    data = Client(host, port, Settings(version=asked.version), ssl=context).fetch()
+    if asked.output is None:
+        sys.stdout.buffer.write(bytes(data))
+        sys.stdout.buffer.flush()
+    else:
+        asked.output.write_bytes(bytes(data))
+    print(f"session {data.session} serial {data.serial} version {data.version}: "
+          f"{len(data)} payloads", file=sys.stderr)
+
+
+def _validate(asked: argparse.Namespace) -> None:
+    """Prints the validity of a route, and what covers it."""
+    if asked.file == "-":
+        data = Data.from_bytes(sys.stdin.buffer.read())
+    else:
+        data = Data.from_bytes(pathlib.Path(asked.file).read_bytes())
+    said = _words(data.validate(asked.prefix, asked.asn).name)
+    print(f"{asked.prefix} AS{asked.asn} {said}")
+    for vrp, mismatch in data.covering(asked.prefix, asked.asn):
+        print(f"  {vrp.prefix}-{vrp.max_length} AS{vrp.asn}: {_words(mismatch.name)}")
+
+
+def _words(name: str) -> str:
+    """The name of a member of an enum, as words."""
+    return name.lower().replace("_", " ")
+
+
+def main(words: Optional[List[str]] = None) -> int:
+    """Does what the words say, or those of the command line, and answers the status."""
+    asked = _arguments(words)
+    try:
+        if asked.command == "fetch":
+            _fetch(asked)
+        else:
+            _validate(asked)
+    except (OSError, Fault, SessionError, ValueError) as error:
+        print(f"rtr_wire: {error}", file=sys.stderr)
+        return 1
+    return 0
+
+
+if __name__ == "__main__":
+    sys.exit(main())

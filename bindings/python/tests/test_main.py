@@ -1,0 +1,76 @@
+"""The command line: what is printed, and how it ends."""
+import ipaddress
+import pathlib
+import subprocess
+import sys
+import tempfile
+import unittest
+
+from rtr_wire import Data, EndOfData, Vrp, __version__
+
+from .test_client import FIRST, RESET, Cache, answer, says
+
+DATA = Data.from_vrps([Vrp(ipaddress.IPv4Network("192.0.2.0/23"), 65551, 26),
+                       Vrp(ipaddress.IPv6Network("2001:db8::/32"), 0)], EndOfData(1, 2))
+
+
+def runs(*words, given=b""):
+    """The status of a command, and what it prints on standard output and error."""
+    done = subprocess.run([sys.executable, "-m", "rtr_wire", *words], input=given,
+                          stdout=subprocess.PIPE, stderr=subprocess.PIPE, timeout=60)
+    return done.returncode, done.stdout, done.stderr.decode()
+
+
+class Commands(unittest.TestCase):
+    """What each does."""
+
+    def test_fetch(self):
+        line = "session 7 serial 1 version 1: 2 payloads\n"
+        with Cache(says(RESET, answer(FIRST)), says(RESET, answer(FIRST))) as cache:
+            address = f"127.0.0.1:{cache.port}"
+            self.assertEqual(runs("fetch", address), (0, bytes(FIRST), line))
+            with tempfile.TemporaryDirectory() as folder:
+                path = pathlib.Path(folder, "data")
+                self.assertEqual(runs("fetch", address, "--output", path), (0, b"", line))
+                self.assertEqual(path.read_bytes(), bytes(FIRST))
+        status, printed, said = runs("fetch", address)
+        self.assertEqual((status, printed), (1, b""))
+        self.assertIn("Connection refused", said)
+
+    def test_validate(self):
+        for route, printed in (
+                (("192.0.2.0/24", "AS65551"), "192.0.2.0/24 AS65551 valid\n"
+                                              "  192.0.2.0/23-26 AS65551: matches\n"),
+                (("192.0.2.0/27", "65551"), "192.0.2.0/27 AS65551 invalid\n"
+                                            "  192.0.2.0/23-26 AS65551: longer\n"),
+                (("192.0.2.0/24", "as1"), "192.0.2.0/24 AS1 invalid\n"
+                                          "  192.0.2.0/23-26 AS65551: other as\n"),
+                (("2001:db8::/48", "0"), "2001:db8::/48 AS0 invalid\n"
+                                         "  2001:db8::/32-32 AS0: as zero\n"),
+                (("203.0.113.0/24", "1"), "203.0.113.0/24 AS1 not found\n")):
+            self.assertEqual(runs("validate", "-", *route, given=bytes(DATA)),
+                             (0, printed.encode(), ""))
+        with tempfile.NamedTemporaryFile() as file:
+            file.write(bytes(DATA))
+            file.flush()
+            self.assertEqual(runs("validate", file.name, "0.0.0.0/0", "1")[0], 0)
+
+    def test_no_data(self):
+        for given, prefix, asn in ((b"", "192.0.2.0/24", "1"), (b"text", "192.0.2.0/24", "1"),
+                                   (bytes(DATA), "192.0.2.0/33", "1"),
+                                   (bytes(DATA), "192.0.2.0/24", str(2**32))):
+            status, printed, said = runs("validate", "-", prefix, asn, given=given)
+            self.assertEqual((status, printed, said[:10]), (1, b"", "rtr_wire: "))
+        self.assertEqual(runs("validate", "/nowhere", "::/0", "1")[0], 1)
+
+    def test_arguments(self):
+        for words in ((), ("fetch",), ("fetch", "host"), ("fetch", ":1"), ("fetch", "h:p"),
+                      ("fetch", "h:1", "--version", "3"), ("validate", "-", "::/0"), ("list",),
+                      ("validate", "-", "::/0", "x")):
+            self.assertEqual(runs(*words)[:2], (2, b""), words)
+        self.assertEqual(runs("--version")[:2], (0, f"rtr_wire {__version__}\n".encode()))
+        self.assertIn(b"Statuses", runs("--help")[1])
+
+
+if __name__ == "__main__":
+    unittest.main()
