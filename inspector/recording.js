@@ -1,0 +1,229 @@
+// A recording in the memory of a session, with the places of its units: what they say is asked of
+// the library whenever it is shown, so that a unit takes nine bytes besides its own.
+
+import { Kind, Status } from "./library.js";
+
+// How many units are read before the page may draw.
+const TURN = 20000;
+
+// In the place of a kind: a unit that is refused.
+export const REFUSED = 127;
+
+const ANNOUNCES = 128;
+
+/** A row of numbers that grows. */
+class Column {
+    #array;
+    length = 0;
+
+    constructor(Type) {
+        this.#array = new Type(1 << 12);
+    }
+
+    push(value) {
+        if (this.length === this.#array.length) {
+            const larger = new this.#array.constructor(this.length + (this.length >> 1));
+            larger.set(this.#array);
+            this.#array = larger;
+        }
+        this.#array[this.length++] = value;
+    }
+
+    /** What was pushed, with no room behind it. */
+    trimmed() {
+        return this.#array.slice(0, this.length);
+    }
+}
+
+/** Lets the page draw and take input. */
+export function breathe() {
+    return new Promise((resolve) => { setTimeout(resolve); });
+}
+
+/** Counts by key, largest first. */
+export class Counts {
+    #counts = new Map();
+
+    add(key) {
+        this.#counts.set(key, (this.#counts.get(key) ?? 0) + 1);
+    }
+
+    get size() {
+        return this.#counts.size;
+    }
+
+    get(key) {
+        return this.#counts.get(key) ?? 0;
+    }
+
+    sorted() {
+        return [...this.#counts].sort(([one], [other]) => one - other);
+    }
+
+    largest(count) {
+        return [...this.#counts].sort((one, other) => other[1] - one[1] || one[0] - other[0])
+            .slice(0, count);
+    }
+}
+
+/** How many units there are of each sort. */
+class Picture {
+    kinds = new Counts();
+    lengths = { [Kind.IPV4_PREFIX]: new Counts(), [Kind.IPV6_PREFIX]: new Counts() };
+    longer = new Counts(); // prefixes whose max length is above their length, by kind
+    ases = new Counts();
+    ends = []; // the places of the ends of data
+
+    add(kind, shown, place) {
+        this.kinds.add(kind);
+        if (this.lengths[kind]) {
+            this.lengths[kind].add(shown.byte("prefixLength"));
+            if (shown.byte("maxLength") > shown.byte("prefixLength")) {
+                this.longer.add(kind);
+            }
+            this.ases.add(shown.word("asn"));
+        } else if (kind === Kind.ROUTER_KEY) {
+            this.ases.add(shown.word("asn"));
+        } else if (kind === Kind.ASPA) {
+            this.ases.add(shown.word("customer"));
+        } else if (kind === Kind.END_OF_DATA) {
+            this.ends.push(place);
+        }
+    }
+}
+
+export class Recording {
+    name;
+    picture = new Picture();
+    faults = []; // of units that are refused, in their order
+    #rtr;
+    #held;
+    #offsets;
+    #kinds;
+
+    constructor(rtr, name, bytes) {
+        this.#rtr = rtr;
+        this.name = name;
+        this.#held = rtr.hold(bytes);
+    }
+
+    /** Reads all units. `told` is called with how much of it is done, from 0 to 1. */
+    async read(told = () => {}) {
+        const [offsets, kinds] = [new Column(Float64Array), new Column(Uint8Array)];
+        for (let at = 0; at < this.size;) {
+            at = this.#turn(at, offsets, kinds);
+            told(at / this.size);
+            await breathe();
+        }
+        this.#offsets = offsets.trimmed();
+        this.#kinds = kinds.trimmed();
+        return this;
+    }
+
+    /** Reads some units from a place on, and answers where the next one begins. */
+    #turn(from, offsets, kinds) {
+        let at = from;
+        const shown = this.#held.shown(from);
+        for (let count = 0; count < TURN && at < this.size; count += 1) {
+            const status = this.#held.status(at);
+            if (status !== Status.OK) {
+                const fault = this.#held.unit(at);
+                this.faults.push(fault);
+                offsets.push(at);
+                kinds.push(REFUSED);
+                at = status === Status.PREFIX ? at + fault.size : this.size;
+                continue;
+            }
+            const kind = shown.byte("kind");
+            this.picture.add(kind, shown, offsets.length);
+            offsets.push(at);
+            kinds.push(kind + (shown.byte("action") ? ANNOUNCES : 0));
+            at += shown.word("size");
+        }
+        return at;
+    }
+
+    /** How many bytes it has. */
+    get size() {
+        return this.#held.length;
+    }
+
+    /** How many units it has, those that are refused among them. */
+    get count() {
+        return this.#offsets.length;
+    }
+
+    offset(place) {
+        return this.#offsets[place];
+    }
+
+    kind(place) {
+        return this.#kinds[place] & ~ANNOUNCES;
+    }
+
+    announces(place) {
+        return this.#kinds[place] >= ANNOUNCES;
+    }
+
+    /** The unit at a place as an object, or its Fault. */
+    unit(place) {
+        return this.#held.unit(this.#offsets[place]);
+    }
+
+    /** The bytes of the unit at a place: of one that is refused, as many as it may have. */
+    bytesOf(place) {
+        const unit = this.unit(place);
+        const size = unit.size || Math.min(64, this.size - unit.offset);
+        return this.#held.bytes(unit.offset, size);
+    }
+
+    /** All of its bytes. */
+    get bytes() {
+        return this.#held.bytes(0, this.size);
+    }
+
+    /** The place of the unit in which a byte stands. */
+    placeOf(offset) {
+        let [low, high] = [0, this.count - 1];
+        while (low < high) {
+            const middle = Math.ceil((low + high) / 2);
+            [low, high] = this.#offsets[middle] <= offset ? [middle, high] : [low, middle - 1];
+        }
+        return low;
+    }
+
+    /** The places of units for which all tests hold: of a place alone (`ofPlace`), and of what the
+     * library shows of the unit (`ofShown`). */
+    async places({ ofPlace, ofShown }, told = () => {}) {
+        const found = new Column(Uint32Array);
+        for (let place = 0; place < this.count;) {
+            const end = Math.min(place + TURN, this.count);
+            const shown = this.#held.shown(0);
+            for (; place < end; place += 1) {
+                if (ofPlace(this, place) && this.#holds(ofShown, shown, place)) {
+                    found.push(place);
+                }
+            }
+            told(place / this.count);
+            await breathe();
+        }
+        return found.trimmed();
+    }
+
+    #holds(ofShown, shown, place) {
+        if (ofShown === null) {
+            return true;
+        }
+        return this.kind(place) !== REFUSED
+            && this.#held.status(this.#offsets[place]) === Status.OK && ofShown(shown);
+    }
+
+    /** What its first byte is refused for, if it has no unit at all. */
+    get isNone() {
+        return this.count === 0 || (this.count === 1 && this.faults.length === 1);
+    }
+
+    drop() {
+        this.#held.drop();
+    }
+}

@@ -1,0 +1,146 @@
+// Units, faults and numbers in words.
+
+import { Fault, Kind, Mismatch, PrefixRule, Status, Validity, addressText, kindText }
+    from "./library.js";
+import { REFUSED } from "./recording.js";
+
+const number = new Intl.NumberFormat("en");
+
+/** A number with its thousands apart. */
+export function count(value) {
+    return number.format(value);
+}
+
+/** So many of something. */
+export function many(value, one, several = `${one}s`) {
+    return `${count(value)} ${value === 1 ? one : several}`;
+}
+
+export function hex(bytes) {
+    return Array.from(bytes, (byte) => byte.toString(16).padStart(2, "0")).join("");
+}
+
+/** Base64 as in RFC 4648 section 5, unpadded. */
+export function base64(bytes) {
+    const text = Array.from(bytes, (byte) => String.fromCharCode(byte)).join("");
+    return btoa(text).replaceAll("+", "-").replaceAll("/", "_").replaceAll("=", "");
+}
+
+export function prefixText({ address, prefixLength, maxLength }) {
+    const most = maxLength === undefined ? "" : `-${maxLength}`;
+    return `${addressText(address)}/${prefixLength}${most}`;
+}
+
+function sessionText({ session, serial }) {
+    return `session ${session} serial ${serial}`;
+}
+
+function endText(unit) {
+    const times = unit.refresh || unit.retry || unit.expire
+        ? ` refresh ${unit.refresh} retry ${unit.retry} expire ${unit.expire}` : "";
+    return sessionText(unit) + times;
+}
+
+function reportText({ code, about, text }) {
+    return about === null ? `code ${code}, and its lengths don't fit`
+        : `code ${code} about ${hex(about) || "no unit"} ${JSON.stringify(text)}`;
+}
+
+const PAYLOADS = {
+    [Kind.SERIAL_NOTIFY]: sessionText,
+    [Kind.SERIAL_QUERY]: sessionText,
+    [Kind.CACHE_RESPONSE]: ({ session }) => `session ${session}`,
+    [Kind.IPV4_PREFIX]: (unit) => `${prefixText(unit)} AS${unit.asn}`,
+    [Kind.IPV6_PREFIX]: (unit) => `${prefixText(unit)} AS${unit.asn}`,
+    [Kind.END_OF_DATA]: endText,
+    [Kind.ROUTER_KEY]: (unit) => `${hex(unit.keyIdentifier)} AS${unit.asn} ${base64(unit.keyInfo)}`,
+    [Kind.ERROR_REPORT]: reportText,
+    [Kind.ASPA]: (unit) => ["AS", unit.customer, " providers",
+        ...unit.providers.map((asn) => ` AS${asn}`)].join(""),
+};
+
+export function payloadText(unit) {
+    return PAYLOADS[unit.kind]?.(unit) ?? "";
+}
+
+export function actionText(unit) {
+    return unit.announce === undefined ? "" : unit.announce ? "announce" : "withdraw";
+}
+
+export function kindName(kind) {
+    return kind === REFUSED ? "refused" : kindText(kind);
+}
+
+const RULES = {
+    [PrefixRule.LENGTH_OVER]: "the prefix length is above that of addresses",
+    [PrefixRule.MAX_LENGTH_OVER]: "the max length is above that of addresses",
+    [PrefixRule.MAX_LENGTH_UNDER]: "the max length is below the prefix length",
+};
+
+/** What is wrong, without where. */
+export function faultText(fault) {
+    const text = fault.message.replace(/, at byte.*/, "");
+    switch (fault.status) {
+        case Status.UNIT_TYPE:
+        case Status.UNIT_VERSION:
+            return `${text}: ${fault.detail}`;
+        case Status.PREFIX:
+            return `${text}: ${RULES[fault.detail]}`;
+        case Status.SHORT:
+            return fault.wanted
+                ? `${text}: ${many(fault.wanted, "byte")} wanted from here on` : text;
+        default:
+            return text;
+    }
+}
+
+/** The report that is owed for a fault. */
+export function owedText(fault) {
+    return fault.code === null ? "no error report is owed for it"
+        : `an error report of code ${fault.code} is owed for it`;
+}
+
+/** The cells of a unit in a table. */
+export function cellsOf(unit) {
+    if (unit instanceof Fault) {
+        const texts = [String(unit.offset), "", "refused", "", faultText(unit)];
+        return { texts, className: "refused" };
+    }
+    return {
+        texts: [String(unit.offset), `v${unit.version}`, kindText(unit.kind), actionText(unit),
+            payloadText(unit)],
+        className: `kind-${unit.kind}`,
+    };
+}
+
+export const VALIDITIES = {
+    [Validity.NOT_FOUND]: "not found: no VRP covers it",
+    [Validity.VALID]: "valid",
+    [Validity.INVALID]: "invalid: VRPs cover it, and none matches",
+    [Validity.NO_ROUTE]: "no route: there is no such prefix",
+};
+
+export const MISMATCHES = {
+    [Mismatch.MATCHES]: "it matches",
+    [Mismatch.AS_ZERO]: "it is of AS 0: nobody may announce it",
+    [Mismatch.OTHER_AS]: "it is of another AS",
+    [Mismatch.LONGER]: "the route is longer than its max length",
+};
+
+/** What bytes look like that begin with no unit, and what reads them; null where that isn't
+ * known. */
+export function looksLike(bytes) {
+    const first = hex(bytes.subarray(0, 4));
+    if (["d4c3b2a1", "a1b2c3d4", "4d3cb2a1", "a1b23c4d", "0a0d0d0a"].includes(first)) {
+        return "looks like a packet capture: tcpflow -r FILE writes what each side sent";
+    }
+    const text = new TextDecoder().decode(bytes.subarray(0, 4096));
+    if (/^[\uFEFF\s]*[{[]/.test(text)) {
+        return "looks like JSON: rtr_make --json makes units of what validators print";
+    }
+    const isText = !/[\u0000-\u0008\u000e-\u001f\ufffd]/.test(text.slice(0, -3));
+    if (text.length > 3 && isText) {
+        return "looks like text: rtr_make makes units of a CSV table of origins";
+    }
+    return null;
+}
