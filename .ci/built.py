@@ -2,6 +2,7 @@
 """The one place that picks the programs, and the archives of rtr_c, which checks run.
 
 usage: built.py [--fresh] NAME..
+       built.py [--fresh] --module    the module rtr_wire.wasm in the place of programs
 
 `.ci/run`, `rt ci` and `rt run` leave a program in the folder `out/` of its crate: as LLVM builds it,
 and after `rt ci` also as Rattle's own compiler does. One that is older than a source of its crate,
@@ -23,6 +24,7 @@ TOP = os.path.realpath(os.path.join(os.path.dirname(os.path.abspath(__file__)), 
 ENDINGS = ("", ".by-rattle")
 PREBUILT = os.path.join(TOP, "prebuilt")
 ARCHIVE = "librtr_wire.a"
+MODULE = os.path.join("wasm64", "rtr_wire.wasm")
 
 
 def crates(name):
@@ -63,9 +65,15 @@ def fresh(name):
 @functools.cache
 def prebuilt(name):
     """The path of the prebuilt program, or archive for x86-64, where nothing was built."""
-    file = os.path.join("x86_64", ARCHIVE if name == "rtr_c" else name)
+    if any(os.path.isfile(place) for place in places(name)):
+        return []
+    return kept(name, os.path.join("x86_64", ARCHIVE if name == "rtr_c" else name))
+
+
+def kept(name, file):
+    """The path of a file of prebuilt/, if it is there."""
     path = os.path.join(PREBUILT, file)
-    if not os.path.isfile(path) or any(os.path.isfile(place) for place in places(name)):
+    if not os.path.isfile(path):
         return []
     with open(path, "rb") as data, open(os.path.join(PREBUILT, "SHA256SUMS")) as sums:
         if f"{hashlib.sha256(data.read()).hexdigest()}  {file}\n" not in sums:
@@ -88,6 +96,17 @@ def needed(name, only_fresh=False):
 def program(name):
     """The path of the program as LLVM builds it."""
     return needed(name)[0]
+
+
+def module(only_fresh=False):
+    """The path of the module for WebAssembly."""
+    path = os.path.join(TOP, "bindings", "lib", MODULE)
+    if os.path.isfile(path) and os.path.getmtime(path) >= last_change("rtr_c"):
+        return path
+    found = [] if only_fresh or os.path.isfile(path) else kept(MODULE, MODULE)
+    if not found:
+        sys.exit(f"{MODULE} is missing or older than its sources: call bindings/build wasm64")
+    return found[0]
 
 
 def script(name):
@@ -115,6 +134,9 @@ def compile_library(source, to):
 def main():
     only_fresh = sys.argv[1:2] == ["--fresh"]
     for asked in sys.argv[2 if only_fresh else 1:]:
+        if asked == "--module":
+            print(module(only_fresh))
+            continue
         print(*needed(asked, only_fresh), sep="\n")
 
 

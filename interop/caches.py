@@ -4,6 +4,7 @@ import os
 import shutil
 import signal
 import subprocess
+import tempfile
 import threading
 
 import ours as examples
@@ -178,7 +179,8 @@ class Fort(Cache):
         fort = program("fort")
         if shutil.which("openssl") is None:
             raise Missing("openssl isn't installed, which makes the trust anchor")
-        locators, repository = trust_anchor.make(os.path.join(self.folder, "anchor"))
+        place = tempfile.mkdtemp(prefix="anchor.", dir=self.folder)
+        locators, repository = trust_anchor.make(place)
         words = [fort, f"--tal={locators}", f"--local-repository={repository}", f"--slurm={path}"]
         words += ["--mode=server", "--work-offline=true", "--server.interval.validation=60"]
         words += ["--log.output=console", "--validation-log.enabled=true"]

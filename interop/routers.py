@@ -134,6 +134,7 @@ class Bird(Router):
                 roa4 {{ table origins4; }};
                 roa6 {{ table origins6; }};
                 remote 127.0.0.1 port {self.cache};
+                retry keep 2;
             }}
         """)
         control = ["-s", self.path("control"), "-P", self.path("process")]

@@ -1,5 +1,5 @@
-"""Our cache, their routers: what the tables of routers hold, beside a hostile client, after a
-change that comes by notify and delta, and after a restart of the cache with another session."""
+"""Caches and routers: what the tables of routers hold, beside a hostile client, after a change that
+comes by notify and delta, and after a restart of the cache with another session."""
 import contextlib
 import os
 import socket
@@ -21,6 +21,10 @@ PART = "their routers"
 FIRST_SECONDS = 60
 RESTART_SECONDS = 90
 DOUBTED_SECONDS = 30
+
+# After how many seconds the routers of others ask again a cache that they lost: most have no time
+# of their own for it, so the cache says it. Our clients run at the times of each cache.
+THEIR_RETRY = 2
 
 # What a hostile client sends: a length of four gigabytes, a type that there isn't, a unit of a
 # cache, a length that no query has, a unit that never ends, and a length of zero.
@@ -116,16 +120,27 @@ def all_hold(beside, what, listed, seconds):
         each.holds(what, listed, start + (DOUBTED_SECONDS if doubted else seconds))
 
 
-def compare(results, maker, folder):
-    """Runs all routers beside one cache."""
+def compare_theirs(results, maker, folder):
+    """Runs the routers of others beside one cache of a set retry time."""
+    compare(results, maker, os.path.join(folder, f"theirs.{maker.__name__.lower()}"),
+            routers.ROUTERS, THEIR_RETRY)
+
+
+def compare_ours(results, maker, folder):
+    """Runs our clients beside one cache, at its own times."""
+    compare(results, maker, os.path.join(folder, f"clients.{maker.__name__.lower()}"),
+            routers.ours(folder))
+
+
+def compare(results, maker, folder, makers, retry=None):
+    """Runs routers beside one cache."""
     old, new = payloads.made_up()
     other = payloads.varied(old, 1)
     names = (maker.name, "v1", maker.release())
     with Pair(results, PART, *names) as pair, contextlib.ExitStack() as stack:
-        cache = maker(os.path.join(folder, f"routers.{maker.name.lower()}"), 1)
-        cache.retry = 2
+        cache = maker(folder, 1)
+        cache.retry = retry or cache.retry
         stack.enter_context(cache.serve(old))
-        makers = (*routers.ROUTERS, *routers.ours(folder))
         beside = [Beside(results, cache, router, stack) for router in makers]
         beside = [each for each in beside if each.live]
         old, new, other = cache.serves(old), cache.serves(new), cache.serves(other)
@@ -137,7 +152,11 @@ def compare(results, maker, folder):
         all_hold(beside, "holds the changed list", new, cache.change_seconds)
         for each in beside:
             each.came_by_delta(payloads.changes(old, new))
+        for each in beside:
+            each.tap.refuse()
         cache.restart(other)
+        for each in beside:
+            each.tap.listen()
         all_hold(beside, "holds the list of another session", other, RESTART_SECONDS)
         for each in beside:
             each.listed()

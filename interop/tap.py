@@ -4,7 +4,24 @@ import os
 import socket
 import threading
 
+from processes import PortTaken, on_port
+
 PIECE = 1 << 16
+
+
+def listener_on(port):
+    """A socket that listens on this port."""
+    try:
+        return socket.create_server(("127.0.0.1", port))
+    except OSError as error:
+        raise PortTaken(f"port {port}: {error}") from error
+
+
+def close(connection):
+    """Closes a socket, also where a thread waits for it."""
+    with contextlib.suppress(OSError):
+        connection.shutdown(socket.SHUT_RDWR)
+    connection.close()
 
 
 class Tap:
@@ -17,18 +34,15 @@ class Tap:
         self.count = 0
         self.open = []
         self.threads = []
-        self.listener = socket.create_server(("127.0.0.1", 0))
-        self.port = self.listener.getsockname()[1]
-        self.start(self.accept)
+        self.port = self.listener = None
+        self.listen()
 
     def __enter__(self):
         return self
 
     def __exit__(self, *_):
         for each in [self.listener, *self.open]:
-            with contextlib.suppress(OSError):
-                each.shutdown(socket.SHUT_RDWR)
-            each.close()
+            close(each)
         for thread in self.threads:
             thread.join(5)
 
@@ -38,11 +52,22 @@ class Tap:
         self.threads.append(thread)
         thread.start()
 
-    def accept(self):
-        """Takes connections until the tap is closed."""
+    def listen(self):
+        """Takes connections, after `refuse` on the same port again."""
+        self.listener = on_port(listener_on, self.port)
+        self.port = self.listener.getsockname()[1]
+        self.start(self.accept, self.listener)
+
+    def refuse(self):
+        """Refuses connections, as the port of a cache does that has ended. Those that there are
+        stay."""
+        close(self.listener)
+
+    def accept(self, listener):
+        """Takes connections until the listener is closed."""
         with contextlib.suppress(OSError):
             while True:
-                router, _ = self.listener.accept()
+                router, _ = listener.accept()
                 self.connect(router)
 
     def connect(self, router):

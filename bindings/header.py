@@ -1,0 +1,81 @@
+"""What rtr.h declares, for the scripts that write tables of it for languages that don't read C:
+enums, structs with the places of their fields on 64-bit machines, functions, and texts."""
+import pathlib
+import re
+
+HEADER = pathlib.Path(__file__).resolve().parent / "c" / "rtr.h"
+
+# The sizes of C's types in bytes.
+SIZES = {"uint8_t": 1, "bool": 1, "uint16_t": 2, "uint32_t": 4, "uint64_t": 8, "size_t": 8}
+
+# The functions of the header that look a number up in a table of texts.
+TEXTS = ("rtr_status_text", "rtr_kind_text", "rtr_cause_text")
+
+
+def without_comments(text):
+    """The text without comments."""
+    return re.sub(r"/\*.*?\*/", "", text, flags=re.DOTALL)
+
+
+def version(text):
+    """The version of the header: its text and its number."""
+    said = re.search(r'#define RTR_WIRE_VERSION "([^"]+)"', text)[1]
+    return said, int(re.search(r"#define RTR_WIRE_VERSION_NUMBER (\d+)", text)[1])
+
+
+def plain(comment):
+    """The words of a comment, on one line."""
+    return " ".join(re.sub(r"^\s*/?\*+/?", "", line).replace("*/", "").strip()
+                    for line in comment.splitlines()).strip()
+
+
+def enums(text):
+    """Of each enum its name, the comment before it, and its members: name, number and comment."""
+    pattern = r"(/\*(?:(?!\*/).)*\*/\n)?enum (\w+) \{\n(.*?)\n\};"
+    for before, name, body in re.findall(pattern, text, re.DOTALL):
+        members, number = [], 0
+        for member, value, comment in re.findall(
+                r"^    (RTR_\w+)(?: = (\d+))?,?[ \t]*(/\*.*?\*/)?", body, re.MULTILINE | re.DOTALL):
+            number = int(value) if value else number
+            members.append((member, number, plain(comment)))
+            number += 1
+        yield name, plain(before), members
+
+
+def structs(text):
+    """Of each struct its name, and its fields as C lays them out: name, type, how many of it or
+    None, and place; then its size. Structs inside are named before."""
+    sizes, aligned = dict(SIZES), dict(SIZES)
+    for name, body in re.findall(r"^struct (\w+) \{(.*?)\};", without_comments(text),
+                                 re.MULTILINE | re.DOTALL):
+        fields, place, widest = [], 0, 1
+        for kind, names in re.findall(r"((?:struct )?\w+) ([^;]+);", body):
+            for one in re.split(r",\s*", names):
+                field, many = re.fullmatch(r"(\w+)(?:\[(\d+)\])?", one).groups()
+                place = -(-place // aligned[kind]) * aligned[kind]
+                fields.append((field, kind, int(many) if many else None, place))
+                place += sizes[kind] * int(many or 1)
+                widest = max(widest, aligned[kind])
+        size = -(-place // widest) * widest
+        sizes[f"struct {name}"], aligned[f"struct {name}"] = size, widest
+        yield name, fields, size
+
+
+def functions(text):
+    """Of each function of the archive its name, what it answers, and what it takes: type and name,
+    where the type of a pointer ends in a star."""
+    for answer, name, taken in re.findall(r"^(\w+) (rtr_\w+)\(([^)]*)\);", without_comments(text),
+                                          re.MULTILINE):
+        parts = [] if taken == "void" else re.split(r",\s*", taken)
+        yield name, answer, [
+            re.fullmatch(r"(?:const )?((?:struct )?\w+ \*?)(\w+)", part).groups() for part in parts]
+
+
+def texts(text, function):
+    """The texts that a function of the header has, in their order, and None where it has none; and
+    the text for other numbers."""
+    body = re.search(rf"{function}\(uint8_t.*?^}}", text, re.DOTALL | re.MULTILINE)[0]
+    listed, rest = body.split("};", 1)
+    said = [line.strip() for line in listed.split("{\n")[-1].splitlines()]
+    return ([None if line == "0," else re.fullmatch(r'"(.*)",', line)[1] for line in said if line],
+            re.search(r'"([^"]*)"', rest)[1])

@@ -1,0 +1,87 @@
+// Addresses and prefixes as text: of IPv6 as RFC 5952 writes them.
+
+/** The text of an address of 4 or 16 bytes. */
+export function addressText(bytes) {
+    if (bytes.length === 4) {
+        return bytes.join(".");
+    }
+    const groups = groupsOf(bytes);
+    if (groups.slice(0, 5).every((group) => group === 0) && groups[5] === 0xffff) {
+        return `::ffff:${bytes.slice(12).join(".")}`;
+    }
+    const [start, length] = longestZeros(groups);
+    const texts = groups.map((group) => group.toString(16));
+    if (length < 2) {
+        return texts.join(":");
+    }
+    return `${texts.slice(0, start).join(":")}::${texts.slice(start + length).join(":")}`;
+}
+
+function groupsOf(bytes) {
+    return Array.from({ length: 8 }, (_, place) => bytes[2 * place] * 256 + bytes[2 * place + 1]);
+}
+
+/** Where the longest row of groups that are zero begins, the first of several, and its length. */
+function longestZeros(groups) {
+    let best = [0, 0];
+    for (let start = 0, place = 0; place < 8; place += 1) {
+        if (groups[place] !== 0) {
+            start = place + 1;
+        } else if (place + 1 - start > best[1]) {
+            best = [start, place + 1 - start];
+        }
+    }
+    return best;
+}
+
+/** The bytes of an address, 4 or 16, or null where the text is none. */
+export function addressOf(text) {
+    return text.includes(":") ? ipv6Of(text) : ipv4Of(text);
+}
+
+function ipv4Of(text) {
+    const parts = text.split(".");
+    const isAddress = parts.length === 4
+        && parts.every((part) => /^(0|[1-9]\d{0,2})$/.test(part) && Number(part) < 256);
+    return isAddress ? Uint8Array.from(parts, Number) : null;
+}
+
+function ipv6Of(text) {
+    const halves = text.split("::");
+    const [front, back = []] = halves.map(groupsOfText);
+    if (halves.length > 2 || !front || !back) {
+        return null;
+    }
+    const missing = 8 - front.length - back.length;
+    if (halves.length === 2 ? missing < 1 : missing !== 0) {
+        return null;
+    }
+    const groups = [...front, ...Array(missing).fill(0), ...back];
+    return Uint8Array.from(groups.flatMap((group) => [group >> 8, group & 255]));
+}
+
+/** The groups between colons, of which the last may be an IPv4 address; null where one is none. */
+function groupsOfText(text) {
+    const parts = text === "" ? [] : text.split(":");
+    const groups = [];
+    for (const [place, part] of parts.entries()) {
+        const four = place === parts.length - 1 && part.includes(".") ? ipv4Of(part) : null;
+        if (four) {
+            groups.push(four[0] * 256 + four[1], four[2] * 256 + four[3]);
+        } else if (/^[0-9a-fA-F]{1,4}$/.test(part)) {
+            groups.push(parseInt(part, 16));
+        } else {
+            return null;
+        }
+    }
+    return groups;
+}
+
+/** The address and the length of a prefix, as 192.0.2.0/24; of an address alone all of its bits.
+ * Null where the text is none. Whether the length fits the family isn't looked at here. */
+export function prefixOf(text) {
+    const [, front, , length] = /^([^/]+)(\/(\d{1,3}))?$/.exec(text.trim()) ?? [];
+    const address = front === undefined ? null : addressOf(front);
+    const bits = length === undefined ? 8 * address?.length : Number(length);
+    return address && { address, length: bits };
+}

@@ -1,0 +1,21 @@
+// Why a call of the library answers no result.
+
+import { statusText } from "./rtr_table.js";
+
+/** What a call refuses: a unit, an input or its place in a sequence. */
+export class Fault extends Error {
+    /** @param fields what the call answered: at least its `status` */
+    constructor(fields) {
+        const { status, offset = 0, side = 0 } = fields;
+        const where = side === 0 ? "" : side === 1 ? " of the first input" : " of the second input";
+        super(`${statusText(status)}, at byte ${offset}${where}`);
+        this.name = "Fault";
+        this.status = status;
+        this.offset = offset;
+        this.side = side;
+        this.detail = fields.detail ?? 0;
+        this.size = fields.size ?? 0;
+        this.wanted = fields.wanted ?? 0;
+        this.code = fields.code ?? null;
+    }
+}

@@ -1,0 +1,165 @@
+// The memory of a module: who has which part of it, and structs in it as plain objects.
+
+import { STRUCTS } from "./rtr_table.js";
+
+const PAGE = 65536;
+
+/** The memory would have to grow, and can't. */
+export class OutOfMemory extends Error {
+    constructor(wanted, reason) {
+        super(`the module's memory can't grow to ${wanted} bytes: ${reason}`);
+        this.name = "OutOfMemory";
+        this.wanted = wanted;
+    }
+}
+
+/** A memory in which callers take parts and give them back, and which grows by whole pages. */
+export class Heap {
+    #memory;
+    #most;
+    #pages; // the type of number that memory.grow takes: engines differ
+    #taken = []; // [start, end], in their order
+    #base;
+    #view;
+
+    constructor(memory, base, most) {
+        this.#memory = memory;
+        this.#most = most;
+        this.#base = rounded(base);
+        this.#pages = pageNumbers(memory);
+    }
+
+    /** How many bytes the memory has. */
+    get size() {
+        return this.#memory.buffer.byteLength;
+    }
+
+    /** A view of all of it, until it grows. */
+    get view() {
+        if (this.#view?.buffer !== this.#memory.buffer) {
+            this.#view = new DataView(this.#memory.buffer);
+        }
+        return this.#view;
+    }
+
+    /** The bytes from a place on, until the memory grows. */
+    bytes(start, length) {
+        return new Uint8Array(this.#memory.buffer, start, length);
+    }
+
+    /** Takes a part of this length, and answers where it starts: at a multiple of 16. */
+    take(length) {
+        const wanted = Math.max(rounded(length), 16);
+        let start = this.#base;
+        let place = 0;
+        while (place < this.#taken.length && this.#taken[place][0] - start < wanted) {
+            start = this.#taken[place][1];
+            place += 1;
+        }
+        this.#reach(start + wanted);
+        this.#taken.splice(place, 0, [start, start + wanted]);
+        return start;
+    }
+
+    /** Gives back what starts there. */
+    release(start) {
+        const place = this.#taken.findIndex((part) => part[0] === start);
+        if (place >= 0) {
+            this.#taken.splice(place, 1);
+        }
+    }
+
+    /** Has the memory reach to this place at least. */
+    #reach(end) {
+        const missing = Math.ceil((end - this.size) / PAGE);
+        if (missing <= 0) {
+            return;
+        }
+        if (end > this.#most) {
+            throw new OutOfMemory(end, `the session may have ${this.#most}`);
+        }
+        // Some more, so that it doesn't grow often; if that can't be had, as much as is needed.
+        for (const pages of [missing + (this.size / PAGE >> 2), missing]) {
+            if (this.size + pages * PAGE <= this.#most && this.#grows(pages)) {
+                return;
+            }
+        }
+        if (!this.#grows(missing)) {
+            throw new OutOfMemory(end, "the engine refuses");
+        }
+    }
+
+    #grows(pages) {
+        try {
+            return this.#memory.grow(this.#pages(pages)) !== -1;
+        } catch {
+            return false;
+        }
+    }
+}
+
+function rounded(length) {
+    return Math.ceil(length / 16) * 16;
+}
+
+/** Whether memory.grow takes a BigInt, as it does by the standard, or a number, as before. */
+function pageNumbers(memory) {
+    try {
+        memory.grow(0n);
+        return BigInt;
+    } catch {
+        return Number;
+    }
+}
+
+const READ = {
+    uint8: (view, at) => view.getUint8(at),
+    bool: (view, at) => view.getUint8(at) !== 0,
+    uint16: (view, at) => view.getUint16(at, true),
+    uint32: (view, at) => view.getUint32(at, true),
+    uint64: (view, at) => Number(view.getBigUint64(at, true)),
+    size: (view, at) => Number(view.getBigUint64(at, true)),
+};
+
+const WRITE = {
+    uint8: (view, at, value) => view.setUint8(at, value),
+    bool: (view, at, value) => view.setUint8(at, value ? 1 : 0),
+    uint16: (view, at, value) => view.setUint16(at, value, true),
+    uint32: (view, at, value) => view.setUint32(at, value, true),
+    uint64: (view, at, value) => view.setBigUint64(at, BigInt(value), true),
+    size: (view, at, value) => view.setBigUint64(at, BigInt(value), true),
+};
+
+/** The struct of this name that lies at a place, as an object of its fields. */
+export function readStruct(view, name, at) {
+    const made = {};
+    for (const [field, place, kind, many] of STRUCTS[name].fields) {
+        if (many) {
+            made[field] = new Uint8Array(view.buffer.slice(at + place, at + place + many));
+        } else if (READ[kind]) {
+            made[field] = READ[kind](view, at + place);
+        } else {
+            made[field] = readStruct(view, kind, at + place);
+        }
+    }
+    return made;
+}
+
+/** Puts the fields that the object has into the struct of this name at a place; others are zero. */
+export function writeStruct(view, name, at, values) {
+    for (const [field, place, kind, many] of STRUCTS[name].fields) {
+        if (many) {
+            const bytes = new Uint8Array(view.buffer, at + place, many);
+            bytes.fill(0).set((values[field] ?? []).slice(0, many));
+        } else if (WRITE[kind]) {
+            WRITE[kind](view, at + place, values[field] ?? 0);
+        } else {
+            writeStruct(view, kind, at + place, values[field] ?? {});
+        }
+    }
+}
+
+/** Where each field of a struct lies. */
+export function placesOf(name) {
+    return Object.fromEntries(STRUCTS[name].fields.map(([field, place]) => [field, place]));
+}

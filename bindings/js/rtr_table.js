@@ -1,0 +1,331 @@
+// What rtr.h declares. `generate` made this file of it: don't edit it.
+
+export const VERSION = "0.2.0";
+export const VERSION_NUMBER = 200;
+
+export const Status = Object.freeze({
+    OK: 0,
+    SHORT: 1,
+    UNIT_TYPE: 2,
+    UNIT_VERSION: 3,
+    TOO_LONG: 4,
+    UNIT_LENGTH: 5,
+    EMPTY_PROVIDERS: 6,
+    PREFIX: 7,
+    TOO_MANY: 8,
+    NO_ROOM: 9,
+    NO_FORM: 10,
+    NOT_CANONICAL: 12,
+    OTHER_SESSION: 13,
+    DUPLICATE: 14,
+    UNKNOWN: 15,
+    UNDECIDED: 16,
+    NO_INDEX: 17,
+});
+
+export const PrefixRule = Object.freeze({
+    LENGTH_OVER: 1,
+    MAX_LENGTH_OVER: 2,
+    MAX_LENGTH_UNDER: 3,
+});
+
+export const Kind = Object.freeze({
+    SERIAL_NOTIFY: 0,
+    SERIAL_QUERY: 1,
+    RESET_QUERY: 2,
+    CACHE_RESPONSE: 3,
+    IPV4_PREFIX: 4,
+    IPV6_PREFIX: 6,
+    END_OF_DATA: 7,
+    CACHE_RESET: 8,
+    ROUTER_KEY: 9,
+    ERROR_REPORT: 10,
+    ASPA: 11,
+});
+
+export const SerialOrder = Object.freeze({
+    EQUAL: 0,
+    LESS: 1,
+    GREATER: 2,
+    NO_ORDER: 3,
+});
+
+export const Side = Object.freeze({
+    LEFT: 1,
+    RIGHT: 2,
+});
+
+export const Validity = Object.freeze({
+    NOT_FOUND: 0,
+    VALID: 1,
+    INVALID: 2,
+    NO_ROUTE: 3,
+});
+
+export const Mismatch = Object.freeze({
+    MATCHES: 0,
+    AS_ZERO: 1,
+    OTHER_AS: 2,
+    LONGER: 3,
+});
+
+export const ActionKind = Object.freeze({
+    WAIT: 0,
+    CONNECT: 1,
+    ASK: 2,
+    BEGIN: 3,
+    KEEP: 4,
+    APPLY: 5,
+    SHOW: 6,
+    NO_DATA: 7,
+    DROP: 8,
+    END: 9,
+});
+
+export const Cause = Object.freeze({
+    LOST: 0,
+    SLOW: 1,
+    FAULTY: 2,
+    REPORTED: 3,
+    OUT_OF_PLACE: 4,
+    NO_SUCH_PAYLOAD: 5,
+    OTHER_VERSION: 6,
+    HIGHER_VERSION: 7,
+    OTHER_SESSION: 8,
+    OLD_SERIAL: 9,
+    OTHER_DATA: 10,
+    TOO_LONG: 11,
+    NOT_APPLIED: 12,
+    EXPIRED: 13,
+    LOWER: 14,
+});
+
+export const STRUCTS = Object.freeze({
+    answer: { size: 48, fields: [
+        ["units", 0, "uint64"],
+        ["forms", 8, "uint64"],
+        ["taken", 16, "size"],
+        ["written", 24, "size"],
+        ["wanted", 32, "size"],
+        ["status", 40, "uint8"],
+        ["detail", 41, "uint8"],
+    ] },
+    dataAnswer: { size: 24, fields: [
+        ["written", 0, "size"],
+        ["offset", 8, "size"],
+        ["status", 16, "uint8"],
+        ["side", 17, "uint8"],
+        ["detail", 18, "uint8"],
+    ] },
+    comparison: { size: 24, fields: [
+        ["offset", 0, "size"],
+        ["wanted", 8, "size"],
+        ["status", 16, "uint8"],
+        ["side", 17, "uint8"],
+        ["detail", 18, "uint8"],
+        ["same", 19, "bool"],
+    ] },
+    unit: { size: 120, fields: [
+        ["size", 0, "size"],
+        ["wanted", 8, "size"],
+        ["partStart", 16, "size"],
+        ["partLength", 24, "size"],
+        ["textStart", 32, "size"],
+        ["textLength", 40, "size"],
+        ["asn", 48, "uint32"],
+        ["customer", 52, "uint32"],
+        ["serial", 56, "uint32"],
+        ["refresh", 60, "uint32"],
+        ["retry", 64, "uint32"],
+        ["expire", 68, "uint32"],
+        ["session", 72, "uint16"],
+        ["code", 74, "uint16"],
+        ["kind", 76, "uint8"],
+        ["version", 77, "uint8"],
+        ["action", 78, "uint8"],
+        ["family", 79, "uint8"],
+        ["prefixLength", 80, "uint8"],
+        ["maxLength", 81, "uint8"],
+        ["address", 82, "uint8", 16],
+        ["keyIdentifier", 98, "uint8", 20],
+        ["detail", 118, "uint8"],
+    ] },
+    route: { size: 24, fields: [
+        ["asn", 0, "uint32"],
+        ["family", 4, "uint8"],
+        ["prefixLength", 5, "uint8"],
+        ["address", 6, "uint8", 16],
+    ] },
+    tables: { size: 2328, fields: [
+        ["ipv4", 0, "size"],
+        ["ipv6", 8, "size"],
+        ["starts", 16, "size", 256],
+        ["shortestIpv4", 2064, "uint8"],
+        ["shortestIpv6", 2065, "uint8"],
+        ["shortest", 2066, "uint8", 256],
+    ] },
+    covering: { size: 16, fields: [
+        ["place", 0, "size"],
+        ["asn", 8, "uint32"],
+        ["prefixLength", 12, "uint8"],
+        ["maxLength", 13, "uint8"],
+        ["mismatch", 14, "uint8"],
+    ] },
+    settings: { size: 40, fields: [
+        ["mostBytes", 0, "uint64"],
+        ["pause", 8, "uint32"],
+        ["connectLimit", 12, "uint32"],
+        ["responseLimit", 16, "uint32"],
+        ["refresh", 20, "uint32"],
+        ["retry", 24, "uint32"],
+        ["expire", 28, "uint32"],
+        ["mostUnits", 32, "uint32"],
+        ["chance", 36, "uint16"],
+        ["highest", 38, "uint8"],
+    ] },
+    known: { size: 20, fields: [
+        ["serial", 0, "uint32"],
+        ["refresh", 4, "uint32"],
+        ["retry", 8, "uint32"],
+        ["expire", 12, "uint32"],
+        ["session", 16, "uint16"],
+        ["version", 18, "uint8"],
+    ] },
+    router: { size: 136, fields: [
+        ["settings", 0, "settings"],
+        ["expires", 40, "uint64"],
+        ["asked", 48, "uint64"],
+        ["due", 56, "uint64"],
+        ["bytes", 64, "uint64"],
+        ["known", 72, "known"],
+        ["answer", 92, "known"],
+        ["wait", 112, "uint32"],
+        ["units", 116, "uint32"],
+        ["note", 120, "uint32"],
+        ["session", 124, "uint16"],
+        ["phase", 126, "uint8"],
+        ["version", 127, "uint8"],
+        ["floor", 128, "uint8"],
+        ["agreed", 129, "bool"],
+        ["fell", 130, "bool"],
+        ["changes", 131, "bool"],
+        ["resync", 132, "bool"],
+        ["answered", 133, "bool"],
+        ["noted", 134, "bool"],
+        ["hasData", 135, "bool"],
+    ] },
+    action: { size: 40, fields: [
+        ["start", 0, "size"],
+        ["taken", 8, "size"],
+        ["wanted", 16, "size"],
+        ["serial", 24, "uint32"],
+        ["session", 28, "uint16"],
+        ["code", 30, "uint16"],
+        ["kind", 32, "uint8"],
+        ["version", 33, "uint8"],
+        ["cause", 34, "uint8"],
+        ["status", 35, "uint8"],
+        ["detail", 36, "uint8"],
+        ["changes", 37, "bool"],
+        ["drops", 38, "bool"],
+        ["reports", 39, "bool"],
+    ] },
+});
+
+export const FUNCTIONS = Object.freeze({
+    rtr_normalise_slice_nonnull: ["uint8", "*", "size", "*", "size", "uint64", "*"],
+    rtr_normalise_for_slice_nonnull: ["uint8", "*", "size", "*", "size", "uint64", "uint8", "*"],
+    rtr_unit_size_nonnull: ["uint8", "*", "size", "*", "*"],
+    rtr_next_nonnull: ["uint8", "*", "size", "*"],
+    rtr_provider_nonnull: ["bool", "*", "*", "size", "size", "*"],
+    rtr_error_code_nonnull: ["bool", "uint8", "*", "size", "*"],
+    rtr_write_unit_nonnull: ["uint8", "*", "*", "size", "*", "size", "*"],
+    rtr_same_meaning_nonnull: ["uint8", "*", "size", "*", "size", "uint64", "*"],
+    rtr_delta_nonnull: ["uint8", "*", "size", "*", "size", "*", "size", "*"],
+    rtr_apply_nonnull: ["uint8", "*", "size", "*", "size", "*", "size", "*"],
+    rtr_apply_in_order_nonnull: ["uint8", "*", "size", "*", "size", "*", "size", "*", "size", "*"],
+    rtr_order_nonnull: ["uint8", "*", "size", "*", "size", "*", "size", "*"],
+    rtr_tables_nonnull: ["void", "*", "size", "*"],
+    rtr_validate_nonnull: ["uint8", "*", "size", "*", "*"],
+    rtr_covering_nonnull: ["bool", "*", "size", "*", "*", "size", "*"],
+    rtr_serial_order: ["uint8", "uint32", "uint32"],
+    rtr_version_has: ["bool", "uint8", "uint8"],
+    rtr_wire_version: ["uint32"],
+    rtr_settings_usual: ["void", "*", "uint8"],
+    rtr_router_init: ["void", "*", "*"],
+    rtr_router_tick: ["void", "*", "uint64", "*"],
+    rtr_router_connected: ["void", "*", "uint64", "*"],
+    rtr_router_lost: ["void", "*", "uint64", "*"],
+    rtr_router_applied: ["void", "*", "uint64", "*"],
+    rtr_router_not_applied: ["void", "*", "uint64", "uint8", "*"],
+    rtr_router_wakes: ["uint64", "*"],
+    rtr_router_read_nonnull: ["void", "*", "uint64", "*", "size", "bool", "*"],
+    rtr_router_query_nonnull: ["size", "*", "*", "size"],
+    rtr_router_report_nonnull: ["bool", "*", "*", "size", "*", "size", "*"],
+});
+
+const statusTexts = [
+    "accepted",
+    "unexpected end of input",
+    "unit type is not allowed here",
+    "version is not supported here",
+    "unit is longer than 65535 bytes",
+    "invalid unit length",
+    "ASPA unit has no providers",
+    "prefix fields are not allowed",
+    "too many units",
+    "no room in the output",
+    "no unit has these fields",
+    null,
+    "not in canonical form",
+    "of another session",
+    "duplicate announcement",
+    "withdrawal of an unknown record",
+    "an ASPA is announced and then withdrawn",
+    "no room in the index",
+];
+
+export function statusText(number) {
+    return statusTexts[number] ?? "unknown status";
+}
+
+const kindTexts = [
+    "serial notify",
+    "serial query",
+    "reset query",
+    "cache response",
+    "IPv4 prefix",
+    null,
+    "IPv6 prefix",
+    "end of data",
+    "cache reset",
+    "router key",
+    "error report",
+    "ASPA",
+];
+
+export function kindText(number) {
+    return kindTexts[number] ?? "unknown kind";
+}
+
+const causeTexts = [
+    "the cache closed the connection",
+    "the cache is too slow",
+    "unit is refused",
+    "the cache reports an error",
+    "unit is not allowed here",
+    "version does not have such payloads",
+    "unit of another version than the session",
+    "answer of a higher version than the query",
+    "unit of another session",
+    "serial number before that of the query",
+    "other data at the serial number of the query",
+    "the answer is too long",
+    "changes are refused",
+    "the data have expired",
+    "the cache may have a lower version",
+];
+
+export function causeText(number) {
+    return causeTexts[number] ?? "unknown cause";
+}

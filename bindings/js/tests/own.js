@@ -1,0 +1,168 @@
+// Tests of what the other languages don't share: memory, sessions, texts of addresses.
+
+import assert from "node:assert/strict";
+import { Heap } from "../memory.js";
+import { Data, Dropped, Fault, Kind, OutOfMemory, Status, Validity, addressOf, addressText, load,
+    prefixOf, statusText } from "../rtr_wire.js";
+
+/** An end of data of version 1 (RFC 8210 section 5.8). */
+const END = Uint8Array.from([1, 7, 0x12, 0x34, 0, 0, 0, 24, 0, 0, 0, 9,
+    0, 0, 14, 16, 0, 0, 2, 88, 0, 0, 28, 32]);
+
+/** IPv4 prefixes in their order, and an end of data (RFC 8210 section 5.6). */
+function many(count) {
+    const bytes = new Uint8Array(20 * count + END.length);
+    const unit = Uint8Array.from([1, 4, 0, 0, 0, 0, 0, 20, 1, 32, 32, 0, 0, 0, 0, 0, 0, 0, 0, 1]);
+    const view = new DataView(bytes.buffer);
+    for (let place = 0; place < count; place += 1) {
+        bytes.set(unit, 20 * place);
+        view.setUint32(20 * place + 12, place);
+    }
+    bytes.set(END, 20 * count);
+    return bytes;
+}
+
+/** A module that has a 64-bit memory of a page, and nothing else. */
+const MEMORY = Uint8Array.of(0, 97, 115, 109, 1, 0, 0, 0, 5, 3, 1, 4, 1, 7, 5, 1, 1, 109, 2, 0);
+
+const TESTS = {
+    /** A memory that grows as parts are taken, and whose parts are used again. */
+    growsMemory() {
+        const { m: memory } = new WebAssembly.Instance(new WebAssembly.Module(MEMORY)).exports;
+        const heap = new Heap(memory, 1000, 1 << 22);
+        assert.equal(heap.size, 65536);
+        const first = heap.take(10);
+        assert.equal(first, 1008);
+        const second = heap.take(100000);
+        heap.bytes(second, 100000).fill(7);
+        assert.ok(heap.size >= 131072 && heap.view.getUint8(second + 99999) === 7);
+        heap.release(first);
+        assert.equal(heap.take(16), first);
+        assert.ok(heap.take(17) >= second + 100000);
+        heap.release(second);
+        assert.equal(heap.take(99999), second);
+        assert.throws(() => heap.take(1 << 22), OutOfMemory);
+        assert.ok(heap.size <= 1 << 22);
+        assert.throws(() => new Heap(memory, 0, Infinity).take(2 ** 46), OutOfMemory);
+    },
+
+    /** Inputs of many pieces, with a unit across the border of each. */
+    walksPieces(rtr) {
+        const bytes = many(100000);
+        let count = 0;
+        for (const unit of rtr.units(bytes)) {
+            assert.equal(unit.offset, 20 * count);
+            count += 1;
+        }
+        assert.equal(count, 100001);
+        assert.throws(() => [...rtr.units(bytes.subarray(0, bytes.length - 1))],
+            (error) => error instanceof Fault && error.status === Status.SHORT
+                && error.offset === 2000000 && error.wanted === 24 && error.code === 0);
+    },
+
+    /** A generator that is left, and others beside it, keep nothing of the memory. */
+    leavesNothing(rtr) {
+        const bytes = many(30000);
+        rtr.delta(bytes, bytes);
+        const before = rtr.memory;
+        for (let turn = 0; turn < 200; turn += 1) {
+            const one = rtr.units(bytes);
+            const other = rtr.units(bytes, 20);
+            assert.equal(one.next().value.offset, 0);
+            assert.equal(other.next().value.offset, 20);
+            assert.equal(one.next().value.offset, 20);
+        }
+        assert.equal(rtr.memory, before);
+    },
+
+    /** Units that are objects of their own: the next call changes none. */
+    keepsUnits(rtr) {
+        const [first, second] = [...rtr.units(many(2))];
+        assert.deepEqual([...first.address, ...second.address], [0, 0, 0, 0, 0, 0, 0, 1]);
+        assert.deepEqual(Object.keys(first), ["offset", "size", "version", "kind", "announce",
+            "address", "prefixLength", "maxLength", "asn"]);
+    },
+
+    /** Where the memory can't grow, that is said, and the session goes on. */
+    async saysNoMemory(rtr, bytes) {
+        const small = await load(bytes, { most: rtr.another().memory + 65536 });
+        const large = many(10000);
+        assert.throws(() => small.hold(large), (error) => error instanceof OutOfMemory
+            && error.name === "OutOfMemory" && error.wanted > small.memory);
+        assert.throws(() => small.delta(large, large), OutOfMemory);
+        assert.equal([...small.units(END)].length, 1);
+    },
+
+    /** A session that was dropped has no memory, and says so; another one goes on. */
+    drops(rtr) {
+        const one = rtr.another();
+        const data = one.data(many(10));
+        assert.equal(data.validate({ prefix: "0.0.0.3/32", asn: 1 }), Validity.VALID);
+        one.drop();
+        assert.throws(() => one.next(END), Dropped);
+        assert.throws(() => data.validate({ prefix: "0.0.0.3/32", asn: 1 }), Dropped);
+        data.drop();
+        assert.equal(rtr.next(END).kind, Kind.END_OF_DATA);
+    },
+
+    /** Data, and what is made of them. */
+    hasData(rtr) {
+        const old = rtr.data(many(3));
+        const next = rtr.data(many(5));
+        assert.equal(old.serial, 9);
+        assert.equal([...old.units()].length, 3);
+        const delta = old.deltaTo(next);
+        assert.equal([...rtr.units(delta)].length, 3);
+        assert.deepEqual(old.apply(delta).bytes, next.bytes);
+        assert.deepEqual(old.applyInOrder(delta).bytes, next.bytes);
+        assert.ok(old.applyInOrder(delta) instanceof Data);
+        assert.throws(() => old.applyInOrder(many(4)),
+            (error) => error.status === Status.DUPLICATE && error.code === 7 && error.offset === 0);
+        assert.throws(() => rtr.data(many(3).subarray(20)).apply(END.subarray(1)), Fault);
+        assert.equal(next.validate({ prefix: "0.0.0.4/33", asn: 1 }), Validity.NO_ROUTE);
+        assert.equal(next.validate({ prefix: "no prefix", asn: 1 }), Validity.NO_ROUTE);
+    },
+
+    /** A header alone says how long its unit is. */
+    sizes(rtr) {
+        assert.equal(rtr.unitSize(END.subarray(0, 8)), 24);
+        assert.throws(() => rtr.unitSize(END.subarray(0, 7)),
+            (error) => error.status === Status.SHORT && error.wanted === 8);
+        assert.equal(rtr.errorCode(Status.UNIT_TYPE, END), 5);
+        assert.equal(rtr.errorCode(Status.OK, END), null);
+        assert.equal(rtr.serialOrder(1, 2 ** 31 + 1), 3);
+        assert.equal(rtr.versionHas(1, Kind.ASPA), false);
+        assert.equal(statusText(200), "unknown status");
+    },
+
+    /** Addresses as RFC 5952 writes them. */
+    writesAddresses() {
+        for (const text of ["0.0.0.0", "192.0.2.255", "::", "::1", "2001:db8::",
+            "2001:db8:0:1:1:1:1:1", "2001:db8::1:0:0:1", "1:0:2:3:4:5:6:7", "::ffff:192.0.2.1"]) {
+            assert.equal(addressText(addressOf(text)), text);
+        }
+        for (const [text, shown] of [["2001:DB8:0:0:0:0:2:1", "2001:db8::2:1"],
+            ["0:0:0:0:0:ffff:192.0.2.1", "::ffff:192.0.2.1"], ["1::2:0:0:0:3", "1:0:0:2::3"]]) {
+            assert.equal(addressText(addressOf(text)), shown);
+        }
+        for (const text of ["", "1", "1.2.3", "1.2.3.256", "01.2.3.4", ":", ":::", "1::2::3",
+            "1:2:3:4:5:6:7", "1:2:3:4:5:6:7:8:9", "1::2:3:4:5:6:7:8", "12345::", "g::",
+            "1.2.3.4::", "1:2"]) {
+            assert.equal(addressOf(text), null, text);
+        }
+        assert.deepEqual(prefixOf(" 192.0.2.0/24 "),
+            { address: Uint8Array.of(192, 0, 2, 0), length: 24 });
+        assert.equal(prefixOf("::1").length, 128);
+        for (const text of ["192.0.2.0/", "192.0.2.0/x", "/24", "192.0.2.0/1000", ""]) {
+            assert.equal(prefixOf(text), null, text);
+        }
+    },
+};
+
+/** Runs all of them, and answers how many there are. */
+export async function tests(bytes, rtr) {
+    for (const test of Object.values(TESTS)) {
+        await test(rtr, bytes);
+    }
+    return Object.keys(TESTS).length;
+}

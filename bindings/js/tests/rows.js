@@ -1,0 +1,214 @@
+// Plays the rows that the other languages play: bindings/cases.py, sessions.py, deltas.py and
+// validity.py say what a file of each has.
+
+import assert from "node:assert/strict";
+import { Fault, Status } from "../rtr_wire.js";
+import { STRUCTS } from "../rtr_table.js";
+
+/** Reads the numbers and pieces of a file, one after the other. */
+class Rows {
+    #bytes;
+    #view;
+    #at = 0;
+
+    constructor(bytes) {
+        this.#bytes = bytes;
+        this.#view = new DataView(bytes.buffer, bytes.byteOffset, bytes.length);
+    }
+
+    get hasMore() {
+        return this.#at < this.#bytes.length;
+    }
+
+    byte() {
+        return this.#bytes[this.#at++];
+    }
+
+    word() {
+        this.#at += 4;
+        return this.#view.getUint32(this.#at - 4, true);
+    }
+
+    long() {
+        this.#at += 8;
+        return Number(this.#view.getBigUint64(this.#at - 8, true));
+    }
+
+    piece(length) {
+        this.#at += length;
+        return this.#bytes.slice(this.#at - length, this.#at);
+    }
+}
+
+/** What a call answers, or the Fault that it throws. */
+function outcome(call) {
+    try {
+        return call();
+    } catch (error) {
+        if (error instanceof Fault) {
+            return error;
+        }
+        throw error;
+    }
+}
+
+function same(left, right, what) {
+    if (left.length !== right.length || left.some((byte, place) => byte !== right[place])) {
+        assert.fail(`${what}: ${left} is not ${right}`);
+    }
+}
+
+/** Sequences and their forms. */
+export function cases(rtr, bytes) {
+    const rows = new Rows(bytes);
+    let count = 0;
+    for (; rows.hasMore; count += 1) {
+        const [version, status, detail] = [rows.byte(), rows.byte(), rows.byte()];
+        const [units, forms, taken] = Array.from({ length: 3 }, () => rows.long());
+        const lengths = [rows.long(), rows.long()];
+        const [input, form] = lengths.map((length) => rows.piece(length));
+        const options = version === 255 ? {} : { version };
+        const answer = outcome(() => rtr.normalise(input, options));
+        assert.deepEqual([answer.status ?? Status.OK, answer.detail ?? 0], [status, detail]);
+        assert.deepEqual([answer.units, answer.forms, answer.taken], [units, forms, taken]);
+        same(answer.form, form, `case ${count}`);
+        if (status === Status.OK && version === 255) {
+            assert.equal(rtr.sameMeaning(input, form), true, `case ${count}`);
+        }
+    }
+    return count;
+}
+
+const NUMBERS = ["status", "size", "wanted", "partStart", "partLength", "textStart", "textLength",
+    "asn", "customer", "serial", "refresh", "retry", "expire", "session", "code", "kind", "version",
+    "action", "family", "prefixLength", "maxLength", "detail"];
+const KINDS = Object.fromEntries(STRUCTS.unit.fields.map(([name, , kind]) => [name, kind]));
+const METHODS = { uint8: "byte", uint16: "short", uint32: "word", size: "long" };
+
+/** Sessions with units of all types: what is shown of each, and its written form. */
+export function sessions(rtr, bytes) {
+    const rows = new Rows(bytes);
+    let count = 0;
+    for (; rows.hasMore; count += 1) {
+        const [length, answers] = [rows.long(), rows.long()];
+        const input = rows.piece(length);
+        const held = rtr.hold(input);
+        let offset = 0;
+        for (let place = 0; place < answers; place += 1) {
+            const wanted = Object.fromEntries(NUMBERS.map((name) => [name, rows.long()]));
+            const [address, identifier] = [rows.piece(16), rows.piece(20)];
+            const form = rows.piece(rows.long());
+            shownFields(held, offset, wanted, address, identifier);
+            shownUnit(rtr, input, offset, wanted, form);
+            offset += wanted.size;
+        }
+        held.drop();
+        walked(rtr, input);
+    }
+    return count;
+}
+
+function shownFields(held, offset, wanted, address, identifier) {
+    assert.equal(held.status(offset), wanted.status);
+    const shown = held.shown(offset);
+    for (const name of NUMBERS.slice(1)) {
+        assert.equal(shown[METHODS[KINDS[name]]](name), wanted[name], name);
+    }
+    same(shown.row("address", 16), address, "address");
+    same(shown.row("keyIdentifier", 20), identifier, "key identifier");
+}
+
+/** The unit as an object, by both ways to it; and what is written of it. */
+function shownUnit(rtr, input, offset, wanted, form) {
+    const unit = outcome(() => rtr.next(input, offset));
+    assert.equal(unit.offset, offset);
+    if (wanted.status !== Status.OK) {
+        assert.deepEqual([unit.status, unit.size, unit.wanted, unit.detail],
+            [wanted.status, wanted.size, wanted.wanted, wanted.detail]);
+        return;
+    }
+    for (const name of Object.keys(unit).filter((name) => NUMBERS.includes(name))) {
+        assert.equal(unit[name], wanted[name], name);
+    }
+    const part = (start, length) => input.subarray(offset + start, offset + start + length);
+    if ("announce" in unit) {
+        assert.equal(unit.announce, wanted.action === 1);
+    }
+    if (unit.keyInfo) {
+        same(unit.keyInfo, part(wanted.partStart, wanted.partLength), "key info");
+    }
+    if (unit.about) {
+        same(unit.about, part(wanted.partStart, wanted.partLength), "about");
+        same(unit.textBytes, part(wanted.textStart, wanted.textLength), "text");
+    }
+    same(rtr.writeUnit(unit), form, "form");
+}
+
+/** The generator gives the units that `next` gives one after the other, and then its Fault. */
+function walked(rtr, input) {
+    const walk = rtr.units(input);
+    for (let offset = 0; offset < input.length;) {
+        const wanted = outcome(() => rtr.next(input, offset));
+        const given = outcome(() => walk.next().value);
+        assert.deepEqual({ ...given }, { ...wanted });
+        if (wanted instanceof Fault) {
+            return;
+        }
+        offset += wanted.size;
+    }
+    assert.equal(walk.next().done, true);
+}
+
+const CALLS = [
+    (rtr, first, second) => rtr.delta(first, second),
+    (rtr, first, second) => rtr.apply(first, second),
+    (rtr, first, second, places) => rtr.order(first, places),
+    (rtr, first, second, places) => rtr.applyInOrder(first, second, places),
+];
+
+/** Data and changes. */
+export function deltas(rtr, bytes) {
+    const rows = new Rows(bytes);
+    let count = 0;
+    for (; rows.hasMore; count += 1) {
+        const [call, status, side, detail] = Array.from({ length: 4 }, () => rows.byte());
+        const [offset, one, other, length, places] = Array.from({ length: 5 }, () => rows.long());
+        const [first, second, output] = [rows.piece(one), rows.piece(other), rows.piece(length)];
+        const answer = outcome(() => CALLS[call](rtr, first, second, places));
+        if (status === Status.OK) {
+            same(answer, output, `deltas ${count}`);
+        } else {
+            assert.deepEqual([answer.status, answer.side, answer.detail, answer.offset],
+                [status, side, detail, offset], `deltas ${count}`);
+        }
+    }
+    return count;
+}
+
+/** Routes, and the VRPs that cover each. */
+export function validity(rtr, bytes) {
+    const rows = new Rows(bytes);
+    let count = 0;
+    while (rows.hasMore) {
+        const [length, many] = [rows.word(), rows.word()];
+        const data = rtr.data(rows.piece(length));
+        for (let place = 0; place < many; place += 1, count += 1) {
+            const [family, prefixLength] = [rows.byte(), rows.byte()];
+            const [wanted, covers] = [rows.byte(), rows.byte()];
+            const asn = rows.word();
+            const address = rows.piece(16).slice(0, family === 4 ? 4 : 16);
+            const route = { address, prefixLength, asn };
+            assert.equal(rtr.validate(data, route), wanted, `route ${count}`);
+            const found = [...rtr.covering(data, route)].slice(0, covers);
+            for (let each = 0; each < covers; each += 1) {
+                const vrp = { place: rows.word(), asn: rows.word(), prefixLength: rows.byte(),
+                    maxLength: rows.byte(), mismatch: rows.byte() };
+                rows.byte();
+                assert.deepEqual(found[each], vrp, `route ${count}`);
+            }
+            assert.equal(found.length, covers);
+        }
+        data.drop();
+    }
+    return count;
+}
