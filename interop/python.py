@@ -1,0 +1,114 @@
+"""The package for Python, as pip installs the wheel of this tree: its commands, and the examples of
+its page, beside a cache."""
+import os
+import re
+import subprocess
+import sys
+import threading
+
+import ours
+import payloads
+import programs
+from payloads import Change, Origin
+from processes import Missing, Server, until
+from results import Pair
+
+TOP = os.path.realpath(os.path.join(os.path.dirname(os.path.abspath(__file__)), ".."))
+EXAMPLES = os.path.join(TOP, "bindings", "python", "examples")
+PART = "Python"
+SECONDS = 180
+
+# How many seconds the example for asyncio follows caches.
+WATCHED = 3
+
+installing = threading.Lock()
+
+
+def ran(words, **settings):
+    """What a command prints; an error where it doesn't end well."""
+    done = subprocess.run(words, capture_output=True, timeout=SECONDS, check=False, **settings)
+    if done.returncode:
+        said = done.stderr[-500:].decode(errors="replace")
+        raise OSError(f"{words[0]} ends with {done.returncode}: {said}")
+    return done.stdout
+
+
+def installed(folder):
+    """The interpreter of an environment that has the wheel alone, made where it isn't there yet."""
+    environment = os.path.join(folder, "environment")
+    python = os.path.join(environment, "bin", "python")
+    with installing:
+        if os.path.exists(python):
+            return python
+        try:
+            import ensurepip  # noqa: F401
+        except ImportError:
+            raise Missing("python3 has no ensurepip (python3-venv)") from None
+        made = os.path.join(folder, "packages")
+        archives = os.path.dirname(os.path.dirname(os.path.join(TOP, ours.ARCHIVE)))
+        ran([os.path.join(TOP, "bindings", "package"), "--archives", archives, made])
+        wheels = os.path.join(made, "python")
+        ran([sys.executable, "-m", "venv", environment])
+        ran([python, "-m", "pip", "install", "--no-index", "--disable-pip-version-check",
+             "--find-links", wheels, "rtr_wire", "--only-binary", "rtr_wire"])
+    return python
+
+
+def lines_of(changes):
+    """The lines that the example prints of changes of origins."""
+    return {f"{'+' if one.announce else '-'} {one.payload.prefix}-{one.payload.max_length} "
+            f"AS{one.payload.asn}" for one in changes if isinstance(one.payload, Origin)}
+
+
+def fetched(pair, python, cache, listed):
+    """The command `fetch` has the list, and `validate` says what follows from it."""
+    file = cache.keep("fetched", ran([python, "-I", "-m", "rtr_wire", "fetch",
+                                      f"127.0.0.1:{cache.port}"]))
+    nothing = cache.keep("nothing", payloads.end_of_data(1, 0, 0))
+    pair.equal("fetch has the list", programs.differing(nothing, file),
+               {Change(True, payload).line() for payload in listed})
+    one = max((each for each in listed if isinstance(each, Origin) and each.asn),
+              key=lambda each: each.order())
+    said = ran([python, "-I", "-m", "rtr_wire", "validate", file, one.prefix, str(one.asn)])
+    pair.equal("validate", said.decode().splitlines()[0], f"{one.prefix} AS{one.asn} valid", 1)
+
+
+def followed(pair, python, cache, change):
+    """The example that follows a cache prints the list, and then what changes."""
+    old, new = map(cache.serves, change)
+    log = os.path.join(cache.folder, "watch.log")
+    words = [python, "-I", "-u", os.path.join(EXAMPLES, "watch.py"), "127.0.0.1", str(cache.port),
+             "2"]
+
+    def updates():
+        with open(log, encoding="utf-8") as file:
+            return re.split(r"(?m)^\d+ payloads at serial number \d+\n", file.read())
+
+    server = Server(words, log)
+    try:
+        until(lambda: len(updates()) > 1, SECONDS, "the first update")
+        cache.change(change[1])
+        until(lambda: len(updates()) > 2, cache.change_seconds + SECONDS, "the second update")
+    finally:
+        server.end()
+    first, second, _ = (set(update.splitlines()) for update in updates())
+    pair.equal("watch.py prints the list", first,
+               lines_of({Change(True, payload) for payload in old}))
+    pair.equal("watch.py prints the changes", second, lines_of(payloads.changes(old, new)))
+
+
+def compare(results, maker, folder):
+    """Installs the wheel, and runs all of it beside one cache."""
+    with Pair(results, PART, f"rtr_wire in Python at {maker.name}", "v1", maker.release()) as pair:
+        python = installed(folder)
+        cache = maker(os.path.join(folder, f"python.{maker.__name__.lower()}"), 1)
+        old, new = payloads.made_up()
+        with cache.serve(old):
+            served = cache.serves(old)
+            fetched(pair, python, cache, served)
+            address = f"127.0.0.1:{cache.port}"
+            said = ran([python, "-I", os.path.join(EXAMPLES, "watch_async.py"), str(WATCHED),
+                        address]).decode()
+            wanted = f"{address}: <Data of {len(served)} payloads, "
+            pair.holds("watch_async.py prints how much there is", said.startswith(wanted), said, 1)
+            followed(pair, python, cache, (old, new))
