@@ -32,6 +32,12 @@ def _all_of(data: bytes) -> Part:
     return Part(data, len(data))
 
 
+def _fitted(output: Any, written: int, room: int) -> Part:
+    """The front of an output of so much room, in a copy where much of it isn't used."""
+    part = Part(output, written)
+    return part if 4 * written > 3 * room else _all_of(front(*part))
+
+
 def _refused(answer: _rtr.rtr_data_answer, *inputs: Part) -> Fault:
     """What is wrong with one of these inputs, or with both beside each other."""
     if answer.side == 0:
@@ -48,7 +54,7 @@ def _delta(old: Part, new: Part) -> Part:
         old.memory, old.length, new.memory, new.length, output, room, answer)
     if status != Status.OK:
         raise _refused(answer, old, new)
-    return Part(output, answer.written)
+    return _fitted(output, answer.written, room)
 
 
 def _index(changes: Part) -> Tuple[Any, int]:
@@ -65,7 +71,7 @@ def _ordered(changes: Part) -> Part:
         changes.memory, changes.length, index, places, output, room, answer)
     if status != Status.OK:
         raise _refused(answer, changes)
-    return Part(output, answer.written)
+    return _fitted(output, answer.written, room)
 
 
 def _applied(data: Part, changes: Part) -> Part:
@@ -77,7 +83,7 @@ def _applied(data: Part, changes: Part) -> Part:
         answer)
     if status != Status.OK:
         raise _refused(answer, data, changes)
-    return Part(output, answer.written)
+    return _fitted(output, answer.written, room)
 
 
 class _Canonical(Collection[Payload]):

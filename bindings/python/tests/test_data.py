@@ -3,6 +3,7 @@ import ctypes
 import ipaddress
 import pickle
 import random
+import threading
 import unittest
 from dataclasses import replace
 
@@ -180,6 +181,29 @@ class Sets(unittest.TestCase):
         self.assertEqual(len(calls.difference(lower, data)), 2)
         self.assertEqual({unit.announce for unit in calls.difference(None, data)}, {True})
         self.assertEqual({unit.announce for unit in calls.difference(data, None)}, {False})
+
+    def test_threads(self):
+        """Threads share data of which nothing was asked yet."""
+        vrps = [Vrp(ipaddress.IPv4Network((i << 8, 24)), 64496) for i in range(300)]
+        sequence, failed = bytes(Data.from_vrps(vrps, EndOfData(1, 1))), []
+
+        def asks(data):
+            try:
+                self.assertEqual((len(data), data.serial, bytes(data)), (300, 1, sequence))
+                self.assertEqual(data.validate("0.0.5.0/24", 64496), rtr_wire.Validity.VALID)
+                self.assertIn(vrps[5].unit(), data)
+                self.assertEqual(sum(1 for _ in data), 300)
+            except AssertionError as error:
+                failed.append(error)
+
+        for _ in range(5):
+            data = Data.from_bytes(sequence)
+            threads = [threading.Thread(target=asks, args=(data,)) for _ in range(8)]
+            for thread in threads:
+                thread.start()
+            for thread in threads:
+                thread.join()
+        self.assertEqual(failed, [])
 
     def test_large(self):
         """A table for which the system is asked for memory."""
