@@ -156,7 +156,7 @@ func changesBetween(old, new Data) ([]byte, error) {
 		var err error
 		if side.IsZero() {
 			side, err = NewData(version, session, 0, Timing{})
-		} else {
+		} else if side.Version() != version {
 			side, err = side.For(version)
 		}
 		if err != nil {

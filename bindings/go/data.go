@@ -164,6 +164,9 @@ func fitted(output []byte, written int) []byte {
 
 // inSession are the data under another session.
 func (d Data) inSession(session uint16) Data {
+	if d.session == session {
+		return d
+	}
 	d.bytes = append([]byte{}, d.bytes...)
 	size := longestEnd
 	if d.Version() == 0 {

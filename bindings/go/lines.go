@@ -6,6 +6,7 @@ import (
 	"encoding/base64"
 	"encoding/json"
 	"fmt"
+	"strconv"
 	"strings"
 )
 
@@ -18,8 +19,12 @@ func ChangeLine(unit *Unit) string {
 	}
 	switch unit.Kind {
 	case IPv4Prefix, IPv6Prefix:
-		return fmt.Sprintf("%s %v %v-%d AS%d",
-			sign, unit.Kind, unit.Prefix, unit.MaxLength, unit.ASN)
+		// A table has many of these, and fmt takes several times as long.
+		line := append(make([]byte, 0, 96), sign+" "+unit.Kind.String()+" "...)
+		line = append(unit.Prefix.AppendTo(line), '-')
+		line = strconv.AppendUint(line, uint64(unit.MaxLength), 10)
+		line = append(line, " AS"...)
+		return string(strconv.AppendUint(line, uint64(unit.ASN), 10))
 	case RouterKey:
 		return fmt.Sprintf("%s %v %x AS%d %s",
 			sign, unit.Kind, unit.KeyIdentifier, unit.ASN, base64Of(unit.KeyInfo))

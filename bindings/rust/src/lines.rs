@@ -2,7 +2,7 @@
 
 use crate::kind::Kind;
 use crate::unit::{Unit, UnitRef};
-use std::fmt::{self, Display};
+use std::fmt::{self, Display, Write};
 use std::format;
 use std::string::{String, ToString};
 use std::vec::Vec;
@@ -21,28 +21,28 @@ use std::vec::Vec;
 /// # Ok::<(), rtr_wire::Fault>(())
 /// ```
 pub fn change_line(unit: &UnitRef) -> Option<String> {
-    let prefix = |address: &dyn Display, length, max_length, asn| {
-        format!("{address}/{length}-{max_length} AS{asn}")
+    let sign = if unit.announces()? { '+' } else { '-' };
+    // Room for the line of a prefix, of which a table has many.
+    let mut line = String::with_capacity(96);
+    write!(line, "{sign} {} ", unit.kind()).ok()?;
+    let mut prefix = |address: &dyn Display, length, max_length, asn| {
+        write!(line, "{address}/{length}-{max_length} AS{asn}")
     };
-    let fields = match unit {
+    match unit {
         Unit::Ipv4Prefix(p) => prefix(&p.address, p.length, p.max_length, p.asn),
         Unit::Ipv6Prefix(p) => prefix(&p.address, p.length, p.max_length, p.asn),
         Unit::RouterKey(key) => {
             let (identifier, info) = (Hex(&key.identifier), Base64(key.key_info));
-            format!("{identifier} AS{} {info}", key.asn)
+            write!(line, "{identifier} AS{} {info}", key.asn)
         }
-        Unit::Aspa(aspa) => {
-            let providers = aspa.providers.iter().map(|asn| format!(" AS{asn}"));
-            format!(
-                "AS{} providers{}",
-                aspa.customer,
-                providers.collect::<String>()
-            )
-        }
+        Unit::Aspa(aspa) => write!(line, "AS{} providers", aspa.customer).and_then(|()| {
+            let mut providers = aspa.providers.iter();
+            providers.try_for_each(|asn| write!(line, " AS{asn}"))
+        }),
         _ => return None,
-    };
-    let sign = if unit.announces()? { '+' } else { '-' };
-    Some(format!("{sign} {} {fields}", unit.kind()))
+    }
+    .ok()?;
+    Some(line)
 }
 
 /// A change as an object in JSON, with the fields that `rtr_diff --json` gives it; none for a unit

@@ -80,7 +80,8 @@ func run(ctx context.Context, wanted options, output io.Writer) error {
 				data.Session(), data.Serial(), data.Version(), data.Len())
 		}
 		for units.Scan() {
-			fmt.Fprintln(buffered, words(units.Unit()))
+			buffered.WriteString(words(units.Unit()))
+			buffered.WriteByte('\n')
 		}
 		return buffered.Flush()
 	}
