@@ -1,6 +1,6 @@
 // What a recording leaves, read as rtr_list --csv and rtr_diff read one: its whole answers, one
 // after the other. Payloads and changes are the library's calls; when an answer begins and ends is
-// what docs/LISTING.md has under "One file, one answer".
+// what the page LISTING has under "One file, one answer".
 
 import { Fault, Kind, Status } from "./library.js";
 

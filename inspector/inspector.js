@@ -64,7 +64,6 @@ class Page {
     }
 
     async #read(file) {
-        const began = performance.now();
         say(`Reading ${file.name}`);
         by("progress").hidden = false;
         const bytes = new Uint8Array(await file.arrayBuffer());
@@ -72,7 +71,6 @@ class Page {
         recording.hint = looksLike(bytes);
         await recording.read((done) => { by("progress").value = done; });
         by("progress").hidden = true;
-        recording.time = performance.now() - began;
         return recording;
     }
 
@@ -82,8 +80,7 @@ class Page {
         by("name").textContent = second ? `${first.name} and ${second.name}` : first.name;
         const size = many(first.size, "byte");
         say(first.isNone ? `${size}, and no unit.`
-            : `${many(first.count, "unit")} in ${size}, read in `
-                + `${count(Math.round(first.time))} ms.`);
+            : `${many(first.count, "unit")} in ${size}.`);
         this.#showFaults(first);
         by("tabs").hidden = first.isNone;
         for (const panel of document.querySelectorAll("[role=tabpanel]")) {
