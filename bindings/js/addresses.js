@@ -48,7 +48,8 @@ function ipv4Of(text) {
 
 function ipv6Of(text) {
     const halves = text.split("::");
-    const [front, back = []] = halves.map(groupsOfText);
+    const [front, back = []] = halves.map((half, place) => (
+        groupsOfText(half, place === halves.length - 1)));
     if (halves.length > 2 || !front || !back) {
         return null;
     }
@@ -60,12 +61,14 @@ function ipv6Of(text) {
     return Uint8Array.from(groups.flatMap((group) => [group >> 8, group & 255]));
 }
 
-/** The groups between colons, of which the last may be an IPv4 address; null where one is none. */
-function groupsOfText(text) {
+/** The groups between colons, of which the last of an address may be an IPv4 address; null where one
+ * is none. */
+function groupsOfText(text, isEnd) {
     const parts = text === "" ? [] : text.split(":");
     const groups = [];
     for (const [place, part] of parts.entries()) {
-        const four = place === parts.length - 1 && part.includes(".") ? ipv4Of(part) : null;
+        const isLast = isEnd && place === parts.length - 1;
+        const four = isLast && part.includes(".") ? ipv4Of(part) : null;
         if (four) {
             groups.push(four[0] * 256 + four[1], four[2] * 256 + four[3]);
         } else if (/^[0-9a-fA-F]{1,4}$/.test(part)) {
