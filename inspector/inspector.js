@@ -66,11 +66,16 @@ class Page {
     async #read(file) {
         say(`Reading ${file.name}`);
         by("progress").hidden = false;
-        const bytes = new Uint8Array(await file.arrayBuffer());
-        const recording = new Recording(this.#rtr, file.name, bytes);
-        recording.hint = looksLike(bytes);
+        const recording = this.#held(file.name, new Uint8Array(await file.arrayBuffer()));
         await recording.read((done) => { by("progress").value = done; });
         by("progress").hidden = true;
+        return recording;
+    }
+
+    /** The recording of these bytes, which are copied and then no longer needed. */
+    #held(name, bytes) {
+        const recording = new Recording(this.#rtr, name, bytes);
+        recording.hint = looksLike(bytes);
         return recording;
     }
 

@@ -1,5 +1,5 @@
 // A recording in the memory of a session, with the places of its units: what they say is asked of
-// the library whenever it is shown, so that a unit takes nine bytes besides its own.
+// the library whenever it is shown, so that a unit takes five bytes besides its own.
 
 import { Kind, Status } from "./library.js";
 
@@ -11,27 +11,40 @@ export const REFUSED = 127;
 
 const ANNOUNCES = 128;
 
-/** A row of numbers that grows. */
-class Column {
-    #array;
+// How many numbers a piece of a column has.
+const PIECE = 1 << 16;
+
+/** A row of numbers that grows by pieces, so that none is ever copied. */
+export class Column {
+    #Type;
+    #pieces = [];
     length = 0;
 
     constructor(Type) {
-        this.#array = new Type(1 << 12);
+        this.#Type = Type;
     }
 
     push(value) {
-        if (this.length === this.#array.length) {
-            const larger = new this.#array.constructor(this.length + (this.length >> 1));
-            larger.set(this.#array);
-            this.#array = larger;
+        const place = this.length % PIECE;
+        if (place === 0) {
+            this.#pieces.push(new this.#Type(PIECE));
         }
-        this.#array[this.length++] = value;
+        this.#pieces.at(-1)[place] = value;
+        this.length += 1;
     }
 
-    /** What was pushed, with no room behind it. */
-    trimmed() {
-        return this.#array.slice(0, this.length);
+    at(place) {
+        return this.#pieces[Math.floor(place / PIECE)]?.[place % PIECE];
+    }
+
+    /** Where the least number stands that is no less than this one, in a row that rises. */
+    placeOf(value) {
+        let [low, high] = [0, this.length];
+        while (low < high) {
+            const middle = (low + high) >> 1;
+            [low, high] = this.at(middle) < value ? [middle + 1, high] : [low, middle];
+        }
+        return low;
     }
 }
 
@@ -99,29 +112,28 @@ export class Recording {
     #rtr;
     #held;
     #offsets;
-    #kinds;
+    #kinds = new Column(Uint8Array);
 
     constructor(rtr, name, bytes) {
         this.#rtr = rtr;
         this.name = name;
         this.#held = rtr.hold(bytes);
+        this.#offsets = new Column(bytes.length < 2 ** 32 ? Uint32Array : Float64Array);
     }
 
     /** Reads all units. `told` is called with how much of it is done, from 0 to 1. */
     async read(told = () => {}) {
-        const [offsets, kinds] = [new Column(Float64Array), new Column(Uint8Array)];
         for (let at = 0; at < this.size;) {
-            at = this.#turn(at, offsets, kinds);
+            at = this.#turn(at);
             told(at / this.size);
             await breathe();
         }
-        this.#offsets = offsets.trimmed();
-        this.#kinds = kinds.trimmed();
         return this;
     }
 
     /** Reads some units from a place on, and answers where the next one begins. */
-    #turn(from, offsets, kinds) {
+    #turn(from) {
+        const [offsets, kinds] = [this.#offsets, this.#kinds];
         let at = from;
         const shown = this.#held.shown(from);
         for (let count = 0; count < TURN && at < this.size; count += 1) {
@@ -154,20 +166,20 @@ export class Recording {
     }
 
     offset(place) {
-        return this.#offsets[place];
+        return this.#offsets.at(place);
     }
 
     kind(place) {
-        return this.#kinds[place] & ~ANNOUNCES;
+        return this.#kinds.at(place) & ~ANNOUNCES;
     }
 
     announces(place) {
-        return this.#kinds[place] >= ANNOUNCES;
+        return this.#kinds.at(place) >= ANNOUNCES;
     }
 
     /** The unit at a place as an object, or its Fault. */
     unit(place) {
-        return this.#held.unit(this.#offsets[place]);
+        return this.#held.unit(this.offset(place));
     }
 
     /** The bytes of the unit at a place: of one that is refused, as many as it may have. */
@@ -184,12 +196,7 @@ export class Recording {
 
     /** The place of the unit in which a byte stands. */
     placeOf(offset) {
-        let [low, high] = [0, this.count - 1];
-        while (low < high) {
-            const middle = Math.ceil((low + high) / 2);
-            [low, high] = this.#offsets[middle] <= offset ? [middle, high] : [low, middle - 1];
-        }
-        return low;
+        return Math.max(0, this.#offsets.placeOf(offset + 1) - 1);
     }
 
     /** The places of units for which all tests hold: of a place alone (`ofPlace`), and of what the
@@ -207,7 +214,7 @@ export class Recording {
             told(place / this.count);
             await breathe();
         }
-        return found.trimmed();
+        return found;
     }
 
     #holds(ofShown, shown, place) {
@@ -215,7 +222,7 @@ export class Recording {
             return true;
         }
         return this.kind(place) !== REFUSED
-            && this.#held.status(this.#offsets[place]) === Status.OK && ofShown(shown);
+            && this.#held.status(this.offset(place)) === Status.OK && ofShown(shown);
     }
 
     /** What its first byte is refused for, if it has no unit at all. */

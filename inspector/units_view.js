@@ -76,17 +76,18 @@ export class UnitsView {
     /** Goes to the unit in which a byte stands. */
     goTo(offset) {
         const place = this.#recording.placeOf(Math.min(offset, this.#recording.size - 1));
-        const row = this.#places === null ? place : this.#places.indexOf(place);
-        if (row < 0) {
+        let row = this.#places === null ? place : this.#places.placeOf(place);
+        if (this.#places !== null && this.#placeOf(row) !== place) {
             by("filter").reset();
             this.#showPlaces(null);
+            row = place;
         }
-        this.#table.choose(row < 0 ? place : row);
+        this.#table.choose(row);
         by("units").focus();
     }
 
     #placeOf(row) {
-        return this.#places === null ? row : this.#places[row];
+        return this.#places === null ? row : this.#places.at(row);
     }
 
     async #filtered() {
