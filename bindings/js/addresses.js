@@ -61,8 +61,8 @@ function ipv6Of(text) {
     return Uint8Array.from(groups.flatMap((group) => [group >> 8, group & 255]));
 }
 
-/** The groups between colons, of which the last of an address may be an IPv4 address; null where one
- * is none. */
+/** The groups between colons, of which the last of an address may be an IPv4 address; null where
+ * one is none. */
 function groupsOfText(text, isEnd) {
     const parts = text === "" ? [] : text.split(":");
     const groups = [];
