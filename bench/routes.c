@@ -24,6 +24,9 @@
 
 #define MOST_ROUNDS 99
 
+/* One in so many VRPs is a short one. */
+#define FEW 5000
+
 /* A VRP. Its bytes up to the AS stand in the order of payloads. */
 struct vrp {
     uint8_t family, address[16], length, most;
@@ -40,10 +43,11 @@ static uint64_t any(uint64_t below)
     return seed % below;
 }
 
+/* The processor time up to now. */
 static double now(void)
 {
     struct timespec time;
-    clock_gettime(CLOCK_MONOTONIC, &time);
+    clock_gettime(CLOCK_PROCESS_CPUTIME_ID, &time);
     return time.tv_sec * 1e9 + time.tv_nsec;
 }
 
@@ -68,14 +72,17 @@ static void any_address(struct vrp *vrp)
     vrp->address[0] = vrp->family == 4 ? (uint8_t)(1 + any(222)) : (uint8_t)(0x20 + any(2));
 }
 
-/* Lengths as often as they are among the VRPs of the RPKI, and half of these VRPs below another. */
+/* Lengths about as often as they are among the VRPs of the RPKI, where few are short, and half of
+ * these VRPs below another. */
 static void any_vrp(struct vrp *vrp, const struct vrp *others, size_t count)
 {
     static const uint8_t lengths[2][20] = {
-        {24, 24, 24, 24, 24, 24, 24, 24, 24, 24, 24, 23, 23, 22, 22, 21, 20, 19, 16, 12},
+        {24, 24, 24, 24, 24, 24, 24, 24, 24, 24, 24, 23, 23, 22, 22, 21, 20, 19, 18, 16},
         {48, 48, 48, 48, 48, 48, 48, 48, 48, 48, 44, 44, 40, 40, 36, 32, 32, 32, 32, 29},
     };
-    vrp->length = lengths[vrp->family == 6][any(20)];
+    static const uint8_t shortest[2][2] = {{8, 12}, {24, 28}};
+    vrp->length = any(FEW) ? lengths[vrp->family == 6][any(20)]
+                           : shortest[vrp->family == 6][any(2)];
     any_address(vrp);
     if (count > 0 && any(2)) {
         const struct vrp *above = others + any(count);
