@@ -183,7 +183,8 @@ class Faults(unittest.TestCase):
     def test_reports(self):
         """A report has the version of the session, the code, the unit and a text."""
         for one in Fault.__subclasses__():
-            report = one(1, 40, self.PREFIX).report(2)
+            fault = one(1, 40, self.PREFIX)
+            report = fault.report(2)
             if one.status not in self.CODES:
                 self.assertIsNone(report)
                 continue
@@ -191,6 +192,7 @@ class Faults(unittest.TestCase):
             self.assertEqual((read.version, read.code), (2, self.CODES[one.status]))
             self.assertTrue(self.PREFIX.startswith(read.enclosed) and read.enclosed)
             self.assertGreater(len(read.text), 5)
+            self.assertTrue(str(fault).startswith(read.text.decode()), fault)
 
     def test_long_reports(self):
         """Of a long unit and of one that isn't whole a report has what there is room for."""
