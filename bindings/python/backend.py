@@ -67,7 +67,8 @@ def link(of, to, soname=f"{LIBRARY}.0", compiler=None):
         words = compiler or [os.environ.get("CC", "cc")]
         # Without a C library nothing defines the functions on bytes that the archive asks for.
         defined = "undefs" if "-nostdlib" in words else "defs"
-        command = [*words, "-shared", f"-Wl,-soname,{soname}", f"-Wl,-z,{defined}", f"-Wl,--version-script={shown.name}", "-Wl,--whole-archive", of,
+        command = [*words, "-shared", f"-Wl,-soname,{soname}", f"-Wl,-z,{defined}",
+                   f"-Wl,--version-script={shown.name}", "-Wl,--whole-archive", of,
                    "-Wl,--no-whole-archive", "-Wl,--gc-sections", "-o", to]
         if subprocess.run(command).returncode != 0:
             raise SystemExit(
