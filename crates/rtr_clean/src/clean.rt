@@ -68,8 +68,8 @@ pub enum Passed {
     Answer(Flushed),
 }
 
-/// Reads a unit and writes what is wanted of it, and adds its size to the offset. Answers none where
-/// the input has ended.
+/// Reads a unit and writes what is wanted of it, and adds its size to the offset. Answers none
+/// where the input has ended.
 fn pass<R: Source, W: Sink>(
     alloc: Global,
     wanted: Wanted,

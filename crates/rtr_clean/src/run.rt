@@ -31,11 +31,11 @@ const FAILED: u8 = 3;
 /// - 1 if the input was refused;
 /// - 3 if reading, writing, flushing or memory failed.
 ///
-/// A flush that fails after another status doesn't change it. Where they ask for help or the version
-/// that is written, with 0 or 3. Otherwise, and where there are no words, since they can't be had as
-/// texts, a line on `faults` says how the program is called, and the status is 2. Statuses 1 and 3
-/// come with a line there that begins with the program's name; of a pipe that nobody reads any more
-/// nothing is said. If a line can't be written, nothing else changes.
+/// A flush that fails after another status doesn't change it. Where they ask for help or the
+/// version that is written, with 0 or 3. Otherwise, and where there are no words, since they can't
+/// be had as texts, a line on `faults` says how the program is called, and the status is 2.
+/// Statuses 1 and 3 come with a line there that begins with the program's name; of a pipe that
+/// nobody reads any more nothing is said. If a line can't be written, nothing else changes.
 pub fn program<R: Source, W: Sink, F: Write>(
     alloc: Global,
     manual: &Manual,
@@ -53,8 +53,9 @@ pub fn program<R: Source, W: Sink, F: Write>(
         (result ≡ 2) × (input.new ≡ input.old) × (output.new ≡ output.old)) }
     // Where they ask about the program, that is written, and nothing is read.
     ensures asked { IfSome words (λ all. form_asked (drop 1 all.items) ≡ None →
-        IfSome (asked_of (drop 1 all.items)) (λ question. (input.new ≡ input.old) ×
-        TellsAbout (manual_text manual.now question) 3 result (W.state output.old) (W.state output.new))) }
+        IfSome (asked_of (drop 1 all.items)) (λ question. (input.new ≡ input.old)
+        × TellsAbout (manual_text manual.now question) 3 result
+        (W.state output.old) (W.state output.new))) }
     // If it succeeds no line is printed.
     ensures quiet { result ≡ 0 → faults.new ≡ faults.old }
     // Otherwise what they ask for is written, and then the output is flushed once, of which a

@@ -1,11 +1,12 @@
 -- What the status of a run says.
-use Rattle.std.proofs.Common.{◌≡◌, ◌≢◌, ◌≤◌, ℕ, Bool, true, false, List, [], ◌∷◌, Result, Ok, Err}
-use Rattle.std.proofs.Common.{refl, sym, ap, subst, arith}
+use Rattle.std.proofs.Common.{◌≡◌, ◌≢◌, ◌≤◌, ℕ, Bool, true, false, List, [], ◌∷◌}
+use Rattle.std.proofs.Common.{Result, Ok, Err, refl, sym, ap, subst, arith}
 use Rattle.std.proofs.lemmas.Bool.{false≢true}
 use Rattle.rtr_units.specs.Stream.{Flushes}
 use Rattle.rtr_units.specs.StopCauses.{ReaderState, WriterState}
 use Rattle.rtr_data.specs.Data.{Change}
-use Rattle.rtr_differences.specs.DiffStatus.{HoldDifferent, HoldSame, RunsDiff, diff_status, status_of}
+use Rattle.rtr_differences.specs.DiffStatus.{HoldDifferent, HoldSame, RunsDiff}
+use Rattle.rtr_differences.specs.DiffStatus.{diff_status, status_of}
 use Rattle.rtr_differences.specs.Differences.{has_some}
 use Rattle.rtr_differences.specs.FilesCompared.{BothRead, ComparesFiles}
 use Rattle.rtr_differences.specs.declared.program.Compared.{Compared}
@@ -36,7 +37,8 @@ module _ (form : Form) (old old_left new new_left : ReaderState) (before after :
 
   pub same : RunsDiff form (Unit {0}) 0 old old_left new new_left before after →
       HoldSame form old old_left new new_left before after
-  same (answer, flushed, mid, compares, flush, is, quiet) = same_by answer flushed mid compares flush is
+  same (answer, flushed, mid, compares, flush, is, quiet) =
+      same_by answer flushed mid compares flush is
 
   different_both : (differs : Bool) (mid : WriterState) →
       BothRead form (Ok differs) old old_left new new_left before mid → Flushes true mid after →
@@ -68,8 +70,8 @@ status_least (Ok c) false = omega arith
 status_least (Err trouble) flushed = omega arith
 
 pub at_most_2 : (form : Form) (status : ℕ) (old old_left new new_left : ReaderState)
-    (before after : WriterState) → RunsDiff form (Unit {0}) status old old_left new new_left before after →
-    status ≤ 2
+    (before after : WriterState) →
+    RunsDiff form (Unit {0}) status old old_left new new_left before after → status ≤ 2
 at_most_2 form status old old_left new new_left before after
     (answer, flushed, mid, compares, flush, is, quiet) =
     subst (λ n. n ≤ 2) (sym is) (status_least answer flushed)

@@ -1,12 +1,11 @@
 -- Units of a recording that were taken one after the other, and how reading them ends.
-use Rattle.std.proofs.Common.{◌≡◌, ℕ, ◌+◌, ◌-◌, ◌^◌, false, List, [], ◌∷◌, ◌++◌, length, min}
+use Rattle.std.proofs.Common.{◌≡◌, ℕ, ◌+◌, ◌-◌, ◌^◌, List, [], ◌∷◌, ◌++◌, length, min}
 use Rattle.std.proofs.Common.{Option, Result, Ok, Err, refl, ap, sym, ◌∙◌, subst, arith, inl, inr}
 use Rattle.std.specs.List.{AllByRecursion}
 use Rattle.std.proofs.lemmas.List.{length-append, flat_map_more}
 use Rattle.std.specs.Io.KnownBytes.{Consumes}
 use Rattle.std.proofs.KnownBytes.{Consumes-trans}
 use Rattle.rtr_units.specs.declared.fault.Fault.{Fault}
-use Rattle.rtr_units.specs.declared.fault.Fault.TheVariants.{Short}
 use Rattle.rtr_units.specs.Reading.{Takes}
 use Rattle.rtr_units.specs.StopCauses.{ReaderState, cause_of, reader_count}
 use Rattle.rtr_session.specs.AnyFields.{AnyFields, HasAnyFields, any_list}

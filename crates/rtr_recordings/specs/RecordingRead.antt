@@ -2,7 +2,7 @@
 --
 -- A call takes units from the front of its input. It ends where the input does, at the first fault
 -- or the first change that is refused, or where the reader or memory fails.
-use Rattle.std.specs.Prelude.{◌≡◌, ◌⊎◌, ⊤, ℕ, ◌-◌, ◌^◌, true, false, min, List, [], ◌++◌, length}
+use Rattle.std.specs.Prelude.{◌≡◌, ◌⊎◌, ⊤, ℕ, ◌-◌, ◌^◌, false, min, List, [], ◌++◌, length}
 use Rattle.std.specs.Prelude.{Option, Some, None, Result, Ok, Err, IfErr, IsOk}
 use Rattle.std.specs.List.{flat_map, AllByRecursion}
 use Rattle.std.specs.Io.KnownBytes.{Consumes, IsAtEnd}
@@ -10,7 +10,6 @@ use Rattle.std.specs.declared.io.Error.{Error}
 use Rattle.rtr_units.specs.AnyEnd.{end_meaning}
 use Rattle.rtr_units.specs.StopCauses.{Cause, short, too_many, wrong, cause_of, ReaderState}
 use Rattle.rtr_units.specs.StopCauses.{reader_count, HoldsReadError}
-use Rattle.rtr_payload.specs.Payloads.{Payload}
 use Rattle.rtr_payload.specs.UnitBytes.{HasNoPayload, unit_bytes}
 use Rattle.rtr_payload.specs.UnitFields.{LengthsAgree}
 use Rattle.rtr_payload.specs.declared.pdu.payload.Payload.{Payload as Unit}
