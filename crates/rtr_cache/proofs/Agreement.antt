@@ -25,6 +25,7 @@ use Rattle.rtr_cache.specs.declared.event.Present.{Present}
 use Rattle.rtr_cache.specs.declared.event.CacheEvent.TheVariants as told
 use Rattle.rtr_cache.specs.declared.event.Answer.{Answer}
 use Rattle.rtr_cache.specs.CacheRules.{CacheRule}
+use Rattle.rtr_cache.specs.Worlds.{IsSource}
 use Rattle.rtr_cache.specs.Worlds.{Agrees, Holding, IsReached, Next, Sent, Source}
 use Rattle.rtr_cache.specs.Worlds.{TellsItself, WasPresent, World, cache_writes}
 use Rattle.rtr_cache.specs.Worlds.{holding_after, holds_nothing}
@@ -513,39 +514,41 @@ cons_eq q u us e = (cc, cc)
 no_more : (u : Head) (us tc : List Head) → tc ≡ u ∷ us → tc ≡ [] → ⊥
 no_more u us tc e f = cc
 
-answered : (D C : Type 0) (S : Source D C) (had : List Present) (c c' : Cache) (n : ℕ)
+answered : (D C : Type 0) (S : Source D C) (I : IsSource D C S)
+    (had : List Present) (c c' : Cache) (n : ℕ)
     (p : Present) (u : Head) (kept : Bool) (a : Answer) (q : Query) (us : List Head)
     (tc : List Head) (tr : List (Sent C)) → IsOld had p
     → CacheRule c n p (told.Came u kept) a c' → tc ≡ u ∷ us → UnderWay D C S had q tc tr
     → UnderWay D C S had q us (tr ++ cache_writes D C S c'.version p a)
-answered D C S had c c' n p u kept a q us tc tr was w e (inr x) =
+answered D C S I had c c' n p u kept a q us tc tr was w e (inr x) =
     absurd (no_more u us tc e x.0)
-answered D C S had c c' n p u kept a q us tc tr was w e (inl x) =
+answered D C S I had c c' n p u kept a q us tc tr was w e (inl x) =
     let two : (query_head q ≡ u) × (us ≡ []) = cons_eq q u us (sym x.0 ∙ e) in
     let w' : CacheRule c n p (told.Came (query_head q) kept) a c' =
     subst (λ (u : Head). CacheRule c n p (told.Came u kept) a c') (sym two.0) w in
     inr (
       two.1,
       coming_after D C S had q tr (cache_writes D C S c'.version p a) x.1
-          (answer_comes D C S had c c' n p q kept a was w'),
+          (answer_comes D C S I had c c' n p q kept a was w'),
     )
 
-on_answer : (D C : Type 0) (S : Source D C) (had : List Present) (c c' : Cache) (n : ℕ)
+on_answer : (D C : Type 0) (S : Source D C) (I : IsSource D C S)
+    (had : List Present) (c c' : Cache) (n : ℕ)
     (p : Present) (u : Head) (kept : Bool) (a : Answer) (us : List Head) (r : Router)
     (h : Holding D C) (tc : List Head) (tr : List (Sent C)) (f : Phase) → IsOld had p
     → CacheRule c n p (told.Came u kept) a c' → tc ≡ u ∷ us → Talk D C S had r h tc tr f
     → Talk D C S had r h us (tr ++ cache_writes D C S c'.version p a) f
-on_answer D C S had c c' n p u kept a us r h tc tr phases.Offline was w e x = tt
-on_answer D C S had c c' n p u kept a us r h tc tr phases.Connecting was w e x = tt
-on_answer D C S had c c' n p u kept a us r h tc tr phases.Asked was w e x = record {
+on_answer D C S I had c c' n p u kept a us r h tc tr phases.Offline was w e x = tt
+on_answer D C S I had c c' n p u kept a us r h tc tr phases.Connecting was w e x = tt
+on_answer D C S I had c c' n p u kept a us r h tc tr phases.Asked was w e x = record {
   own = x.own;
-  coming = answered D C S had c c' n p u kept a (query r) us tc tr was w e x.coming;
+  coming = answered D C S I had c c' n p u kept a (query r) us tc tr was w e x.coming;
 }
-on_answer D C S had c c' n p u kept a us r h tc tr phases.Reading was w e x =
+on_answer D C S I had c c' n p u kept a us r h tc tr phases.Reading was w e x =
     absurd (no_more u us tc e x.none)
-on_answer D C S had c c' n p u kept a us r h tc tr phases.Applying was w e x =
+on_answer D C S I had c c' n p u kept a us r h tc tr phases.Applying was w e x =
     absurd (no_more u us tc e x.none)
-on_answer D C S had c c' n p u kept a us r h tc tr phases.Waiting was w e x =
+on_answer D C S I had c c' n p u kept a us r h tc tr phases.Waiting was w e x =
     absurd (no_more u us tc e x.none)
 
 more_coming : (D C : Type 0) (S : Source D C) (had : List Present) (q : Query) (tc : List Head)
@@ -597,32 +600,33 @@ record InWorld (D C : Type 0) (S : Source D C) (w : World D C) : Type 0 where
   holds : Holds D C S w.had w.router w.holding w.to_cache w.to_router
   present : IsOld w.had w.present
 
-next : (D C : Type 0) (S : Source D C) (w w' : World D C) → Next D C S w w' → InWorld D C S w
+next : (D C : Type 0) (S : Source D C) (I : IsSource D C S)
+    (w w' : World D C) → Next D C S w w' → InWorld D C S w
     → InWorld D C S w'
-next D C S w w' (router_told w₀ n e a r itself step) y = record {
+next D C S I w w' (router_told w₀ n e a r itself step) y = record {
   holds = on_tells D C S w₀.had n e a w₀.router r w₀.holding w₀.to_cache w₀.to_router itself
       step.rule y.holds;
   present = y.present;
 }
-next D C S w w' (connected w₀ n a r c phase anew step) y = record {
+next D C S I w w' (connected w₀ n a r c phase anew step) y = record {
   holds = on_connects D C S w₀.had n a w₀.router r w₀.holding w₀.to_cache w₀.to_router phase
       step.rule y.holds;
   present = y.present;
 }
-next D C S w w' (router_hears w₀ n x xs a r is step) y = record {
+next D C S I w w' (router_hears w₀ n x xs a r is step) y = record {
   holds = on_hears D C S w₀.had n x a w₀.router r w₀.holding w₀.to_cache xs step.rule
       (subst (λ tr. Holds D C S w₀.had w₀.router w₀.holding w₀.to_cache tr) is y.holds);
   present = y.present;
 }
-next D C S w w' (cache_hears w₀ n u us kept a c is step) y = record {
+next D C S I w w' (cache_hears w₀ n u us kept a c is step) y = record {
   holds = record {
     has = y.holds.has;
-    talk = on_answer D C S w₀.had w₀.cache c n w₀.present u kept a us w₀.router w₀.holding
+    talk = on_answer D C S I w₀.had w₀.cache c n w₀.present u kept a us w₀.router w₀.holding
         w₀.to_cache w₀.to_router w₀.router.phase y.present step.rule is y.holds.talk;
   };
   present = y.present;
 }
-next D C S w w' (cache_told w₀ n e a c tells step) y = record {
+next D C S I w w' (cache_told w₀ n e a c tells step) y = record {
   holds = record {
     has = y.holds.has;
     talk = on_notify D C S w₀.had w₀.router w₀.holding w₀.to_cache w₀.to_router
@@ -631,7 +635,7 @@ next D C S w w' (cache_told w₀ n e a c tells step) y = record {
   };
   present = y.present;
 }
-next D C S w w' (renewed w₀ p) y = record {
+next D C S I w w' (renewed w₀ p) y = record {
   holds = record {
     has = λ d.
         let z : HasSame D C S w₀.had w₀.router w₀.holding = y.holds.has d in
@@ -642,19 +646,21 @@ next D C S w w' (renewed w₀ p) y = record {
   present = λ h. inl (h, refl, refl);
 }
 
-in_world : (D C : Type 0) (S : Source D C) (w : World D C) → IsReached D C S w → InWorld D C S w
-in_world D C S w (world_begins r c p phase none) = record {
+in_world : (D C : Type 0) (S : Source D C) (I : IsSource D C S)
+    (w : World D C) → IsReached D C S w → InWorld D C S w
+in_world D C S I w (world_begins r c p phase none) = record {
   holds = record {
     has = no_data D C S (p ∷ []) r (holds_nothing D C) none;
     talk = to_phase D C S (p ∷ []) r (holds_nothing D C) [] [] phases.Offline phase tt;
   };
   present = λ h. inl (h, refl, refl);
 }
-in_world D C S w (world_goes_on w₀ w₁ run step) =
-    next D C S w₀ w₁ step (in_world D C S w₀ run)
+in_world D C S I w (world_goes_on w₀ w₁ run step) =
+    next D C S I w₀ w₁ step (in_world D C S I w₀ run)
 
-pub agreement : (D C : Type 0) (S : Source D C) (w : World D C) → IsReached D C S w
+pub agreement : (D C : Type 0) (S : Source D C) (I : IsSource D C S)
+    (w : World D C) → IsReached D C S w
     → w.router.has_data ≡ true → Agrees D C S w
-agreement D C S w run has =
-    let x : HasSame D C S w.had w.router w.holding = (in_world D C S w run).holds.has has in
+agreement D C S I w run has =
+    let x : HasSame D C S w.had w.router w.holding = (in_world D C S I w run).holds.has has in
     record { was = x.was; same = x.same }

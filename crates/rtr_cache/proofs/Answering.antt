@@ -15,6 +15,7 @@ use Rattle.rtr_cache.specs.declared.event.Answer.{Answer}
 use Rattle.rtr_cache.specs.declared.event.Answer.TheVariants as answers
 use Rattle.rtr_cache.specs.declared.event.OwedReport.{OwedReport}
 use Rattle.rtr_cache.specs.CacheRules.{CacheRule}
+use Rattle.rtr_cache.specs.Worlds.{IsSource}
 use Rattle.rtr_cache.specs.Worlds.{Sent, Source, TellsCache}
 use Rattle.rtr_cache.specs.Worlds.{WasPresent, cache_writes, change_unit}
 use Rattle.rtr_cache.specs.Worlds.{data_end}
@@ -120,33 +121,37 @@ coming_news D C S had p q (x ∷ xs) (inr (inr w)) = inr (inr w)
 
 -- ---- what a cache writes
 
-pub left_written : (D C : Type 0) (S : Source D C) (had : List Present) (v : ℕ) (p : Present)
+pub left_written : (D C : Type 0) (S : Source D C) (I : IsSource D C S)
+    (had : List Present) (v : ℕ) (p : Present)
     (old : Option D) (kept bs : List C) → WasPresent had p.session p.serial
     → S.make old (kept ++ bs) ≡ Some (S.data_at v p.session p.serial)
     → Left D C S had old kept (map (change_unit D C S v) bs ++ data_end D C S v p ∷ [])
-left_written D C S had v p old kept [] was e =
+left_written D C S I had v p old kept [] was e =
     inr (record {
       kind = refl;
       makes = ap (λ k. S.make old k) (sym (append-nil kept)) ∙ e;
       was = was;
       rest = tt;
     })
-left_written D C S had v p old kept (b ∷ bs) was e =
+left_written D C S I had v p old kept (b ∷ bs) was e =
     inl (
-      S.is_payload b,
-      left_written D C S had v p old (kept ++ b ∷ []) bs was
+      I.is_payload b,
+      left_written D C S I had v p old (kept ++ b ∷ []) bs was
           (ap (λ k. S.make old k) (append_assoc kept (b ∷ []) bs) ∙ e),
     )
 
-pub response_comes : (D C : Type 0) (S : Source D C) (had : List Present) (v : ℕ) (p : Present)
+pub response_comes : (D C : Type 0) (S : Source D C) (I : IsSource D C S)
+    (had : List Present) (v : ℕ) (p : Present)
     (q : Query) (old : Option D) → WasPresent had p.session p.serial → old_of D C S q ≡ old
+    → S.make old (S.delta old (S.data_at v p.session p.serial))
+    ≡ Some (S.data_at v p.session p.serial)
     → Coming D C S had q (response D C S v p old)
-response_comes D C S had v p q old was e =
+response_comes D C S I had v p q old was e leads =
     let new : D = S.data_at v p.session p.serial in
     let rest : List (Sent C) =
     map (change_unit D C S v) (S.delta old new) ++ data_end D C S v p ∷ [] in
     let left : Left D C S had old [] rest =
-    left_written D C S had v p old [] (S.delta old new) was (S.leads old new) in
+    left_written D C S I had v p old [] (S.delta old new) was leads in
     inr (inl (refl, subst (λ o. Left D C S had o [] rest) (sym e) left))
 
 -- a query's kind says what it asks for
@@ -177,25 +182,28 @@ pub report_comes : (D C : Type 0) (S : Source D C) (had : List Present) (q : Que
 report_comes D C S had q None = tt
 report_comes D C S had q (Some r) = inr (inr (inr (refl, tt)))
 
-pub answer_comes : (D C : Type 0) (S : Source D C) (had : List Present) (c c' : Cache) (n : ℕ)
+pub answer_comes : (D C : Type 0) (S : Source D C) (I : IsSource D C S)
+    (had : List Present) (c c' : Cache) (n : ℕ)
     (p : Present) (q : Query) (kept : Bool) (a : Answer) → IsOld had p
     → CacheRule c n p (told.Came (query_head q) kept) a c'
     → Coming D C S had q (cache_writes D C S c'.version p a)
-answer_comes D C S had c c' n p q kept answers.Wait was w = tt
-answer_comes D C S had c c' n p q kept answers.All was w =
-    response_comes D C S had c'.version p q None (was w.1.query.has)
+answer_comes D C S I had c c' n p q kept answers.Wait was w = tt
+answer_comes D C S I had c c' n p q kept answers.All was w =
+    response_comes D C S I had c'.version p q None (was w.1.query.has)
     (for_all D C S q q.changes refl w.1.query.kind)
-answer_comes D C S had c c' n p q kept (answers.Changes since) was w =
+    (I.all_lead c'.version p.session p.serial)
+answer_comes D C S I had c c' n p q kept (answers.Changes since) was w =
     let version : q.version ≡ c'.version = sym (ap (λ (c : Cache). c.version) w.1.after) in
-    response_comes D C S had c'.version p q (Some (S.data_at c'.version p.session since))
+    response_comes D C S I had c'.version p q (Some (S.data_at c'.version p.session since))
     (was w.1.query.has)
     (for_changes D C S q q.changes refl w.1.query.kind
     ∙ at_same D C S q.version c'.version q.session p.session q.serial since version
     w.1.known.session (sym w.1.since_is))
-answer_comes D C S had c c' n p q kept answers.Reset was w = inr (inr (inl (refl, tt)))
-answer_comes D C S had c c' n p q kept answers.NoData was w = inr (inr (inr (refl, tt)))
-answer_comes D C S had c c' n p q kept answers.Notify was w = absurd w
-answer_comes D C S had c c' n p q kept (answers.End x) was w =
+    (I.changes_lead c'.version p.session since p.serial)
+answer_comes D C S I had c c' n p q kept answers.Reset was w = inr (inr (inl (refl, tt)))
+answer_comes D C S I had c c' n p q kept answers.NoData was w = inr (inr (inr (refl, tt)))
+answer_comes D C S I had c c' n p q kept answers.Notify was w = absurd w
+answer_comes D C S I had c c' n p q kept (answers.End x) was w =
     report_comes D C S had q x.report
 
 -- by itself a cache writes notifies alone

@@ -2,3 +2,4 @@ pub mod Agreement
 pub mod Answering
 pub mod Peace
 pub mod Speaking
+pub mod Orderly

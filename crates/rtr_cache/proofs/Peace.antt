@@ -26,6 +26,7 @@ use Rattle.rtr_cache.specs.declared.event.CacheEvent.{CacheEvent}
 use Rattle.rtr_cache.specs.declared.event.CacheEvent.TheVariants as told
 use Rattle.rtr_cache.specs.declared.event.Answer.{Answer}
 use Rattle.rtr_cache.specs.CacheRules.{CacheRule}
+use Rattle.rtr_cache.specs.Worlds.{IsSource}
 use Rattle.rtr_cache.specs.Worlds.{GoesOn, Holding, IsListening, IsPeaceful}
 use Rattle.rtr_cache.specs.Worlds.{IsReached, Next, Sent, Source, TellsCache, TellsItself, World}
 use Rattle.rtr_cache.specs.Worlds.{cache_writes, query_head}
@@ -371,13 +372,14 @@ cons_eq q u us e = (cc, cc)
 no_more : (u : Head) (us tc : List Head) → tc ≡ u ∷ us → tc ≡ [] → ⊥
 no_more u us tc e f = cc
 
-answered : (D C : Type 0) (S : Source D C) (c c' : Cache) (n : ℕ) (p : Present) (u : Head)
+answered : (D C : Type 0) (S : Source D C) (I : IsSource D C S)
+    (c c' : Cache) (n : ℕ) (p : Present) (u : Head)
     (kept : Bool) (a : Answer) (us : List Head) (r : Router) (tc : List Head)
     (tr : List (Sent C)) → CacheRule c n p (told.Came u kept) a c' → tc ≡ u ∷ us
     → InVersion c r.version → UnderWay C (query r) tc tr
     → TalkAsked C r c' us (tr ++ cache_writes D C S c'.version p a)
-answered D C S c c' n p u kept a us r tc tr w e i (inr x) = absurd (no_more u us tc e x.0)
-answered D C S c c' n p u kept a us r tc tr w e i (inl x) =
+answered D C S I c c' n p u kept a us r tc tr w e i (inr x) = absurd (no_more u us tc e x.0)
+answered D C S I c c' n p u kept a us r tc tr w e i (inl x) =
     let two : (query_head (query r) ≡ u) × (us ≡ []) = cons_eq (query r) u us (sym x.0 ∙ e) in
     let w' : CacheRule c n p (told.Came (query_head (query r)) kept) a c' =
     subst (λ (u : Head). CacheRule c n p (told.Came u kept) a c') (sym two.0) w in
@@ -388,23 +390,24 @@ answered D C S c c' n p u kept a us r tc tr w e i (inl x) =
       coming = inr (
         two.1,
         coming_after C (query r) tr (cache_writes D C S c'.version p a) x.1
-            (answer_comes D C S c c' n p (query r) kept a w'),
+            (answer_comes D C S I c c' n p (query r) kept a w'),
       );
     }
 
-on_answer : (D C : Type 0) (S : Source D C) (c c' : Cache) (n : ℕ) (p : Present) (u : Head)
+on_answer : (D C : Type 0) (S : Source D C) (I : IsSource D C S)
+    (c c' : Cache) (n : ℕ) (p : Present) (u : Head)
     (kept : Bool) (a : Answer) (us : List Head) (r : Router) (tc : List Head)
     (tr : List (Sent C)) (f : Phase) → CacheRule c n p (told.Came u kept) a c' → tc ≡ u ∷ us
     → Talk C r c tc tr f → Talk C r c' us (tr ++ cache_writes D C S c'.version p a) f
-on_answer D C S c c' n p u kept a us r tc tr phases.Offline w e x = tt
-on_answer D C S c c' n p u kept a us r tc tr phases.Connecting w e x = tt
-on_answer D C S c c' n p u kept a us r tc tr phases.Asked w e x =
-    answered D C S c c' n p u kept a us r tc tr w e x.version x.coming
-on_answer D C S c c' n p u kept a us r tc tr phases.Reading w e x =
+on_answer D C S I c c' n p u kept a us r tc tr phases.Offline w e x = tt
+on_answer D C S I c c' n p u kept a us r tc tr phases.Connecting w e x = tt
+on_answer D C S I c c' n p u kept a us r tc tr phases.Asked w e x =
+    answered D C S I c c' n p u kept a us r tc tr w e x.version x.coming
+on_answer D C S I c c' n p u kept a us r tc tr phases.Reading w e x =
     absurd (no_more u us tc e x.none)
-on_answer D C S c c' n p u kept a us r tc tr phases.Applying w e x =
+on_answer D C S I c c' n p u kept a us r tc tr phases.Applying w e x =
     absurd (no_more u us tc e x.none)
-on_answer D C S c c' n p u kept a us r tc tr phases.Waiting w e x =
+on_answer D C S I c c' n p u kept a us r tc tr phases.Waiting w e x =
     absurd (no_more u us tc e x.none)
 
 more_coming : (C : Type 0) (q : Query) (tc : List Head) (tr ys : List (Sent C))
@@ -459,28 +462,30 @@ on_notify D C S c c' n p e a r tc tr phases.Waiting t w x =
 abbrev InPeace : (D C : Type 0) → World D C → Type 0
 InPeace D C w = Talk C w.router w.cache w.to_cache w.to_router w.router.phase
 
-next : (D C : Type 0) (S : Source D C) (w w' : World D C) → Next D C S w w' → InPeace D C w
+next : (D C : Type 0) (S : Source D C) (I : IsSource D C S)
+    (w w' : World D C) → Next D C S w w' → InPeace D C w
     → InPeace D C w'
-next D C S w w' (router_told w₀ n e a r itself step) y =
+next D C S I w w' (router_told w₀ n e a r itself step) y =
     on_tells D C n e a w₀.router r w₀.holding w₀.cache w₀.to_cache w₀.to_router itself step.rule y
-next D C S w w' (connected w₀ n a r c phase anew step) y =
+next D C S I w w' (connected w₀ n a r c phase anew step) y =
     on_connects C n a w₀.router r c phase anew step.rule
-next D C S w w' (router_hears w₀ n x xs a r is step) y =
+next D C S I w w' (router_hears w₀ n x xs a r is step) y =
     on_hears C n x a w₀.router r w₀.cache w₀.to_cache xs step.rule
     (subst (λ tr. Talk C w₀.router w₀.cache w₀.to_cache tr w₀.router.phase) is y)
-next D C S w w' (cache_hears w₀ n u us kept a c is step) y =
-    on_answer D C S w₀.cache c n w₀.present u kept a us w₀.router w₀.to_cache w₀.to_router
+next D C S I w w' (cache_hears w₀ n u us kept a c is step) y =
+    on_answer D C S I w₀.cache c n w₀.present u kept a us w₀.router w₀.to_cache w₀.to_router
     w₀.router.phase step.rule is y
-next D C S w w' (cache_told w₀ n e a c tells step) y =
+next D C S I w w' (cache_told w₀ n e a c tells step) y =
     on_notify D C S w₀.cache c n w₀.present e a w₀.router w₀.to_cache w₀.to_router
     w₀.router.phase tells step.rule y
-next D C S w w' (renewed w₀ p) y = y
+next D C S I w w' (renewed w₀ p) y = y
 
-in_peace : (D C : Type 0) (S : Source D C) (w : World D C) → IsReached D C S w → InPeace D C w
-in_peace D C S w (world_begins r c p phase none) =
+in_peace : (D C : Type 0) (S : Source D C) (I : IsSource D C S)
+    (w : World D C) → IsReached D C S w → InPeace D C w
+in_peace D C S I w (world_begins r c p phase none) =
     to_phase C r c [] [] phases.Offline phase tt
-in_peace D C S w (world_goes_on w₀ w₁ run step) =
-    next D C S w₀ w₁ step (in_peace D C S w₀ run)
+in_peace D C S I w (world_goes_on w₀ w₁ run step) =
+    next D C S I w₀ w₁ step (in_peace D C S I w₀ run)
 
 -- ---- what the router does with it
 
@@ -547,12 +552,13 @@ heard C r n c tc x xs a r' phases.Waiting p l y h t =
       session = y.session p t.quiet.0;
     })) tt
 
-pub peace : (D C : Type 0) (S : Source D C) (w : World D C) (x : Sent C) (xs : List (Sent C))
+pub peace : (D C : Type 0) (S : Source D C) (I : IsSource D C S)
+    (w : World D C) (x : Sent C) (xs : List (Sent C))
     (n : ℕ) (a : Action) (r' : Router) → IsReached D C S w → w.to_router ≡ x ∷ xs
     → IsListening w.router.phase → Fresh w.router n → IsInTime w.router n
     → IsPeaceful w.router x.head → IsStep w.router n (events.Came x.head) a r' → GoesOn a
-peace D C S w x xs n a r' run is l fresh soon y step =
+peace D C S I w x xs n a r' run is l fresh soon y step =
     heard C w.router n w.cache w.to_cache x xs a r' w.router.phase refl l y
     (step.heeds fresh soon)
     (subst (λ tr. Talk C w.router w.cache w.to_cache tr w.router.phase) is
-    (in_peace D C S w run))
+    (in_peace D C S I w run))

@@ -16,6 +16,7 @@ use Rattle.rtr_cache.specs.declared.event.Answer.{Answer}
 use Rattle.rtr_cache.specs.declared.event.Answer.TheVariants as answers
 use Rattle.rtr_cache.specs.declared.event.OwedReport.{OwedReport}
 use Rattle.rtr_cache.specs.CacheRules.{CacheRule}
+use Rattle.rtr_cache.specs.Worlds.{IsSource}
 use Rattle.rtr_cache.specs.Worlds.{AreChangesOf}
 use Rattle.rtr_cache.specs.Worlds.{Sent, Source, TellsCache}
 use Rattle.rtr_cache.specs.Worlds.{cache_writes, change_unit, data_end, query_head, report_sent}
@@ -164,47 +165,50 @@ pub report_comes : (C : Type 0) (q : Query) (r : Option OwedReport) → Coming C
 report_comes C q None = tt
 report_comes C q (Some r) = inr (inr (inr (refl, tt)))
 
-pub none_since : (D C : Type 0) (S : Source D C) (v s m n : ℕ) → m ≡ n
+pub none_since : (D C : Type 0) (S : Source D C) (I : IsSource D C S) (v s m n : ℕ) → m ≡ n
     → S.delta (Some (S.data_at v s m)) (S.data_at v s n) ≡ []
-none_since D C S v s m n e =
+none_since D C S I v s m n e =
     subst (λ n. S.delta (Some (S.data_at v s m)) (S.data_at v s n) ≡ []) e
-    (S.same (S.data_at v s m))
+    (I.none_at_once v s m)
 
 -- `old` is what the serial query names
-pub changes_come : (D C : Type 0) (S : Source D C) (v : ℕ) (p : Present) (q : Query) (since : ℕ)
+pub changes_come : (D C : Type 0) (S : Source D C) (I : IsSource D C S)
+    (v : ℕ) (p : Present) (q : Query) (since : ℕ)
     → v ≡ q.version → p.session ≡ q.session → since ≡ q.serial
     → Coming C q (response D C S v p (Some (S.data_at v p.session since)))
-changes_come D C S v p q since ve se ne = subst
+changes_come D C S I v p q since ve se ne = subst
     (λ v. Coming C q (response D C S v p (Some (S.data_at v p.session since)))) (sym ve)
     (inr (inl (
       record { kind = refl; version = refl; session = λ e. se },
       left_written D C S q p 0
           (S.delta (Some (S.data_at q.version p.session since))
           (S.data_at q.version p.session p.serial))
-          (S.changes_are q.version p.session since p.serial)
-          (λ a b. (refl, none_since D C S q.version p.session since p.serial (ne ∙ sym b))),
+          (I.changes_are q.version p.session since p.serial)
+          (λ a b. (refl, none_since D C S I q.version p.session since p.serial (ne ∙ sym b))),
     )))
 
-pub all_come : (D C : Type 0) (S : Source D C) (v : ℕ) (p : Present) (q : Query) → v ≡ q.version
+pub all_come : (D C : Type 0) (S : Source D C) (I : IsSource D C S)
+    (v : ℕ) (p : Present) (q : Query) → v ≡ q.version
     → (q.changes ≡ true → ⊥) → Coming C q (response D C S v p None)
-all_come D C S v p q ve never = subst (λ v. Coming C q (response D C S v p None)) (sym ve)
+all_come D C S I v p q ve never = subst (λ v. Coming C q (response D C S v p None)) (sym ve)
     (inr (inl (
       record { kind = refl; version = refl; session = λ e. absurd (never e) },
       left_written D C S q p 0 (S.delta None (S.data_at q.version p.session p.serial))
-          (S.all_are q.version p.session p.serial) (λ a b. absurd (never a)),
+          (I.all_are q.version p.session p.serial) (λ a b. absurd (never a)),
     )))
 
-pub answer_comes : (D C : Type 0) (S : Source D C) (c c' : Cache) (n : ℕ) (p : Present) (q : Query)
+pub answer_comes : (D C : Type 0) (S : Source D C) (I : IsSource D C S)
+    (c c' : Cache) (n : ℕ) (p : Present) (q : Query)
     (kept : Bool) (a : Answer) → CacheRule c n p (told.Came (query_head q) kept) a c'
     → Coming C q (cache_writes D C S c'.version p a)
-answer_comes D C S c c' n p q kept answers.Wait w = tt
-answer_comes D C S c c' n p q kept answers.All w =
-    all_come D C S c'.version p q (ap (λ (c : Cache). c.version) w.1.after)
+answer_comes D C S I c c' n p q kept answers.Wait w = tt
+answer_comes D C S I c c' n p q kept answers.All w =
+    all_come D C S I c'.version p q (ap (λ (c : Cache). c.version) w.1.after)
     (no_changes q.changes w.1.query.kind)
-answer_comes D C S c c' n p q kept (answers.Changes since) w =
-    changes_come D C S c'.version p q since (ap (λ (c : Cache). c.version) w.1.after)
+answer_comes D C S I c c' n p q kept (answers.Changes since) w =
+    changes_come D C S I c'.version p q since (ap (λ (c : Cache). c.version) w.1.after)
     (sym w.1.known.session) w.1.since_is
-answer_comes D C S c c' n p q kept answers.Reset w = inr (inr (inl (
+answer_comes D C S I c c' n p q kept answers.Reset w = inr (inr (inl (
   record {
     kind = refl;
     version = ap (λ (c : Cache). c.version) w.1.after;
@@ -212,9 +216,9 @@ answer_comes D C S c c' n p q kept answers.Reset w = inr (inr (inl (
   },
   tt,
 )))
-answer_comes D C S c c' n p q kept answers.NoData w = inr (inr (inr (refl, tt)))
-answer_comes D C S c c' n p q kept answers.Notify w = absurd w
-answer_comes D C S c c' n p q kept (answers.End x) w = report_comes C q x.report
+answer_comes D C S I c c' n p q kept answers.NoData w = inr (inr (inr (refl, tt)))
+answer_comes D C S I c c' n p q kept answers.Notify w = absurd w
+answer_comes D C S I c c' n p q kept (answers.End x) w = report_comes C q x.report
 
 -- ---- the cache is in the router's version, once it was asked
 

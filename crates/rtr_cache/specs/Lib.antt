@@ -3,3 +3,4 @@ pub mod CacheRules
 pub mod Serving
 pub mod CacheSteps
 pub mod Worlds
+pub mod Connections

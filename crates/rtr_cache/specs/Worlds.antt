@@ -1,6 +1,7 @@
 -- A router and a cache of ours, joined by a pipe that loses nothing while it is there.
 use Rattle.std.specs.Prelude.{◌≡◌, ◌≢◌, ◌⊎◌, ℕ, Bool, true, false, if◌then◌else◌, map}
 use Rattle.std.specs.Prelude.{Option, Some, None, List, [], ◌∷◌, ◌++◌}
+use Rattle.std.specs.List.{AllByRecursion}
 use Rattle.std.specs.declared.cmp.Ordering.TheVariants.{Less}
 use Rattle.rtr_base.specs.Serial.{serial_cmp}
 use Rattle.rtr_router.specs.declared.head.Head.{Head}
@@ -30,29 +31,38 @@ use Rattle.rtr_cache.specs.CacheSteps.{IsCacheStep}
 
 -- each of these changes is of a payload that the version has
 abbrev pub AreChangesOf : (C : Type 0) → (C → Kind) → ℕ → List C → Type 0
-AreChangesOf C kind v [] = Unit {0}
-AreChangesOf C kind v (b ∷ bs) = IsPayloadOf v (kind b) × AreChangesOf C kind v bs
+AreChangesOf C kind v cs = AllByRecursion (λ c. IsPayloadOf v (kind c)) cs
 
--- The data of a cache, of any type, and changes of them: a cache never has two data at one session
--- and serial number, and a version shows its own part of them. From no data, and from each data to
--- each other, changes lead there, of payloads that the version has; from data to the same there are
--- none.
+-- The data of a cache, of any type, and changes of them. A cache never has two data at one session
+-- and serial number; a version shows its own part of them.
 pub record Source (D C : Type 0) : Type 0 where
   pub data_at : (version session serial : ℕ) → D
+  -- what changes make of data, or of none; they may be refused
   pub make : Option D → List C → Option D
+  -- the changes that a cache sends from data, or from none, to others
   pub delta : Option D → D → List C
-  pub leads : (old : Option D) (new : D) → make old (delta old new) ≡ Some new
-  pub same : (d : D) → delta (Some d) d ≡ []
   pub kind : C → Kind
-  pub size : C → ℕ
-  pub is_payload : (change : C) → IsPayloadOf 2 (kind change)
-  pub all_are : (v s n : ℕ) → AreChangesOf C kind v (delta None (data_at v s n))
-  pub changes_are :
-      (v s m n : ℕ) → AreChangesOf C kind v (delta (Some (data_at v s m)) (data_at v s n))
+  pub size : (version : ℕ) → C → ℕ
   -- the times that the ends of data name, by session and serial number
   pub refresh : (session serial : ℕ) → ℕ
   pub retry : (session serial : ℕ) → ℕ
   pub expire : (session serial : ℕ) → ℕ
+
+-- What a cache sends leads there, and is of payloads that the version has; from data to the same
+-- there are no changes.
+pub record IsSource (D C : Type 0) (S : Source D C) : Type 0 where
+  pub all_lead :
+      (v s n : ℕ) → S.make None (S.delta None (S.data_at v s n)) ≡ Some (S.data_at v s n)
+  pub changes_lead :
+      (v s m n : ℕ)
+      → S.make (Some (S.data_at v s m)) (S.delta (Some (S.data_at v s m)) (S.data_at v s n))
+      ≡ Some (S.data_at v s n)
+  pub none_at_once : (v s n : ℕ) → S.delta (Some (S.data_at v s n)) (S.data_at v s n) ≡ []
+  pub is_payload : (change : C) → IsPayloadOf 2 (S.kind change)
+  pub all_are : (v s n : ℕ) → AreChangesOf C S.kind v (S.delta None (S.data_at v s n))
+  pub changes_are :
+      (v s m n : ℕ)
+      → AreChangesOf C S.kind v (S.delta (Some (S.data_at v s m)) (S.data_at v s n))
 
 -- ---- what is sent
 
@@ -80,7 +90,7 @@ plain_unit C kind v s n code = record { head = plain_head kind v s n code; body 
 
 abbrev pub change_unit : (D C : Type 0) → Source D C → (version : ℕ) → C → Sent C
 change_unit D C S v b = record {
-  head = record (plain_head (S.kind b) v 0 0 0) { size = S.size b };
+  head = record (plain_head (S.kind b) v 0 0 0) { size = S.size v b };
   body = b ∷ [];
 }
 

@@ -1,8 +1,11 @@
-//! What holds of a router and a cache that are joined.
+//! What holds of whole connections of a cache, and of a router and a cache that are joined.
 
 ghost use Rattle.std.specs.Prelude.{◌≡◌, ◌∷◌, ℕ, List, true};
+ghost use Rattle.rtr_cache.specs.Connections.{CacheMoment, IsConnection, IsOrderly};
 ghost use Rattle.rtr_cache.specs.Worlds.{Agrees, GoesOn, IsListening, IsPeaceful, IsReached, Sent};
-ghost use Rattle.rtr_cache.specs.Worlds.{Source, World};
+ghost use Rattle.rtr_cache.specs.Worlds.{IsSource, Source, World};
+ghost use Rattle.rtr_cache.specs.declared.cache.Cache.{Cache};
+ghost use Rattle.rtr_cache.specs.declared.settings.CacheSettings.{CacheSettings};
 ghost use Rattle.rtr_router.specs.Rules.{Fresh};
 ghost use Rattle.rtr_router.specs.Step.{IsInTime, IsStep};
 ghost use Rattle.rtr_router.specs.declared.event.Action.{Action};
@@ -13,7 +16,7 @@ ghost use Rattle.rtr_router.specs.declared.router.Router.{Router};
 /// cache at any time: whenever a router has data, what it shows are those that the cache had under
 /// their session and serial number, as the router's version has them.
 pub fn agreement<D, C>()
-    ensures { (S : Source D C) (w : World D C)
+    ensures { (S : Source D C) (w : World D C) → IsSource D C S
         → IsReached D C S w → w.router.has_data ≡ true → Agrees D C S w }
 {}
 
@@ -22,8 +25,16 @@ pub fn agreement<D, C>()
 /// a report; while the data haven't expired, and no limit of time is over.
 pub fn peace<D, C>()
     ensures { (S : Source D C) (w : World D C) (x : Sent C) (rest : List (Sent C)) (n : ℕ)
-        (a : Action) (after : Router) → IsReached D C S w → w.to_router ≡ x ∷ rest
-        → IsListening w.router.phase → Fresh w.router n → IsInTime w.router n
-        → IsPeaceful w.router x.head → IsStep w.router n (events.Came x.head) a after
-        → GoesOn a }
+        (a : Action) (after : Router) → IsSource D C S → IsReached D C S w
+        → w.to_router ≡ x ∷ rest → IsListening w.router.phase → Fresh w.router n
+        → IsInTime w.router n → IsPeaceful w.router x.head
+        → IsStep w.router n (events.Came x.head) a after → GoesOn a }
+{}
+
+/// Whatever a cache is told on a connection, and with whichever data: notifies come a pause after
+/// each other and none before a query was answered, all queries that are answered are of one
+/// version, all data of one session, and nothing comes after the end.
+pub fn orderly()
+    ensures { (s : CacheSettings) (moments : List CacheMoment) (c : Cache)
+        → IsConnection s moments c → IsOrderly s.pause moments }
 {}
