@@ -137,32 +137,3 @@ func (c *Client) follower(ctx context.Context, changed func(Update) error) *foll
 		},
 	}
 }
-
-// changesBetween are the changes between data of any versions and sessions: in the higher version,
-// as the other one may lack some of the payloads. The zero Data stands for none.
-func changesBetween(old, new Data) ([]byte, error) {
-	if old.IsZero() && new.IsZero() {
-		return nil, nil
-	}
-	version, session := new.Version(), new.Session()
-	if new.IsZero() || old.Version() > version && !old.IsZero() {
-		version = old.Version()
-	}
-	if new.IsZero() {
-		session = old.Session()
-	}
-	sides := [2]Data{old, new}
-	for i, side := range sides {
-		var err error
-		if side.IsZero() {
-			side, err = NewData(version, session, 0, Timing{})
-		} else if side.Version() != version {
-			side, err = side.For(version)
-		}
-		if err != nil {
-			return nil, err
-		}
-		sides[i] = side
-	}
-	return Delta(sides[0].inSession(session), sides[1])
-}

@@ -224,6 +224,35 @@ func Delta(old, new Data) ([]byte, error) {
 	return fitted(output, written), nil
 }
 
+// changesBetween are the changes between data of any versions and sessions: in the higher version,
+// as the other one may lack some of the payloads. The zero Data stands for none.
+func changesBetween(old, new Data) ([]byte, error) {
+	if old.IsZero() && new.IsZero() {
+		return nil, nil
+	}
+	version, session := new.Version(), new.Session()
+	if new.IsZero() || old.Version() > version && !old.IsZero() {
+		version = old.Version()
+	}
+	if new.IsZero() {
+		session = old.Session()
+	}
+	sides := [2]Data{old, new}
+	for i, side := range sides {
+		var err error
+		if side.IsZero() {
+			side, err = NewData(version, session, 0, Timing{})
+		} else if side.Version() != version {
+			side, err = side.For(version)
+		}
+		if err != nil {
+			return nil, err
+		}
+		sides[i] = side
+	}
+	return Delta(sides[0].inSession(session), sides[1])
+}
+
 // Apply is what the changes make of the data, with the end of data of the changes: all of them, or
 // there is an error. An ASPA that is announced takes the place of the one of its customer. The
 // changes are in canonical form, as Delta and Order write them; what follows their end of data

@@ -3,6 +3,7 @@
 use crate::data::DataError;
 use crate::fault::ErrorCode;
 use crate::following::Follower;
+use crate::machine::{cause, cause_text};
 use crate::owned_data::{Changes, Data};
 use crate::reader::Refusal;
 use crate::timed::Stop;
@@ -69,32 +70,24 @@ impl Default for ClientOptions {
 #[non_exhaustive]
 pub enum Breach {
     /// A unit isn't of the version of the session (RFC 8210 section 7).
-    OtherVersion,
+    OtherVersion = cause::OTHER_VERSION as isize,
     /// The answer is of a higher version than the query.
-    HigherVersion,
+    HigherVersion = cause::HIGHER_VERSION as isize,
     /// A unit is of another session than the data (RFC 8210 section 5.1).
-    OtherSession,
+    OtherSession = cause::OTHER_SESSION as isize,
     /// The serial number of the end of data comes before that of the query.
-    SerialBack,
+    SerialBack = cause::OLD_SERIAL as isize,
     /// There are other data at the very serial number of the query.
-    OtherData,
+    OtherData = cause::OTHER_DATA as isize,
     /// A unit of this kind may not stand where it came.
-    Misplaced,
+    Misplaced = cause::OUT_OF_PLACE as isize,
     /// The version doesn't have payloads of this kind.
-    NoPayload,
+    NoPayload = cause::NO_SUCH_PAYLOAD as isize,
 }
 
 impl fmt::Display for Breach {
     fn fmt(&self, f: &mut fmt::Formatter<'_>) -> fmt::Result {
-        f.write_str(match self {
-            Breach::OtherVersion => "unit of another version than the session",
-            Breach::HigherVersion => "answer of a higher version than the query",
-            Breach::OtherSession => "unit of another session",
-            Breach::SerialBack => "serial number before that of the query",
-            Breach::OtherData => "other data at the serial number of the query",
-            Breach::Misplaced => "unit is not allowed here",
-            Breach::NoPayload => "version does not have such payloads",
-        })
+        f.write_str(&cause_text(*self as u8))
     }
 }
 
@@ -140,10 +133,10 @@ impl fmt::Display for ClientError {
     fn fmt(&self, f: &mut fmt::Formatter<'_>) -> fmt::Result {
         match self {
             ClientError::Io(error) => error.fmt(f),
-            ClientError::Closed => f.write_str("the cache closed the connection"),
-            ClientError::TooSlow => f.write_str("the cache is too slow"),
-            ClientError::TooLong => f.write_str("the answer is too long"),
-            ClientError::Expired => f.write_str("the data have expired"),
+            ClientError::Closed => f.write_str(&cause_text(cause::LOST)),
+            ClientError::TooSlow => f.write_str(&cause_text(cause::SLOW)),
+            ClientError::TooLong => f.write_str(&cause_text(cause::TOO_LONG)),
+            ClientError::Expired => f.write_str(&cause_text(cause::EXPIRED)),
             ClientError::Stopped => f.write_str("the client was stopped"),
             ClientError::Refused(refusal) => refusal.fmt(f),
             ClientError::Data { error, .. } => error.fmt(f),

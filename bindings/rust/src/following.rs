@@ -89,27 +89,18 @@ impl<'c> Follower<'c> {
     }
 
     fn perform(&mut self, step: Step) {
-        match step {
-            Step::Wait => self.wait(),
-            Step::Connect => self.connect(),
-            Step::Close => self.close(),
-            Step::Data(changes) => {
-                if let Some(data) = self.router.data() {
-                    let event = Event::Data {
-                        data,
-                        changes: &changes,
-                    };
-                    self.broken_off = (self.on)(event).is_break();
-                }
-            }
-            Step::Dropped(changes) => {
-                let event = Event::Dropped { changes: &changes };
-                self.broken_off = (self.on)(event).is_break();
-            }
-            Step::Failed(error) => {
-                self.broken_off = (self.on)(Event::Failed(&error)).is_break();
-            }
-        }
+        let event = match &step {
+            Step::Wait => return self.wait(),
+            Step::Connect => return self.connect(),
+            Step::Close => return self.close(),
+            Step::Data(changes) => match self.router.data() {
+                Some(data) => Event::Data { data, changes },
+                None => return,
+            },
+            Step::Dropped(changes) => Event::Dropped { changes },
+            Step::Failed(error) => Event::Failed(error),
+        };
+        self.broken_off = (self.on)(event).is_break();
     }
 
     /// A connection to the first of the addresses that gives one, before the router wants to know.

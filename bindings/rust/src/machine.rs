@@ -3,6 +3,7 @@
 
 use crate::client::ClientOptions;
 use std::mem::MaybeUninit;
+use std::string::String;
 use std::time::Duration;
 use std::vec::Vec;
 
@@ -147,6 +148,19 @@ extern "C" {
         output_length: usize,
         written: *mut usize,
     ) -> bool;
+}
+
+/// What a report says of a cause: so the text stands in the archive alone.
+pub(crate) fn cause_text(cause: u8) -> String {
+    const FIXED: usize = 16; // of a report, before its text where no unit is in it
+    let action = Action {
+        cause,
+        reports: true,
+        ..Action::default()
+    };
+    let mut report = Vec::new();
+    action.append_report(&[], &mut report);
+    String::from_utf8_lossy(report.get(FIXED..).unwrap_or_default()).into_owned()
 }
 
 /// A span in milliseconds; what isn't zero isn't rounded to zero.

@@ -49,18 +49,17 @@ pub struct Router {
     kept: Vec<u8>,
     output: Vec<u8>,
     steps: VecDeque<Step>,
+    /// What the machine is to be told before anything else.
     told: Option<Told>,
     error: Option<ClientError>,
     connected: bool,
 }
 
-/// What the machine is to be told next.
+/// What became of a connection.
 #[derive(Debug)]
 enum Told {
     Connected,
     Lost,
-    Applied,
-    NotApplied(u8),
 }
 
 impl Router {
@@ -148,7 +147,7 @@ impl Router {
             if action.kind == action::WAIT && action.taken == 0 {
                 return Step::Wait;
             }
-            self.perform(&action, at);
+            self.perform(now, &action, at);
         }
     }
 
@@ -157,8 +156,6 @@ impl Router {
         match self.told.take() {
             Some(Told::Connected) => return self.machine.connected(now),
             Some(Told::Lost) => return self.machine.lost(now),
-            Some(Told::Applied) => return self.machine.applied(now),
-            Some(Told::NotApplied(status)) => return self.machine.not_applied(now, status),
             None => {}
         }
         let input = &self.input[self.taken..];
@@ -176,7 +173,7 @@ impl Router {
     }
 
     /// Does what an action says about the input from there on.
-    fn perform(&mut self, action: &Action, at: usize) {
+    fn perform(&mut self, now: u64, action: &Action, at: usize) {
         let unit = at + action.start;
         match action.kind {
             action::WAIT => {}
@@ -184,7 +181,10 @@ impl Router {
             action::ASK => action.append_query(&mut self.output),
             action::BEGIN => self.kept.clear(),
             action::KEEP => self.kept.extend_from_slice(&self.input[at..self.taken]),
-            action::APPLY => self.apply(action.changes, unit),
+            action::APPLY => {
+                let next = self.apply(now, action.changes, unit);
+                self.perform(now, &next, at);
+            }
             action::SHOW => self.show(),
             action::NO_DATA => {
                 let reported = reported(&self.input[unit..]);
@@ -198,8 +198,8 @@ impl Router {
         }
     }
 
-    /// Makes the changes of an answer, whose end of data begins there.
-    fn apply(&mut self, changes: bool, end: usize) {
+    /// Makes the changes of an answer, whose end of data begins there, and tells the machine.
+    fn apply(&mut self, now: u64, changes: bool, end: usize) -> Action {
         let end = &self.input[end..self.taken];
         self.kept.extend_from_slice(end);
         let made = match self.data.as_ref().filter(|_| changes) {
@@ -207,16 +207,16 @@ impl Router {
             // An end of data alone is data without payloads.
             None => Data::parse(end).and_then(|none| none.apply_in_order(&self.kept)),
         };
-        self.told = Some(match made {
+        match made {
             Ok(data) => {
                 self.made = Some(data);
-                Told::Applied
+                self.machine.applied(now)
             }
             Err(error) => {
                 self.error = Some(refused(error, &self.kept));
-                Told::NotApplied(error.fault.status())
+                self.machine.not_applied(now, error.fault.status())
             }
-        });
+        }
     }
 
     /// What the changes made are the data now.
