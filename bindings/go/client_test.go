@@ -11,7 +11,6 @@ import (
 	"net"
 	"strings"
 	"sync"
-	"sync/atomic"
 	"testing"
 	"time"
 )
@@ -119,32 +118,6 @@ func TestClientLimitsMet(t *testing.T) {
 		if !errors.Is(err, one.reason) || (err == nil) != got.Equal(data) {
 			t.Fatal(one, got, err)
 		}
-	}
-}
-
-// A client falls from version 1 to 0, and withdraws the router key.
-func TestClientFallsToVersion0(t *testing.T) {
-	noLeaks(t)
-	var lower atomic.Bool
-	address := fakeCache(t, func(connection *net.TCPConn) {
-		reader := NewReader(connection)
-		for unit, err := reader.Next(); err == nil; unit, err = reader.Next() {
-			if version := unit.Version; version == 1 && !lower.Load() {
-				connection.Write(join(response(1, 7), ipv4, key, ending(1, 7, 9)))
-				lower.Store(true)
-			} else if version == 1 {
-				connection.Write(reportBytes(0, 4, nil, "no"))
-			} else {
-				connection.Write(join(response(0, 7), changed(ipv4, 0, 0), ending(0, 7, 9)))
-			}
-		}
-	})
-	client := quick(address)
-	client.Version, client.Refresh = 1, time.Millisecond
-	updates, _ := follow(t, client, func(update Update) bool { return update.Data.Version() == 0 })
-	changes := updates[len(updates)-1].Changes()
-	if !changes.Scan() || changes.Unit().Kind != RouterKey || changes.Unit().Announce || changes.Scan() {
-		t.Fatal(updates)
 	}
 }
 
@@ -322,38 +295,14 @@ func report(version, code byte) []byte {
 	return reportBytes(version, code, nil, "no")
 }
 
-// What a client does in each state that a cache brings it to: the connections that it makes, with
-// the queries in each, the serial numbers that it gets to, and its failures.
-var clientStates = map[string]struct {
+// Which failures a client tells of what ends a connection: the connections that it makes, with the
+// queries in each, the serial numbers that it gets to, and the failures. What it does where none is
+// told, tests/transcripts has.
+var clientFailures = map[string]struct {
 	connections [][]scene
 	serials     []uint32 // of the updates; 0 where the data were dropped
 	failures    []error
 }{
-	"a notify of what it has, and one of more": {
-		[][]scene{{
-			{reset1, join(full(7, 1, ipv4), numbered(1, 0, 7, 1), numbered(1, 0, 7, 2))},
-			{asked(1, 7, 1), full(7, 3, otherIPv4)},
-		}}, []uint32{1, 3}, nil,
-	},
-	"notifies before an answer": {
-		[][]scene{{
-			{reset1, join(numbered(2, 0, 9, 9), numbered(0, 0, 9, 9), full(7, 3))},
-		}}, []uint32{3}, nil,
-	},
-	"a cache reset": {
-		[][]scene{{
-			{reset1, join(full(7, 1, ipv4), numbered(1, 0, 7, 2))},
-			{asked(1, 7, 1), []byte{1, 8, 0, 0, 0, 0, 0, 8}},
-			{reset1, full(7, 3, otherIPv4)},
-		}}, []uint32{1, 3}, nil,
-	},
-	"a cache reset, and a new session": {
-		[][]scene{{
-			{reset1, join(full(7, 1, ipv4), numbered(1, 0, 7, 2))},
-			{asked(1, 7, 1), []byte{1, 8, 0, 0, 0, 0, 0, 8}},
-			{reset1, full(8, 3, otherIPv4)},
-		}}, []uint32{1, 3}, nil,
-	},
 	"no data yet, and a notify": {
 		[][]scene{{
 			{reset1, join(report(1, 2), numbered(1, 0, 7, 3))},
@@ -365,13 +314,6 @@ var clientStates = map[string]struct {
 		[]uint32{3},
 		[]error{&Reported{Code: NoDataAvailable}, &Reported{Code: NoDataAvailable}},
 	},
-	"a report of version 1 on version 1": {
-		[][]scene{{{reset1, report(1, 4)}}, {{reset0, all0}}}, []uint32{3}, nil,
-	},
-	"a report of version 0": {
-		[][]scene{{{reset1, report(0, 4)}}, {{reset0, all0}}}, []uint32{3}, nil,
-	},
-	"an answer of version 0": {[][]scene{{{reset1, all0}}}, []uint32{3}, nil},
 	"an answer of version 0 to a serial query": {
 		[][]scene{
 			{{reset1, join(full(7, 1), report(1, 1))}}, {{asked(1, 7, 1), all0}},
@@ -456,8 +398,8 @@ var clientStates = map[string]struct {
 	},
 }
 
-func TestClientStates(t *testing.T) {
-	for name, test := range clientStates {
+func TestClientFailures(t *testing.T) {
+	for name, test := range clientFailures {
 		t.Run(name, func(t *testing.T) {
 			noLeaks(t)
 			var connections []func(*net.TCPConn)
@@ -508,33 +450,6 @@ func TestChangesBetweenVersions(t *testing.T) {
 	}
 }
 
-// After a serial query that is refused a reset query follows soon, and then one each retry time.
-func TestRetry(t *testing.T) {
-	noLeaks(t)
-	address := fakeCache(t, play(t, nil, scene{reset1, join(full(7, 1), report(1, 1))}),
-		play(t, nil, scene{asked(1, 7, 1), report(1, 0)}), play(t, nil, scene{reset1, nil}),
-		play(t, nil, scene{reset1, full(7, 3)}))
-	client := quick(address)
-	client.Version, client.Retry = 1, 800*time.Millisecond
-	begun := time.Now()
-	var times []time.Duration
-	ctx, cancel := limited(t)
-	defer cancel()
-	client.Failed = func(error) { times = append(times, time.Since(begun)) }
-	err := client.Run(ctx, func(update Update) error {
-		if update.Data.Serial() == 3 {
-			return errEnough
-		}
-		return nil
-	})
-	if err != errEnough || len(times) != 3 {
-		t.Fatal(err, times)
-	}
-	if times[2] > client.Retry || time.Since(begun) < client.Retry {
-		t.Fatal(times, time.Since(begun))
-	}
-}
-
 // sameReason says whether an error is the other one, or a report with its code.
 func sameReason(err, other error) bool {
 	var report, code *Reported
@@ -544,86 +459,21 @@ func sameReason(err, other error) bool {
 	return errors.Is(err, other)
 }
 
-// A report in version 0 doesn't say that the cache lacks version 1.
-func TestFetchFallsByOne(t *testing.T) {
+// Data that aren't renewed in time are dropped, on a connection that is silent.
+func TestExpire(t *testing.T) {
 	noLeaks(t)
-	address := fakeCache(t, play(t, nil, scene{asked(2, 0), report(0, 4)}),
-		play(t, nil, scene{asked(1, 0), full(7, 3, ipv4)}))
-	ctx, cancel := limited(t)
-	defer cancel()
-	data, err := quick(address).Fetch(ctx)
-	if err != nil || !bytes.Equal(data.Bytes(), join(ipv4, ending(1, 7, 3))) {
-		t.Fatalf("%x %v", data.Bytes(), err)
-	}
-}
-
-// Without an answer at all a client falls to version 0, and then fails.
-func TestFetchFalls(t *testing.T) {
-	noLeaks(t)
-	var lock sync.Mutex
-	var versions []byte
-	address := fakeCache(t, func(connection *net.TCPConn) {
-		lock.Lock()
-		defer lock.Unlock()
-		versions = append(versions, readUnit(NewReader(connection))[0])
-	})
-	ctx, cancel := limited(t)
-	defer cancel()
-	_, err := quick(address).Fetch(ctx)
-	lock.Lock()
-	defer lock.Unlock()
-	if !errors.Is(err, ErrClosed) || !bytes.Equal(versions, []byte{2, 1, 0}) {
-		t.Fatal(versions, err)
-	}
-}
-
-// A client asks when the refresh time has passed, without a notify.
-func TestRefresh(t *testing.T) {
-	noLeaks(t)
-	address := fakeCache(t, play(t, nil, scene{asked(1, 0), full(7, 1)},
-		scene{asked(1, 7, 1), full(7, 1)}, scene{asked(1, 7, 1), full(7, 2, ipv4)},
-		scene{asked(1, 7, 2), full(7, 3, otherIPv4)}))
-	client := quick(address)
-	client.Version, client.Refresh = 1, 10*time.Millisecond
-	begun := time.Now()
+	client := quick(fakeCache(t, play(t, nil, scene{reset1, full(7, 1, ipv4)}),
+		play(t, nil, scene{reset1, full(7, 3)})))
+	client.Version, client.Expire = 1, 50*time.Millisecond
 	updates, failures := follow(t, client, func(update Update) bool {
 		return update.Data.Serial() == 3
 	})
-	if len(updates) != 4 || len(failures) > 0 || time.Since(begun) < 3*client.Refresh {
-		t.Fatal(len(updates), failures, time.Since(begun))
+	if len(updates) != 3 || !updates[1].Data.IsZero() ||
+		!bytes.Equal(changesOf(updates[1]), withdrawn4) {
+		t.Fatalf("%d updates, %v", len(updates), failures)
 	}
-}
-
-// Data that aren't renewed in time are dropped, on a connection that is silent and without one.
-func TestExpire(t *testing.T) {
-	noLeaks(t)
-	silent := play(t, nil, scene{asked(1, 0), full(7, 1, ipv4)})
-	late := play(t, nil, scene{asked(1, 0), full(7, 1, ipv4)}, scene{asked(1, 7, 1), []byte{}})
-	gone := func(connection *net.TCPConn) {
-		readUnit(NewReader(connection))
-		connection.Write(full(7, 1, ipv4))
-	}
-	for name, one := range map[string]func(*net.TCPConn){
-		"silent": silent, "late": late, "gone": gone,
-	} {
-		client := quick(fakeCache(t, one, play(t, nil, scene{asked(1, 0), full(7, 3)})))
-		client.Version, client.Expire = 1, 50*time.Millisecond
-		switch name {
-		case "late":
-			client.Refresh = time.Millisecond
-		case "gone":
-			client.Limits.Pause = 200 * time.Millisecond
-		}
-		updates, failures := follow(t, client, func(update Update) bool {
-			return update.Data.Serial() == 3
-		})
-		if len(updates) != 3 || !updates[1].Data.IsZero() ||
-			!bytes.Equal(changesOf(updates[1]), withdrawn4) {
-			t.Fatalf("%s: %d updates, %v", name, len(updates), failures)
-		}
-		if !errors.Is(failures[len(failures)-1], ErrExpired) {
-			t.Fatalf("%s: %v", name, failures)
-		}
+	if !errors.Is(failures[len(failures)-1], ErrExpired) {
+		t.Fatal(failures)
 	}
 }
 

@@ -251,34 +251,6 @@ fn follows_a_server() {
 }
 const UNSUPPORTED: ErrorCode = ErrorCode::UNSUPPORTED_PROTOCOL_VERSION;
 
-fn told_of(version: u8, serial: u32) -> Told {
-    Told::Data(data(serial).for_version(version).unwrap())
-}
-
-/// It falls to the version that the cache has (RFC 8210 section 7), by reports, by reports of a
-/// lower version or the lowest one, and where a cache closes without a word.
-#[test]
-fn lower_versions() {
-    let _alone = alone();
-    let ways: [Option<u8>; 4] = [Some(0), Some(1), Some(2), None];
-    for lower in ways {
-        let cache = Played::new();
-        let told = follow(cache.address(), options(), |log| {
-            for version in [2, 1] {
-                let mut peer = cache.asked(&reset_query(version));
-                if let Some(lower) = lower {
-                    peer.send(&report(version.saturating_sub(lower), UNSUPPORTED));
-                }
-            }
-            let mut peer = cache.asked(&reset_query(0));
-            peer.send(&all(0, 1));
-            assert!(told_last(log, &told_of(0, 1)));
-            peer
-        });
-        assert_eq!(told, [told_of(0, 1)]);
-    }
-}
-
 /// Where no version is left it says so.
 #[test]
 fn no_version() {
@@ -564,65 +536,6 @@ fn bad_answers() {
         let bytes = [response(2, SESSION), prefix].concat();
         let refused = (text.to_string(), Some(ErrorCode::CORRUPT_DATA));
         assert_eq!(fetch_refused(&cache, &bytes), refused);
-    }
-}
-
-/// After a report in answer to a serial query all data are asked for: the cache may have begun
-/// another session. The data stay until they come.
-#[test]
-fn rejected_serial_queries() {
-    let _alone = alone();
-    let cache = Played::new();
-    let told = follow(cache.address(), options(), |log| {
-        let mut peer = cache.asked(&reset_query(2));
-        peer.send(&[all(2, 1), notify(2, SESSION, 2)].concat());
-        peer.expect(&serial_query(2, SESSION, 1));
-        peer.send(&report(2, ErrorCode::CORRUPT_DATA));
-        assert!(peer.is_closed());
-        let mut peer = cache.asked(&reset_query(2));
-        peer.send(&all(2, 3));
-        assert!(told_last(log, &Told::Data(data(3))));
-        peer
-    });
-    assert_eq!(told.len(), 3);
-    assert_eq!(told[0], Told::Data(data(1)));
-}
-
-/// Changes that are refused leave the data as they are, and all data are asked for next.
-#[test]
-fn bad_changes() {
-    let _alone = alone();
-    let cache = Played::new();
-    let there = data(1).as_bytes()[..20].to_vec();
-    let mut gone = there.clone();
-    gone[8] = 0;
-    let (end, older) = (end_of(2), end_of(0));
-    let duplicate = ErrorCode::DUPLICATE_ANNOUNCEMENT_RECEIVED;
-    let unknown = ErrorCode::WITHDRAWAL_OF_UNKNOWN_RECORD;
-    let rows = [
-        (there.clone(), &end, duplicate),
-        (prefix(0, 999), &end, unknown),
-        // What comes later doesn't make up for it.
-        ([there, gone].concat(), &end, duplicate),
-        ([prefix(0, 999), prefix(1, 999)].concat(), &end, unknown),
-        (prefix(1, 999), &older, ErrorCode::CORRUPT_DATA),
-    ];
-    for (unit, end, code) in rows {
-        let told = follow(cache.address(), options(), |log| {
-            let mut peer = cache.asked(&reset_query(2));
-            peer.send(&[all(2, 1), notify(2, SESSION, 2)].concat());
-            peer.expect(&serial_query(2, SESSION, 1));
-            peer.send(&answer(2, &[&unit[..], end].concat()));
-            assert_eq!(peer.report(), Some((code, 2)));
-            let mut peer = cache.asked(&reset_query(2));
-            peer.send(&all(2, 3));
-            assert!(told_last(log, &Told::Data(data(3))));
-            peer
-        });
-        assert!(
-            matches!(&told[..], [Told::Data(one), Told::Failed(_), Told::Data(_)]
-            if *one == data(1))
-        );
     }
 }
 
