@@ -617,6 +617,22 @@ static void check_codes(const struct place *place)
             }
 }
 
+/* The text of each cause is the one that the archive writes into a report. */
+static void check_causes(void)
+{
+    for (uint8_t cause = RTR_CAUSE_LOST; cause <= RTR_CAUSE_LOWER; cause++) {
+        const struct rtr_action action = {.kind = RTR_END, .cause = cause, .reports = true};
+        const char *text = rtr_cause_text(cause);
+        struct rtr_unit unit;
+        uint8_t report[256];
+        size_t written;
+        CHECK(rtr_router_report(&action, NULL, 0, report, sizeof report, &written));
+        CHECK(rtr_next(report, written, &unit) == RTR_OK && unit.kind == RTR_ERROR_REPORT);
+        CHECK(unit.text_length == strlen(text));
+        CHECK(memcmp(report + unit.text_start, text, unit.text_length) == 0);
+    }
+}
+
 /* The providers of an ASPA by their index: none past the last, outside the input, or of another
  * kind. */
 static void check_providers(const struct place *place)
@@ -658,6 +674,7 @@ int main(int count, char **words)
         check_sessions(&place, sessions.bytes, sessions.bytes + sessions.length);
     }
     check_serials();
+    check_causes();
     check_versions();
     check_names();
     pthread_t threads[THREADS];

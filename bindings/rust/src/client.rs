@@ -1,19 +1,12 @@
 //! A router's end of a session.
 
-use crate::data::DataError;
-use crate::fault::ErrorCode;
+use crate::client_error::ClientError;
 use crate::following::Follower;
-use crate::machine::{cause, cause_text};
 use crate::owned_data::{Changes, Data};
-use crate::reader::Refusal;
 use crate::timed::Stop;
-use crate::unit::ErrorReport;
-use std::fmt;
-use std::io;
 use std::ops::ControlFlow;
 use std::string::String;
 use std::time::Duration;
-use std::vec::Vec;
 
 /// What a [`Client`] asks for, and what it allows a cache.
 ///
@@ -61,105 +54,6 @@ impl Default for ClientOptions {
             refresh: None,
             retry: None,
             expire: None,
-        }
-    }
-}
-
-/// What a cache did that the rules of a session don't allow.
-#[derive(Clone, Copy, Debug, PartialEq, Eq)]
-#[non_exhaustive]
-pub enum Breach {
-    /// A unit isn't of the version of the session (RFC 8210 section 7).
-    OtherVersion = cause::OTHER_VERSION as isize,
-    /// The answer is of a higher version than the query.
-    HigherVersion = cause::HIGHER_VERSION as isize,
-    /// A unit is of another session than the data (RFC 8210 section 5.1).
-    OtherSession = cause::OTHER_SESSION as isize,
-    /// The serial number of the end of data comes before that of the query.
-    SerialBack = cause::OLD_SERIAL as isize,
-    /// There are other data at the very serial number of the query.
-    OtherData = cause::OTHER_DATA as isize,
-    /// A unit of this kind may not stand where it came.
-    Misplaced = cause::OUT_OF_PLACE as isize,
-    /// The version doesn't have payloads of this kind.
-    NoPayload = cause::NO_SUCH_PAYLOAD as isize,
-}
-
-impl fmt::Display for Breach {
-    fn fmt(&self, f: &mut fmt::Formatter<'_>) -> fmt::Result {
-        f.write_str(&cause_text(*self as u8))
-    }
-}
-
-/// Why a [`Client`] ended a connection, or has no answer yet.
-#[derive(Debug)]
-#[non_exhaustive]
-pub enum ClientError {
-    /// The connection failed, or couldn't be made.
-    Io(io::Error),
-    /// The cache closed the connection.
-    Closed,
-    /// The cache let a limit of time pass.
-    TooSlow,
-    /// The answer has more bytes or units than are allowed.
-    TooLong,
-    /// The cache didn't refresh the data in time, and they were dropped (RFC 8210 section 6).
-    Expired,
-    /// The client was stopped.
-    Stopped,
-    /// A unit is refused.
-    Refused(Refusal),
-    /// The changes are refused, or those of one payload contradict one another.
-    Data {
-        /// Why.
-        error: DataError,
-        /// The bytes of the unit at fault, if one is.
-        unit: Vec<u8>,
-    },
-    /// The rules of a session don't allow a unit.
-    Breach {
-        /// Why.
-        reason: Breach,
-        /// The code of the report that was sent about it (RFC 8210 section 12).
-        code: ErrorCode,
-        /// The bytes of the unit.
-        unit: Vec<u8>,
-    },
-    /// The cache sent an error report.
-    Reported(ErrorReport<Vec<u8>>),
-}
-
-impl fmt::Display for ClientError {
-    fn fmt(&self, f: &mut fmt::Formatter<'_>) -> fmt::Result {
-        match self {
-            ClientError::Io(error) => error.fmt(f),
-            ClientError::Closed => f.write_str(&cause_text(cause::LOST)),
-            ClientError::TooSlow => f.write_str(&cause_text(cause::SLOW)),
-            ClientError::TooLong => f.write_str(&cause_text(cause::TOO_LONG)),
-            ClientError::Expired => f.write_str(&cause_text(cause::EXPIRED)),
-            ClientError::Stopped => f.write_str("the client was stopped"),
-            ClientError::Refused(refusal) => refusal.fmt(f),
-            ClientError::Data { error, .. } => error.fmt(f),
-            ClientError::Breach { reason, .. } => reason.fmt(f),
-            ClientError::Reported(report) => {
-                write!(f, "the cache reports: {}", report.code)?;
-                match &report.parts {
-                    Some(parts) if !parts.text.is_empty() => {
-                        let text = String::from_utf8_lossy(&parts.text);
-                        write!(f, ": {:?}", text.chars().take(200).collect::<String>())
-                    }
-                    _ => Ok(()),
-                }
-            }
-        }
-    }
-}
-
-impl std::error::Error for ClientError {
-    fn source(&self) -> Option<&(dyn std::error::Error + 'static)> {
-        match self {
-            ClientError::Io(error) => Some(error),
-            _ => None,
         }
     }
 }

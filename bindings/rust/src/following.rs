@@ -1,6 +1,7 @@
 //! A router over TCP, in one thread.
 
-use crate::client::{ClientError, ClientOptions, Event};
+use crate::client::{ClientOptions, Event};
+use crate::client_error::ClientError;
 use crate::owned_data::Data;
 use crate::router::{Router, Step};
 use crate::timed::{after, close, is_tick, set_ticks, write_all, Stop, TICK};

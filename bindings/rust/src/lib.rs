@@ -70,6 +70,8 @@ use std::{error, net};
 
 #[cfg(feature = "std")]
 mod client;
+#[cfg(feature = "std")]
+mod client_error;
 mod data;
 mod fault;
 #[cfg(feature = "std")]
@@ -102,7 +104,9 @@ mod validation;
 mod writer;
 
 #[cfg(feature = "std")]
-pub use client::{Breach, Client, ClientError, ClientOptions, Event};
+pub use client::{Client, ClientOptions, Event};
+#[cfg(feature = "std")]
+pub use client_error::{Breach, ClientError};
 pub use data::{apply_in_order, apply_into, delta_into, order_into, DataError, Place, Side};
 pub use fault::{ErrorCode, Fault, PrefixRule};
 pub use kind::{Kind, UnknownKind};

@@ -226,6 +226,22 @@ impl Data {
         Ok(Changes(Canonical::new(bytes, length)))
     }
 
+    /// Data without payloads that have the end of data of these.
+    pub(crate) fn without_payloads(&self) -> Data {
+        let end = self.end();
+        Data::new(end.version, end.session, end.serial, end.timing).expect("its version has a form")
+    }
+
+    /// What leads from these to the new, of whatever versions and sessions: in the higher one of
+    /// the versions, so that what the lower one lacks is withdrawn.
+    pub(crate) fn difference_to(&self, new: &Data) -> Result<Changes, DataError> {
+        let end = new.end();
+        let version = self.end().version.max(end.version);
+        let in_version = |data: &Data| data.for_version(version).expect("there is this version");
+        let old = in_version(self).numbered(end.session, end.serial);
+        old.delta_to(&in_version(new))
+    }
+
     /// What the changes make of this data: all of them are made, or none. An ASPA that is announced
     /// takes the place of the one of its customer. The end of data is that of the changes.
     ///

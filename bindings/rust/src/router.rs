@@ -1,12 +1,9 @@
 //! A router's end of a session without sockets and clock.
 
-use crate::client::{Breach, ClientError, ClientOptions};
-use crate::data::DataError;
-use crate::fault::{ErrorCode, Fault};
+use crate::client::ClientOptions;
+use crate::client_error::ClientError;
 use crate::machine::{action, cause, Action, Machine};
 use crate::owned_data::{Changes, Data};
-use crate::reader::Refusal;
-use crate::unit::{unit_size, Unit};
 use std::collections::VecDeque;
 use std::io;
 use std::mem::take;
@@ -187,7 +184,7 @@ impl Router {
             }
             action::SHOW => self.show(),
             action::NO_DATA => {
-                let reported = reported(&self.input[unit..]);
+                let reported = ClientError::reported(&self.input[unit..]);
                 self.steps.push_back(Step::Failed(reported));
             }
             action::DROP => {
@@ -213,7 +210,7 @@ impl Router {
                 self.machine.applied(now)
             }
             Err(error) => {
-                self.error = Some(refused(error, &self.kept));
+                self.error = Some(ClientError::refused(error, &self.kept));
                 self.machine.not_applied(now, error.fault.status())
             }
         }
@@ -223,8 +220,8 @@ impl Router {
     fn show(&mut self) {
         if let Some(made) = self.made.take() {
             let changes = match &self.data {
-                Some(old) => difference(old, &made),
-                None => difference(&empty(&made), &made),
+                Some(old) => old.difference_to(&made),
+                None => made.without_payloads().difference_to(&made),
             };
             self.data = Some(made);
             self.steps.extend(changes.ok().map(Step::Data));
@@ -233,7 +230,7 @@ impl Router {
 
     fn drop_data(&mut self) {
         if let Some(data) = self.data.take() {
-            let changes = data.delta_to(&empty(&data));
+            let changes = data.delta_to(&data.without_payloads());
             self.steps.extend(changes.ok().map(Step::Dropped));
         }
     }
@@ -255,74 +252,13 @@ impl Router {
 
     /// Why a connection ends, unless it does for a lower version.
     fn reason(&mut self, action: &Action, unit: usize) -> Option<ClientError> {
-        let rest = &self.input[unit..];
-        let reason = match action.cause {
-            cause::LOST | cause::NOT_APPLIED => return self.error.take(),
-            cause::LOWER => return None,
-            cause::SLOW => return Some(ClientError::TooSlow),
-            cause::TOO_LONG => return Some(ClientError::TooLong),
-            cause::EXPIRED => return Some(ClientError::Expired),
-            cause::REPORTED => return Some(reported(rest)),
-            cause::FAULTY => {
-                let fault = Fault::of(action.status, action.detail);
-                return Some(ClientError::Refused(Refusal {
-                    fault,
-                    offset: self.before + unit as u64,
-                    unit: fault.of_unit(rest).to_vec(),
-                }));
+        match action.cause {
+            cause::LOWER => None,
+            cause::LOST | cause::NOT_APPLIED => self.error.take(),
+            _ => {
+                let offset = self.before + unit as u64;
+                Some(ClientError::of(action, &self.input[unit..], offset))
             }
-            cause::OUT_OF_PLACE => Breach::Misplaced,
-            cause::NO_SUCH_PAYLOAD => Breach::NoPayload,
-            cause::OTHER_VERSION => Breach::OtherVersion,
-            cause::HIGHER_VERSION => Breach::HigherVersion,
-            cause::OTHER_SESSION => Breach::OtherSession,
-            cause::OLD_SERIAL => Breach::SerialBack,
-            cause::OTHER_DATA => Breach::OtherData,
-            _ => return self.error.take(),
-        };
-        Some(ClientError::Breach {
-            reason,
-            code: ErrorCode(action.code),
-            unit: whole(rest).to_vec(),
-        })
+        }
     }
-}
-
-/// The unit that the input begins with, as far as its header is to be believed.
-fn whole(input: &[u8]) -> &[u8] {
-    let size = unit_size(input).ok().flatten().unwrap_or(8);
-    &input[..size.min(input.len())]
-}
-
-/// What the report says that the input begins with.
-fn reported(input: &[u8]) -> ClientError {
-    match Unit::first(input) {
-        Ok((Unit::ErrorReport(report), _)) => ClientError::Reported(report.into_owned()),
-        _ => ClientError::Closed, // which the machine doesn't call a report
-    }
-}
-
-/// The error with the bytes of the unit at fault.
-fn refused(error: DataError, input: &[u8]) -> ClientError {
-    let unit = error.place.and_then(|place| input.get(place.offset..));
-    ClientError::Data {
-        error,
-        unit: unit.map(|unit| whole(unit).to_vec()).unwrap_or_default(),
-    }
-}
-
-/// Data without payloads that have the end of data of these.
-fn empty(data: &Data) -> Data {
-    let end = data.end();
-    Data::new(end.version, end.session, end.serial, end.timing).expect("its version has a form")
-}
-
-/// What leads from old data to new, of whatever versions and sessions: in the higher one of the
-/// versions, so that what the lower one lacks is withdrawn.
-fn difference(old: &Data, new: &Data) -> Result<Changes, DataError> {
-    let end = new.end();
-    let version = old.end().version.max(end.version);
-    let in_version = |data: &Data| data.for_version(version).expect("there is this version");
-    let old = in_version(old).numbered(end.session, end.serial);
-    old.delta_to(&in_version(new))
 }

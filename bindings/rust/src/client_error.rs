@@ -1,0 +1,167 @@
+//! Why a client ends a connection.
+
+use crate::data::DataError;
+use crate::fault::{ErrorCode, Fault};
+use crate::machine::{cause, cause_text, Action};
+use crate::reader::Refusal;
+use crate::unit::{unit_size, ErrorReport, Unit};
+use std::fmt;
+use std::io;
+use std::string::String;
+use std::vec::Vec;
+
+/// What a cache did that the rules of a session don't allow.
+#[derive(Clone, Copy, Debug, PartialEq, Eq)]
+#[non_exhaustive]
+pub enum Breach {
+    /// A unit isn't of the version of the session (RFC 8210 section 7).
+    OtherVersion = cause::OTHER_VERSION as isize,
+    /// The answer is of a higher version than the query.
+    HigherVersion = cause::HIGHER_VERSION as isize,
+    /// A unit is of another session than the data (RFC 8210 section 5.1).
+    OtherSession = cause::OTHER_SESSION as isize,
+    /// The serial number of the end of data comes before that of the query.
+    SerialBack = cause::OLD_SERIAL as isize,
+    /// There are other data at the very serial number of the query.
+    OtherData = cause::OTHER_DATA as isize,
+    /// A unit of this kind may not stand where it came.
+    Misplaced = cause::OUT_OF_PLACE as isize,
+    /// The version doesn't have payloads of this kind.
+    NoPayload = cause::NO_SUCH_PAYLOAD as isize,
+}
+
+impl fmt::Display for Breach {
+    fn fmt(&self, f: &mut fmt::Formatter<'_>) -> fmt::Result {
+        f.write_str(&cause_text(*self as u8))
+    }
+}
+
+/// Why a [`Client`](crate::Client) ended a connection, or has no answer yet.
+#[derive(Debug)]
+#[non_exhaustive]
+pub enum ClientError {
+    /// The connection failed, or couldn't be made.
+    Io(io::Error),
+    /// The cache closed the connection.
+    Closed,
+    /// The cache let a limit of time pass.
+    TooSlow,
+    /// The answer has more bytes or units than are allowed.
+    TooLong,
+    /// The cache didn't refresh the data in time, and they were dropped (RFC 8210 section 6).
+    Expired,
+    /// The client was stopped.
+    Stopped,
+    /// A unit is refused.
+    Refused(Refusal),
+    /// The changes are refused, or those of one payload contradict one another.
+    Data {
+        /// Why.
+        error: DataError,
+        /// The bytes of the unit at fault, if one is.
+        unit: Vec<u8>,
+    },
+    /// The rules of a session don't allow a unit.
+    Breach {
+        /// Why.
+        reason: Breach,
+        /// The code of the report that was sent about it (RFC 8210 section 12).
+        code: ErrorCode,
+        /// The bytes of the unit.
+        unit: Vec<u8>,
+    },
+    /// The cache sent an error report.
+    Reported(ErrorReport<Vec<u8>>),
+}
+
+impl fmt::Display for ClientError {
+    fn fmt(&self, f: &mut fmt::Formatter<'_>) -> fmt::Result {
+        match self {
+            ClientError::Io(error) => error.fmt(f),
+            ClientError::Closed => f.write_str(&cause_text(cause::LOST)),
+            ClientError::TooSlow => f.write_str(&cause_text(cause::SLOW)),
+            ClientError::TooLong => f.write_str(&cause_text(cause::TOO_LONG)),
+            ClientError::Expired => f.write_str(&cause_text(cause::EXPIRED)),
+            ClientError::Stopped => f.write_str("the client was stopped"),
+            ClientError::Refused(refusal) => refusal.fmt(f),
+            ClientError::Data { error, .. } => error.fmt(f),
+            ClientError::Breach { reason, .. } => reason.fmt(f),
+            ClientError::Reported(report) => {
+                write!(f, "the cache reports: {}", report.code)?;
+                match &report.parts {
+                    Some(parts) if !parts.text.is_empty() => {
+                        let text = String::from_utf8_lossy(&parts.text);
+                        write!(f, ": {:?}", text.chars().take(200).collect::<String>())
+                    }
+                    _ => Ok(()),
+                }
+            }
+        }
+    }
+}
+
+impl std::error::Error for ClientError {
+    fn source(&self) -> Option<&(dyn std::error::Error + 'static)> {
+        match self {
+            ClientError::Io(error) => Some(error),
+            _ => None,
+        }
+    }
+}
+
+impl ClientError {
+    /// Why an action ends a connection, for the unit that this input begins with, at this offset of
+    /// the connection.
+    pub(crate) fn of(action: &Action, input: &[u8], offset: u64) -> ClientError {
+        let reason = match action.cause {
+            cause::SLOW => return ClientError::TooSlow,
+            cause::TOO_LONG => return ClientError::TooLong,
+            cause::EXPIRED => return ClientError::Expired,
+            cause::REPORTED => return ClientError::reported(input),
+            cause::FAULTY => {
+                let fault = Fault::of(action.status, action.detail);
+                return ClientError::Refused(Refusal {
+                    fault,
+                    offset,
+                    unit: fault.of_unit(input).to_vec(),
+                });
+            }
+            cause::OUT_OF_PLACE => Breach::Misplaced,
+            cause::NO_SUCH_PAYLOAD => Breach::NoPayload,
+            cause::OTHER_VERSION => Breach::OtherVersion,
+            cause::HIGHER_VERSION => Breach::HigherVersion,
+            cause::OTHER_SESSION => Breach::OtherSession,
+            cause::OLD_SERIAL => Breach::SerialBack,
+            cause::OTHER_DATA => Breach::OtherData,
+            _ => return ClientError::Closed,
+        };
+        ClientError::Breach {
+            reason,
+            code: ErrorCode(action.code),
+            unit: whole(input).to_vec(),
+        }
+    }
+
+    /// What the report says that the input begins with.
+    pub(crate) fn reported(input: &[u8]) -> ClientError {
+        match Unit::first(input) {
+            Ok((Unit::ErrorReport(report), _)) => ClientError::Reported(report.into_owned()),
+            _ => ClientError::Closed, // which the machine doesn't call a report
+        }
+    }
+
+    /// The error with the bytes of the unit at fault.
+    pub(crate) fn refused(error: DataError, input: &[u8]) -> ClientError {
+        let unit = error.place.and_then(|place| input.get(place.offset..));
+        ClientError::Data {
+            error,
+            unit: unit.map(|unit| whole(unit).to_vec()).unwrap_or_default(),
+        }
+    }
+}
+
+/// The unit that the input begins with, as far as its header is to be believed.
+fn whole(input: &[u8]) -> &[u8] {
+    let size = unit_size(input).ok().flatten().unwrap_or(8);
+    &input[..size.min(input.len())]
+}
