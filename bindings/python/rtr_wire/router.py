@@ -281,7 +281,7 @@ class Router:
     def _end(self, action: _rtr.rtr_action, came: bytes) -> None:
         """The connection ends, or the data do."""
         error = self._reason(action, came)
-        if action.kind == ActionKind.DROP or action.drops:
+        if action.drops:
             self._show(None)
         if action.kind == ActionKind.END:
             about = error.unit if isinstance(error, Fault) else came[action.start:]

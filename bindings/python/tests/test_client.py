@@ -142,8 +142,10 @@ class Following:
             self.assertEqual(update.data, data)
             self.assertEqual(len(told), 1, told)
 
+    @mock.patch("rtr_wire.client._REPORT_SECONDS", 3600)
     def test_reports(self):
-        """What is refused gets the report that is owed, and is told by name."""
+        """What is refused gets the report that is owed, and is told by name. Nothing follows the
+        report, so that the cache closes."""
         twice = bytes(CacheResponse(7)) + bytes(ONE) * 2 + bytes(FIRST.end)
         broken = bytes(ONE)[:10] + b"\7" + bytes(ONE)[11:]
         for sent, refused, code, about in (
