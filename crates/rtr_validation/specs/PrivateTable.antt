@@ -81,14 +81,6 @@ pub record IsUpperBound (f : Family) (b : List ℕ) (low top t r : ℕ) : Type 0
   pub below : low < r → order_key (vrp_at f b (r - 1)) ≤ t
   pub above : r < top → t < order_key (vrp_at f b r)
 
--- of the units from low to top those from left to right are a part in which that r is
-pub record HoldsBound (f : Family) (b : List ℕ) (low top t left right : ℕ) : Type 0 where
-  pub least : low ≤ left
-  pub order : left ≤ right
-  pub within : right ≤ top
-  pub below : low < left → order_key (vrp_at f b (left - 1)) ≤ t
-  pub above : right < top → t < order_key (vrp_at f b right)
-
 -- how many of the first units are not after the bits that a route shares with an address, or any
 -- number where no unit is as short as these
 pub record IsNarrowed (f : Family) (b : List ℕ) (last shortest address len other r : ℕ) :

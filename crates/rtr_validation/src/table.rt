@@ -5,9 +5,9 @@ ghost use Rattle.std.specs.Prelude.{length};
 ghost use Rattle.rtr_validation.specs.Validity.{Covers};
 ghost use Rattle.rtr_base.specs.Addresses.{width, cleared, family_of};
 ghost use Rattle.rtr_units.specs.PrefixUnits.{prefix_size};
-ghost use Rattle.rtr_validation.specs.PrivateTable.{FirstUnit, HoldsBound, IsClear, IsNarrowed};
-ghost use Rattle.rtr_validation.specs.PrivateTable.{IsNextPlace, IsPastShorter, IsTable};
-ghost use Rattle.rtr_validation.specs.PrivateTable.{IsUpperBound, NoneBetween, OneSays};
+ghost use Rattle.rtr_validation.specs.PrivateTable.{FirstUnit, IsClear, IsNarrowed, IsNextPlace};
+ghost use Rattle.rtr_validation.specs.PrivateTable.{IsPastShorter, IsTable, IsUpperBound};
+ghost use Rattle.rtr_validation.specs.PrivateTable.{NoneBetween, OneSays};
 ghost use Rattle.rtr_validation.specs.PrivateTable.{TableSays, answer_of, end_of, parts_of, route};
 ghost use Rattle.rtr_validation.specs.Tables.{order_key, vrp_at};
 
@@ -94,89 +94,6 @@ fn bound_before(units: &[u8], is_v4: bool, top: usize, address: u128, len: u8) -
         step *= 2;
     }
     bound_between(units, is_v4, 0, right, address, len)
-}
-
-/// The same from the first unit to `top`, where it isn't far above `low`: if the unit before `low`
-/// isn't after the prefix, nor is any before that.
-#[inline(always)]
-#[tactic(auto, using(crate::proofs::Bits::room_at))]
-fn bound_from(units: &[u8], is_v4: bool, low: usize, top: usize, address: u128, len: u8) -> usize
-    requires room { top * prefix_size (family_of is_v4) ≤ length units.now }
-    requires address { address < 2 ^ width (family_of is_v4) }
-    ensures { IsUpperBound (family_of is_v4) units.now 0 top (address * 256 + len) result }
-{
-    if low == 0 {
-        return bound_after(units, is_v4, 0, top, address, len);
-    }
-    if low <= top && is_at_most(units, is_v4, low - 1, address, len) {
-        return bound_after(units, is_v4, low, top, address, len);
-    }
-    bound_before(units, is_v4, top, address, len)
-}
-
-/// The part of the units from `left` to `right` in which the bound of a prefix is, by a look at the
-/// unit at `place`, if it is one of these.
-#[inline(always)]
-#[tactic(auto, using(crate::proofs::Bits::room_at))]
-fn part_at(
-    units: &[u8],
-    is_v4: bool,
-    left: usize,
-    right: usize,
-    place: usize,
-    address: u128,
-    len: u8,
-) -> (usize, usize)
-    requires room { right * prefix_size (family_of is_v4) ≤ length units.now }
-    requires address { address < 2 ^ width (family_of is_v4) }
-    requires order { left ≤ right }
-    ensures { HoldsBound (family_of is_v4) units.now left right (address * 256 + len) result.0
-        result.1 }
-{
-    if place < left || right <= place {
-        return (left, right);
-    }
-    if is_at_most(units, is_v4, place, address, len) {
-        (place + 1, right)
-    } else {
-        (left, place)
-    }
-}
-
-/// Where the address of an IPv4 route is among the units from `low` to `top`, if those of its first
-/// byte are spread evenly.
-#[inline(always)]
-fn likely_place(low: usize, top: usize, address: u128) -> usize
-    requires order { low ≤ top }
-    ensures low { low ≤ result }
-    ensures top { result ≤ top }
-{
-    let count = top - low;
-    let bits = (address % (1 << 24)) as usize;
-    let place = count.saturating_mul(bits) / (1 << 24);
-    if place < count { low + place } else { top }
-}
-
-/// The bound from `low` to `top` where these are the units of the first byte of an IPv4 route. By
-/// two looks around the place that is likely, and then by halving.
-#[inline(always)]
-#[tactic(auto, using(crate::proofs::Bits::room_at))]
-fn bound_around(units: &[u8], is_v4: bool, low: usize, top: usize, address: u128, len: u8) -> usize
-    requires room { top * prefix_size (family_of is_v4) ≤ length units.now }
-    requires address { address < 2 ^ width (family_of is_v4) }
-    requires order { low ≤ top }
-    ensures { IsUpperBound (family_of is_v4) units.now low top (address * 256 + len) result }
-{
-    if !is_v4 {
-        return bound_between(units, is_v4, low, top, address, len);
-    }
-    let likely = likely_place(low, top, address);
-    let step = 1 + (top - low) / 32;
-    let before = likely.saturating_sub(step);
-    let after = likely.saturating_add(step);
-    let (left, right) = part_at(units, is_v4, low, top, before, address, len);
-    let (left, right) = part_at(units, is_v4, left, right, after, address, len);
-    bound_between(units, is_v4, left, right, address, len)
 }
 
 /// The same from `low` to `top`, where it isn't far above `low`.
@@ -311,7 +228,7 @@ pub(crate) fn seek(
         (route (family_of is_v4) address len) asn }
 {
     let mut covered = false;
-    let mut high = bound_around(units, is_v4, around.low, around.top, address, len);
+    let mut high = bound_between(units, is_v4, around.low, around.top, address, len);
     'units: while high > 0 {
         let last = high - 1;
         let (says, vrp) = unit_says(units, is_v4, last, address, len, asn);
@@ -322,7 +239,15 @@ pub(crate) fn seek(
                 high = last;
             }
             Validity::NotFound => {
-                high = below(units, is_v4, last, around, address, len, vrp.address);
+                high = below(
+                    units,
+                    is_v4,
+                    last,
+                    around.shortest,
+                    address,
+                    len,
+                    vrp.address,
+                );
             }
         }
     }
@@ -330,32 +255,27 @@ pub(crate) fn seek(
 }
 
 /// How many of the first `last` units aren't after the bits that a route shares with an address;
-/// none where no unit is as short as these. They are sought from `last` down, or up from the first
-/// unit of the first byte, where the bits are those of an address that is not far after it.
+/// none where no unit is as short as these.
 #[inline(always)]
-#[tactic(auto, using(crate::proofs::Bits::room_at))]
 fn below(
     units: &[u8],
     is_v4: bool,
     last: usize,
-    around: Around,
+    shortest: u8,
     address: u128,
     len: u8,
     other: u128,
 ) -> usize
     requires room { last * prefix_size (family_of is_v4) ≤ length units.now }
     requires address { address < 2 ^ width (family_of is_v4) }
-    ensures { IsNarrowed (family_of is_v4) units.now last around.shortest address len other result }
+    ensures { IsNarrowed (family_of is_v4) units.now last shortest address len other result }
 {
     let bits = shared(is_v4, address, other);
     let count = if bits < len { bits } else { len };
-    if count < around.shortest {
+    if count < shortest {
         return 0;
     }
     let first = clear_after(is_v4, count, address);
-    if is_v4 && first % (1 << 24) < other.saturating_sub(first) / 8 {
-        return bound_from(units, is_v4, around.low, last, first, count);
-    }
     bound_before(units, is_v4, last, first, count)
 }
 

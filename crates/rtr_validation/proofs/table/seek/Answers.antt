@@ -12,7 +12,7 @@ pub units-init : goal.units-init
 units-init c =
     seek_first (family_of c.args.is_v4) c.args.units.now c.args.count c.args.around.shortest
     c.args.around.low c.args.around.top (route (family_of c.args.is_v4) c.args.address c.args.len)
-    c.args.asn c.bound_around-high.result c.requires.within c.bound_around-high.ensures
+    c.args.asn c.bound_between-high.result c.requires.within c.bound_between-high.ensures
 
 pub units-preserved-in-Invalid : goal.units-preserved-in-Invalid
 units-preserved-in-Invalid c =
