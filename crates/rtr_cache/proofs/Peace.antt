@@ -1,6 +1,6 @@
--- What a cache of ours sends is of the router's version and session: an invariant over what is on
--- its way.
-use Rattle.std.proofs.Common.{◌≡◌, ◌⊎◌, ℕ, Bool, false, ◌≤◌, ◌+◌}
+-- What a cache of ours sends is of the router's version and session, and it answers queries: an
+-- invariant over what is on its way.
+use Rattle.std.proofs.Common.{◌≡◌, ◌⊎◌, ℕ, Bool, true, false, ◌≤◌, ◌+◌, if◌then◌else◌}
 use Rattle.std.proofs.Common.{List, [], ◌∷◌, ◌++◌, refl, sym, ap, ◌∙◌, subst}
 use Rattle.std.proofs.Common.{inl, inr, append-nil, arith}
 use Rattle.rtr_router.specs.declared.head.Head.{Head}
@@ -25,7 +25,12 @@ use Rattle.rtr_cache.specs.declared.event.Present.{Present}
 use Rattle.rtr_cache.specs.declared.event.CacheEvent.{CacheEvent}
 use Rattle.rtr_cache.specs.declared.event.CacheEvent.TheVariants as told
 use Rattle.rtr_cache.specs.declared.event.Answer.{Answer}
-use Rattle.rtr_cache.specs.CacheRules.{CacheRule}
+use Rattle.rtr_cache.specs.declared.event.Answer.TheVariants as answers
+use Rattle.std.proofs.lemmas.Bool.{cases_eq}
+use Rattle.rtr_cache.specs.CacheRules.{CacheRule, HasVersion, IsAnswerable, IsQuery}
+use Rattle.rtr_cache.specs.CacheSteps.{IsCacheStep}
+use Rattle.rtr_cache.specs.Serving.{ServesUnit}
+use Rattle.rtr_cache.specs.Worlds.{AnswersIt, IsAnswering}
 use Rattle.rtr_cache.specs.Worlds.{IsSource}
 use Rattle.rtr_cache.specs.Worlds.{GoesOn, Holding, IsListening, IsPeaceful}
 use Rattle.rtr_cache.specs.Worlds.{IsReached, Next, Sent, Source, TellsCache, TellsItself, World}
@@ -562,3 +567,76 @@ peace D C S I w x xs n a r' run is l fresh soon y step =
     (step.heeds fresh soon)
     (subst (λ tr. Talk C w.router w.cache w.to_cache tr w.router.phase) is
     (in_peace D C S I w run))
+
+-- ---- what the cache does with a query
+
+answers_it : (a b : Answer) → a ≡ b → AnswersIt b → AnswersIt a
+answers_it a b e x = subst (λ (a : Answer). AnswersIt a) (sym e) x
+
+-- a serial query, where there are data of the session
+since_answered : (c : Cache) (p : Present) (u : Head) (kept : Bool) (a : Answer)
+    → IsAnswerable c p u kinds.SerialQuery → c.settings.refuses ≡ false
+    → ServesUnit c p u kept a → AnswersIt a
+since_answered c p u true a q r h = go (cases_eq u.session p.session)
+  where
+    go : (u.session ≡ p.session) ⊎ (u.session ≡ p.session → ⊥) → AnswersIt a
+    go (inl e) =
+        answers_it a (answers.Changes u.serial)
+        (h.changes q (record { session = e; serial = inl refl })) tt
+    go (inr e) = answers_it a answers.Reset (h.resets q (inl e) r) tt
+since_answered c p u false a q r h =
+    go (cases_eq u.session p.session) (cases_eq u.serial p.serial)
+  where
+    go : (u.session ≡ p.session) ⊎ (u.session ≡ p.session → ⊥)
+        → (u.serial ≡ p.serial) ⊎ (u.serial ≡ p.serial → ⊥) → AnswersIt a
+    go (inl e) (inl f) =
+        answers_it a (answers.Changes u.serial)
+        (h.changes q (record { session = e; serial = inr f })) tt
+    go (inl e) (inr f) = answers_it a answers.Reset (h.resets q (inr (refl, f)) r) tt
+    go (inr e) f = answers_it a answers.Reset (h.resets q (inl e) r) tt
+
+-- a query of either kind
+query_answered : (c : Cache) (n : ℕ) (p : Present) (u : Head) (kept : Bool) (a : Answer)
+    (has changes : Bool) → p.has ≡ has
+    → u.kind ≡ (if changes then kinds.SerialQuery else kinds.ResetQuery) → HasVersion c u
+    → IsAnswering c n p → ServesUnit c p u kept a → AnswersIt a
+query_answered c n p u kept a false false e k v i h =
+    answers_it a answers.NoData
+    (h.none (subst (λ (k : Kind). IsQuery k) (sym k) tt) v e) tt
+query_answered c n p u kept a false true e k v i h =
+    answers_it a answers.NoData
+    (h.none (subst (λ (k : Kind). IsQuery k) (sym k) tt) v e) tt
+query_answered c n p u kept a true false e k v i h =
+    answers_it a answers.All
+    (h.all (record { kind = k; version = v; has = e; session = i.session e })) tt
+query_answered c n p u kept a true true e k v i h =
+    since_answered c p u kept a
+    (record { kind = k; version = v; has = e; session = i.session e }) i.resets h
+
+pub queries_answered : (D C : Type 0) (S : Source D C) (I : IsSource D C S) (w : World D C)
+    (u : Head) (us : List Head) (kept : Bool) (n : ℕ) (a : Answer) (c' : Cache)
+    → IsReached D C S w → w.to_cache ≡ u ∷ us → w.router.phase ≡ phases.Asked
+    → w.router.version ≤ 2 → IsAnswering w.cache n w.present
+    → IsCacheStep w.cache n w.present (told.Came u kept) a c' → AnswersIt a
+queries_answered D C S I w u us kept n a c' run is p most i step = go t.coming
+  where
+    t : TalkAsked C w.router w.cache w.to_cache w.to_router
+    t = at_phase C w.router w.cache w.to_cache w.to_router phases.Asked p (in_peace D C S I w run)
+
+    version : (query w.router).version ≡ w.router.version
+    version = query_version w.router w.router.changes refl
+
+    go : UnderWay C (query w.router) w.to_cache w.to_router → AnswersIt a
+    go (inr x) = absurd (no_more u us w.to_cache is x.0)
+    go (inl x) =
+        let two : (query_head (query w.router) ≡ u) × (us ≡ []) =
+        cons_eq (query w.router) u us (sym x.0 ∙ is) in
+        let v : u.version ≡ w.router.version =
+        ap (λ (u : Head). u.version) (sym two.0) ∙ version in
+        query_answered w.cache n w.present u kept a w.present.has (query w.router).changes refl
+        (ap (λ (u : Head). u.kind) (sym two.0))
+        (record {
+          most = subst (λ v. v ≤ 2) (sym v) most;
+          same = λ asked. v ∙ sym (t.version i.live asked);
+        })
+        i (step.serves i.live i.in_time)

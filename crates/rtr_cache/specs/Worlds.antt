@@ -1,5 +1,5 @@
 -- A router and a cache of ours, joined by a pipe that loses nothing while it is there.
-use Rattle.std.specs.Prelude.{◌≡◌, ◌≢◌, ◌⊎◌, ℕ, Bool, true, false, if◌then◌else◌, map}
+use Rattle.std.specs.Prelude.{◌≡◌, ◌≢◌, ◌⊎◌, ℕ, Bool, true, false, if◌then◌else◌, map, ◌<◌}
 use Rattle.std.specs.Prelude.{Option, Some, None, List, [], ◌∷◌, ◌++◌}
 use Rattle.std.specs.List.{AllByRecursion}
 use Rattle.std.specs.declared.cmp.Ordering.TheVariants.{Less}
@@ -304,3 +304,19 @@ pub record IsPeaceful (r : Router) (u : Head) : Type 0 where
       → serial_cmp u.serial r.known.serial ≢ Some Less
   pub room : IsPayloadOf r.version u.kind → HasRoom r u.size
   pub report : u.kind ≡ kinds.ErrorReport → (u.code ≡ 2) × (u.version ≡ r.version)
+
+-- an answer to a query
+abbrev pub AnswersIt : Answer → Type 0
+AnswersIt answers.All = Unit {0}
+AnswersIt (answers.Changes since) = Unit {0}
+AnswersIt answers.Reset = Unit {0}
+AnswersIt answers.NoData = Unit {0}
+AnswersIt _ = ⊥
+
+-- What a cache of ours ends all the same is left out: where the time for a query is over, where it
+-- has begun another session, and where its caller chose a report in the place of cache resets.
+pub record IsAnswering (c : Cache) (n : ℕ) (p : Present) : Type 0 where
+  pub live : c.live ≡ true
+  pub in_time : n < c.due
+  pub session : p.has ≡ true → c.told ≡ true → c.session ≡ p.session
+  pub resets : c.settings.refuses ≡ false

@@ -1,15 +1,21 @@
 //! What holds of whole connections of a cache, and of a router and a cache that are joined.
 
-ghost use Rattle.std.specs.Prelude.{◌≡◌, ◌∷◌, ℕ, List, true};
+ghost use Rattle.std.specs.Prelude.{◌≡◌, ◌≤◌, ◌∷◌, ℕ, Bool, List, true};
+ghost use Rattle.rtr_cache.specs.CacheSteps.{IsCacheStep};
 ghost use Rattle.rtr_cache.specs.Connections.{CacheMoment, IsConnection, IsOrderly};
+ghost use Rattle.rtr_cache.specs.Worlds.{AnswersIt, IsAnswering};
 ghost use Rattle.rtr_cache.specs.Worlds.{Agrees, GoesOn, IsListening, IsPeaceful, IsReached, Sent};
 ghost use Rattle.rtr_cache.specs.Worlds.{IsSource, Source, World};
 ghost use Rattle.rtr_cache.specs.declared.cache.Cache.{Cache};
+ghost use Rattle.rtr_cache.specs.declared.event.Answer.{Answer};
+ghost use Rattle.rtr_cache.specs.declared.event.CacheEvent.TheVariants as told;
 ghost use Rattle.rtr_cache.specs.declared.settings.CacheSettings.{CacheSettings};
 ghost use Rattle.rtr_router.specs.Rules.{Fresh};
 ghost use Rattle.rtr_router.specs.Step.{IsInTime, IsStep};
 ghost use Rattle.rtr_router.specs.declared.event.Action.{Action};
 ghost use Rattle.rtr_router.specs.declared.event.Event.TheVariants as events;
+ghost use Rattle.rtr_router.specs.declared.head.Head.{Head};
+ghost use Rattle.rtr_router.specs.declared.router.Phase.TheVariants as phases;
 ghost use Rattle.rtr_router.specs.declared.router.Router.{Router};
 
 /// Over any number of connections, each cut anywhere, with new data, sessions and notifies at the
@@ -29,6 +35,17 @@ pub fn peace<D, C>()
         → w.to_router ≡ x ∷ rest → IsListening w.router.phase → Fresh w.router n
         → IsInTime w.router n → IsPeaceful w.router x.head
         → IsStep w.router n (events.Came x.head) a after → GoesOn a }
+{}
+
+/// In any such run a cache of ours answers each query of a router of ours that awaits an answer, in
+/// a version that there is, unless the time for a query is over, it has begun another session, or
+/// it was chosen that it refuses.
+pub fn queries_are_answered<D, C>()
+    ensures { (S : Source D C) (w : World D C) (u : Head) (rest : List Head) (kept : Bool) (n : ℕ)
+        (a : Answer) (after : Cache) → IsSource D C S → IsReached D C S w
+        → w.to_cache ≡ u ∷ rest → w.router.phase ≡ phases.Asked → w.router.version ≤ 2
+        → IsAnswering w.cache n w.present
+        → IsCacheStep w.cache n w.present (told.Came u kept) a after → AnswersIt a }
 {}
 
 /// Whatever a cache is told on a connection, and with whichever data: notifies come a pause after
