@@ -38,6 +38,7 @@ class Cache:
 
     def __init__(self, *scripts, context=None):
         self.listener = socket.create_server(("127.0.0.1", 0))
+        self.listener.settimeout(60)
         self.port = self.listener.getsockname()[1]
         self.scripts, self.context, self.errors = scripts, context, []
         self.thread = threading.Thread(target=self.run)
@@ -101,6 +102,12 @@ def patient(told=None):
         if told is not None:
             told(error)
     return failed
+
+
+def is_silent(connection, queries):
+    """A script: whatever is asked has no answer."""
+    for _ in queries:
+        pass
 
 
 RESET = ResetQuery(1)
@@ -200,7 +207,7 @@ class Following:
     def test_expiry(self):
         """Data that aren't renewed are dropped."""
         expires = replace(SOON, expire=0.2, refresh=0.1, response_limit=60)
-        with Cache(both(says(RESET, answer(FIRST)), says(SerialQuery(7, 1)), waits)) as cache:
+        with Cache(both(says(RESET, answer(FIRST)), is_silent)) as cache:
             first, second = self.updates(cache, 2, settings=expires)
         self.assertEqual((first.data, second.data), (FIRST, None))
         self.assertEqual({unit.announce for unit in second.changes}, {False})
@@ -288,14 +295,17 @@ class ForAsyncio(Following, unittest.TestCase):
             async for _ in AsyncClient("127.0.0.1", port, SOON):
                 pass
 
+        asked = threading.Event()
+
         async def cancelled(port):
             task = asyncio.create_task(follows(port))
-            await asyncio.sleep(0.1)
+            while not asked.is_set():
+                await asyncio.sleep(0.01)
             task.cancel()
             with self.assertRaises(asyncio.CancelledError):
                 await task
 
-        with Cache(waits_after_query) as cache:
+        with Cache(both(says(RESET), lambda *_: asked.set(), waits)) as cache:
             asyncio.run(cancelled(cache.port))
 
     def test_any_streams(self):
@@ -306,12 +316,6 @@ class ForAsyncio(Following, unittest.TestCase):
             self.assertEqual(asyncio.run(client.fetch()), FIRST)
             self.assertEqual(theirs.recv(100), bytes(RESET))
             self.assertEqual(theirs.recv(100), b"")
-
-
-def waits_after_query(connection, queries):
-    """A script: a query may come, and then the end."""
-    for _ in queries:
-        pass
 
 
 class WithoutSockets(unittest.TestCase):
