@@ -8,7 +8,7 @@ import { Data } from "./data.js";
 import { Router } from "./router.js";
 
 // How many bytes of an input are read at a time: more than the longest unit has.
-const PIECE = 1 << 18;
+const PIECE = 1 << 17;
 
 const LONGEST = 65535;
 const ALL = (1n << 64n) - 1n;

@@ -65,7 +65,7 @@ const TESTS = {
         const bytes = many(30000);
         rtr.delta(bytes, bytes);
         const before = rtr.memory;
-        for (let turn = 0; turn < 200; turn += 1) {
+        for (let turn = 0; turn < 10; turn += 1) {
             const one = rtr.units(bytes);
             const other = rtr.units(bytes, 20);
             assert.equal(one.next().value.offset, 0);
