@@ -1,5 +1,6 @@
 -- Routes as C says them.
-use Rattle.std.proofs.Common.{◌≡◌, ℕ, ◌≤◌, List, Option, Some, None, Bool, true, IfSome, refl, sym, subst}
+use Rattle.std.proofs.Common.{◌≡◌, ℕ, ◌≤◌, List, Option, Some, None, Bool, true, IfSome}
+use Rattle.std.proofs.Common.{refl, sym, subst}
 use Rattle.std.specs.Option.{option_map}
 use Rattle.rtr_base.specs.Addresses.{PrefixParts}
 use Rattle.rtr_units.specs.End.{EndMeaning}

@@ -9,10 +9,11 @@ returns-in-Some-first_covering c =
     let prefix = route_prefix c.args.route.now in
     let asn = c.args.route.now.asn in
     let s = c.show-in-Some-first_covering in
+    let out = s.new.covering in
     let found = c.in-Some-first_covering.found in
-    tells_covering prefix c.args.«data».now c.args.tables.now asn c.args.from s.new.covering s.result
+    tells_covering prefix c.args.«data».now c.args.tables.now asn c.args.from out s.result
     r (Some found) (is_said prefix asn r c.route_of.result c.route_of.ensures c.in-Some.is)
-    (shows_one found r.prefix r.asn c.shown.result s.new.covering s.result c.shown.ensures s.ensures)
+    (shows_one found r.prefix r.asn c.shown.result out s.result c.shown.ensures s.ensures)
     c.in-Some-first_covering.ensures.least c.in-Some-first_covering.ensures.first
 
 pub returns-in-None : goal.returns-in-None
@@ -21,6 +22,7 @@ returns-in-None c =
     let prefix = route_prefix c.args.route.now in
     let asn = c.args.route.now.asn in
     let s = c.show-in-None in
-    tells_covering prefix c.args.«data».now c.args.tables.now asn c.args.from s.new.covering s.result
+    let out = s.new.covering in
+    tells_covering prefix c.args.«data».now c.args.tables.now asn c.args.from out s.result
     r None (is_said prefix asn r c.route_of.result c.route_of.ensures c.in-Some.is) s.ensures
     c.in-None.ensures.least c.in-None.ensures.first
