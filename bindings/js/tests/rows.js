@@ -71,6 +71,7 @@ export function cases(rtr, bytes) {
         const answer = outcome(() => rtr.normalise(input, options));
         assert.deepEqual([answer.status ?? Status.OK, answer.detail ?? 0], [status, detail]);
         assert.deepEqual([answer.units, answer.forms, answer.taken], [units, forms, taken]);
+        assert.equal(answer.offset ?? taken, taken);
         same(answer.form, form, `case ${count}`);
         if (status === Status.OK && version === 255) {
             assert.equal(rtr.sameMeaning(input, form), true, `case ${count}`);
