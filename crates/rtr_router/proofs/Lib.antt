@@ -1,5 +1,7 @@
 pub mod Pacing
+pub mod Connections
 pub mod Serving
+pub mod Recovering
 pub mod Settled
 pub mod Soon
 pub mod Tidy

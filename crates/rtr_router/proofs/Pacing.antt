@@ -329,12 +329,13 @@ step p events.Applied actions.Show last r r' t n g l w d y = record {
 }
 step p _ _ last r r' t n g l w d y = absurd w
 
-record Goes (p : ℕ) (ms : List Moment) (r : Router) : Type 0 where
+record Goes {B : Type 0} (p : ℕ) (ms : List (Moment B)) (r : Router) : Type 0 where
   all : IsPaced p ms
   last : Last p (last_query ms) r (latest ms)
 
 goes :
-    (c : Caller) (ms : List Moment) (r : Router) (h : Host) → IsHistory c ms r h → IsTimed ms
+    {B D : Type 0} (c : Caller B D) (ms : List (Moment B)) (r : Router) (h : Host B D)
+    → IsHistory c ms r h → IsTimed ms
     → Goes c.settings.pause ms r
 goes c ms r h (run_begins r₀ new) timed = record { all = tt; last = tt }
 goes c ms r h (run_goes_on n b e a r' ms₀ r₀ h₀ run said went) timed =
@@ -347,6 +348,7 @@ goes c ms r h (run_goes_on n b e a r' ms₀ r₀ h₀ run said went) timed =
     record { all = (s.here, y.all); last = s.after }
 
 pub paced :
-    (c : Caller) (ms : List Moment) (r : Router) (h : Host) → IsHistory c ms r h → IsTimed ms
+    {B D : Type 0} (c : Caller B D) (ms : List (Moment B)) (r : Router) (h : Host B D)
+    → IsHistory c ms r h → IsTimed ms
     → IsPaced c.settings.pause ms
 paced c ms r h run timed = (goes c ms r h run timed).all

@@ -1,10 +1,9 @@
 -- A router that a cache serves by the rules has data in time: what is left of the time, at most,
 -- never grows.
 use Rattle.std.proofs.Common.{◌≡◌, ◌≢◌, ◌⊎◌, ℕ, Bool, true, false, ◌+◌, ◌*◌, ◌<◌, ◌≤◌, min}
-use Rattle.std.proofs.Common.{max}
+use Rattle.std.proofs.Common.{max, ◌-◌, ◌^◌}
 use Rattle.std.proofs.Common.{Some, None, if◌then◌else◌, refl, sym, ap, ap₂, ◌∙◌, subst}
 use Rattle.std.proofs.Common.{inl, inr, arith, ◌&&◌}
-use Rattle.std.proofs.Math.Nat.{add-mul, mul-le-mul_right}
 use Rattle.std.proofs.lemmas.Bool.{cases_lt}
 use Rattle.rtr_router.specs.declared.head.Head.{Head}
 use Rattle.rtr_router.specs.declared.head.Kind.TheVariants as kinds
@@ -25,10 +24,12 @@ use Rattle.rtr_router.specs.Rules.{awaits_changes, is_answering, query}
 use Rattle.rtr_router.specs.Heeding.{HeedsAsked, HeedsLoss, HeedsTick, asks_for_all, ends_for}
 use Rattle.rtr_router.specs.Heeding.{ends_with}
 use Rattle.rtr_router.specs.Pace.{Paces, PacesAsk, PacesConnect, PacesDrop, PacesFailure}
-use Rattle.rtr_router.specs.Pace.{PacesFall, PacesWait, SameDue, due_in, rest, wakes_at}
+use Rattle.rtr_router.specs.Pace.{PacesFall, PacesWait, SameDue, SamePace, due_in, rest, wakes_at}
 use Rattle.rtr_router.specs.Step.{IsInTime, IsStep}
 use Rattle.rtr_router.specs.Recovery.{AnswersWell, GoesOnWell, IsMadeWell, IsServed, IsServedBy}
-use Rattle.rtr_router.specs.Recovery.{connection_time, restarts, served_until}
+use Rattle.rtr_router.specs.Recovery.{LeavesWell, connection_time, restarts, served_until}
+use Rattle.rtr_router.specs.Recovery.{time_needed}
+use Rattle.rtr_router.specs.Recovery.LeavesWell.{not_asked_yet, notifies_then}
 use Rattle.rtr_router.specs.Recovery.AnswersWell.{answers_anew, refuses_session, closes_session}
 use Rattle.rtr_router.specs.Recovery.AnswersWell.{not_yet, notifies, responds, resets_well}
 use Rattle.rtr_router.specs.Recovery.AnswersWell.{refuses_version, answers_lower, closes_silently}
@@ -37,176 +38,23 @@ use Rattle.rtr_router.specs.Recovery.GoesOnWell.{ends_data}
 use Rattle.rtr_router.specs.Recovery.IsMadeWell.{not_made_yet, are_made, are_refused}
 use Rattle.rtr_router.specs.Recovery.IsServed.{served_from, served_on}
 use Rattle.rtr_router.proofs.Settled.{same_settings}
-
--- ---- what is left, at most, after `due`
-
--- how many connections come after this one, at most
-abbrev after : Settings → Router → ℕ
-after s r = r.version + restarts r * (s.highest + 1)
-
-abbrev opening : Settings → Router → ℕ
-opening s r = if r.fell then r.version else s.highest
-
--- how many come where there is none now
-abbrev all : Settings → Router → ℕ
-all s r = opening s r + 1 + restarts r * (s.highest + 1)
-
-abbrev left : Phase → Settings → Router → ℕ
-left phases.Offline s r = all s r * connection_time s
-left phases.Connecting s r =
-    s.response_limit + s.response_limit + s.pause + after s r * connection_time s
-left phases.Asked s r =
-    (if r.changes then s.response_limit else 0) + s.pause + after s r * connection_time s
-left phases.Reading s r = s.pause + after s r * connection_time s
-left phases.Applying s r = s.pause + after s r * connection_time s
-left phases.Waiting s r = 0
-
--- what holds while a query or its answer is under way
-pub record UnderWay (r : Router) : Type 0 where
-  pub fell : r.fell ≡ false
-  pub has_data : r.changes ≡ true → r.has_data ≡ true
-  pub resync : r.changes ≡ true → r.resync ≡ false
-
-abbrev Holds : Phase → Router → Type 0
-Holds phases.Offline r = Unit {0}
-Holds phases.Connecting r = r.fell ≡ false
-Holds phases.Asked r = UnderWay r
-Holds phases.Reading r = UnderWay r
-Holds phases.Applying r = UnderWay r
-Holds phases.Waiting r = ⊥
-
-pub record Kept (s : Settings) (r r' : Router) (n n' : ℕ) : Type 0 where
-  pub holds : Holds r'.phase r'
-  pub less : max n' r'.due + left r'.phase s r' ≤ max n r.due + left r.phase s r
-
-kept :
-    (p p' : Phase) (s : Settings) (r r' : Router) (n n' : ℕ) → r.phase ≡ p → r'.phase ≡ p'
-    → Holds p' r' → max n' r'.due + left p' s r' ≤ max n r.due + left p s r
-    → Kept s r r' n n'
-kept p p' s r r' n n' e e' h l =
-    let to : max n' r'.due + left r'.phase s r' ≤ max n r.due + left p s r =
-    subst (λ (x : Phase). max n' r'.due + left x s r' ≤ max n r.due + left p s r) (sym e') l in
-    record {
-      holds = subst (λ (x : Phase). Holds x r') (sym e') h;
-      less = subst (λ (x : Phase). max n' r'.due + left r'.phase s r' ≤ max n r.due + left x s r)
-          (sym e) to;
-    }
-
--- ---- arithmetic
-
-same_le :
-    (n n' d d' x x' : ℕ) → n' ≤ max n d → d' ≡ d → x' ≡ x → max n' d' + x' ≤ max n d + x
-same_le n n' d d' x x' h e f = omega arith
-
-less_le :
-    (n n' d d' x x' : ℕ) → n' ≤ max n d → d' ≤ d → x' ≤ x → max n' d' + x' ≤ max n d + x
-less_le n n' d d' x x' h e f = omega arith
-
-connect_le :
-    (n n' d d' l a p x y : ℕ) → n' ≤ max n d → d' ≡ n' + l → y ≡ x + (l + a + a + p)
-    → max n' d' + (a + a + p + x) ≤ max n d + y
-connect_le n n' d d' l a p x y h e f = omega arith
-
-ask_le :
-    (n n' d d' a p z x x' : ℕ) → n' ≤ max n d → d' ≡ n' + a → z ≤ a → x' ≡ x
-    → max n' d' + (z + p + x') ≤ max n d + (a + a + p + x)
-ask_le n n' d d' a p z x x' h e f g = omega arith
-
-reset_le :
-    (n n' d d' a p z z' x x' : ℕ) → n' ≤ max n d → d' ≡ n' + a → z ≡ a → z' ≡ 0 → x' ≤ x
-    → max n' d' + (z' + p + x') ≤ max n d + (z + p + x)
-reset_le n n' d d' a p z z' x x' h e f g k = omega arith
-
-begin_le :
-    (n n' d d' p z x x' : ℕ) → n' ≤ max n d → d' ≡ d → x' ≤ x
-    → max n' d' + (p + x') ≤ max n d + (z + p + x)
-begin_le n n' d d' p z x x' h e f = omega arith
-
-fall_le :
-    (n n' d d' p z x y : ℕ) → n' ≤ max n d → d' ≡ n' → y ≤ x
-    → max n' d' + y ≤ max n d + (z + p + x)
-fall_le n n' d d' p z x y h e f = omega arith
-
-fail_le :
-    (n n' d d' p x y l : ℕ) → n' ≤ max n d → d' ≡ n' + p → y ≤ x → p + x ≤ l
-    → max n' d' + y ≤ max n d + l
-fail_le n n' d d' p x y l h e f g = omega arith
-
-min_le : (d a b : ℕ) → d ≡ min a b → d ≤ a
-min_le d a b e = omega arith
-
-self_le : (x : ℕ) → x ≤ x
-self_le x = omega arith
-
-more_le : (a p x : ℕ) → p + x ≤ a + p + x
-more_le a p x = omega arith
-
--- ---- how many connections
-
-times : (a b p : ℕ) → a ≤ b → a * p ≤ b * p
-times a b p h = mul-le-mul_right p h
-
-once_more : (a p : ℕ) → (a + 1) * p ≡ a * p + p
-once_more a p = add-mul a 1 p ∙ one (a * p) p
-  where
-    one : (x p : ℕ) → x + 1 * p ≡ x + p
-    one x p = omega arith
-
-restarts_same :
-    (r r' : Router) → r'.has_data ≡ r.has_data → r'.resync ≡ r.resync → restarts r' ≡ restarts r
-restarts_same r r' e f = ap₂ (λ (d y : Bool). if d then (if y then 1 else 2) else 0) e f
-
-after_same :
-    (s : Settings) (r r' : Router) → r'.version ≡ r.version → r'.has_data ≡ r.has_data
-    → r'.resync ≡ r.resync → after s r' ≡ after s r
-after_same s r r' e f g =
-    ap₂ (λ (v x : ℕ). v + x * (s.highest + 1)) e (restarts_same r r' f g)
-
-all_same :
-    (s : Settings) (r r' : Router) → r'.fell ≡ r.fell → r'.version ≡ r.version
-    → r'.has_data ≡ r.has_data → r'.resync ≡ r.resync → all s r' ≡ all s r
-all_same s r r' l e f g =
-    ap₂ (λ (o x : ℕ). o + 1 + x * (s.highest + 1))
-    (ap₂ (λ (b : Bool) (v : ℕ). if b then v else s.highest) l e)
-    (restarts_same r r' f g)
-
--- nothing is left to begin anew where there are no data
-no_restarts : (r : Router) → r.has_data ≡ false → restarts r ≡ 0
-no_restarts r e = ap (λ (d : Bool). if d then (if r.resync then 1 else 2) else 0) e
-
-some_restarts : (r : Router) → r.has_data ≡ true → 1 ≤ restarts r
-some_restarts r e = subst (λ (x : ℕ). 1 ≤ x) (sym is) (least r.resync)
-  where
-    is : restarts r ≡ (if r.resync then 1 else 2)
-    is = ap (λ (d : Bool). if d then (if r.resync then 1 else 2) else 0) e
-
-    least : (y : Bool) → 1 ≤ (if y then 1 else 2)
-    least true = omega arith
-    least false = omega arith
-
-restarts_reset : (r r' : Router) → r'.has_data ≡ r.has_data → r'.resync ≡ true
-    → restarts r' ≤ restarts r
-restarts_reset r r' e f =
-    subst (λ (x : ℕ). x ≤ restarts r) (sym
-    (ap₂ (λ (d y : Bool). if d then (if y then 1 else 2) else 0) e f))
-    (most r.has_data r.resync)
-  where
-    most : (d y : Bool) → (if d then 1 else 0) ≤ (if d then (if y then 1 else 2) else 0)
-    most true true = omega arith
-    most true false = omega arith
-    most false y = omega arith
+use Rattle.rtr_router.proofs.Connections.{Holds, Kept, UnderWay, after, after_same, all, all_same}
+use Rattle.rtr_router.proofs.Connections.{ask_le, begin_le, connect_le, fail_le, fall_le, kept}
+use Rattle.rtr_router.proofs.Connections.{left, less_le, min_le, more_le, no_restarts, once_more}
+use Rattle.rtr_router.proofs.Connections.{opening, reset_le, restarts_reset, restarts_same, same_le}
+use Rattle.rtr_router.proofs.Connections.{self_le, some_restarts, still_le, times}
 
 -- ---- each action
 
 -- where all but `due` stays
 on_still :
     (p : Phase) (s : Settings) (r r' : Router) (n n' : ℕ) → r.phase ≡ p → r'.phase ≡ p
-    → n' ≤ max n r.due → SameKnown r r' → r'.version ≡ r.version → r'.resync ≡ r.resync
-    → r'.changes ≡ r.changes → r'.fell ≡ r.fell → r'.due ≡ r.due → Holds p r
-    → Kept s r r' n n'
+    → n' ≤ max n (due_in p r) → SameKnown r r' → r'.version ≡ r.version
+    → r'.resync ≡ r.resync → r'.changes ≡ r.changes → r'.fell ≡ r.fell
+    → due_in p r' ≤ due_in p r → Holds p r → Kept s r r' n n'
 on_still p s r r' n n' e e' t same v y c f d h =
     kept p p s r r' n n' e e' (holding p h)
-    (same_le n n' r.due r'.due (left p s r) (left p s r') t d (leaving p))
+    (still_le n n' (due_in p r) (due_in p r') (left p s r) (left p s r') t d (leaving p))
   where
     under : UnderWay r → UnderWay r'
     under x = record {
@@ -221,7 +69,7 @@ on_still p s r r' n n' e e' t same v y c f d h =
     holding phases.Asked x = under x
     holding phases.Reading x = under x
     holding phases.Applying x = under x
-    holding phases.Waiting x = absurd x
+    holding phases.Waiting x = f ∙ x
 
     next : after s r' ≡ after s r
     next = after_same s r r' v same.has_data y
@@ -235,26 +83,39 @@ on_still p s r r' n n' e e' t same v y c f d h =
         + x * connection_time s) c next
     leaving phases.Reading = ap (λ (x : ℕ). s.pause + x * connection_time s) next
     leaving phases.Applying = ap (λ (x : ℕ). s.pause + x * connection_time s) next
-    leaving phases.Waiting = refl
+    leaving phases.Waiting = ap (λ (x : ℕ). s.response_limit + s.response_limit + s.pause + x *
+        connection_time s) next
+
+-- while it waits a notify makes it ask sooner, and not later
+sooner :
+    (p : Phase) (r r' : Router) (n' : ℕ) → SamePace r r' → r'.due ≤ r.due
+    → due_in p r' ≤ due_in p r
+sooner phases.Waiting r r' n' same h =
+    least r.due r'.due (r.asked + r.settings.pause) (r'.asked + r'.settings.pause) (2 ^ 64 - 1) h
+    (ap₂ (λ (a : ℕ) (x : Settings). a + x.pause) same.asked same.settings)
+  where
+    least : (d d' a a' c : ℕ) → d' ≤ d → a' ≡ a → max d' (min a' c) ≤ max d (min a c)
+    least d d' a a' c h e = omega arith
+sooner phases.Offline r r' n' same h = h
+sooner phases.Connecting r r' n' same h = h
+sooner phases.Asked r r' n' same h = h
+sooner phases.Reading r r' n' same h = h
+sooner phases.Applying r r' n' same h = h
+
+equal_le : (d d' : ℕ) → d' ≡ d → d' ≤ d
+equal_le d d' e = omega arith
 
 on_wait :
     (p : Phase) (s : Settings) (r r' : Router) (n n' : ℕ) (e : Event) → r.phase ≡ p
-    → n' ≤ max n r.due → Waits r e r' → PacesWait r n' r' → Holds p r → Kept s r r' n n'
+    → n' ≤ max n (due_in p r) → Waits r e r' → PacesWait r n' r' → Holds p r → Kept s r r' n n'
 on_wait p s r r' n n' e f t w d h =
     on_still p s r r' n n' f (w.talk.phase ∙ f) t w.same w.talk.version w.talk.resync w.talk.changes
-    d.same.fell (due d.due) h
+    d.same.fell (sooner p r r' n' d.same (due d.due)) h
   where
-    never : (p : Phase) → p ≡ phases.Waiting → Holds p r → ⊥
-    never phases.Waiting q x = x
-    never phases.Offline q x = cc
-    never phases.Connecting q x = cc
-    never phases.Asked q x = cc
-    never phases.Reading q x = cc
-    never phases.Applying q x = cc
-
-    due : (r'.due ≡ r.due) ⊎ ((r.phase ≡ phases.Waiting) × (r'.due ≡ min r.due n')) → r'.due ≡ r.due
-    due (inl q) = q
-    due (inr q) = absurd (never p (sym f ∙ q.0) h)
+    due : (r'.due ≡ r.due) ⊎ ((r.phase ≡ phases.Waiting) × (r'.due ≡ min r.due n'))
+        → r'.due ≤ r.due
+    due (inl q) = equal_le r.due r'.due q
+    due (inr q) = min_le r'.due r.due n' q.1
 
 on_connect :
     (s : Settings) (r r' : Router) (n n' : ℕ) → r.settings ≡ s → n' ≤ max n r.due
@@ -289,6 +150,29 @@ on_connected s r r' n n' q g t w d f =
       resync = λ c. (w.own c).resync;
     })
     (ask_le n n' r.due r'.due s.response_limit s.pause (if r'.changes then s.response_limit else 0)
+    (after s r * connection_time s) (after s r' * connection_time s) t
+    (d.due ∙ ap (λ (x : Settings). n' + x.response_limit) g)
+    (most r'.changes s.response_limit)
+    (ap (λ (x : ℕ). x * connection_time s) (after_same s r r' w.version w.same.has_data w.may.2)))
+  where
+    most : (b : Bool) (a : ℕ) → (if b then a else 0) ≤ a
+    most true a = omega arith
+    most false a = omega arith
+
+-- while it waits, when it is time
+on_asked :
+    (s : Settings) (r r' : Router) (n n' : ℕ) (q : Query) → r.settings ≡ s
+    → n' ≤ max n (due_in phases.Waiting r) → Asks r n' events.Tick q r'
+    → PacesAsk r n' events.Tick r' → r.fell ≡ false → Kept s r r' n n'
+on_asked s r r' n n' q g t w d f =
+    kept phases.Waiting phases.Asked s r r' n n' w.may.0 w.phase
+    (record {
+      fell = d.fell ∙ f;
+      has_data = λ c. (w.own c).has_data;
+      resync = λ c. (w.own c).resync;
+    })
+    (ask_le n n' (due_in phases.Waiting r) r'.due s.response_limit s.pause
+    (if r'.changes then s.response_limit else 0)
     (after s r * connection_time s) (after s r' * connection_time s) t
     (d.due ∙ ap (λ (x : Settings). n' + x.response_limit) g)
     (most r'.changes s.response_limit)
@@ -400,13 +284,13 @@ on_fall s r r' n n' e t w d =
 -- a serial query fails, or the changes that answer it: a reset query follows
 on_failure :
     (p : Phase) (s : Settings) (r r' : Router) (n n' : ℕ) → r.settings ≡ s
-    → r.phase ≡ p → is_answering p ≡ true → r.changes ≡ true → n' ≤ max n r.due
+    → r.phase ≡ p → is_answering p ≡ true → r.changes ≡ true → n' ≤ max n (due_in p r)
     → s.pause + after s r * connection_time s ≤ left p s r
     → SameKnown r r' → r'.phase ≡ phases.Offline → Fails r r' → PacesFailure r n' false r'
     → UnderWay r → Kept s r r' n n'
 on_failure p s r r' n n' g q answers c t room same phase w d x =
     kept p phases.Offline s r r' n n' q phase tt
-    (fail_le n n' r.due r'.due s.pause (after s r * connection_time s)
+    (fail_le n n' (due_in p r) r'.due s.pause (after s r * connection_time s)
     (all s r' * connection_time s) (left p s r) t
     (d.due ∙ ap (λ (b : Bool). n' + (if b then r.settings.pause else rest r)) since
     ∙ ap (λ (x : Settings). n' + x.pause) g)
@@ -437,13 +321,13 @@ on_failure p s r r' n n' g q answers c t room same phase w d x =
 -- data are dropped on a connection
 on_loss :
     (p : Phase) (s : Settings) (r r' : Router) (n n' : ℕ) → r.settings ≡ s
-    → r.phase ≡ p → r.fell ≡ false → r.has_data ≡ true → n' ≤ max n r.due
+    → r.phase ≡ p → r.fell ≡ false → r.has_data ≡ true → n' ≤ max n (due_in p r)
     → s.pause + after s r * connection_time s ≤ left p s r
     → HasLost r r' → r'.phase ≡ phases.Offline → PacesFailure r n' true r'
     → Kept s r r' n n'
 on_loss p s r r' n n' g q f h t room lost phase d =
     kept p phases.Offline s r r' n n' q phase tt
-    (fail_le n n' r.due r'.due s.pause (after s r * connection_time s)
+    (fail_le n n' (due_in p r) r'.due s.pause (after s r * connection_time s)
     (all s r' * connection_time s)
     (left p s r) t (d.due ∙ ap (λ (x : Settings). n' + x.pause) g)
     (times (all s r') (after s r) (connection_time s) fewer) room)
@@ -494,21 +378,12 @@ done r r' n e a x w q = record {
 }
 
 -- time
-soonest : (p : Phase) (r : Router) → r.phase ≡ p → Holds p r → wakes_at r ≤ r.due
-soonest p r e h = bounded r.has_data (due_in r.phase r) r.expires r.due
-    (ap (λ (x : Phase). due_in x r) e ∙ same p h)
+soonest : (r : Router) → wakes_at r ≤ due_in r.phase r
+soonest r = bounded r.has_data (due_in r.phase r) r.expires
   where
-    same : (p : Phase) → Holds p r → due_in p r ≡ r.due
-    same phases.Offline x = refl
-    same phases.Connecting x = refl
-    same phases.Asked x = refl
-    same phases.Reading x = refl
-    same phases.Applying x = refl
-    same phases.Waiting x = absurd x
-
-    bounded : (b : Bool) (x y d : ℕ) → x ≡ d → (if b then min x y else x) ≤ d
-    bounded true x y d e = omega arith
-    bounded false x y d e = omega arith
+    bounded : (b : Bool) (x y : ℕ) → (if b then min x y else x) ≤ x
+    bounded true x y = omega arith
+    bounded false x y = omega arith
 
 max_le : (n n' w d : ℕ) → n' ≤ max n w → w ≤ d → n' ≤ max n d
 max_le n n' w d h k = omega arith
@@ -525,13 +400,14 @@ fresh_or_not r n = go r.has_data refl (cases_lt n r.expires)
 -- the data have expired
 expired :
     (p : Phase) (s : Settings) (r r' : Router) (n n' : ℕ) (e : Event) (a : Action)
-    → r.settings ≡ s → r.phase ≡ p → Holds p r → n' ≤ max n r.due
+    → r.settings ≡ s → r.phase ≡ p → Holds p r → n' ≤ max n (due_in p r)
     → r.has_data ≡ true → r.expires ≤ n' → IsStep r n' e a r' → Kept s r r' n n'
-expired p s r r' n n' e a g q h t has late w = go p q h
+expired p s r r' n n' e a g q h t has late w = go p q h t
   where
     online : (p : Phase) → r.phase ≡ p → r.phase ≢ phases.Offline → r.fell ≡ false
-        → s.pause + after s r * connection_time s ≤ left p s r → Kept s r r' n n'
-    online p q differs f room =
+        → s.pause + after s r * connection_time s ≤ left p s r → n' ≤ max n (due_in p r)
+        → Kept s r r' n n'
+    online p q differs f room t =
         let d : Done r n' e (ends_with true None causes.Expired) r' =
         done r r' n' e a (ends_with true None causes.Expired) w
         ((w.expires has late).online differs) in
@@ -549,26 +425,27 @@ expired p s r r' n n' e a g q h t has late w = go p q h
     not_in : (p : Phase) → r.phase ≡ p → p ≢ phases.Offline → r.phase ≢ phases.Offline
     not_in p q differs e = differs (sym q ∙ e)
 
-    go : (p : Phase) → r.phase ≡ p → Holds p r → Kept s r r' n n'
-    go phases.Offline q h =
+    go : (p : Phase) → r.phase ≡ p → Holds p r → n' ≤ max n (due_in p r) → Kept s r r' n n'
+    go phases.Offline q h t =
         let d : Done r n' e actions.Drop r' = done r r' n' e a actions.Drop w
         ((w.expires has late).offline q) in
         on_drop s r r' n n' t d.rule d.paces
-    go phases.Connecting q h = online phases.Connecting q (not_in phases.Connecting q (λ f. cc)) h
-        (room_two s.response_limit s.pause (after s r * connection_time s))
-    go phases.Asked q h = online phases.Asked q (not_in phases.Asked q (λ f. cc)) h.fell
+    go phases.Connecting q h t = online phases.Connecting q (not_in phases.Connecting q (λ f. cc)) h
+        (room_two s.response_limit s.pause (after s r * connection_time s)) t
+    go phases.Asked q h t = online phases.Asked q (not_in phases.Asked q (λ f. cc)) h.fell
         (room_more (if r.changes then s.response_limit else 0) s.pause
-        (after s r * connection_time s))
-    go phases.Reading q h = online phases.Reading q (not_in phases.Reading q (λ f. cc)) h.fell
-        (room_self (s.pause + after s r * connection_time s))
-    go phases.Applying q h = online phases.Applying q (not_in phases.Applying q (λ f. cc)) h.fell
-        (room_self (s.pause + after s r * connection_time s))
-    go phases.Waiting q h = absurd h
+        (after s r * connection_time s)) t
+    go phases.Reading q h t = online phases.Reading q (not_in phases.Reading q (λ f. cc)) h.fell
+        (room_self (s.pause + after s r * connection_time s)) t
+    go phases.Applying q h t = online phases.Applying q (not_in phases.Applying q (λ f. cc)) h.fell
+        (room_self (s.pause + after s r * connection_time s)) t
+    go phases.Waiting q h t = online phases.Waiting q (not_in phases.Waiting q (λ f. cc)) h
+        (room_two s.response_limit s.pause (after s r * connection_time s)) t
 
 -- it waits
 passed :
     (p : Phase) (s : Settings) (r r' : Router) (n n' : ℕ) (e : Event) (a : Action)
-    → r.phase ≡ p → Holds p r → n' ≤ max n r.due → IsStep r n' e a r' → a ≡ actions.Wait
+    → r.phase ≡ p → Holds p r → n' ≤ max n (due_in p r) → IsStep r n' e a r' → a ≡ actions.Wait
     → Kept s r r' n n'
 passed p s r r' n n' e a q h t w f =
     let d : Done r n' e actions.Wait r' = done r r' n' e a actions.Wait w f in
@@ -735,7 +612,7 @@ reading s r r' n n' e a q h t fresh soon (sends_payload u k v x) w =
     let rule : Keeps r u r' = d.rule in
     let paces : SameDue r r' = d.paces in
     on_still phases.Reading s r r' n n' q (rule.talk.phase ∙ q) t rule.same rule.talk.version
-    rule.talk.resync rule.talk.changes paces.same.fell paces.due h
+    rule.talk.resync rule.talk.changes paces.same.fell (equal_le r.due r'.due paces.due) h
 reading s r r' n n' e a q h t fresh soon (ends_data u x y z) w =
     let d : Done r n' (events.Came u) (actions.Apply r.changes) r' = done r r' n' (events.Came u) a
     (actions.Apply r.changes) w (((w.heeds fresh soon).reading q).applies x y z) in
@@ -775,9 +652,34 @@ offline s r r' n n' a g q t fresh soon w = go (cases_lt n' r.due)
         done r r' n' events.Tick a actions.Connect w (heeds.connects q x) in
         on_connect s r r' n n' g t d.rule d.paces
 
+waiting :
+    (s : Settings) (r r' : Router) (n n' : ℕ) (e : Event) (a : Action)
+    → r.settings ≡ s → r.phase ≡ phases.Waiting → r.fell ≡ false
+    → n' ≤ max n (due_in phases.Waiting r)
+    → Fresh r n' → IsInTime r n' → LeavesWell r e → IsStep r n' e a r' → Kept s r r' n n'
+waiting s r r' n n' e a g q h t fresh soon (notifies_then u x) w =
+    passed phases.Waiting s r r' n n' (events.Came u) a q h t w
+    (((w.heeds fresh soon).waiting q).notified x)
+waiting s r r' n n' e a g q h t fresh soon not_asked_yet w =
+    go (cases_lt n' r.due) (cases_lt (n' - r.asked) r.settings.pause)
+  where
+    heeds : HeedsTick r n' a r'
+    heeds = w.heeds fresh soon
+
+    go : (n' < r.due) ⊎ (r.due ≤ n')
+        → (n' - r.asked < r.settings.pause) ⊎ (r.settings.pause ≤ n' - r.asked)
+        → Kept s r r' n n'
+    go (inl x) y = passed phases.Waiting s r r' n n' events.Tick a q h t w (heeds.waits q x)
+    go (inr x) (inl y) =
+        passed phases.Waiting s r r' n n' events.Tick a q h t w (heeds.pauses q y)
+    go (inr x) (inr y) =
+        let d : Done r n' events.Tick (actions.Ask (query r')) r' =
+        done r r' n' events.Tick a (actions.Ask (query r')) w (heeds.asks q x y) in
+        on_asked s r r' n n' (query r') g t d.rule d.paces h
+
 served :
     (most : ℕ) (p : Phase) (s : Settings) (r r' : Router) (n n' : ℕ) (e : Event) (a : Action)
-    → r.settings ≡ s → r.phase ≡ p → Holds p r → n' ≤ max n r.due
+    → r.settings ≡ s → r.phase ≡ p → Holds p r → n' ≤ max n (due_in p r)
     → Fresh r n' → IsInTime r n' → IsServedBy most p r e → IsStep r n' e a r' → a ≢ actions.Show
     → Kept s r r' n n'
 served most phases.Offline s r r' n n' e a g q h t fresh soon x w unshown =
@@ -797,7 +699,8 @@ served most phases.Reading s r r' n n' e a g q h t fresh soon x w unshown =
     reading s r r' n n' e a q h t fresh soon x w
 served most phases.Applying s r r' n n' e a g q h t fresh soon x w unshown =
     applying s r r' n n' e a g q h t fresh soon x w unshown
-served most phases.Waiting s r r' n n' e a g q h t fresh soon x w unshown = absurd x
+served most phases.Waiting s r r' n n' e a g q h t fresh soon x w unshown =
+    waiting s r r' n n' e a g q h t fresh soon x w
 
 step :
     (most : ℕ) (s : Settings) (r r' : Router) (n n' : ℕ) (e : Event) (a : Action)
@@ -806,8 +709,8 @@ step :
     → Kept s r r' n n'
 step most s r r' n n' e a g h t soon x w unshown = go (fresh_or_not r n')
   where
-    in_time : n' ≤ max n r.due
-    in_time = max_le n n' (wakes_at r) r.due t (soonest r.phase r refl h)
+    in_time : n' ≤ max n (due_in r.phase r)
+    in_time = max_le n n' (wakes_at r) (due_in r.phase r) t (soonest r)
 
     go : Fresh r n' ⊎ ((r.has_data ≡ true) × (r.expires ≤ n')) → Kept s r r' n n'
     go (inl fresh) = served most r.phase s r r' n n' e a g refl h in_time fresh soon x w unshown
@@ -816,15 +719,17 @@ step most s r r' n n' e a g h t soon x w unshown = go (fresh_or_not r n')
 record Lasts (s : Settings) (r₀ r : Router) (start n : ℕ) : Type 0 where
   settings : r.settings ≡ s
   holds : Holds r.phase r
-  less : max n r.due + left r.phase s r ≤ max start r₀.due + left r₀.phase s r₀
+  less :
+      max n (due_in r.phase r) + left r.phase s r
+      ≤ max start (due_in r₀.phase r₀) + left r₀.phase s r₀
 
 lasts :
-    (most : ℕ) (r₀ : Router) (start : ℕ) (r : Router) (n : ℕ) → r₀.phase ≡ phases.Offline
+    (most : ℕ) (r₀ : Router) (start : ℕ) (r : Router) (n : ℕ) → Holds r₀.phase r₀
     → IsServed most r₀ start r n → Lasts r₀.settings r₀ r start n
 lasts most r₀ start r n q served_from = record {
   settings = refl;
-  holds = subst (λ (p : Phase). Holds p r₀) (sym q) tt;
-  less = self (max start r₀.due + left r₀.phase r₀.settings r₀);
+  holds = q;
+  less = self (max start (due_in r₀.phase r₀) + left r₀.phase r₀.settings r₀);
 }
   where
     self : (x : ℕ) → x ≤ x
@@ -836,22 +741,35 @@ lasts most r₀ start r n q (served_on r₁ n₁ n₂ e a r₂ run l t soon x w 
     record {
       settings = same_settings r₁ r₂ n₂ e a w.paces ∙ y.settings;
       holds = z.holds;
-      less = through (max n₂ r₂.due + left r₂.phase r₀.settings r₂)
-          (max n₁ r₁.due + left r₁.phase r₀.settings r₁)
-          (max start r₀.due + left r₀.phase r₀.settings r₀) z.less y.less;
+      less = through (max n₂ (due_in r₂.phase r₂) + left r₂.phase r₀.settings r₂)
+          (max n₁ (due_in r₁.phase r₁) + left r₁.phase r₀.settings r₁)
+          (max start (due_in r₀.phase r₀) + left r₀.phase r₀.settings r₀) z.less y.less;
     }
   where
     through : (a b c : ℕ) → a ≤ b → b ≤ c → a ≤ c
     through a b c h k = omega arith
 
 pub recovers :
-    (most : ℕ) (r₀ : Router) (start : ℕ) (r : Router) (n : ℕ) → r₀.phase ≡ phases.Offline
+    (most : ℕ) (r₀ : Router) (start : ℕ) (r : Router) (n : ℕ) → Holds r₀.phase r₀
     → IsServed most r₀ start r n → n ≤ served_until r₀ start
 recovers most r₀ start r n q run =
     let y : Lasts r₀.settings r₀ r start n = lasts most r₀ start r n q run in
-    bound n r.due (left r.phase r₀.settings r) (max start r₀.due) (left r₀.phase r₀.settings r₀)
-    (all r₀.settings r₀ * connection_time r₀.settings)
-    y.less (ap (λ (p : Phase). left p r₀.settings r₀) q)
+    bound n (due_in r.phase r) (left r.phase r₀.settings r) (max start (due_in r₀.phase r₀))
+    (left r₀.phase r₀.settings r₀) (time_needed r₀.phase r₀) y.less (same r₀.phase)
   where
     bound : (n d x t l y : ℕ) → max n d + x ≤ t + l → l ≡ y → n ≤ t + y
     bound n d x t l y h e = omega arith
+
+    same : (p : Phase) → left p r₀.settings r₀ ≡ time_needed p r₀
+    same phases.Offline = refl
+    same phases.Connecting = refl
+    same phases.Asked = refl
+    same phases.Reading = refl
+    same phases.Applying = refl
+    same phases.Waiting = refl
+
+pub recovers_offline :
+    (most : ℕ) (r₀ : Router) (start : ℕ) (r : Router) (n : ℕ) → r₀.phase ≡ phases.Offline
+    → IsServed most r₀ start r n → n ≤ served_until r₀ start
+recovers_offline most r₀ start r n q run =
+    recovers most r₀ start r n (subst (λ (p : Phase). Holds p r₀) (sym q) tt) run

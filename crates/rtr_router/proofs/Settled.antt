@@ -38,7 +38,8 @@ same_settings r r' n e actions.NoData d = d.same.settings
 same_settings r r' n e (actions.End x) d = (ends_settled x.cause x r r' n d).settings
 
 pub settled :
-    (c : Caller) (ms : List Moment) (r : Router) (h : Host) → IsHistory c ms r h
+    {B D : Type 0} (c : Caller B D) (ms : List (Moment B)) (r : Router) (h : Host B D)
+    → IsHistory c ms r h
     → r.settings ≡ c.settings
 settled c ms r h (run_begins r₀ new) = new.settings
 settled c ms r h (run_goes_on n b e a r' ms₀ r₀ h₀ run said went) =

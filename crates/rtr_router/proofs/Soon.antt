@@ -227,7 +227,8 @@ zero_asked : (d : ℕ) → d ≡ 0 → d ≤ 0
 zero_asked d e = omega arith
 
 soon_always :
-    (c : Caller) (ms : List Moment) (r : Router) (h : Host) → IsHistory c ms r h → IsTimed ms
+    {B D : Type 0} (c : Caller B D) (ms : List (Moment B)) (r : Router) (h : Host B D)
+    → IsHistory c ms r h → IsTimed ms
     → Soon c.settings r (latest ms)
 soon_always c ms r h (run_begins r₀ new) timed = record {
   due = zero_soon r₀.due (longest c.settings) new.due;
@@ -263,7 +264,8 @@ least_of true x y m h = omega arith
 least_of false x y m h = h
 
 pub acts_soon :
-    (c : Caller) (ms : List Moment) (r : Router) (h : Host) → IsHistory c ms r h → IsTimed ms
+    {B D : Type 0} (c : Caller B D) (ms : List (Moment B)) (r : Router) (h : Host B D)
+    → IsHistory c ms r h → IsTimed ms
     → wakes_at r ≤ latest ms + longest c.settings
 acts_soon c ms r h run timed =
     least_of r.has_data (due_in r.phase r) r.expires (latest ms + longest c.settings)

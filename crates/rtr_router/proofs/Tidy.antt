@@ -96,11 +96,12 @@ step events.Applied actions.Show o r r' n w y = record {
 }
 step _ _ o r r' n w y = absurd w
 
-record Tidies (ms : List Moment) (r : Router) : Type 0 where
+record Tidies {B : Type 0} (ms : List (Moment B)) (r : Router) : Type 0 where
   all : IsTidy ms
   last : OpenAt r.phase (has_connection ms)
 
-tidies : (c : Caller) (ms : List Moment) (r : Router) (h : Host) → IsHistory c ms r h → Tidies ms r
+tidies : {B D : Type 0} (c : Caller B D) (ms : List (Moment B)) (r : Router) (h : Host B D)
+    → IsHistory c ms r h → Tidies ms r
 tidies c ms r h (run_begins r₀ new) = record {
   all = tt;
   last = at_open phases.Offline r₀.phase false new.phase refl;
@@ -111,5 +112,6 @@ tidies c ms r h (run_goes_on n b e a r' ms₀ r₀ h₀ run said went) =
     y.last in
     record { all = (s.here, y.all); last = s.after }
 
-pub tidy : (c : Caller) (ms : List Moment) (r : Router) (h : Host) → IsHistory c ms r h → IsTidy ms
+pub tidy : {B D : Type 0} (c : Caller B D) (ms : List (Moment B)) (r : Router) (h : Host B D)
+    → IsHistory c ms r h → IsTidy ms
 tidy c ms r h run = (tidies c ms r h run).all

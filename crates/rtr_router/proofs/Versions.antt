@@ -157,11 +157,12 @@ step e (actions.Ask q) o r r' n w y = record {
 }
 step _ _ o r r' n w y = absurd w
 
-record Goes (ms : List Moment) (r : Router) : Type 0 where
+record Goes {B : Type 0} (ms : List (Moment B)) (r : Router) : Type 0 where
   all : IsOfOneVersion ms
   last : At r.phase (agreed_version ms) r
 
-goes : (c : Caller) (ms : List Moment) (r : Router) (h : Host) → IsHistory c ms r h → Goes ms r
+goes : {B D : Type 0} (c : Caller B D) (ms : List (Moment B)) (r : Router) (h : Host B D)
+    → IsHistory c ms r h → Goes ms r
 goes c ms r h (run_begins r₀ new) = record
     { all = tt; last = to_phase phases.Offline None r₀ new.phase tt }
 goes c ms r h (run_goes_on n b e a r' ms₀ r₀ h₀ run said went) =
@@ -170,7 +171,8 @@ goes c ms r h (run_goes_on n b e a r' ms₀ r₀ h₀ run said went) =
     y.last in
     record { all = (s.here, y.all); last = s.after }
 
-pub one_version : (c : Caller) (ms : List Moment) (r : Router) (h : Host) → IsHistory c ms r h
+pub one_version : {B D : Type 0} (c : Caller B D) (ms : List (Moment B)) (r : Router)
+    (h : Host B D) → IsHistory c ms r h
     → IsOfOneVersion ms
 one_version c ms r h run = (goes c ms r h run).all
 
@@ -358,11 +360,12 @@ try m events.Applied actions.Show o r r' n g w d y = record {
 }
 try m _ _ o r r' n g w d y = absurd w
 
-record Trying (m : ℕ) (ms : List Moment) (r : Router) : Type 0 where
+record Trying {B : Type 0} (m : ℕ) (ms : List (Moment B)) (r : Router) : Type 0 where
   all : TriesHighest m ms
   last : Begun m r (last_cause ms)
 
-trying : (c : Caller) (ms : List Moment) (r : Router) (h : Host) → IsHistory c ms r h
+trying : {B D : Type 0} (c : Caller B D) (ms : List (Moment B)) (r : Router) (h : Host B D)
+    → IsHistory c ms r h
     → Trying c.settings.highest ms r
 trying c ms r h (run_begins r₀ new) = record {
   all = tt;
@@ -377,9 +380,15 @@ trying c ms r h (run_goes_on n b e a r' ms₀ r₀ h₀ run said went) =
     try c.settings.highest e a (last_cause ms₀) r₀ r' n g went.rule went.paces y.last in
     record { all = (s.here, y.all); last = s.after }
 
-pub tries_highest : (c : Caller) (ms : List Moment) (r : Router) (h : Host) → IsHistory c ms r h
+pub tries_highest : {B D : Type 0} (c : Caller B D) (ms : List (Moment B)) (r : Router)
+    (h : Host B D) → IsHistory c ms r h
     → TriesHighest c.settings.highest ms
 tries_highest c ms r h run = (trying c ms r h run).all
+
+-- a router that has a connection, or makes one, has fallen to no version since
+pub stands_online : {B D : Type 0} (p : Phase) (c : Caller B D) (ms : List (Moment B)) (r : Router)
+    (h : Host B D) → IsHistory c ms r h → r.phase ≡ p → Stands p r
+stands_online p c ms r h run q = stands_in p r q (trying c ms r h run).last.stands
 
 -- ---- the version of the data is never given up in silence
 
@@ -447,7 +456,8 @@ floor_step events.Applied actions.Show r r' n w y = λ h. floor_equal r'.known.v
     (ap (λ (k : Known). k.version) w.known ∙ sym w.floor)
 floor_step _ _ r r' n w y = absurd w
 
-floors : (c : Caller) (ms : List Moment) (r : Router) (h : Host) → IsHistory c ms r h → Floors r
+floors : {B D : Type 0} (c : Caller B D) (ms : List (Moment B)) (r : Router) (h : Host B D)
+    → IsHistory c ms r h → Floors r
 floors c ms r h (run_begins r₀ new) = λ e. let g : r₀.has_data ≡ false = new.has_data in cc
 floors c ms r h (run_goes_on n b e a r' ms₀ r₀ h₀ run said went) = floor_step e a r₀ r' n went.rule
     (floors c ms₀ r₀ h₀ run)
@@ -457,7 +467,8 @@ falls_by : (y : Cause) (x : Ending) (r r' : Router) → y ≡ causes.Lower
 falls_by y x r r' e w = (subst (λ (y : Cause). ClosesBy y r events.Lost x r') e w).over.not_below
 
 pub never_below_data :
-    (c : Caller) (ms : List Moment) (r : Router) (h : Host) (n : ℕ) (x : Ending) (r' : Router)
+    {B D : Type 0} (c : Caller B D) (ms : List (Moment B)) (r : Router) (h : Host B D) (n : ℕ)
+    (x : Ending) (r' : Router)
     → IsHistory c ms r h → IsStep r n events.Lost (actions.End x) r' → x.cause ≡ causes.Lower
     → r.has_data ≡ true → r.known.version ≤ r'.version
 never_below_data c ms r h n x r' run went e has =

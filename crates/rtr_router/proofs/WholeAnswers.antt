@@ -23,7 +23,7 @@ use Rattle.rtr_router.specs.Times.{expire_ms}
 use Rattle.rtr_router.specs.Histories.{Caller, HistoryHas, Host, IsAnswered, IsOut}
 use Rattle.rtr_router.specs.Histories.{IsRead, IsHistory}
 use Rattle.rtr_router.specs.Histories.{IsStill, WasAnswered, LeavesData, MaySay, Moment, at}
-use Rattle.rtr_router.specs.Histories.{empty_host}
+use Rattle.rtr_router.specs.Histories.{Made, empty_host}
 use Rattle.rtr_router.specs.Histories.{host_after}
 use Rattle.rtr_router.specs.Histories.IsOut.{was_asked, still_out}
 use Rattle.rtr_router.specs.Histories.IsRead.{was_begun, was_kept, still_read}
@@ -45,27 +45,30 @@ pub record IsOwn (r : Router) (v s : ℕ) : Type 0 where
   pub version : r.changes ≡ true → v ≡ r.known.version
   pub session : r.changes ≡ true → s ≡ r.known.session
 
-pub record AtAsked (ms : List Moment) (r : Router) : Type 0 where
+pub record AtAsked {B : Type 0} (ms : List (Moment B)) (r : Router) : Type 0 where
   pub q : Query
   pub out : IsOut q ms
   pub of : IsOf q r
   pub own : r.changes ≡ true → r.version ≡ r.known.version
 
-pub record AtReading (ms : List Moment) (r : Router) (h : Host) : Type 0 where
+pub record AtReading {B D : Type 0} (ms : List (Moment B)) (r : Router) (h : Host B D) :
+    Type 0 where
   pub q : Query
   pub read : IsRead q r.version r.session ms h.kept
   pub of : IsOf q r
   pub own : IsOwn r r.version r.session
 
-pub record AtApplying (c : Caller) (ms : List Moment) (r : Router) (h : Host) : Type 0 where
+pub record AtApplying {B D : Type 0} (c : Caller B D) (ms : List (Moment B)) (r : Router)
+    (h : Host B D) : Type 0 where
   pub q : Query
-  pub whole : WasAnswered q r.answer ms h.kept
-  pub made : h.made ≡ c.make (if r.changes then h.shown else None) h.kept
+  pub last : B
+  pub whole : WasAnswered q r.answer ms h.kept last
+  pub made : h.made ≡ c.make (if r.changes then h.shown else None) h.kept last
   pub of : IsOf q r
   pub own : IsOwn r r.answer.version r.answer.session
   pub order : r.changes ≡ true → serial_cmp r.answer.serial r.known.serial ≢ Some Less
 
-abbrev At : Caller → List Moment → Router → Host → Phase → Type 0
+abbrev At : {B D : Type 0} → Caller B D → List (Moment B) → Router → Host B D → Phase → Type 0
 At c ms r h phases.Offline = Unit {0}
 At c ms r h phases.Connecting = Unit {0}
 At c ms r h phases.Asked = AtAsked ms r
@@ -73,23 +76,27 @@ At c ms r h phases.Reading = AtReading ms r h
 At c ms r h phases.Applying = AtApplying c ms r h
 At c ms r h phases.Waiting = Unit {0}
 
-pub record HasNow (c : Caller) (ms : List Moment) (r : Router) (h : Host) : Type 0 where
+pub record HasNow {B D : Type 0} (c : Caller B D) (ms : List (Moment B)) (r : Router)
+    (h : Host B D) :
+    Type 0 where
   pub has_data : r.has_data ≡ true
   pub since : ℕ
-  pub value : ℕ
+  pub value : D
   pub shows : h.shown ≡ Some value
-  pub has : HistoryHas c ms r.known since value
+  pub has : HistoryHas c.settings (Made c) ms r.known since value
   pub expires : r.expires ≤ since + expire_ms c.settings r.known
 
-pub record HasNot (r : Router) (h : Host) : Type 0 where
+pub record HasNot {B D : Type 0} (r : Router) (h : Host B D) : Type 0 where
   pub has_data : r.has_data ≡ false
   pub shows : h.shown ≡ None
 
-abbrev Data : Caller → List Moment → Router → Host → Type 0
-Data c ms r h = HasNot r h ⊎ HasNow c ms r h
+abbrev Shows : {B D : Type 0} → Caller B D → List (Moment B) → Router → Host B D → Type 0
+Shows c ms r h = HasNot r h ⊎ HasNow c ms r h
 
-pub record Holds (c : Caller) (ms : List Moment) (r : Router) (h : Host) : Type 0 where
-  pub has : Data c ms r h
+pub record Holds {B D : Type 0} (c : Caller B D) (ms : List (Moment B)) (r : Router)
+    (h : Host B D) :
+    Type 0 where
+  pub has : Shows c ms r h
   pub talk : At c ms r h r.phase
 
 -- ---- phases
@@ -102,27 +109,29 @@ le_self n = omega arith
 
 -- ---- data
 
-expiry : (c : Caller) (n a b t : ℕ) (k k' : Known) → n < b → b ≡ a → k' ≡ k
+expiry : {B D : Type 0} (c : Caller B D) (n a b t : ℕ) (k k' : Known) → n < b → b ≡ a → k' ≡ k
     → a ≤ t + expire_ms c.settings k → n < t + expire_ms c.settings k
 expiry c n a b t k k' p e f q = lt_le n a (t + expire_ms c.settings k) (subst (λ x. n < x) e p) q
 
 -- data that nothing touches stay, until they expire
-stay : (c : Caller) (n b : ℕ) (e : Event) (a : Action) (ms : List Moment) (r r' : Router)
-    (h h' : Host) → SameKnown r r' → h'.shown ≡ h.shown → LeavesData a → Fresh r' n → Data c ms r h
-    → Data c (at n e b a ∷ ms) r' h'
+stay : {B D : Type 0} (c : Caller B D) (n : ℕ) (b : B) (e : Event) (a : Action)
+    (ms : List (Moment B)) (r r' : Router)
+    (h h' : Host B D) → SameKnown r r' → h'.shown ≡ h.shown → LeavesData a → Fresh r' n
+    → Shows c ms r h
+    → Shows c (at n e b a ∷ ms) r' h'
 stay c n b e a ms r r' h h' same shown leaves fresh (inl x) = inl
     (record { has_data = same.has_data ∙ x.has_data; shows = shown ∙ x.shows })
-stay c n b e a ms r r' h h' same shown leaves fresh (inr x) =
+stay {B = B} c n b e a ms r r' h h' same shown leaves fresh (inr x) =
     let has_now : r'.has_data ≡ true = same.has_data ∙ x.has_data in
     let soon : n < x.since + expire_ms c.settings r.known = expiry c n r.expires r'.expires x.since
     r.known r'.known (fresh has_now) same.expires same.known x.expires in
-    let m : Moment = at n e b a in
+    let m : Moment B = at n e b a in
     inr (record {
       has_data = has_now;
       since = x.since;
       value = x.value;
       shows = shown ∙ x.shows;
-      has = subst (λ k. HistoryHas c (m ∷ ms) k x.since x.value) (sym same.known)
+      has = subst (λ k. HistoryHas c.settings (Made c) (m ∷ ms) k x.since x.value) (sym same.known)
           (still_had n b e a ms r.known x.since x.value x.has leaves soon);
       expires = subst (λ k. r'.expires ≤ x.since + expire_ms c.settings k) (sym same.known)
           (subst (λ t. t ≤ x.since + expire_ms c.settings r.known) (sym same.expires) x.expires);
@@ -168,7 +177,8 @@ not_connecting p (asked e) f = cc
 not_connecting p (reading e) f = cc
 not_connecting p (applying e) f = cc
 
-still : (r : Router) (h : Host) (e : Event) → IsBusy r.phase → MaySay r h e → PassesOver r e
+still : {B D : Type 0} (r : Router) (h : Host B D) (e : Event) → IsBusy r.phase → MaySay r h e
+    → PassesOver r e
     → IsStill e
 still r h (events.Came u) p said (inl x) = absurd (not_offline r.phase p x)
 still r h (events.Came u) p said (inr (inl x)) = absurd (not_connecting r.phase p x)
@@ -183,7 +193,8 @@ still r h (events.NotApplied code) p said x = tt
 
 -- ---- each action
 
-wait_at : (c : Caller) (n b : ℕ) (e : Event) (ms : List Moment) (r r' : Router) (h : Host)
+wait_at : {B D : Type 0} (c : Caller B D) (n : ℕ) (b : B) (e : Event) (ms : List (Moment B))
+    (r r' : Router) (h : Host B D)
     (p : Phase) → r.phase ≡ p → MaySay r h e → Waits r e r' → At c ms r h p
     → At c (at n e b actions.Wait ∷ ms) r' h p
 wait_at c n b e ms r r' h phases.Offline pe said w x = tt
@@ -196,8 +207,8 @@ wait_at c n b e ms r r' h phases.Asked pe said w x = record {
   own = λ p. w.talk.version ∙ x.own (sym w.talk.changes ∙ p) ∙ ap (λ (k : Known). k.version)
       (sym w.same.known);
 }
-wait_at c n b e ms r r' h phases.Reading pe said w x =
-    let m : Moment = at n e b actions.Wait in
+wait_at {B = B} c n b e ms r r' h phases.Reading pe said w x =
+    let m : Moment B = at n e b actions.Wait in
     let on : IsRead x.q r.version r.session (m ∷ ms) h.kept =
     still_read n b e ms h.kept (still r h e (reading pe) said w.passes) x.read in
     record {
@@ -208,13 +219,14 @@ wait_at c n b e ms r r' h phases.Reading pe said w x =
       own = is_own r r' r.version r.session r'.version r'.session w.same w.talk.changes
           w.talk.version w.talk.session x.own;
     }
-wait_at c n b e ms r r' h phases.Applying pe said w x =
-    let m : Moment = at n e b actions.Wait in
+wait_at {B = B} c n b e ms r r' h phases.Applying pe said w x =
+    let m : Moment B = at n e b actions.Wait in
     record {
       q = x.q;
-      whole = subst (λ k. WasAnswered x.q k (m ∷ ms) h.kept) (sym w.talk.answer)
-          (still_whole n b e ms h.kept (still r h e (applying pe) said w.passes) x.whole);
-      made = x.made ∙ ap (λ (s : Bool). c.make (if s then h.shown else None) h.kept)
+      last = x.last;
+      whole = subst (λ k. WasAnswered x.q k (m ∷ ms) h.kept x.last) (sym w.talk.answer)
+          (still_whole n b e ms h.kept x.last (still r h e (applying pe) said w.passes) x.whole);
+      made = x.made ∙ ap (λ (s : Bool). c.make (if s then h.shown else None) h.kept x.last)
           (sym w.talk.changes);
       of = is_of x.q r r' w.same w.talk.changes x.of;
       own = is_own r r' r.answer.version r.answer.session r'.answer.version r'.answer.session w.same
@@ -224,11 +236,12 @@ wait_at c n b e ms r r' h phases.Applying pe said w x =
           (ap (λ (k : Known). k.serial) w.talk.answer) x.order;
     }
 
-on_wait : (c : Caller) (n b : ℕ) (e : Event) (ms : List Moment) (r r' : Router) (h : Host)
+on_wait : {B D : Type 0} (c : Caller B D) (n : ℕ) (b : B) (e : Event) (ms : List (Moment B))
+    (r r' : Router) (h : Host B D)
     → MaySay r h e → Waits r e r' → Fresh r' n → Holds c ms r h
     → Holds c (at n e b actions.Wait ∷ ms) r' h
-on_wait c n b e ms r r' h said w fresh x =
-    let m : Moment = at n e b actions.Wait in
+on_wait {B = B} c n b e ms r r' h said w fresh x =
+    let m : Moment B = at n e b actions.Wait in
     record {
       has = stay c n b e actions.Wait ms r r' h h w.same refl tt fresh x.has;
       talk = subst (λ p. At c (m ∷ ms) r' h p) (sym w.talk.phase)
@@ -236,15 +249,17 @@ on_wait c n b e ms r r' h said w fresh x =
     }
 
 -- at rest nothing has to be known of an answer
-at_rest : (c : Caller) (ms : List Moment) (r : Router) (h : Host) (p : Phase) → r.phase ≡ p
+at_rest : {B D : Type 0} (c : Caller B D) (ms : List (Moment B)) (r : Router) (h : Host B D)
+    (p : Phase) → r.phase ≡ p
     → At c ms r h p → At c ms r h r.phase
 at_rest c ms r h p e x = subst (λ p. At c ms r h p) (sym e) x
 
-on_ask : (c : Caller) (n b : ℕ) (e : Event) (q : Query) (ms : List Moment) (r r' : Router)
-    (h : Host) → Asks r n e q r' → Fresh r' n → Holds c ms r h
+on_ask : {B D : Type 0} (c : Caller B D) (n : ℕ) (b : B) (e : Event) (q : Query)
+    (ms : List (Moment B)) (r r' : Router)
+    (h : Host B D) → Asks r n e q r' → Fresh r' n → Holds c ms r h
     → Holds c (at n e b (actions.Ask q) ∷ ms) r' h
-on_ask c n b e q ms r r' h w fresh x =
-    let m : Moment = at n e b (actions.Ask q) in
+on_ask {B = B} c n b e q ms r r' h w fresh x =
+    let m : Moment B = at n e b (actions.Ask q) in
     let same_query : (s : Bool) → r'.changes ≡ s → IsOf q r' = asked_of q r' w.query w.own in
     record {
       has = stay c n b e (actions.Ask q) ms r r' h h w.same refl tt fresh x.has;
@@ -281,13 +296,14 @@ on_ask c n b e q ms r r' h w fresh x =
           version = λ p. cc;
         }
 
-on_begin : (c : Caller) (n b : ℕ) (u : Head) (ms : List Moment) (r r' : Router) (h : Host)
+on_begin : {B D : Type 0} (c : Caller B D) (n : ℕ) (b : B) (u : Head) (ms : List (Moment B))
+    (r r' : Router) (h : Host B D)
     → Begins r u r' → Fresh r' n → Holds c ms r h
     → Holds c (at n (events.Came u) b actions.Begin ∷ ms) r'
     (record { kept = []; made = h.made; shown = h.shown })
-on_begin c n b u ms r r' h w fresh x =
-    let m : Moment = at n (events.Came u) b actions.Begin in
-    let h' : Host = record { kept = []; made = h.made; shown = h.shown } in
+on_begin {B = B} {D = D} c n b u ms r r' h w fresh x =
+    let m : Moment B = at n (events.Came u) b actions.Begin in
+    let h' : Host B D = record { kept = []; made = h.made; shown = h.shown } in
     let y : AtAsked ms r = subst (λ p. At c ms r h p) w.from x.talk in
     record {
       has = stay c n b (events.Came u) actions.Begin ms r r' h h' w.same refl tt fresh x.has;
@@ -304,13 +320,14 @@ on_begin c n b u ms r r' h w fresh x =
       });
     }
 
-on_keep : (c : Caller) (n b : ℕ) (u : Head) (ms : List Moment) (r r' : Router) (h : Host)
+on_keep : {B D : Type 0} (c : Caller B D) (n : ℕ) (b : B) (u : Head) (ms : List (Moment B))
+    (r r' : Router) (h : Host B D)
     → Keeps r u r' → Fresh r' n → Holds c ms r h
     → Holds c (at n (events.Came u) b actions.Keep ∷ ms) r'
     (record { kept = h.kept ++ b ∷ []; made = h.made; shown = h.shown })
-on_keep c n b u ms r r' h w fresh x =
-    let m : Moment = at n (events.Came u) b actions.Keep in
-    let h' : Host = record { kept = h.kept ++ b ∷ []; made = h.made; shown = h.shown } in
+on_keep {B = B} {D = D} c n b u ms r r' h w fresh x =
+    let m : Moment B = at n (events.Came u) b actions.Keep in
+    let h' : Host B D = record { kept = h.kept ++ b ∷ []; made = h.made; shown = h.shown } in
     let y : AtReading ms r h = subst (λ p. At c ms r h p) w.phase x.talk in
     let on : IsRead y.q r.version r.session (m ∷ ms) h'.kept = was_kept n b u ms h.kept y.read
     w.kind w.version in
@@ -326,15 +343,20 @@ on_keep c n b u ms r r' h w fresh x =
       });
     }
 
-on_apply : (c : Caller) (n b : ℕ) (u : Head) (on : Bool) (ms : List Moment) (r r' : Router)
-    (h : Host) → Completes r u on r' → Fresh r' n → Holds c ms r h
+on_apply : {B D : Type 0} (c : Caller B D) (n : ℕ) (b : B) (u : Head) (on : Bool)
+    (ms : List (Moment B)) (r r' : Router)
+    (h : Host B D) → Completes r u on r' → Fresh r' n → Holds c ms r h
     → Holds c (at n (events.Came u) b (actions.Apply on) ∷ ms) r'
-    (record { kept = h.kept; made = c.make (if on then h.shown else None) h.kept; shown = h.shown })
-on_apply c n b u on ms r r' h w fresh x =
-    let m : Moment = at n (events.Came u) b (actions.Apply on) in
-    let h' : Host = record {
+    (record {
       kept = h.kept;
-      made = c.make (if on then h.shown else None) h.kept;
+      made = c.make (if on then h.shown else None) h.kept b;
+      shown = h.shown;
+    })
+on_apply {B = B} {D = D} c n b u on ms r r' h w fresh x =
+    let m : Moment B = at n (events.Came u) b (actions.Apply on) in
+    let h' : Host B D = record {
+      kept = h.kept;
+      made = c.make (if on then h.shown else None) h.kept b;
       shown = h.shown;
     } in
     let y : AtReading ms r h = subst (λ p. At c ms r h p) w.from x.talk in
@@ -346,10 +368,11 @@ on_apply c n b u on ms r r' h w fresh x =
       has = stay c n b (events.Came u) (actions.Apply on) ms r r' h h' w.same refl tt fresh x.has;
       talk = at_rest c (m ∷ ms) r' h' phases.Applying w.phase (record {
         q = y.q;
+        last = b;
         whole = subst (λ (on : Bool). WasAnswered y.q r'.answer
-            (at n (events.Came u) b (actions.Apply on) ∷ ms) h.kept) on_is
+            (at n (events.Came u) b (actions.Apply on) ∷ ms) h.kept b) on_is
             (was_ended n b u ms h.kept read w.kind w.answer);
-        made = ap (λ (s : Bool). c.make (if s then h.shown else None) h.kept)
+        made = ap (λ (s : Bool). c.make (if s then h.shown else None) h.kept b)
             (w.base ∙ sym w.same_changes);
         of = is_of y.q r r' w.same w.same_changes y.of;
         own = is_own r r' r.version r.session r'.answer.version r'.answer.session w.same
@@ -361,16 +384,17 @@ on_apply c n b u on ms r r' h w fresh x =
     }
 
 -- what the changes of a whole answer made
-shown_now : (c : Caller) (n b : ℕ) (ms : List Moment) (r r' : Router) (h : Host) (d : ℕ) (s : Bool)
-    → r.changes ≡ s → h.made ≡ Some d → AtApplying c ms r h → Data c ms r h
-    → HistoryHas c (at n events.Applied b actions.Show ∷ ms) r.answer n d
+shown_now : {B D : Type 0} (c : Caller B D) (n : ℕ) (b : B) (ms : List (Moment B))
+    (r r' : Router) (h : Host B D) (d : D) (s : Bool)
+    → r.changes ≡ s → h.made ≡ Some d → AtApplying c ms r h → Shows c ms r h
+    → HistoryHas c.settings (Made c) (at n events.Applied b actions.Show ∷ ms) r.answer n d
 shown_now c n b ms r r' h d false s m y x =
-    made_anew n b ms y.q r.answer h.kept d (y.of.changes ∙ s) y.whole
-    (ap (λ (s : Bool). c.make (if s then h.shown else None) h.kept) (sym s) ∙ sym y.made ∙ m)
+    made_anew n b ms y.q r.answer h.kept y.last d (y.of.changes ∙ s) y.whole
+    (ap (λ (s : Bool). c.make (if s then h.shown else None) h.kept y.last) (sym s) ∙ sym y.made ∙ m)
 shown_now c n b ms r r' h d true s m y (inl x) = let no : r.has_data ≡ false =
     x.has_data in let some : r.has_data ≡ true = y.of.has_data s in cc
-shown_now c n b ms r r' h d true s m y (inr x) =
-    made_of n b ms y.q r.answer h.kept d r.known x.since x.value x.has
+shown_now {D = D} c n b ms r r' h d true s m y (inr x) =
+    made_of n b ms y.q r.answer h.kept y.last d r.known x.since x.value x.has
     (record {
       changes = y.of.changes ∙ s;
       session = y.of.session s;
@@ -381,10 +405,11 @@ shown_now c n b ms r r' h d true s m y (inr x) =
       order = y.order s;
     })
     y.whole
-    (ap (λ (o : Option ℕ). c.make o h.kept) (sym x.shows) ∙ ap
-    (λ (s : Bool). c.make (if s then h.shown else None) h.kept) (sym s) ∙ sym y.made ∙ m)
+    (ap (λ (o : Option D). c.make o h.kept y.last) (sym x.shows) ∙ ap
+    (λ (s : Bool). c.make (if s then h.shown else None) h.kept y.last) (sym s) ∙ sym y.made ∙ m)
 
-later : (c : Caller) (n : ℕ) (r r' : Router) → r.settings ≡ c.settings → r'.known ≡ r.answer
+later : {B D : Type 0} (c : Caller B D) (n : ℕ) (r r' : Router) → r.settings ≡ c.settings
+    → r'.known ≡ r.answer
     → r'.expires ≡ n + expire_ms r.settings r.answer
     → r'.expires ≤ n + expire_ms c.settings r'.known
 later c n r r' s k e =
@@ -393,15 +418,17 @@ later c n r r' s k e =
     (λ (x : Known). n + expire_ms c.settings x) (sym k) in
     subst (λ x. r'.expires ≤ x) same (le_self r'.expires)
 
-on_show : (c : Caller) (n b : ℕ) (ms : List Moment) (r r' : Router) (h : Host)
-    → r.settings ≡ c.settings → (d : ℕ) × (h.made ≡ Some d) → Adopts r r' → PacesShow r n r'
+on_show : {B D : Type 0} (c : Caller B D) (n : ℕ) (b : B) (ms : List (Moment B))
+    (r r' : Router) (h : Host B D)
+    → r.settings ≡ c.settings → (d : D) × (h.made ≡ Some d) → Adopts r r' → PacesShow r n r'
     → Holds c ms r h → Holds c (at n events.Applied b actions.Show ∷ ms) r'
     (record { kept = h.kept; made = h.made; shown = h.made })
-on_show c n b ms r r' h s said w d x =
-    let m : Moment = at n events.Applied b actions.Show in
-    let h' : Host = record { kept = h.kept; made = h.made; shown = h.made } in
+on_show {B = B} {D = D} c n b ms r r' h s said w d x =
+    let m : Moment B = at n events.Applied b actions.Show in
+    let h' : Host B D = record { kept = h.kept; made = h.made; shown = h.made } in
     let y : AtApplying c ms r h = subst (λ p. At c ms r h p) w.from x.talk in
-    let has : HistoryHas c (m ∷ ms) r.answer n said.0 = shown_now c n b ms r r' h said.0 r.changes
+    let has : HistoryHas c.settings (Made c) (m ∷ ms) r.answer n said.0 =
+    shown_now c n b ms r r' h said.0 r.changes
     refl said.1 y x.has in
     record {
       has = inr (record {
@@ -409,14 +436,15 @@ on_show c n b ms r r' h s said w d x =
         since = n;
         value = said.0;
         shows = said.1;
-        has = subst (λ k. HistoryHas c (m ∷ ms) k n said.0) (sym w.known) has;
+        has = subst (λ k. HistoryHas c.settings (Made c) (m ∷ ms) k n said.0) (sym w.known) has;
         expires = later c n r r' s w.known d.expires;
       });
       talk = at_rest c (m ∷ ms) r' h' phases.Waiting w.phase tt;
     }
 
-on_end : (c : Caller) (n b : ℕ) (e : Event) (x : Ending) (ms : List Moment) (r r' : Router)
-    (h : Host) → Closes r e x r' → Fresh r' n → Holds c ms r h
+on_end : {B D : Type 0} (c : Caller B D) (n : ℕ) (b : B) (e : Event) (x : Ending)
+    (ms : List (Moment B)) (r r' : Router)
+    (h : Host B D) → Closes r e x r' → Fresh r' n → Holds c ms r h
     → Holds c (at n e b (actions.End x) ∷ ms) r'
     (record { kept = h.kept; made = h.made; shown = if x.drop then None else h.shown })
 on_end c n b e x ms r r' h w fresh y = record {
@@ -427,14 +455,15 @@ on_end c n b e x ms r r' h w fresh y = record {
 }
   where
     go : (d : Bool) → x.drop ≡ d → Drops d r r'
-        → Data c (at n e b (actions.End x) ∷ ms) r'
+        → Shows c (at n e b (actions.End x) ∷ ms) r'
         (record { kept = h.kept; made = h.made; shown = if d then None else h.shown })
     go true p drops = inl (record { has_data = drops.has_data; shows = refl })
     go false p drops = stay c n b e (actions.End x) ms r r' h
         (record { kept = h.kept; made = h.made; shown = h.shown }) drops refl p fresh y.has
 
-on_rest : (c : Caller) (n b : ℕ) (e : Event) (a : Action) (p : Phase) (ms : List Moment)
-    (r r' : Router) (h : Host) → SameKnown r r' → r'.phase ≡ p → At c (at n e b a ∷ ms) r' h p
+on_rest : {B D : Type 0} (c : Caller B D) (n : ℕ) (b : B) (e : Event) (a : Action) (p : Phase)
+    (ms : List (Moment B))
+    (r r' : Router) (h : Host B D) → SameKnown r r' → r'.phase ≡ p → At c (at n e b a ∷ ms) r' h p
     → LeavesData a → Fresh r' n → Holds c ms r h → Holds c (at n e b a ∷ ms) r' h
 on_rest c n b e a p ms r r' h same phase there leaves fresh x = record {
   has = stay c n b e a ms r r' h h same refl leaves fresh x.has;
@@ -442,7 +471,8 @@ on_rest c n b e a p ms r r' h same phase there leaves fresh x = record {
 }
 
 -- one step
-step : (c : Caller) (n b : ℕ) (e : Event) (a : Action) (ms : List Moment) (r r' : Router) (h : Host)
+step : {B D : Type 0} (c : Caller B D) (n : ℕ) (b : B) (e : Event) (a : Action)
+    (ms : List (Moment B)) (r r' : Router) (h : Host B D)
     → r.settings ≡ c.settings → Holds c ms r h → MaySay r h e → Rule r n e a r' → Fresh r' n
     → Paces r n e a r' → Holds c (at n e b a ∷ ms) r' (host_after c h b a)
 step c n b e actions.Wait ms r r' h s x said rule fresh paces = on_wait c n b e ms r r' h said rule
@@ -472,7 +502,8 @@ step c n b events.Applied actions.Show ms r r' h s x said rule fresh paces =
     on_show c n b ms r r' h s said rule paces x
 step c n b _ _ ms r r' h s x said rule fresh paces = absurd rule
 
-holds : (c : Caller) (ms : List Moment) (r : Router) (h : Host) → IsHistory c ms r h
+holds : {B D : Type 0} (c : Caller B D) (ms : List (Moment B)) (r : Router) (h : Host B D)
+    → IsHistory c ms r h
     → Holds c ms r h
 holds c ms r h (run_begins r₀ new) = record {
   has = inl (record { has_data = new.has_data; shows = refl });
@@ -482,7 +513,8 @@ holds c ms r h (run_goes_on n b e a r' ms₀ r₀ h₀ run said went) =
     step c n b e a ms₀ r₀ r' h₀ (settled c ms₀ r₀ h₀ run) (holds c ms₀ r₀ h₀ run) said went.rule
     went.fresh went.paces
 
-answered : (c : Caller) (ms : List Moment) (r : Router) (h : Host) → Data c ms r h
+answered : {B D : Type 0} (c : Caller B D) (ms : List (Moment B)) (r : Router) (h : Host B D)
+    → Shows c ms r h
     → (h.shown ≡ None) ⊎ IsAnswered c ms r.known h.shown
 answered c ms r h (inl x) = inl x.shows
 answered c ms r h (inr x) = inr (record {
@@ -493,6 +525,26 @@ answered c ms r h (inr x) = inr (record {
       x.has;
 })
 
-pub whole_answers : (c : Caller) (ms : List Moment) (r : Router) (h : Host) → IsHistory c ms r h
+abbrev pub HasForChanges : Phase → Router → Type 0
+HasForChanges phases.Asked r = r.changes ≡ true → r.has_data ≡ true
+HasForChanges phases.Reading r = r.changes ≡ true → r.has_data ≡ true
+HasForChanges phases.Applying r = r.changes ≡ true → r.has_data ≡ true
+HasForChanges _ r = Unit {0}
+
+pub whole_answers : {B D : Type 0} (c : Caller B D) (ms : List (Moment B)) (r : Router)
+    (h : Host B D) → IsHistory c ms r h
     → (h.shown ≡ None) ⊎ IsAnswered c ms r.known h.shown
 whole_answers c ms r h run = answered c ms r h (holds c ms r h run).has
+
+-- a serial query is about data that are there
+pub has_for_changes : {B D : Type 0} (p : Phase) (c : Caller B D) (ms : List (Moment B))
+    (r : Router) (h : Host B D) → IsHistory c ms r h → r.phase ≡ p → HasForChanges p r
+has_for_changes p c ms r h run e = go p e (subst (λ (p : Phase). At c ms r h p) e (holds c ms r h run).talk)
+  where
+    go : (p : Phase) → r.phase ≡ p → At c ms r h p → HasForChanges p r
+    go phases.Offline e x = tt
+    go phases.Connecting e x = tt
+    go phases.Waiting e x = tt
+    go phases.Asked e x = x.of.has_data
+    go phases.Reading e x = x.of.has_data
+    go phases.Applying e x = x.of.has_data

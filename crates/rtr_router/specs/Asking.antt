@@ -14,12 +14,12 @@ use Rattle.rtr_router.specs.Histories.{Moment}
 
 -- ---- times
 
-abbrev pub latest : List Moment → ℕ
+abbrev pub latest : {Body : Type 0} → List (Moment Body) → ℕ
 latest [] = 0
 latest (m ∷ ms) = m.now
 
 -- times that don't go back, each below 2^63
-abbrev pub IsTimed : List Moment → Type 0
+abbrev pub IsTimed : {Body : Type 0} → List (Moment Body) → Type 0
 IsTimed [] = Unit {0}
 IsTimed (m ∷ ms) = (latest ms ≤ m.now) × (m.now < 2 ^ 63) × IsTimed ms
 
@@ -40,7 +40,7 @@ asked_last (actions.Ask q) n before = Some (record { query = q; at = n })
 asked_last _ n before = before
 
 -- the last query of a history
-abbrev pub last_query : List Moment → Option Asking
+abbrev pub last_query : {Body : Type 0} → List (Moment Body) → Option Asking
 last_query [] = None
 last_query (m ∷ ms) = asked_last m.action m.now (last_query ms)
 
@@ -53,7 +53,7 @@ abbrev pub PacedHere : ℕ → Action → ℕ → Option Asking → Type 0
 PacedHere pause (actions.Ask q) n (Some x) = (pause ≤ n - x.at) ⊎ (weight q < weight x.query)
 PacedHere pause _ n _ = Unit {0}
 
-abbrev pub IsPaced : ℕ → List Moment → Type 0
+abbrev pub IsPaced : {Body : Type 0} → ℕ → List (Moment Body) → Type 0
 IsPaced pause [] = Unit {0}
 IsPaced pause (m ∷ ms) = PacedHere pause m.action m.now (last_query ms) × IsPaced pause ms
 
@@ -65,7 +65,7 @@ connection_after actions.Connect before = true
 connection_after (actions.End x) before = false
 connection_after _ before = before
 
-abbrev pub has_connection : List Moment → Bool
+abbrev pub has_connection : {Body : Type 0} → List (Moment Body) → Bool
 has_connection [] = false
 has_connection (m ∷ ms) = connection_after m.action (has_connection ms)
 
@@ -77,7 +77,7 @@ TidyHere e (actions.End x) before = (before ≡ true) × NoneAboutReports e x.re
 TidyHere e actions.Connect before = before ≡ false
 TidyHere e _ before = Unit {0}
 
-abbrev pub IsTidy : List Moment → Type 0
+abbrev pub IsTidy : {Body : Type 0} → List (Moment Body) → Type 0
 IsTidy [] = Unit {0}
 IsTidy (m ∷ ms) = TidyHere m.event m.action (has_connection ms) × IsTidy ms
 
@@ -89,7 +89,7 @@ answered_in (events.Came u) actions.Begin before = Some u.version
 answered_in e actions.Connect before = None
 answered_in e _ before = before
 
-abbrev pub agreed_version : List Moment → Option ℕ
+abbrev pub agreed_version : {Body : Type 0} → List (Moment Body) → Option ℕ
 agreed_version [] = None
 agreed_version (m ∷ ms) = answered_in m.event m.action (agreed_version ms)
 
@@ -98,7 +98,7 @@ abbrev pub AgreesHere : Event → Action → Option ℕ → Type 0
 AgreesHere (events.Came u) actions.Begin (Some v) = u.version ≡ v
 AgreesHere e _ before = Unit {0}
 
-abbrev pub IsOfOneVersion : List Moment → Type 0
+abbrev pub IsOfOneVersion : {Body : Type 0} → List (Moment Body) → Type 0
 IsOfOneVersion [] = Unit {0}
 IsOfOneVersion (m ∷ ms) = AgreesHere m.event m.action (agreed_version ms) × IsOfOneVersion ms
 
@@ -107,7 +107,7 @@ abbrev pub cause_after : Action → Option Cause → Option Cause
 cause_after (actions.End x) before = Some x.cause
 cause_after _ before = before
 
-abbrev pub last_cause : List Moment → Option Cause
+abbrev pub last_cause : {Body : Type 0} → List (Moment Body) → Option Cause
 last_cause [] = None
 last_cause (m ∷ ms) = cause_after m.action (last_cause ms)
 
@@ -118,7 +118,7 @@ HighestHere highest events.Connected (actions.Ask q) before =
     (q.version ≡ highest) ⊎ (before ≡ Some causes.Lower)
 HighestHere highest e _ before = Unit {0}
 
-abbrev pub TriesHighest : ℕ → List Moment → Type 0
+abbrev pub TriesHighest : {Body : Type 0} → ℕ → List (Moment Body) → Type 0
 TriesHighest highest [] = Unit {0}
 TriesHighest highest (m ∷ ms) =
     HighestHere highest m.event m.action (last_cause ms) × TriesHighest highest ms

@@ -14,8 +14,8 @@ use Rattle.rtr_router.specs.declared.event.Event.TheVariants as events
 use Rattle.rtr_router.specs.declared.event.Action.{Action}
 use Rattle.rtr_router.specs.declared.event.Action.TheVariants as actions
 use Rattle.rtr_router.specs.Rules.{IsPayloadOf, opening_version}
-use Rattle.rtr_router.specs.Heeding.{HasRoom, IsComplaint, IsOfResponse, StandsStill}
-use Rattle.rtr_router.specs.Pace.{wakes_at}
+use Rattle.rtr_router.specs.Heeding.{HasRoom, IsComplaint, IsNews, IsOfResponse, StandsStill}
+use Rattle.rtr_router.specs.Pace.{due_in, wakes_at}
 use Rattle.rtr_router.specs.Step.{IsInTime, IsStep}
 
 -- ---- the cache
@@ -82,6 +82,11 @@ pub data IsMadeWell (r : Router) : Event → Type 0 where
   are_made : IsMadeWell r events.Applied
   are_refused : (code : Option ℕ) → r.changes ≡ true → IsMadeWell r (events.NotApplied code)
 
+-- While the router waits such a cache may send notifies, of the session of the data.
+pub data LeavesWell (r : Router) : Event → Type 0 where
+  not_asked_yet : LeavesWell r events.Tick
+  notifies_then : (u : Head) → IsNews r u → LeavesWell r (events.Came u)
+
 -- what may happen to a router whose cache keeps the rules and accepts its connections
 abbrev pub IsServedBy : ℕ → Phase → Router → Event → Type 0
 IsServedBy most phases.Offline r e = e ≡ events.Tick
@@ -89,7 +94,7 @@ IsServedBy most phases.Connecting r e = (e ≡ events.Tick) ⊎ (e ≡ events.Co
 IsServedBy most phases.Asked r e = AnswersWell most r e
 IsServedBy most phases.Reading r e = GoesOnWell r e
 IsServedBy most phases.Applying r e = IsMadeWell r e
-IsServedBy most phases.Waiting r e = ⊥
+IsServedBy most phases.Waiting r e = LeavesWell r e
 
 -- The router at a time, while such a cache serves it from `start` and `r₀` on, and no data were
 -- shown yet. Something happens when the router wakes, at the latest, and each answer comes in time.
@@ -119,6 +124,29 @@ restarts r = if r.has_data then (if r.resync then 1 else 2) else 0
 abbrev pub connections : Router → ℕ
 connections r = opening_version r + 1 + restarts r * (r.settings.highest + 1)
 
--- when a router without a connection has data at the latest
+-- the connections that come after the one that is there, or being made
+abbrev pub connections_after : Router → ℕ
+connections_after r = r.version + restarts r * (r.settings.highest + 1)
+
+-- How long it takes from when the router connects or asks by itself, or what is under way is over by
+-- its limit: two answers where it is still to ask, one more where a serial query is out, a pause
+-- where the connection ends, and the connections that come then.
+abbrev pub time_needed : Phase → Router → ℕ
+time_needed phases.Offline r = connections r * connection_time r.settings
+time_needed phases.Connecting r =
+    r.settings.response_limit + r.settings.response_limit + r.settings.pause
+    + connections_after r * connection_time r.settings
+time_needed phases.Asked r =
+    (if r.changes then r.settings.response_limit else 0) + r.settings.pause
+    + connections_after r * connection_time r.settings
+time_needed phases.Reading r =
+    r.settings.pause + connections_after r * connection_time r.settings
+time_needed phases.Applying r =
+    r.settings.pause + connections_after r * connection_time r.settings
+time_needed phases.Waiting r =
+    r.settings.response_limit + r.settings.response_limit + r.settings.pause
+    + connections_after r * connection_time r.settings
+
+-- when it has data at the latest
 abbrev pub served_until : Router → ℕ → ℕ
-served_until r n = max n r.due + connections r * connection_time r.settings
+served_until r n = max n (due_in r.phase r) + time_needed r.phase r
