@@ -1,2 +1,4 @@
 mod Heads
 mod Units
+mod Whole
+mod Heard

@@ -3,3 +3,4 @@ pub mod PrivateHeads
 pub mod Reading
 pub mod PrivateReading
 pub mod Sent
+pub mod ShownData

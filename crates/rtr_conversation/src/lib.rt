@@ -3,6 +3,7 @@
 #![tactic(auto)]
 
 mod head;
+pub mod laws;
 pub mod query;
 pub mod refusal;
 pub mod report;

@@ -539,7 +539,8 @@ whole_answers c ms r h run = answered c ms r h (holds c ms r h run).has
 -- a serial query is about data that are there
 pub has_for_changes : {B D : Type 0} (p : Phase) (c : Caller B D) (ms : List (Moment B))
     (r : Router) (h : Host B D) → IsHistory c ms r h → r.phase ≡ p → HasForChanges p r
-has_for_changes p c ms r h run e = go p e (subst (λ (p : Phase). At c ms r h p) e (holds c ms r h run).talk)
+has_for_changes p c ms r h run e =
+    go p e (subst (λ (p : Phase). At c ms r h p) e (holds c ms r h run).talk)
   where
     go : (p : Phase) → r.phase ≡ p → At c ms r h p → HasForChanges p r
     go phases.Offline e x = tt

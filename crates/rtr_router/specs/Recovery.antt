@@ -128,8 +128,8 @@ connections r = opening_version r + 1 + restarts r * (r.settings.highest + 1)
 abbrev pub connections_after : Router → ℕ
 connections_after r = r.version + restarts r * (r.settings.highest + 1)
 
--- How long it takes from when the router connects or asks by itself, or what is under way is over by
--- its limit: two answers where it is still to ask, one more where a serial query is out, a pause
+-- How long it takes from when the router connects or asks by itself, or what is under way is over
+-- by its limit: two answers where it is still to ask, one more where a serial query is out, a pause
 -- where the connection ends, and the connections that come then.
 abbrev pub time_needed : Phase → Router → ℕ
 time_needed phases.Offline r = connections r * connection_time r.settings

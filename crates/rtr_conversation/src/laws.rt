@@ -1,0 +1,37 @@
+//! What holds of whole runs, in bytes.
+
+ghost use Rattle.std.specs.Prelude.{◌≡◌, ◌⊎◌, ℕ, List, None, Some, drop, take};
+ghost use Rattle.rtr_conversation.specs.Reading.{Acts, KeepsAll};
+ghost use Rattle.rtr_conversation.specs.ShownData.{ActsOn, AppliesAnswers, AreHeard, KeepsOn};
+ghost use Rattle.rtr_conversation.specs.ShownData.{ShowsAnswer};
+ghost use Rattle.rtr_router.specs.Histories.{Caller, Host, IsHistory, Moment};
+ghost use Rattle.rtr_router.specs.declared.event.Action.{Action};
+ghost use Rattle.rtr_router.specs.declared.router.Router.{Router};
+
+/// Whatever bytes come to a router, and whenever: a caller that tells it of units by their bytes,
+/// and makes changes by `apply_in_order` of `rtr_deltas`, shows no data, or those that one whole
+/// answer made, by the rules of `Data::apply`, of the data before it or of none. They are in
+/// canonical form, each payload in a unit of the version of the answer, and none are shown after
+/// they have expired.
+pub fn only_whole_answers_in_bytes()
+    ensures { (c : Caller (List ℕ) (List ℕ)) (history : List (Moment (List ℕ))) (r : Router)
+        (h : Host (List ℕ) (List ℕ))
+        → IsHistory c history r h → AreHeard history → AppliesAnswers c
+        → (h.shown ≡ None)
+        ⊎ ((shown : List ℕ) × (h.shown ≡ Some shown)
+        × ShowsAnswer c.settings history r.known shown) }
+{}
+
+/// What `tell` answers of payload units that the machine keeps, and of a unit after them, a run of
+/// the machine goes on by, in which it was told of each of these units by its bytes.
+pub fn what_is_told_is_heard()
+    ensures kept { (c : Caller (List ℕ) (List ℕ)) (history : List (Moment (List ℕ))) (r : Router)
+        (h : Host (List ℕ) (List ℕ)) (now : ℕ) (b : List ℕ) (after : Router)
+        → IsHistory c history r h → AreHeard history → KeepsAll now r b after
+        → KeepsOn c h b after }
+    ensures acted { (c : Caller (List ℕ) (List ℕ)) (history : List (Moment (List ℕ))) (r : Router)
+        (h : Host (List ℕ) (List ℕ)) (now : ℕ) (input : List ℕ) (start end : ℕ) (a : Action)
+        (after : Router)
+        → IsHistory c history r h → AreHeard history → Acts r now input start end a after
+        → ActsOn c h now (take start input) (drop start (take end input)) a after }
+{}
