@@ -1,14 +1,15 @@
 -- What items have of a document of which some was read.
 use Rattle.std.proofs.Common.{◌≡◌, ℕ, ◌+◌, ◌<◌, ◌≤◌, List, [], ◌∷◌, ◌++◌, take, length, get_or}
 use Rattle.std.proofs.Common.{refl, sym, ap, subst, ◌∙◌, append_assoc, Vec, Some, Bool, false}
+use Rattle.std.proofs.Common.{rules}
 use Rattle.std.proofs.lemmas.List.{append-nil, take_all, take_more}
 use Rattle.std.specs.Bool.{MatchBool}
 use Rattle.std.specs.Borrow.{Bor}
 use Rattle.std.specs.List.{list_any}
-use Rattle.json.specs.Json.{Json, array, object}
+use Rattle.json.specs.Json.{Json, array, number, object}
 use Rattle.json.specs.Value.{items_view, members_view, value_view}
 use Rattle.json.proofs.Trees.{view-Array, view-Object}
-use Rattle.json.specs.declared.value.Value.{Array, Object, Value}
+use Rattle.json.specs.declared.value.Value.{Array, Number, Object, Value, the_lemmas}
 use Rattle.rtr_payload.specs.declared.payload.Payload.{Payload}
 use Rattle.rtr_vrps.specs.JsonPayloads.{AreCustomerAspas, AreItemPayloads, ArePayloadsOfEach}
 use Rattle.rtr_vrps.specs.JsonNames.{holding_named}
@@ -215,6 +216,13 @@ object_seen j v l e f =
 pub array_seen : {A : Type 0} (j : Value A) (v : Vec (Value A) A) (l : List (Value A)) →
     j ≡ Array v → l ≡ v.items → value_view j ≡ array (items_view l)
 array_seen j v l e f = ap value_view e ∙ view-Array v ∙ ap (λ k. array (items_view k)) (sym f)
+
+view-Number : (A : Type 0) (s : Bor (List ℕ)) → value_view {A = A} (Number s) ≡ number s.now
+view-Number A s = search (rules, the_lemmas)
+
+pub number_seen : {A : Type 0} (j : Value A) (s : Bor (List ℕ)) → j ≡ Number s →
+    value_view j ≡ number s.now
+number_seen {A} j s e = ap value_view e ∙ view-Number A s
 
 -- what the validator says of itself has no payloads
 pub top_none : (ignored : List (List ℕ)) (name : List ℕ) (j : Json) →

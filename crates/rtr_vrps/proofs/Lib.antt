@@ -1,5 +1,6 @@
 pub mod HeldData
 pub mod IgnoredSoFar
+pub mod JsonRefused
 pub mod JsonSoFar
 pub mod Lacking
 pub mod SoFar
@@ -8,6 +9,7 @@ pub mod AskedFor
 pub mod Origins
 pub mod Marks
 pub mod NamesSoFar
+pub mod NoValue
 pub mod Numbers
 pub mod PartsSoFar
 pub mod ProviderSet

@@ -57,6 +57,17 @@ part_names parts.KeyInfo = codes "pubkey" ∷ codes "routerpublickey" ∷ codes 
 part_names parts.Customer = codes "customer" ∷ codes "customerasid" ∷ []
 part_names parts.Providers = codes "providers" ∷ []
 
+-- what a refusal calls a part that is missing: as rpki-client prints it, and the customer as
+-- Routinator does
+abbrev pub usual_name : Part → List ℕ
+usual_name parts.Asn = codes "asn"
+usual_name parts.Prefix = codes "prefix"
+usual_name parts.MaxLength = codes "maxLength"
+usual_name parts.KeyIdentifier = codes "ski"
+usual_name parts.KeyInfo = codes "pubkey"
+usual_name parts.Customer = codes "customer"
+usual_name parts.Providers = codes "providers"
+
 -- ---- a name against the table
 
 abbrev pub is_plainly_one_of : List (List ℕ) → List ℕ → Bool

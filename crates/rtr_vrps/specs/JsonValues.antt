@@ -1,10 +1,11 @@
 -- What values of JSON mean as parts of payloads: this library's own, after what validators print;
 -- base64 by RFC 4648.
-use Rattle.std.specs.Prelude.{◌≡◌, ◌⊎◌, ◌↔◌, ⊤, ℕ, List, [], ◌∷◌, length}
-use Rattle.std.specs.Prelude.{Ok, Contains}
+use Rattle.std.specs.Prelude.{◌≡◌, ◌⊎◌, ◌↔◌, ◌<◌, ◌≤◌, ◌+◌, ◌^◌, ⊤, ℕ, List, [], ◌∷◌}
+use Rattle.std.specs.Prelude.{length, Ok, Err, Contains}
 use Rattle.std.specs.List.Sorted.{IsStrictlyIncreasing}
 use Rattle.base64.specs.Engines.{standard_pad_indifferent, url_safe_pad_indifferent}
 use Rattle.base64.specs.GeneralPurpose.{decode_of}
+use Rattle.base64.specs.declared.decode.DecodeError.{DecodeError}
 use Rattle.json.specs.Json.{Json, number, string, array, Items, no_items, item}
 use Rattle.json.specs.Json.{Members, no_members, member}
 use Rattle.rtr_base.specs.Addresses.{PrefixParts}
@@ -30,18 +31,24 @@ abbrev pub IsPrefixValue : Json → PrefixParts → Type 0
 IsPrefixValue (string s) p = IsPrefixText s p
 IsPrefixValue other p = ⊥
 
+abbrev pub IsSomeAsn : Json → Type 0
+IsSomeAsn j = (n : ℕ) × IsAsnValue j n
+
 -- a number of at most 255
 abbrev pub IsMaxLengthValue : Json → ℕ → Type 0
 IsMaxLengthValue (number s) n = IsLenText s n
 IsMaxLengthValue other n = ⊥
 
--- base64 of these bytes, in either alphabet (RFC 4648 sections 4 and 5), padded or not
+-- base64 of these bytes, padded or not: in the usual alphabet (RFC 4648 section 4), or, where it is
+-- none, in that for URLs (section 5)
 abbrev pub IsBase64 : List ℕ → List ℕ → Type 0
 IsBase64 text bytes = (decode_of standard_pad_indifferent text ≡ Ok bytes)
-    ⊎ (decode_of url_safe_pad_indifferent text ≡ Ok bytes)
+    ⊎ (((e : DecodeError) × (decode_of standard_pad_indifferent text ≡ Err e))
+    × (decode_of url_safe_pad_indifferent text ≡ Ok bytes))
 
+-- a key, in base64, for which a unit has room (RFC 8210 section 5.10)
 abbrev pub IsKeyInfoValue : Json → List ℕ → Type 0
-IsKeyInfoValue (string s) bytes = IsBase64 s bytes
+IsKeyInfoValue (string s) bytes = IsBase64 s bytes × (length bytes + 32 < 2 ^ 32)
 IsKeyInfoValue other bytes = ⊥
 
 -- the identifier of a key: 40 hex digits, or 20 bytes in base64
@@ -61,8 +68,8 @@ pub record IsSetOf (given ns : List ℕ) : Type 0 where
   pub in_order : IsStrictlyIncreasing ns
   pub same : (n : ℕ) → Contains given n ↔ Contains ns n
 
--- the providers in an array, in order and each once
+-- the providers in an array, in order and each once, for which a unit has room
 abbrev pub AreProviderValues : Json → List ℕ → Type 0
 AreProviderValues (array js) ps =
-    (given : List ℕ) × AreAsnValues (items_list js) given × IsSetOf given ps
+    (given : List ℕ) × AreAsnValues (items_list js) given × IsSetOf given ps × (length ps ≤ 16380)
 AreProviderValues other ps = ⊥

@@ -4,6 +4,7 @@ pub mod CsvRows
 pub mod Gathering
 pub mod JsonNames
 pub mod JsonPayloads
+pub mod JsonRefusals
 pub mod JsonValues
 pub mod MakeInfo
 pub mod Making

@@ -1,11 +1,19 @@
 -- What functions on parts of a document leave. Only contracts of private functions cite these.
-use Rattle.std.specs.Prelude.{◌≡◌, ℕ, ◌==◌, List, [], ◌∷◌, ◌++◌, map, Option, Some, None}
-use Rattle.std.specs.Prelude.{if◌then◌else◌}
-use Rattle.json.specs.Json.{Json}
+use Rattle.std.specs.Prelude.{◌≡◌, ◌≢◌, true, ℕ, ◌==◌, List, [], ◌∷◌, ◌++◌, map, Option, Some, None}
+use Rattle.std.specs.Prelude.{◌⊎◌, if◌then◌else◌, length, Err}
+use Rattle.base64.specs.GeneralPurpose.{decode_of}
+use Rattle.base64.specs.declared.decode.DecodeError.{DecodeError}
+use Rattle.base64.specs.declared.engine.general_purpose.GeneralPurpose.{GeneralPurpose}
+use Rattle.json.specs.Json.{Json, string}
 use Rattle.json.specs.Value.{value_view}
+use Rattle.rtr_base.specs.declared.parse.ParseKeyIdentifierError.{ParseKeyIdentifierError}
 use Rattle.rtr_payload.specs.declared.payload.Payload.{Payload}
 use Rattle.rtr_vrps.specs.JsonPayloads.{values_of}
+use Rattle.rtr_vrps.specs.JsonRefusals.{IsNoBase64, has_base64_length}
+use Rattle.rtr_vrps.specs.JsonValues.{IsBase64}
 use Rattle.rtr_vrps.specs.declared.item.Item.{Item}
+use Rattle.rtr_vrps.specs.declared.item.Reason.{Reason}
+use Rattle.rtr_vrps.specs.declared.item.Reason.TheVariants.{Base64, KeyIdentifier, NotString}
 use Rattle.rtr_vrps.specs.declared.json_names.Part.{Part}
 use Rattle.rtr_vrps.specs.declared.json_objects.Member.{Member}
 
@@ -13,6 +21,22 @@ use Rattle.rtr_vrps.specs.declared.json_objects.Member.{Member}
 abbrev pub after_byte : List ℕ → ℕ → Option (List ℕ)
 after_byte [] x = None
 after_byte (y ∷ ys) x = if y == x then Some ys else None
+
+-- the reason where a value is no text
+abbrev pub IsNoText : Json → Reason → Type 0
+IsNoText (string s) why = ⊥
+IsNoText other why = why ≡ NotString
+
+-- an engine reads no bytes of a text
+abbrev pub IsUndecoded : GeneralPurpose → List ℕ → Type 0
+IsUndecoded engine text = (e : DecodeError) × (decode_of engine text ≡ Err e)
+
+-- the text is no base64 of 20 bytes, and why, where this is why it is no text of hex digits
+pub record IsNoIdentifier (text : List ℕ) (error : ParseKeyIdentifierError) (why : Reason) :
+    Type 0 where
+  pub none : (k : List ℕ) → IsBase64 text k → length k ≢ 20
+  pub told : (why ≡ KeyIdentifier error)
+      ⊎ ((why ≡ Base64) × (has_base64_length text ≡ true) × IsNoBase64 text)
 
 -- the only member that is this part, if one is
 abbrev pub IsOnly : Part → List (List ℕ × Json) → Option Member → Type 0

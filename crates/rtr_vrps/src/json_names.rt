@@ -2,7 +2,7 @@
 
 ghost use Rattle.std.specs.Prelude.{◌≡◌, ◌==◌, bytes_eq, is_some, option_map};
 ghost use Rattle.rtr_vrps.specs.JsonNames.{holding_named, is_family, is_joiner, is_part};
-ghost use Rattle.rtr_vrps.specs.JsonNames.{is_plainly_one_of, key_names, plain};
+ghost use Rattle.rtr_vrps.specs.JsonNames.{is_plainly_one_of, key_names, plain, usual_name};
 ghost use Rattle.rtr_vrps.specs.PrivateJson.{after_byte};
 
 /// What the payloads of an array are.
@@ -63,7 +63,9 @@ impl Part {
     }
 
     /// The name by which a refusal calls it where it is missing.
-    pub fn usual_name(self) -> &'static str {
+    pub fn usual_name(self) -> &'static str
+        ensures { result.now ≡ usual_name self }
+    {
         match self {
             Part::Asn => "asn",
             Part::Prefix => "prefix",

@@ -36,7 +36,9 @@ pub struct Spot<'a> {
 
 impl<'a> Spot<'a> {
     /// Where the item as a whole stands.
-    pub fn place(self) -> Place<'a> {
+    pub fn place(self) -> Place<'a>
+        ensures { result ≡ Place.Item self.entry.array self.entry.index }
+    {
         Place::Item(self.array, self.index)
     }
 

@@ -1,15 +1,21 @@
 //! What values of JSON mean as parts of payloads.
 
-ghost use Rattle.std.specs.Prelude.{◌≡◌, IfOk, Ok, length};
+ghost use Rattle.std.specs.Prelude.{◌≡◌, ℕ, MatchResult, Ok, length};
 ghost use Rattle.base64.specs.Engines.{url_safe_pad_indifferent};
 ghost use Rattle.base64.specs.GeneralPurpose.{decode_of};
 ghost use Rattle.json.specs.Json.{string};
 ghost use Rattle.json.specs.Value.{items_view, value_view};
 ghost use Rattle.rtr_base.specs.Numerals.{IsSerialText};
 ghost use Rattle.rtr_base.specs.ReadTexts.{IsAsnText, IsLenText};
+ghost use Rattle.rtr_vrps.specs.JsonRefusals.{IsNoBase64, OrMemory, RefusesAsn};
+ghost use Rattle.rtr_vrps.specs.JsonRefusals.{RefusesFirst, RefusesKeyIdentifier};
+ghost use Rattle.rtr_vrps.specs.JsonRefusals.{RefusesKeyInfo, RefusesMaxLength};
+ghost use Rattle.rtr_vrps.specs.JsonRefusals.{RefusesPrefixValue, RefusesProviders};
+ghost use Rattle.rtr_vrps.specs.JsonRefusals.{has_base64_length};
+ghost use Rattle.rtr_vrps.specs.PrivateJson.{IsNoIdentifier, IsNoText, IsUndecoded};
 ghost use Rattle.rtr_vrps.specs.JsonValues.{AreAsnValues, AreProviderValues, IsAsnValue};
 ghost use Rattle.rtr_vrps.specs.JsonValues.{IsBase64, IsKeyIdentifierValue, IsKeyInfoValue};
-ghost use Rattle.rtr_vrps.specs.JsonValues.{IsMaxLengthValue, IsPrefixValue, items_list};
+ghost use Rattle.rtr_vrps.specs.JsonValues.{IsMaxLengthValue, IsPrefixValue, IsSomeAsn, items_list};
 
 use crate::item::Reason;
 use base64::DecodeAllocError;
@@ -24,7 +30,8 @@ use std::alloc::Global;
 
 /// An ASN: a number, or a text with or without `AS` before it.
 pub fn asn_of(value: &Value<'_>) -> Result<Asn, Reason>
-    ensures { IfOk result (λ n. IsAsnValue (value_view value.now) n) }
+    ensures { MatchResult result (λ n. IsAsnValue (value_view value.now) n)
+        (RefusesAsn (value_view value.now)) }
 {
     match value {
         Value::Number(text) => asn_of_number(*text),
@@ -35,7 +42,8 @@ pub fn asn_of(value: &Value<'_>) -> Result<Asn, Reason>
 
 /// The ASN that a number is.
 fn asn_of_number(text: &str) -> Result<Asn, Reason>
-    ensures { IfOk result (λ n. IsSerialText text.now n) }
+    ensures { MatchResult result (λ n. IsSerialText text.now n)
+        (λ why. (why ≡ Reason.Asn) × ((n : ℕ) → ¬ IsSerialText text.now n)) }
 {
     match text.parse::<u32>() {
         Ok(number) => Ok(Asn::from_u32(number)),
@@ -45,7 +53,8 @@ fn asn_of_number(text: &str) -> Result<Asn, Reason>
 
 /// The ASN that a text is.
 pub fn asn_of_text(text: &str) -> Result<Asn, Reason>
-    ensures { IfOk result (λ n. IsAsnText text.now n) }
+    ensures { MatchResult result (λ n. IsAsnText text.now n)
+        (λ why. (why ≡ Reason.Asn) × ((n : ℕ) → ¬ IsAsnText text.now n)) }
 {
     match text.parse::<Asn>() {
         Ok(asn) => Ok(asn),
@@ -55,7 +64,8 @@ pub fn asn_of_text(text: &str) -> Result<Asn, Reason>
 
 /// A prefix, in a text.
 pub fn prefix_of(value: &Value<'_>) -> Result<Prefix, Reason>
-    ensures { IfOk result (λ p. IsPrefixValue (value_view value.now) p) }
+    ensures { MatchResult result (λ p. IsPrefixValue (value_view value.now) p)
+        (RefusesPrefixValue (value_view value.now)) }
 {
     match text_of(value)?.parse::<Prefix>() {
         Ok(prefix) => Ok(prefix),
@@ -65,7 +75,8 @@ pub fn prefix_of(value: &Value<'_>) -> Result<Prefix, Reason>
 
 /// A max length: a number of at most 255.
 pub fn max_length_of(value: &Value<'_>) -> Result<u8, Reason>
-    ensures { IfOk result (λ n. IsMaxLengthValue (value_view value.now) n) }
+    ensures { MatchResult result (λ n. IsMaxLengthValue (value_view value.now) n)
+        (RefusesMaxLength (value_view value.now)) }
 {
     match value {
         Value::Number(text) => length_of_number(*text),
@@ -75,7 +86,8 @@ pub fn max_length_of(value: &Value<'_>) -> Result<u8, Reason>
 
 /// The max length that a number is.
 fn length_of_number(text: &str) -> Result<u8, Reason>
-    ensures { IfOk result (λ n. IsLenText text.now n) }
+    ensures { MatchResult result (λ n. IsLenText text.now n)
+        (λ why. (why ≡ Reason.MaxLength) × ((n : ℕ) → ¬ IsLenText text.now n)) }
 {
     match text.parse::<u8>() {
         Ok(length) => Ok(length),
@@ -84,7 +96,8 @@ fn length_of_number(text: &str) -> Result<u8, Reason>
 }
 
 fn text_of<'a>(value: &Value<'a>) -> Result<&'a str, Reason>
-    ensures { IfOk result (λ text. value_view value.now ≡ string text.now) }
+    ensures { MatchResult result (λ text. value_view value.now ≡ string text.now)
+        (IsNoText (value_view value.now)) }
 {
     match value {
         Value::String(text) => Ok(*text),
@@ -94,32 +107,48 @@ fn text_of<'a>(value: &Value<'a>) -> Result<&'a str, Reason>
 
 /// The identifier of a key: 40 hex digits, or its 20 bytes as base64, as FORT prints it.
 pub fn key_identifier_of(alloc: Global, value: &Value<'_>) -> Result<KeyIdentifier, Reason>
-    ensures { IfOk result (λ k. IsKeyIdentifierValue (value_view value.now) k) }
+    ensures { MatchResult result (λ k. IsKeyIdentifierValue (value_view value.now) k)
+        (OrMemory (RefusesKeyIdentifier (value_view value.now))) }
 {
     let text = text_of(value)?;
-    if text.len() == 27 || text.len() == 28 {
-        return key_identifier_of_base64(alloc, text);
-    }
     match text.parse::<KeyIdentifier>() {
         Ok(identifier) => Ok(identifier),
-        Err(error) => Err(Reason::KeyIdentifier(error)),
+        Err(error) => key_identifier_of_base64(alloc, text, error),
     }
 }
 
-/// The identifier of a key whose 20 bytes are this base64.
-fn key_identifier_of_base64(alloc: Global, text: &str) -> Result<KeyIdentifier, Reason>
-    ensures { IfOk result (λ k. IsBase64 text.now k × (length k ≡ 20)) }
+/// The identifier of a key whose 20 bytes are this base64. A text that is no such base64 is refused
+/// by what it lacks as hex digits, but for one that has its length.
+fn key_identifier_of_base64(
+    alloc: Global,
+    text: &str,
+    error: ParseKeyIdentifierError,
+) -> Result<KeyIdentifier, Reason>
+    ensures { MatchResult result (λ k. IsBase64 text.now k × (length k ≡ 20))
+        (OrMemory (IsNoIdentifier text.now error)) }
 {
-    let bytes = decoded(alloc, text)?;
-    match <[u8; 20]>::try_from(bytes.as_slice()) {
-        Ok(bytes) => Ok(KeyIdentifier::from(bytes)),
-        Err(_) => Err(Reason::KeyIdentifier(ParseKeyIdentifierError::Length)),
+    match decoded(alloc, text) {
+        Ok(bytes) => match <[u8; 20]>::try_from(bytes.as_slice()) {
+            Ok(bytes) => Ok(KeyIdentifier::from(bytes)),
+            Err(_) => Err(Reason::KeyIdentifier(error)),
+        },
+        Err(Reason::Base64) if has_base64_length(text) => Err(Reason::Base64),
+        Err(Reason::Base64) => Err(Reason::KeyIdentifier(error)),
+        Err(reason) => Err(reason),
     }
+}
+
+/// Whether the text is as long as 20 bytes in base64.
+fn has_base64_length(text: &str) -> bool
+    ensures { result ≡ has_base64_length text.now }
+{
+    text.len() == 27 || text.len() == 28
 }
 
 /// A key, in base64.
 pub fn key_info_of(alloc: Global, value: &Value<'_>) -> Result<RouterKeyInfo, Reason>
-    ensures { IfOk result (λ k. IsKeyInfoValue (value_view value.now) k) }
+    ensures { MatchResult result (λ k. IsKeyInfoValue (value_view value.now) k)
+        (OrMemory (RefusesKeyInfo (value_view value.now))) }
 {
     let bytes = decoded(alloc, text_of(value)?)?;
     match RouterKeyInfo::from_vec(alloc, bytes) {
@@ -131,29 +160,33 @@ pub fn key_info_of(alloc: Global, value: &Value<'_>) -> Result<RouterKeyInfo, Re
 
 /// The bytes of base64, with either alphabet of RFC 4648, with or without padding.
 fn decoded(alloc: Global, text: &str) -> Result<Vec<u8>, Reason>
-    ensures { IfOk result (λ v. IsBase64 text.now v.items) }
+    ensures { MatchResult result (λ v. IsBase64 text.now v.items)
+        (OrMemory (λ why. (why ≡ Reason.Base64) × IsNoBase64 text.now)) }
 {
     match STANDARD_PAD_INDIFFERENT.decode(alloc, text.as_bytes()) {
         Ok(bytes) => Ok(bytes),
         Err(DecodeAllocError::OutOfMemory) => Err(Reason::Memory),
-        Err(_) => decoded_url_safe(alloc, text),
+        Err(DecodeAllocError::DecodeError(_)) => decoded_url_safe(alloc, text),
     }
 }
 
 /// The bytes of base64 with the alphabet for URLs.
 fn decoded_url_safe(alloc: Global, text: &str) -> Result<Vec<u8>, Reason>
-    ensures { IfOk result (λ v. decode_of url_safe_pad_indifferent text.now ≡ Ok v.items) }
+    ensures { MatchResult result (λ v. decode_of url_safe_pad_indifferent text.now ≡ Ok v.items)
+        (OrMemory (λ why. (why ≡ Reason.Base64)
+        × IsUndecoded url_safe_pad_indifferent text.now)) }
 {
     match URL_SAFE_PAD_INDIFFERENT.decode(alloc, text.as_bytes()) {
         Ok(bytes) => Ok(bytes),
         Err(DecodeAllocError::OutOfMemory) => Err(Reason::Memory),
-        Err(_) => Err(Reason::Base64),
+        Err(DecodeAllocError::DecodeError(_)) => Err(Reason::Base64),
     }
 }
 
 /// The providers in an array of ASNs: in order, each once.
 pub fn providers_of(alloc: Global, value: &Value<'_>) -> Result<ProviderAsns, Reason>
-    ensures { IfOk result (λ ps. AreProviderValues (value_view value.now) ps) }
+    ensures { MatchResult result (λ ps. AreProviderValues (value_view value.now) ps)
+        (OrMemory (RefusesProviders (value_view value.now))) }
 {
     let Value::Array(list) = value else {
         return Err(Reason::NotArray);
@@ -170,7 +203,8 @@ pub fn providers_of(alloc: Global, value: &Value<'_>) -> Result<ProviderAsns, Re
 
 /// The ASNs of the items.
 fn asns_of(alloc: Global, list: &[Value<'_>]) -> Result<Vec<Asn>, Reason>
-    ensures { IfOk result (λ v. AreAsnValues (items_list (items_view list.now)) v.items) }
+    ensures { MatchResult result (λ v. AreAsnValues (items_list (items_view list.now)) v.items)
+        (OrMemory (RefusesFirst IsSomeAsn RefusesAsn (items_list (items_view list.now)))) }
 {
     let mut asns: Vec<Asn> = Vec::new(alloc);
     for item in list {

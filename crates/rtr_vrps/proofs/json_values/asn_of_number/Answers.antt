@@ -1,5 +1,5 @@
-use Rattle.std.proofs.Common.{sym, subst}
-use Rattle.rtr_base.proofs.Parsing.{reads_number}
+use Rattle.std.proofs.Common.{refl, sym, subst}
+use Rattle.rtr_base.proofs.Parsing.{reads_number, refuses_others}
 use Rattle.rtr_base.specs.Numerals.{IsSerialText}
 use Rattle.rtr_vrps.proofs.json_values.asn_of_number.Goals as goal
 
@@ -7,3 +7,6 @@ pub returns-in-Ok : goal.returns-in-Ok
 returns-in-Ok c =
     subst (IsSerialText c.args.text.now) (sym c.from_u32.ensures)
     (reads_number c.args.text.now c.in-Ok.number c.in-Ok.ensures.value.0)
+
+pub returns-in-Err : goal.returns-in-Err
+returns-in-Err c = (refl, refuses_others c.args.text.now c.in-Err.ensures.value.0)

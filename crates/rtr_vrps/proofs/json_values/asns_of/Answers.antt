@@ -1,7 +1,8 @@
-use Rattle.std.proofs.Common.{[], subst, sym}
+use Rattle.std.proofs.Common.{[], inr, subst, sym}
 use Rattle.rtr_vrps.specs.JsonValues.{AreAsnValues}
 use Rattle.rtr_vrps.proofs.JsonSoFar.{asns_all, asns_step}
 use Rattle.rtr_vrps.proofs.json_values.asns_of.Goals as goal
+use Rattle.rtr_vrps.proofs.JsonRefused.{asns_refused}
 
 pub loop-item-init : goal.loop-item-init
 loop-item-init c = subst (AreAsnValues []) (sym c.new-asns.ensures.items) tt
@@ -15,3 +16,9 @@ loop-item-preserved c =
 pub returns : goal.returns
 returns c =
     asns_all c.args.list.now c.loop-item.item-index _ c.loop-item-test.false c.loop-item.invariant
+
+pub returns-in-Err : goal.returns-in-Err
+returns-in-Err c =
+    inr (asns_refused c.args.list.now c.loop-item.item-index c.item-item.result
+    c.loop-item.asns.items _ c.loop-item-test.true c.item-item.is c.loop-item.invariant
+    c.in-Err.ensures)

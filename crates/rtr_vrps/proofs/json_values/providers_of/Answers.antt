@@ -1,8 +1,10 @@
-use Rattle.std.proofs.Common.{eqb, sym, subst, ◌∙◌}
+use Rattle.std.proofs.Common.{eqb, sym, subst, inr, refl, ◌∙◌}
 use Rattle.std.proofs.lemmas.List.Filters.{dedup_is}
+use Rattle.rtr_vrps.specs.JsonRefusals.{RefusesProviders}
 use Rattle.rtr_vrps.specs.JsonValues.{AreProviderValues}
+use Rattle.rtr_vrps.specs.declared.item.Reason.TheVariants.{TooManyProviders}
 use Rattle.rtr_vrps.proofs.JsonSoFar.{array_seen}
-use Rattle.rtr_vrps.proofs.ProviderSet.{drained, set_of}
+use Rattle.rtr_vrps.proofs.ProviderSet.{drained, set_of, too_many}
 use Rattle.rtr_vrps.proofs.json_values.providers_of.Goals as goal
 
 pub returns-in-Ok : goal.returns-in-Ok
@@ -19,4 +21,21 @@ returns-in-Ok c =
       c.in_ok-asns.ensures,
       set_of given sorted c.in-Ok.providers c.sort_unstable.ensures.permutation
           c.sort_unstable.ensures.sorted once,
+      c.in-Ok.ensures.fits.count,
     )
+
+pub returns-in-Err-Count : goal.returns-in-Err-Count
+returns-in-Err-Count c =
+    let given = c.in_ok-asns.asns.items in
+    let sorted = c.sort_unstable.new.self.items in
+    let once = c.dedup.new.self.items in
+    let (xs, t, gave, count) = rw c.in-Err-Count.field-0-is at c.in-Err-Count.ensures.items in
+    inr (subst (λ j. RefusesProviders j TooManyProviders)
+    (sym (array_seen c.args.value.now c.in-Array.list c.deref.result.now c.in-Array.is
+    c.deref.ensures.value))
+    (inr (
+      refl,
+      too_many c.into_iter.result t _ given sorted once xs c.in_ok-asns.ensures
+          c.sort_unstable.ensures.permutation c.sort_unstable.ensures.sorted
+          (dedup_is eqb sorted once c.dedup.ensures.filtered) c.into_iter.ensures.rest gave count,
+    )))
