@@ -147,8 +147,15 @@ impl<'c> Follower<'c> {
         };
         let mut buffer = [0; CHUNK];
         let (mut input, output) = (stream, self.router.output());
-        let sent = output.len();
-        let written = write_all(stream, output, |_| may_go_on(self.stop, until));
+        let (length, mut left) = (output.len(), output.len());
+        let written = write_all(stream, output, |rest| {
+            left = rest;
+            may_go_on(self.stop, until)
+        });
+        if written.is_ok() {
+            left = 0;
+        }
+        self.router.sent(length - left);
         let read = written.and_then(|()| loop {
             match input.read(&mut buffer) {
                 Err(error) if is_tick(&error) => may_go_on(self.stop, until)?,
@@ -156,10 +163,7 @@ impl<'c> Follower<'c> {
             }
         });
         match read {
-            Ok(count) => {
-                self.router.sent(sent);
-                self.router.received(&buffer[..count]);
-            }
+            Ok(count) => self.router.received(&buffer[..count]),
             Err(error) if error.kind() == ErrorKind::TimedOut => {}
             Err(error) => self.router.lost(error),
         }

@@ -689,6 +689,25 @@ fn caches_that_stall() {
     });
 }
 
+/// A cache that says nothing gets one query, and nothing after it.
+#[test]
+fn a_query_is_sent_once() {
+    let _alone = alone();
+    let cache = Played::new();
+    let options = ClientOptions {
+        response: milliseconds(300),
+        ..options()
+    };
+    let client = Client::new(cache.address().to_string(), options);
+    std::thread::scope(|scope| {
+        let fetched = scope.spawn(|| client.fetch());
+        let mut peer = cache.asked(&reset_query(2));
+        assert!(peer.unit().is_none(), "the client says more");
+        let error = fetched.join().unwrap().unwrap_err();
+        assert!(matches!(error, ClientError::TooSlow), "{error:?}");
+    });
+}
+
 /// A client that is stopped ends soon, whatever it is about.
 #[test]
 fn stopped() {
