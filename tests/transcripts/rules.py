@@ -43,7 +43,7 @@ ROWS = [
     (ASKED,   None,   CHANGES, RESPONSE,  SAME,   OTHER,  "drops",      "5.1"),
     (ASKED,   None,   None,    RESPONSE,  SAME,   None,   "begins",     "5.5"),
     (ASKED,   None,   CHANGES, RESET,     SAME,   None,   "asks for all", "8.3"),
-    (ASKED,   None,   None,    NOTIFY,    SAME,   None,   "passed over", "5.2"),
+    (ASKED,   AGREED, None,    NOTIFY,    SAME,   None,   "noted",      "5.2"),
     (ASKED,   None,   None,    None,      None,   None,   MISPLACED,    "5.6, 12"),
     # Reading a response.
     (READING, None,   None,    NOTIFY,    SAME,   OTHER,  "drops",      "5.1"),

@@ -509,9 +509,9 @@ heard_asked : (C : Type 0) (r : Router) (tc : List Head) (x : Sent C) (xs : List
     → UnderWay C (query r) tc (x ∷ xs) → GoesOn a
 heard_asked C r tc x xs a y h (inl w) =
     goes_on a actions.Wait
-    (h.passes w.1.0 (w.1.1 ∙ query_version r r.changes refl)) tt
+    (h.notes w.1.0 (w.1.1 ∙ query_version r r.changes refl)) tt
 heard_asked C r tc x xs a y h (inr (t, inl w)) =
-    goes_on a actions.Wait (h.passes w.0 (w.1 ∙ query_version r r.changes refl)) tt
+    goes_on a actions.Wait (h.notes w.0 (w.1 ∙ query_version r r.changes refl)) tt
 heard_asked C r tc x xs a y h (inr (t, inr (inl w))) =
     let v : x.head.version ≡ r.version = w.0.version ∙ query_version r r.changes refl in
     goes_on a actions.Begin (h.begins w.0.kind (may_answer r x.head v)

@@ -486,7 +486,7 @@ asked most s r r' n n' e a g q h t fresh soon (notifies u k v) w =
     heeds = (w.heeds fresh soon).asked q
 
     go : (b : Bool) → r.agreed ≡ b → a ≡ actions.Wait
-    go true e = heeds.passes k (v e)
+    go true e = heeds.notes k (v e)
     go false e = heeds.ignores k e
 asked most s r r' n n' e a g q h t fresh soon (responds u k v x) w =
     began s r r' n n' u a t h w (((w.heeds fresh soon).asked q).begins k may x)

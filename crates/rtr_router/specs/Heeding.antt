@@ -95,7 +95,8 @@ pub record HeedsAsked (r : Router) (u : Head) (a : Action) : Type 0 where
       → a ≡ ends_for causes.Reported
   -- a notify, whatever it says before a version is agreed on (section 7)
   pub ignores : u.kind ≡ kinds.SerialNotify → r.agreed ≡ false → a ≡ actions.Wait
-  pub passes : u.kind ≡ kinds.SerialNotify → u.version ≡ r.version → a ≡ actions.Wait
+  -- one of the version: `Notes` says what is kept of it (section 5.2)
+  pub notes : u.kind ≡ kinds.SerialNotify → u.version ≡ r.version → a ≡ actions.Wait
   -- a unit of another version than that which was agreed on (section 7)
   pub other_version :
       u.kind ≢ kinds.ErrorReport → u.version ≢ r.version → r.agreed ≡ true

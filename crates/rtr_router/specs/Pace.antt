@@ -68,7 +68,8 @@ pub record PacesAsk (r : Router) (n : ℕ) (e : Event) (r' : Router) : Type 0 wh
   pub answered : r'.answered ≡ answered_after e r.answered
   pub due : r'.due ≡ n + r.settings.response_limit
 
--- a notify came inside the response, of another serial number than that of the data that came
+-- a notify came while the answer was awaited or read, of another serial number than that of the
+-- data that came
 abbrev pub has_more : Router → Bool
 has_more r = r.noted && not (r.note == r.answer.serial)
 

@@ -73,9 +73,14 @@ PassesOver r events.Applied = r.phase ≢ phases.Applying
 PassesOver r events.Connected = r.phase ≢ phases.Connecting
 PassesOver r events.Tick = Unit {0}
 
--- a notify inside a response is taken note of
-abbrev pub Notes : Event → Phase → Router → Router → Type 0
-Notes (events.Came u) phases.Reading r r' = (r'.noted ≡ true) × (r'.note ≡ u.serial)
+-- whether a notify is taken note of: inside a response, and before it where a version is agreed on
+abbrev pub takes_note : Phase → (agreed : Bool) → Bool
+takes_note phases.Reading agreed = true
+takes_note phases.Asked agreed = agreed
+takes_note _ agreed = false
+
+abbrev pub Notes : Event → Bool → Router → Router → Type 0
+Notes (events.Came u) true r r' = (r'.noted ≡ true) × (r'.note ≡ u.serial)
 Notes _ _ r r' = (r'.noted ≡ r.noted) × (r'.note ≡ r.note)
 
 pub record Waits (r : Router) (e : Event) (r' : Router) : Type 0 where
@@ -83,7 +88,7 @@ pub record Waits (r : Router) (e : Event) (r' : Router) : Type 0 where
   pub talk : SameTalk r r'
   pub response : SameResponse r r'
   pub passes : PassesOver r e
-  pub notes : Notes e r.phase r r'
+  pub notes : Notes e (takes_note r.phase r.agreed) r r'
 
 -- The version that a connection begins in: the one that the router fell to, or the highest (RFC
 -- 8210 section 7).
@@ -146,6 +151,7 @@ pub record Asks (r : Router) (n : ℕ) (e : Event) (q : Query) (r' : Router) : T
   pub may : MayAsk r n e r'
   pub agreed : r.agreed ≡ true → r'.agreed ≡ true
   pub version : r'.version ≡ r.version
+  pub noted : r'.noted ≡ false
 
 -- An answer may be of the version of the query; that to a reset query also of a lower one, before a
 -- version was agreed on (RFC 8210 section 7).
@@ -171,7 +177,8 @@ pub record Begins (r : Router) (u : Head) (r' : Router) : Type 0 where
   pub own : r.changes ≡ true → u.session ≡ r.known.session
   pub units : r'.units ≡ 0
   pub bytes : r'.bytes ≡ 0
-  pub noted : r'.noted ≡ false
+  pub noted : r'.noted ≡ r.noted
+  pub note : r'.note ≡ r.note
 
 -- a payload unit of the version of the cache response, within the limits of an answer
 pub record Keeps (r : Router) (u : Head) (r' : Router) : Type 0 where

@@ -41,7 +41,8 @@ impl Router {
     }
 
     /// A unit came while an answer is awaited. The first answer says what version the session has,
-    /// and a notify before it says nothing (RFC 8210 section 7).
+    /// and a notify before it says nothing (RFC 8210 section 7). A later one is kept, as in a
+    /// response.
     fn answered(&mut self, now: u64, unit: &Head) -> Action
         requires time { now < 2 ^ 63 }
         requires asked { self.old.phase ≡ phases.Asked }
@@ -60,7 +61,7 @@ impl Router {
             _ if unit.version > self.version => {
                 self.end(now, Some(NO_VERSION), Cause::HigherVersion)
             }
-            Kind::SerialNotify => Action::Wait,
+            Kind::SerialNotify => self.note_serial(unit),
             Kind::CacheResponse if self.changes => self.begin_changes(now, unit),
             Kind::CacheResponse => self.begin(unit),
             Kind::CacheReset if self.changes => self.reset(now, unit),
@@ -147,7 +148,6 @@ impl Router {
         self.session = unit.session;
         self.units = 0;
         self.bytes = 0;
-        self.noted = false;
         self.phase = Phase::Reading;
         Action::Begin
     }
@@ -245,6 +245,14 @@ impl Router {
         if unit.session != self.session {
             return self.other_session(now);
         }
+        self.note_serial(unit)
+    }
+
+    /// Keeps what a notify says until the data are there.
+    fn note_serial(&mut self, unit: &Head) -> Action
+        ensures action { result ≡ actions.Wait }
+        ensures notes { self.new ≡ record self.old { noted = true; note = unit.now.serial } }
+    {
         self.noted = true;
         self.note = unit.serial;
         Action::Wait

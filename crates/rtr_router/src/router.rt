@@ -58,7 +58,7 @@ pub struct Router {
     /// The payload units of the response so far, and their bytes.
     pub units: u32,
     pub bytes: u64,
-    /// Whether a notify came inside the response, and its serial number.
+    /// Whether a notify came after the query was sent, and its serial number.
     pub noted: bool,
     pub note: u32,
     /// What names the data that the response makes.
@@ -258,10 +258,12 @@ impl Router {
         ensures fell { self.new.fell ≡ self.old.fell }
         ensures wait { self.new.wait ≡ self.old.wait }
         ensures answered { self.new.answered ≡ self.old.answered }
+        ensures noted { self.new.noted ≡ false }
         ensures due { self.new.due ≡ now + self.old.settings.response_limit }
     {
         self.phase = Phase::Asked;
         self.asked = now;
+        self.noted = false;
         self.due = now + self.settings.response_limit as u64;
         self.changes = self.has_data && !self.resync && self.known.version == self.version;
         if self.changes {
