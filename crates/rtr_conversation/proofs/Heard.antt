@@ -1,14 +1,13 @@
 -- Units of which the machine is told, a run goes on by.
-use Rattle.std.proofs.Common.{◌≡◌, ℕ, List, [], ◌∷◌, ◌++◌, take, drop, refl, sym, ap, subst, ◌∙◌}
+use Rattle.std.proofs.Common.{ℕ, List, [], ◌∷◌, ◌++◌, take, drop, refl, sym, subst, ◌∙◌}
 use Rattle.std.proofs.Common.{append_assoc}
 use Rattle.std.proofs.lemmas.List.{append-nil}
 use Rattle.std.proofs.lemmas.List.Folds.{concat-append}
-use Rattle.std.specs.List.{concat}
 use Rattle.rtr_router.specs.declared.event.Action.{Action}
 use Rattle.rtr_router.specs.declared.event.Action.TheVariants as actions
 use Rattle.rtr_router.specs.declared.event.Event.TheVariants as events
 use Rattle.rtr_router.specs.declared.router.Router.{Router}
-use Rattle.rtr_router.specs.Histories.{Caller, Host, IsHistory, Moment, at, host_after}
+use Rattle.rtr_router.specs.Histories.{Caller, Host, IsHistory, Moment, at}
 use Rattle.rtr_router.specs.Histories.IsHistory.{run_goes_on}
 use Rattle.rtr_conversation.specs.Reading.{Acts, KeepsAll, kept_none, kept_more}
 use Rattle.rtr_conversation.specs.ShownData.{ActsOn, AreHeard, KeepsOn}

@@ -1,4 +1,5 @@
 mod Heads
 mod Units
 mod Whole
+mod Left
 mod Heard

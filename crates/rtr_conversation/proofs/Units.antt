@@ -1,6 +1,6 @@
 -- Units one after the other, of which the machine is told.
 use native.Mathlib.Omega.{arith}
-use Rattle.std.proofs.Common.{ℕ, ◌+◌, ◌≤◌, List, [], length, take, drop, sym, subst}
+use Rattle.std.proofs.Common.{◌≢◌, ℕ, ◌+◌, ◌≤◌, List, [], length, take, drop, sym, subst}
 use Rattle.std.proofs.Math.Seq.{take-add}
 use Rattle.std.proofs.lemmas.List.{drop-take, length-drop}
 use Rattle.rtr_router.specs.declared.event.Action.{Action}
@@ -31,8 +31,8 @@ within mid r' n input a k size start c =
 
 pub acts_on : (n : ℕ) (r mid r' : Router) (input : List ℕ) (a : Action) (k size : ℕ) →
     k ≤ length input → KeepsAll n r (take k input) mid → Comes mid n (drop k input) a size r' →
-    Acts r n input k (k + size) a r'
-acts_on n r mid r' input a k size start kept c = record {
+    a ≢ actions.Keep → Acts r n input k (k + size) a r'
+acts_on n r mid r' input a k size start kept c other = record {
   before = mid;
   kept = kept;
   head = c.head;
@@ -40,11 +40,12 @@ acts_on n r mid r' input a k size start kept c = record {
   order = omega (arith, c.some);
   within = within mid r' n input a k size start c;
   step = c.step;
+  other = other;
 }
 
 pub acts_first : (n : ℕ) (r r' : Router) (input : List ℕ) (a : Action) (size : ℕ) →
-    Comes r n input a size r' → Acts r n input 0 size a r'
-acts_first n r r' input a size c = record {
+    Comes r n input a size r' → a ≢ actions.Keep → Acts r n input 0 size a r'
+acts_first n r r' input a size c other = record {
   before = r;
   kept = kept_none r;
   head = c.head;
@@ -52,4 +53,5 @@ acts_first n r r' input a size c = record {
   order = c.some;
   within = c.within;
   step = c.step;
+  other = other;
 }

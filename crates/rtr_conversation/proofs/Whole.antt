@@ -1,5 +1,5 @@
 -- What whole answers made in bytes, they made of payloads.
-use Rattle.std.proofs.Common.{◌≡◌, ◌≤◌, ℕ, List, [], ◌∷◌, ◌++◌, Option, Some, None, Ok, refl, sym}
+use Rattle.std.proofs.Common.{◌≡◌, ℕ, List, [], ◌∷◌, ◌++◌, Option, Some, None, Ok, refl, sym}
 use Rattle.std.proofs.Common.{ap, subst, ◌∙◌, length, take, drop, map}
 use Rattle.std.proofs.Math.Seq.{take-append_seam}
 use Rattle.std.proofs.lemmas.List.{append-nil, map-append}
@@ -7,7 +7,7 @@ use Rattle.std.proofs.lemmas.List.Folds.{concat-append}
 use Rattle.std.specs.List.{concat}
 use Rattle.rtr_base.specs.declared.timing.Timing.{Timing}
 use Rattle.rtr_units.specs.End.{EndMeaning, IsEnd}
-use Rattle.rtr_payload.specs.Payloads.{Payload, Meaning}
+use Rattle.rtr_payload.specs.Payloads.{Payload}
 use Rattle.rtr_payload.specs.UnitFields.{Fields, HasFields, LengthsAgree, prefix_unit, key_unit}
 use Rattle.rtr_payload.specs.UnitFields.{aspa_unit, meaning}
 use Rattle.rtr_payload.specs.Units.{IsUnit}
@@ -29,21 +29,18 @@ use Rattle.rtr_deltas.proofs.Ordering.{one_sequence}
 use Rattle.rtr_session.specs.AnyFields.{AnyFields, HasAnyFields, serial_notify, serial_query}
 use Rattle.rtr_session.specs.AnyFields.{reset_query, cache_response, payload, end_of_data}
 use Rattle.rtr_session.specs.AnyFields.{cache_reset, error_report}
-use Rattle.rtr_router.specs.declared.event.Event.TheVariants as events
 use Rattle.rtr_router.specs.declared.head.Head.{Head}
 use Rattle.rtr_router.specs.declared.head.Kind.{Kind}
 use Rattle.rtr_router.specs.declared.head.Kind.TheVariants as kinds
 use Rattle.rtr_router.specs.declared.head.Known.{Known}
 use Rattle.rtr_router.specs.declared.head.Query.{Query}
-use Rattle.rtr_router.specs.declared.router.Router.{Router}
 use Rattle.rtr_router.specs.declared.settings.Settings.{Settings}
-use Rattle.rtr_router.specs.Histories.{Caller, HistoryHas, Host, IsAnswered, IsHistory, IsRead}
+use Rattle.rtr_router.specs.Histories.{Caller, HistoryHas, IsAnswered, IsRead}
 use Rattle.rtr_router.specs.Histories.{Made, Moment, WasAnswered}
 use Rattle.rtr_router.specs.Histories.HistoryHas.{made_anew, made_of, still_had}
 use Rattle.rtr_router.specs.Histories.IsRead.{was_begun, was_kept, still_read}
 use Rattle.rtr_router.specs.Histories.WasAnswered.{was_ended, still_whole}
 use Rattle.rtr_router.specs.Rules.{IsPayloadOf, known_of}
-use Rattle.rtr_router.proofs.WholeAnswers.{whole_answers}
 use Rattle.rtr_conversation.specs.Heads.{HasHead, IsInOrder, end_head, head_of, serial_head}
 use Rattle.rtr_conversation.specs.Heads.{timed_head}
 use Rattle.rtr_conversation.specs.ShownData.{AppliesAnswers, AreHeard, MakesPayloads}

@@ -1,6 +1,7 @@
 -- What comes of reading: the units that an input begins with are told to a router's machine.
-use Rattle.std.specs.Prelude.{◌≡◌, ℕ, Bool, true, ◌<◌, ◌≤◌, List, [], ◌++◌, length, take, drop}
-use Rattle.std.specs.Prelude.{Option}
+use Rattle.std.specs.Prelude.{◌≡◌, ◌≢◌, ℕ, Bool, true, ◌<◌, ◌≤◌, List, [], ◌++◌, length, take}
+use Rattle.std.specs.Prelude.{Option, drop}
+use Rattle.rtr_payload.specs.FirstFault.{BeginsUnit}
 use Rattle.rtr_units.specs.Codes.{code_of}
 use Rattle.rtr_units.specs.Header.{version_field, type_field}
 use Rattle.rtr_views.specs.Owed.{owed, read_fault}
@@ -33,6 +34,13 @@ fault_of b e = record {
   code = owed (type_field b) (code_of (read_fault [] e));
 }
 
+-- The first k bytes are payload units that the machine keeps, and no whole one follows them.
+pub record KeepsUnits (r : Router) (n : ℕ) (input : List ℕ) (k : ℕ) (r' : Router) : Type 0 where
+  pub some : 0 < k
+  pub within : k ≤ length input
+  pub kept : KeepsAll n r (take k input) r'
+  pub no_more : BeginsUnit (drop k input) → ⊥
+
 -- The unit from the place `start` to the place `end` makes the machine take this action; those
 -- before it are kept.
 pub record Acts (r : Router) (n : ℕ) (input : List ℕ) (start end : ℕ) (a : Action) (r' : Router) :
@@ -44,6 +52,7 @@ pub record Acts (r : Router) (n : ℕ) (input : List ℕ) (start end : ℕ) (a :
   pub order : start < end
   pub within : end ≤ length input
   pub step : IsStep before n (events.Came head) a r'
+  pub other : a ≢ actions.Keep
 
 -- The input begins with a unit that is refused, or that the end of the input cuts off.
 pub record HearsRefused (r : Router) (n : ℕ) (input : List ℕ) (ended : Bool) (e : ViewFault)
@@ -63,7 +72,6 @@ pub record Awaits (r : Router) (input : List ℕ) (ended : Bool) (r' : Router) :
 
 abbrev pub Hears : Router → ℕ → List ℕ → Bool → Told → Router → Type 0
 Hears r n input ended told.Awaits r' = Awaits r input ended r'
-Hears r n input ended (told.Kept k) r' =
-    (0 < k) × (k ≤ length input) × KeepsAll n r (take k input) r'
+Hears r n input ended (told.Kept k) r' = KeepsUnits r n input k r'
 Hears r n input ended (told.Acted start end a) r' = Acts r n input start end a r'
 Hears r n input ended (told.Refused e a) r' = HearsRefused r n input ended e a r'

@@ -1,7 +1,7 @@
 -- What a router shows whose caller makes the changes of an answer by `apply_in_order` of
 -- `rtr_deltas`: data that whole answers made, whatever bytes come (RFC 8210 sections 8.1 and 8.2).
 use Rattle.std.specs.Prelude.{◌≡◌, ℕ, ⊤, List, [], ◌∷◌, ◌++◌, map, take, Option, Some, None}
-use Rattle.std.specs.Prelude.{Result, Ok, unwrap_or}
+use Rattle.std.specs.Prelude.{Ok, unwrap_or}
 use Rattle.std.specs.List.{concat}
 use Rattle.rtr_units.specs.End.{EndMeaning}
 use Rattle.rtr_payload.specs.Payloads.{Payload}

@@ -7,6 +7,7 @@ ghost use Rattle.rtr_units.specs.Header.{type_field};
 ghost use Rattle.rtr_views.specs.Owed.{owed, read_fault};
 ghost use Rattle.rtr_session.specs.SessionViews.{IsSessionFault};
 ghost use Rattle.rtr_conversation.specs.PrivateReading.{Comes};
+ghost use Rattle.rtr_conversation.specs.PrivateReading.{begins_payload as is_payload_begun};
 ghost use Rattle.rtr_conversation.specs.Reading.{Hears, KeepsAll, fault_of};
 ghost use Rattle.rtr_router.specs.Step.{IsStep};
 ghost use Rattle.rtr_router.specs.declared.event.Event.TheVariants as events;
@@ -54,11 +55,13 @@ pub fn tell(router: &mut Router, now: u64, input: &[u8], ended: bool) -> Told
     ensures { Hears router.old now input.now ended result router.new }
 {
     match came(router, now, input) {
-        Ok((Action::Keep, size)) => tell_on(router, now, input, size),
-        Ok((action, end)) => Told::Acted {
-            start: 0,
-            end,
-            action,
+        Ok((action, size)) => match action {
+            Action::Keep => tell_on(router, now, input, size),
+            _ => Told::Acted {
+                start: 0,
+                end: size,
+                action,
+            },
         },
         Err(refusal) => refuse(router, now, input, ended, refusal.fault),
     }
@@ -74,28 +77,31 @@ fn tell_on(router: &mut Router, now: u64, input: &[u8], size: usize) -> Told
         Hears before now input.now ended result router.new }
 {
     let mut kept = size;
-    for _ in 0..input.len() {
+    'units: loop {
         let (_, rest) = input.split_at(kept);
         if !begins_payload(rest) {
             return Told::Kept(kept);
         }
         match came(router, now, rest) {
-            Ok((Action::Keep, size)) => kept += size,
-            Ok((action, size)) => {
-                return Told::Acted {
-                    start: kept,
-                    end: kept + size,
-                    action,
-                };
-            }
+            Ok((action, size)) => match action {
+                Action::Keep => kept += size,
+                _ => {
+                    return Told::Acted {
+                        start: kept,
+                        end: kept + size,
+                        action,
+                    };
+                }
+            },
             Err(_) => return Told::Kept(kept),
         }
     }
-    Told::Kept(kept)
 }
 
 /// Whether the type of a payload unit stands in its place.
-fn begins_payload(input: &[u8]) -> bool {
+fn begins_payload(input: &[u8]) -> bool
+    ensures { result ≡ is_payload_begun input.now }
+{
     input.len() >= 2
         && matches!(
             input[1],

@@ -1,4 +1,4 @@
-use Rattle.std.proofs.Common.{◌≡◌, ◌⊎◌, ℕ, List, Option, Some, None, inl, inr}
+use Rattle.std.proofs.Common.{◌≡◌, ◌⊎◌, ℕ, List, Some, None, inl, inr}
 use Rattle.rtr_router.specs.Histories.{IsAnswered}
 use Rattle.rtr_router.proofs.WholeAnswers.{whole_answers}
 use Rattle.rtr_conversation.specs.ShownData.{ShowsAnswer}

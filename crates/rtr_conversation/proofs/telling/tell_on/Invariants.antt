@@ -1,12 +1,15 @@
-use Rattle.std.proofs.Common.{◌<◌, ◌≤◌, take, length}
+use Rattle.std.proofs.Common.{◌<◌, ◌≤◌, ◌-◌, take, length}
 use Rattle.rtr_router.specs.declared.router.Router.{Router}
 use Rattle.rtr_conversation.specs.Reading.{KeepsAll}
 use Rattle.rtr_conversation.proofs.telling.tell_on.Given as goal
 
-abbrev pub invariant-loop : goal.invariant-loop
-invariant-loop l = record {
+abbrev pub invariant-units : goal.invariant-units
+invariant-units l = record {
   some : 0 < l.kept;
   within : l.kept ≤ length l.input;
   keeps : (before : Router) → KeepsAll l.now before (take l.size l.input) l.initial.router →
       KeepsAll l.now before (take l.kept l.input) l.router;
 }
+
+abbrev pub decreases-units : goal.decreases-units
+decreases-units l = length l.input - l.kept
