@@ -1,5 +1,6 @@
 pub mod HeldData
 pub mod IgnoredSoFar
+pub mod ByNames
 pub mod JsonRefused
 pub mod JsonSoFar
 pub mod Lacking
@@ -9,6 +10,7 @@ pub mod AskedFor
 pub mod Origins
 pub mod Marks
 pub mod NamesSoFar
+pub mod NoPart
 pub mod NoValue
 pub mod Numbers
 pub mod PartsSoFar

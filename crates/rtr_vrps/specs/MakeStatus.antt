@@ -1,11 +1,12 @@
 -- How the program ends: this program's own.
-use Rattle.std.specs.Prelude.{◌≡◌, ◌⊎◌, ⊤, ℕ, Bool, true, false, List, Result, Ok, Err}
+use Rattle.std.specs.Prelude.{◌≡◌, ◌⊎◌, ℕ, Bool, true, false, List, Result, Ok, Err}
 use Rattle.std.specs.Prelude.{Option, IfSome}
 use Rattle.std.specs.Io.KnownBytes.{IsAtEnd}
 use Rattle.rtr_units.specs.Stream.{Flushes}
 use Rattle.rtr_units.specs.StopCauses.{WriterState}
 use Rattle.rtr_vrps.specs.CsvItems.{IsCsvOf, RefusesCsv}
 use Rattle.rtr_vrps.specs.JsonPayloads.{IsJsonOf}
+use Rattle.rtr_vrps.specs.JsonRefusals.{OrMemory, RefusesJson}
 use Rattle.rtr_vrps.specs.Making.{MakesSequence}
 use Rattle.rtr_vrps.specs.declared.item.Item.{Item}
 use Rattle.rtr_vrps.specs.declared.item.Reason.{Reason}
@@ -36,12 +37,12 @@ MakesOf a items status before after =
     × (status ≡ make_status answer flushed)
 
 -- what is read of a text in this format, where names are passed over: of comma-separated values the
--- items of its rows, or why one is refused; of JSON the items of its arrays, or a refusal
+-- items of its rows, or why one is refused; of JSON the items of its arrays, or why it is refused
 abbrev pub ReadsItems : Format → List (List ℕ) → List ℕ → Result (List Item) Refusal → Type 0
 ReadsItems Csv ignored text (Ok items) = IsCsvOf text items
 ReadsItems Csv ignored text (Err r) = RefusesCsv text r.reason
 ReadsItems Json ignored text (Ok items) = IsJsonOf ignored text items
-ReadsItems Json ignored text (Err r) = ⊤
+ReadsItems Json ignored text (Err r) = OrMemory (RefusesJson ignored text) r.reason
 
 -- the sequence of the items; or, where the text is refused or memory runs out, nothing is written,
 -- and the reason decides the status

@@ -1,6 +1,6 @@
 -- What functions on parts of a document leave. Only contracts of private functions cite these.
-use Rattle.std.specs.Prelude.{◌≡◌, ◌≢◌, true, ℕ, ◌==◌, List, [], ◌∷◌, ◌++◌, map, Option, Some, None}
-use Rattle.std.specs.Prelude.{◌⊎◌, if◌then◌else◌, length, Err}
+use Rattle.std.specs.Prelude.{◌≡◌, ◌≢◌, true, ℕ, ◌<◌, ◌==◌, List, [], ◌∷◌, ◌++◌, map, Option, Some}
+use Rattle.std.specs.Prelude.{None, ◌⊎◌, if◌then◌else◌, length, Err}
 use Rattle.base64.specs.GeneralPurpose.{decode_of}
 use Rattle.base64.specs.declared.decode.DecodeError.{DecodeError}
 use Rattle.base64.specs.declared.engine.general_purpose.GeneralPurpose.{GeneralPurpose}
@@ -13,7 +13,8 @@ use Rattle.rtr_vrps.specs.JsonRefusals.{IsNoBase64, has_base64_length}
 use Rattle.rtr_vrps.specs.JsonValues.{IsBase64}
 use Rattle.rtr_vrps.specs.declared.item.Item.{Item}
 use Rattle.rtr_vrps.specs.declared.item.Reason.{Reason}
-use Rattle.rtr_vrps.specs.declared.item.Reason.TheVariants.{Base64, KeyIdentifier, NotString}
+use Rattle.rtr_vrps.specs.declared.item.Reason.TheVariants.{Base64, KeyIdentifier, Missing}
+use Rattle.rtr_vrps.specs.declared.item.Reason.TheVariants.{NotString, Twice}
 use Rattle.rtr_vrps.specs.declared.json_names.Part.{Part}
 use Rattle.rtr_vrps.specs.declared.json_objects.Member.{Member}
 
@@ -42,6 +43,14 @@ pub record IsNoIdentifier (text : List ℕ) (error : ParseKeyIdentifierError) (w
 abbrev pub IsOnly : Part → List (List ℕ × Json) → Option Member → Type 0
 IsOnly p ms None = values_of p ms ≡ []
 IsOnly p ms (Some m) = values_of p ms ≡ value_view m.value.now ∷ []
+
+-- two members are this part
+abbrev pub IsTwice : Part → List (List ℕ × Json) → Reason → Type 0
+IsTwice p ms why = (why ≡ Twice) × (1 < length (values_of p ms))
+
+-- none is, or two are
+abbrev pub LacksPart : Part → List (List ℕ × Json) → Reason → Type 0
+LacksPart p ms why = ((why ≡ Missing) × (values_of p ms ≡ [])) ⊎ IsTwice p ms why
 
 abbrev pub payloads_of : List Item → List Payload
 payloads_of items = map (λ i. i.payload) items

@@ -1,6 +1,6 @@
 //! Payloads in JSON, as validators print them.
 
-ghost use Rattle.std.specs.Prelude.{◌≡◌, false, IfOk, OnOk};
+ghost use Rattle.std.specs.Prelude.{◌≡◌, MatchResult, false};
 ghost use Rattle.std.specs.List.{list_any};
 ghost use Rattle.json.specs.Value.{items_view, members_view, value_view};
 ghost use Rattle.rtr_vrps.specs.JsonPayloads.{AreAuthorizations, AreCustomerAspas};
@@ -9,6 +9,13 @@ ghost use Rattle.rtr_vrps.specs.JsonPayloads.{AreItemPayloads, ArePayloadsIn, Ar
 ghost use Rattle.rtr_vrps.specs.JsonPayloads.{AreTopPayloads, HasItemsOf, HasTopItems};
 ghost use Rattle.rtr_vrps.specs.JsonPayloads.{IsCustomerAspa, IsItemPayload, IsJsonOf};
 ghost use Rattle.rtr_vrps.specs.JsonPayloads.{has_payloads, holds_payloads, is_array};
+ghost use Rattle.rtr_vrps.specs.JsonRefusals.{HasFamilyPayloads, IsNoDocument, IsSomeCustomer};
+ghost use Rattle.rtr_vrps.specs.JsonRefusals.{IsSomeItem};
+ghost use Rattle.rtr_vrps.specs.JsonRefusals.{OrMemory, RefusesAuthorizations};
+ghost use Rattle.rtr_vrps.specs.JsonRefusals.{RefusesCustomer, RefusesFamily, RefusesFirst};
+ghost use Rattle.rtr_vrps.specs.JsonRefusals.{RefusesArrayItem, RefusesJson, RefusesMembers};
+ghost use Rattle.rtr_vrps.specs.JsonRefusals.{RefusesPayloads, RefusesTop, RefusesUnknown};
+ghost use Rattle.rtr_vrps.specs.JsonRefusals.{RefusesValue};
 ghost use Rattle.rtr_vrps.specs.JsonValues.{items_list, members_list};
 ghost use Rattle.rtr_vrps.specs.MakeWords.{ignored_by_words};
 ghost use Rattle.rtr_vrps.specs.PrivateJson.{AddsOne, AddsPayloads};
@@ -45,7 +52,9 @@ pub fn read_json<'a>(
     words: &[String],
     scratch: &'a mut Scratch,
 ) -> Result<Vec<Item<'a>>, Refusal<'a>>
-    ensures { IfOk result (λ v. IsJsonOf (ignored_by_words words.now) text.now v.items) }
+    ensures { MatchResult result
+        (λ v. IsJsonOf (ignored_by_words words.now) text.now v.items)
+        (λ r. OrMemory (RefusesJson (ignored_by_words words.now) text.now) r.reason) }
 {
     let rest = without_mark(text);
     let Ok(rest) = std::str::from_utf8(rest) else {
@@ -58,12 +67,16 @@ pub fn read_json<'a>(
     }
 }
 
-fn refusal(place: Place<'_>, reason: Reason) -> Refusal<'_> {
+fn refusal(place: Place<'_>, reason: Reason) -> Refusal<'_>
+    ensures { result.reason ≡ reason }
+{
     Refusal { place, reason }
 }
 
 /// The refusal of a text that ends an input of so many bytes, and is no JSON or nests too deep.
-fn not_json<'a>(alloc: Global, length: usize, text: &str) -> Refusal<'a> {
+fn not_json<'a>(alloc: Global, length: usize, text: &str) -> Refusal<'a>
+    ensures { OrMemory IsNoDocument result.reason }
+{
     let before = length.saturating_sub(text.len());
     let mut scratch = Scratch::new(alloc);
     let Ok(mut reader) = Reader::new(text, &mut scratch) else {
@@ -110,8 +123,10 @@ fn items_of_value<'a>(
     words: &[String],
     value: &Value<'a>,
 ) -> Result<Vec<Item<'a>>, Refusal<'a>>
-    ensures { IfOk result
-        (λ v. HasItemsOf (ignored_by_words words.now) (value_view value.now) v.items) }
+    ensures { MatchResult result
+        (λ v. HasItemsOf (ignored_by_words words.now) (value_view value.now) v.items)
+        (λ r. OrMemory (RefusesValue (ignored_by_words words.now) (value_view value.now))
+        r.reason) }
 {
     match value {
         Value::Object(members) => items_of(alloc, words, members),
@@ -125,8 +140,11 @@ fn items_of<'a>(
     words: &[String],
     members: &[(&'a str, Value<'a>)],
 ) -> Result<Vec<Item<'a>>, Refusal<'a>>
-    ensures { IfOk result (λ v. HasTopItems (ignored_by_words words.now)
-        (members_list (members_view members.now)) v.items) }
+    ensures { MatchResult result
+        (λ v. HasTopItems (ignored_by_words words.now) (members_list (members_view members.now))
+        v.items)
+        (λ r. OrMemory (RefusesMembers (ignored_by_words words.now)
+        (members_list (members_view members.now))) r.reason) }
 {
     let mut items = Vec::new(alloc);
     for member in members {
@@ -179,9 +197,12 @@ fn add_member<'a>(
     value: &Value<'a>,
     items: &mut Vec<Item<'a>>,
 ) -> Result<(), Refusal<'a>>
-    ensures { OnOk result (AddsPayloads
+    ensures { MatchResult result
+        (λ _. AddsPayloads
         (AreTopPayloads (ignored_by_words words.now) name.now (value_view value.now))
-        items.old.items items.new.items) }
+        items.old.items items.new.items)
+        (λ r. OrMemory (RefusesTop (ignored_by_words words.now)
+        (name.now, value_view value.now)) r.reason) }
 {
     if is_ignored(words, name) {
         return Ok(());
@@ -196,7 +217,8 @@ fn add_member<'a>(
 
 /// Refuses what looks like payloads at this place.
 fn check_unknown<'a>(place: Place<'a>, value: &Value<'_>) -> Result<(), Refusal<'a>>
-    ensures { OnOk result (has_payloads (value_view value.now) ≡ false) }
+    ensures { MatchResult result (λ _. has_payloads (value_view value.now) ≡ false)
+        (λ r. RefusesUnknown (value_view value.now) r.reason) }
 {
     if has_payloads(value) {
         return Err(refusal(place, Reason::UnknownName));
@@ -211,8 +233,10 @@ fn add_authorizations<'a>(
     value: &Value<'a>,
     items: &mut Vec<Item<'a>>,
 ) -> Result<(), Refusal<'a>>
-    ensures { OnOk result (AddsPayloads (AreAuthorizations (value_view value.now))
-        items.old.items items.new.items) }
+    ensures { MatchResult result
+        (λ _. AddsPayloads (AreAuthorizations (value_view value.now))
+        items.old.items items.new.items)
+        (λ r. OrMemory (RefusesAuthorizations (value_view value.now)) r.reason) }
 {
     match value {
         Value::Object(members) => add_families(alloc, array, members, items),
@@ -226,9 +250,12 @@ fn add_families<'a>(
     members: &[(&'a str, Value<'a>)],
     items: &mut Vec<Item<'a>>,
 ) -> Result<(), Refusal<'a>>
-    ensures { OnOk result (AddsPayloads
+    ensures { MatchResult result
+        (λ _. AddsPayloads
         (ArePayloadsOfEach AreFamilyPayloads (members_list (members_view members.now)))
-        items.old.items items.new.items) }
+        items.old.items items.new.items)
+        (λ r. OrMemory (RefusesFirst HasFamilyPayloads RefusesFamily
+        (members_list (members_view members.now))) r.reason) }
 {
     for member in members {
         match add_family(alloc, array, member.0, &member.1, items) {
@@ -247,8 +274,10 @@ fn add_family<'a>(
     value: &Value<'a>,
     items: &mut Vec<Item<'a>>,
 ) -> Result<(), Refusal<'a>>
-    ensures { OnOk result (AddsPayloads (AreFamilyPayloads name.now (value_view value.now))
-        items.old.items items.new.items) }
+    ensures { MatchResult result
+        (λ _. AddsPayloads (AreFamilyPayloads name.now (value_view value.now))
+        items.old.items items.new.items)
+        (λ r. OrMemory (RefusesFamily (name.now, value_view value.now)) r.reason) }
 {
     match family_named(name) {
         Some(family) => add_payloads(alloc, family, Kind::Aspas, value, items),
@@ -265,8 +294,10 @@ fn add_payloads<'a>(
     value: &Value<'a>,
     items: &mut Vec<Item<'a>>,
 ) -> Result<(), Refusal<'a>>
-    ensures { OnOk result (AddsPayloads (ArePayloadsIn kind (value_view value.now))
-        items.old.items items.new.items) }
+    ensures { MatchResult result
+        (λ _. AddsPayloads (ArePayloadsIn kind (value_view value.now))
+        items.old.items items.new.items)
+        (λ r. OrMemory (RefusesPayloads kind (value_view value.now)) r.reason) }
 {
     match (kind, value) {
         (_, Value::Null) => Ok(()),
@@ -284,8 +315,11 @@ fn add_list<'a>(
     list: &[Value<'a>],
     items: &mut Vec<Item<'a>>,
 ) -> Result<(), Refusal<'a>>
-    ensures { OnOk result (AddsPayloads (AreItemPayloads kind (items_list (items_view list.now)))
-        items.old.items items.new.items) }
+    ensures { MatchResult result
+        (λ _. AddsPayloads (AreItemPayloads kind (items_list (items_view list.now)))
+        items.old.items items.new.items)
+        (λ r. OrMemory (RefusesFirst (IsSomeItem kind) (RefusesArrayItem kind)
+        (items_list (items_view list.now))) r.reason) }
 {
     let mut spot = Spot { array, index: 0 };
     for item in list {
@@ -306,8 +340,9 @@ fn add_item<'a>(
     item: &Value<'a>,
     items: &mut Vec<Item<'a>>,
 ) -> Result<(), Refusal<'a>>
-    ensures { OnOk result (AddsOne (IsItemPayload kind (value_view item.now))
-        items.old.items items.new.items) }
+    ensures { MatchResult result
+        (λ _. AddsOne (IsItemPayload kind (value_view item.now)) items.old.items items.new.items)
+        (λ r. OrMemory (RefusesArrayItem kind (value_view item.now)) r.reason) }
 {
     match payload_of(alloc, spot, kind, item) {
         Ok(payload) => push(items, spot.place(), payload),
@@ -322,7 +357,8 @@ fn payload_of<'a>(
     kind: Kind,
     item: &Value<'a>,
 ) -> Result<Payload, Refusal<'a>>
-    ensures { IfOk result (IsItemPayload kind (value_view item.now)) }
+    ensures { MatchResult result (IsItemPayload kind (value_view item.now))
+        (λ r. OrMemory (RefusesArrayItem kind (value_view item.now)) r.reason) }
 {
     match item {
         Value::Object(members) => spot.payload(alloc, kind, members),
@@ -335,7 +371,9 @@ fn push<'a>(
     place: Place<'a>,
     payload: Payload,
 ) -> Result<(), Refusal<'a>>
-    ensures { OnOk result (AddsOne (λ p. p ≡ payload) items.old.items items.new.items) }
+    ensures { MatchResult result
+        (λ _. AddsOne (λ p. p ≡ payload) items.old.items items.new.items)
+        (λ r. r.reason ≡ Reason.Memory) }
 {
     match items.push(Item { place, payload }) {
         Ok(()) => Ok(()),
@@ -350,8 +388,11 @@ fn add_customers<'a>(
     members: &[(&'a str, Value<'a>)],
     items: &mut Vec<Item<'a>>,
 ) -> Result<(), Refusal<'a>>
-    ensures { OnOk result (AddsPayloads (AreCustomerAspas (members_list (members_view members.now)))
-        items.old.items items.new.items) }
+    ensures { MatchResult result
+        (λ _. AddsPayloads (AreCustomerAspas (members_list (members_view members.now)))
+        items.old.items items.new.items)
+        (λ r. OrMemory (RefusesFirst IsSomeCustomer RefusesCustomer
+        (members_list (members_view members.now))) r.reason) }
 {
     for member in members {
         match add_customer(alloc, array, member.0, &member.1, items) {
@@ -370,8 +411,10 @@ fn add_customer<'a>(
     value: &Value<'a>,
     items: &mut Vec<Item<'a>>,
 ) -> Result<(), Refusal<'a>>
-    ensures { OnOk result (AddsOne (IsCustomerAspa name.now (value_view value.now))
-        items.old.items items.new.items) }
+    ensures { MatchResult result
+        (λ _. AddsOne (IsCustomerAspa name.now (value_view value.now))
+        items.old.items items.new.items)
+        (λ r. OrMemory (RefusesCustomer (name.now, value_view value.now)) r.reason) }
 {
     let place = Place::Entry(array, name);
     match aspa_of(alloc, name, value) {
@@ -382,7 +425,8 @@ fn add_customer<'a>(
 
 /// The ASPA of the customer that the name is, with the providers in the value.
 fn aspa_of(alloc: Global, name: &str, value: &Value<'_>) -> Result<Payload, Reason>
-    ensures { IfOk result (IsCustomerAspa name.now (value_view value.now)) }
+    ensures { MatchResult result (IsCustomerAspa name.now (value_view value.now))
+        (OrMemory (RefusesCustomer (name.now, value_view value.now))) }
 {
     let customer = asn_of_text(name)?;
     let providers = providers_of(alloc, value)?;

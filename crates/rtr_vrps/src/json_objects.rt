@@ -1,11 +1,15 @@
 //! Payloads that are objects in JSON, by the names of their members.
 
-ghost use Rattle.std.specs.Prelude.{◌≡◌, ◌∷◌, [], IfOk};
+ghost use Rattle.std.specs.Prelude.{◌≡◌, ◌∷◌, ◌<◌, [], MatchResult, codes, length};
 ghost use Rattle.json.specs.Value.{members_view, value_view};
 ghost use Rattle.rtr_vrps.specs.JsonPayloads.{Has, IsPayloadObject, MayHave, values_of};
+ghost use Rattle.rtr_vrps.specs.JsonRefusals.{OrMemory, RefusesAny, RefusesAsn, RefusesAspa};
+ghost use Rattle.rtr_vrps.specs.JsonRefusals.{RefusesMaxLength, RefusesOrigin, RefusesPart};
+ghost use Rattle.rtr_vrps.specs.JsonRefusals.{RefusesPayloadObject, RefusesPrefixValue};
+ghost use Rattle.rtr_vrps.specs.JsonRefusals.{RefusesRouterKey};
 ghost use Rattle.rtr_vrps.specs.JsonValues.{IsAsnValue, IsMaxLengthValue, IsPrefixValue};
 ghost use Rattle.rtr_vrps.specs.JsonValues.{members_list};
-ghost use Rattle.rtr_vrps.specs.PrivateJson.{IsOnly};
+ghost use Rattle.rtr_vrps.specs.PrivateJson.{IsOnly, LacksPart, IsTwice};
 
 use crate::item::{Place, Reason, Refusal};
 use crate::json_names::{Kind, Part};
@@ -53,8 +57,10 @@ impl<'a> Spot<'a> {
         kind: Kind,
         members: &[(&'a str, Value<'a>)],
     ) -> Result<Payload, Refusal<'a>>
-        ensures { IfOk result (λ p. IsPayloadObject kind
-            (members_list (members_view members.now)) p) }
+        ensures { MatchResult result
+            (IsPayloadObject kind (members_list (members_view members.now)))
+            (λ r. OrMemory (RefusesPayloadObject kind (members_list (members_view members.now)))
+            r.reason) }
     {
         match kind {
             Kind::Origins => self.origin(members),
@@ -64,8 +70,9 @@ impl<'a> Spot<'a> {
     }
 
     fn origin(self, members: &[(&'a str, Value<'a>)]) -> Result<Payload, Refusal<'a>>
-        ensures { IfOk result (λ p. IsPayloadObject Kind.Origins
-            (members_list (members_view members.now)) p) }
+        ensures { MatchResult result
+            (IsPayloadObject Kind.Origins (members_list (members_view members.now)))
+            (λ r. RefusesOrigin (members_list (members_view members.now)) r.reason) }
     {
         let prefix = self.prefix(members)?;
         let max_length = self.max_length(members)?;
@@ -84,8 +91,10 @@ impl<'a> Spot<'a> {
         alloc: Global,
         members: &[(&'a str, Value<'a>)],
     ) -> Result<Payload, Refusal<'a>>
-        ensures { IfOk result (λ p. IsPayloadObject Kind.RouterKeys
-            (members_list (members_view members.now)) p) }
+        ensures { MatchResult result
+            (IsPayloadObject Kind.RouterKeys (members_list (members_view members.now)))
+            (λ r. OrMemory (RefusesRouterKey (members_list (members_view members.now)))
+            r.reason) }
     {
         let asn = self.asn(Part::Asn, members)?;
         let member = self.needed(Part::KeyIdentifier, members)?;
@@ -101,8 +110,9 @@ impl<'a> Spot<'a> {
     }
 
     fn aspa(self, alloc: Global, members: &[(&'a str, Value<'a>)]) -> Result<Payload, Refusal<'a>>
-        ensures { IfOk result (λ p. IsPayloadObject Kind.Aspas
-            (members_list (members_view members.now)) p) }
+        ensures { MatchResult result
+            (IsPayloadObject Kind.Aspas (members_list (members_view members.now)))
+            (λ r. OrMemory (RefusesAspa (members_list (members_view members.now))) r.reason) }
     {
         let customer = self.asn(Part::Customer, members)?;
         let member = self.needed(Part::Providers, members)?;
@@ -114,8 +124,10 @@ impl<'a> Spot<'a> {
 
     /// Its prefix.
     fn prefix(self, members: &[(&'a str, Value<'a>)]) -> Result<Prefix, Refusal<'a>>
-        ensures { IfOk result (Has Part.Prefix IsPrefixValue
-            (members_list (members_view members.now))) }
+        ensures { MatchResult result
+            (Has Part.Prefix IsPrefixValue (members_list (members_view members.now)))
+            (λ r. RefusesPart Part.Prefix RefusesPrefixValue
+            (members_list (members_view members.now)) r.reason) }
     {
         let member = self.needed(Part::Prefix, members)?;
         match prefix_of(member.value) {
@@ -126,8 +138,10 @@ impl<'a> Spot<'a> {
 
     /// Its max length, if it has one.
     fn max_length(self, members: &[(&'a str, Value<'a>)]) -> Result<Option<u8>, Refusal<'a>>
-        ensures { IfOk result (MayHave Part.MaxLength IsMaxLengthValue
-            (members_list (members_view members.now))) }
+        ensures { MatchResult result
+            (MayHave Part.MaxLength IsMaxLengthValue (members_list (members_view members.now)))
+            (λ r. RefusesAny Part.MaxLength RefusesMaxLength
+            (members_list (members_view members.now)) r.reason) }
     {
         let Some(member) = self.part(Part::MaxLength, members)? else {
             return Ok(None);
@@ -140,7 +154,9 @@ impl<'a> Spot<'a> {
 
     /// The ASN that is this part.
     fn asn(self, part: Part, members: &[(&'a str, Value<'a>)]) -> Result<Asn, Refusal<'a>>
-        ensures { IfOk result (Has part IsAsnValue (members_list (members_view members.now))) }
+        ensures { MatchResult result
+            (Has part IsAsnValue (members_list (members_view members.now)))
+            (λ r. RefusesPart part RefusesAsn (members_list (members_view members.now)) r.reason) }
     {
         let member = self.needed(part, members)?;
         match asn_of(member.value) {
@@ -155,8 +171,10 @@ impl<'a> Spot<'a> {
         part: Part,
         members: &'v [(&'a str, Value<'a>)],
     ) -> Result<Member<'v, 'a>, Refusal<'a>>
-        ensures { IfOk result (λ m. values_of part (members_list (members_view members.now))
-            ≡ value_view m.value.now ∷ []) }
+        ensures { MatchResult result
+            (λ m. values_of part (members_list (members_view members.now))
+            ≡ value_view m.value.now ∷ [])
+            (λ r. LacksPart part (members_list (members_view members.now)) r.reason) }
     {
         match self.part(part, members)? {
             Some(member) => Ok(member),
@@ -170,7 +188,8 @@ impl<'a> Spot<'a> {
         part: Part,
         members: &'v [(&'a str, Value<'a>)],
     ) -> Result<Option<Member<'v, 'a>>, Refusal<'a>>
-        ensures { IfOk result (IsOnly part (members_list (members_view members.now))) }
+        ensures { MatchResult result (IsOnly part (members_list (members_view members.now)))
+            (λ r. IsTwice part (members_list (members_view members.now)) r.reason) }
     {
         let mut found: Option<Member<'v, 'a>> = None;
         for member in members {
@@ -190,7 +209,9 @@ impl<'a> Spot<'a> {
     }
 
     /// The refusal of its member of this name.
-    fn refusal_of(self, name: &'a str, reason: Reason) -> Refusal<'a> {
+    fn refusal_of(self, name: &'a str, reason: Reason) -> Refusal<'a>
+        ensures { result.reason ≡ reason }
+    {
         Refusal {
             place: Place::Member(self.array, self.index, name),
             reason,

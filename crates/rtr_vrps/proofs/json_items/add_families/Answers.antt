@@ -2,6 +2,8 @@ use Rattle.std.proofs.Common.{refl}
 use Rattle.rtr_vrps.specs.JsonPayloads.{AreFamilyPayloads}
 use Rattle.rtr_vrps.proofs.JsonSoFar.{nothing, each_step, each_all}
 use Rattle.rtr_vrps.proofs.json_items.add_families.Goals as goal
+use Rattle.rtr_vrps.specs.JsonRefusals.{RefusesFamily}
+use Rattle.rtr_vrps.proofs.JsonRefused.{each_refused}
 
 pub loop-member-init : goal.loop-member-init
 loop-member-init c = nothing _ _ refl
@@ -17,3 +19,9 @@ returns c =
     each_all AreFamilyPayloads c.args.members.now c.loop-member.member-index _ _
     c.loop-member-test.false
     c.loop-member.invariant
+
+pub returns-in-Err : goal.returns-in-Err
+returns-in-Err c =
+    each_refused AreFamilyPayloads RefusesFamily c.args.members.now c.loop-member.member-index
+    c.member-item.result _ _ _ c.loop-member-test.true c.member-item.is c.loop-member.invariant
+    c.in-Err.ensures

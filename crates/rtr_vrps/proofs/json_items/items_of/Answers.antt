@@ -6,6 +6,7 @@ use Rattle.rtr_vrps.specs.MakeWords.{ignored_by_words}
 use Rattle.rtr_vrps.specs.PrivateJson.{AddsPayloads}
 use Rattle.rtr_vrps.proofs.JsonSoFar.{each_all, each_step, from_none, nothing}
 use Rattle.rtr_vrps.proofs.json_items.items_of.Goals as goal
+use Rattle.rtr_vrps.proofs.JsonRefused.{no_array, top_refused}
 
 pub loop-member-init : goal.loop-member-init
 loop-member-init c =
@@ -29,3 +30,15 @@ returns-then-has_array c = record {
       c.loop-member.member-index [] c.loop-member.items.items c.loop-member-test.false
       c.loop-member.invariant);
 }
+
+pub returns-in-Err : goal.returns-in-Err
+returns-in-Err c =
+    top_refused (ignored_by_words c.args.words.now) c.args.members.now c.loop-member.member-index
+    c.member-item.result _ _ _ c.loop-member-test.true c.member-item.is c.loop-member.invariant
+    c.in-Err.ensures
+
+pub returns : goal.returns
+returns c =
+    no_array (ignored_by_words c.args.words.now) c.args.members.now c.loop-member.member-index _ _ _
+    c.loop-member-test.false c.loop-member.invariant c.refusal.ensures
+    (sym c.has_array.ensures ∙ c.if-has_array.false)

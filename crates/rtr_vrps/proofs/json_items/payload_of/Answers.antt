@@ -1,11 +1,13 @@
 use Rattle.std.proofs.Common.{sym, subst}
-use Rattle.std.specs.Result.{IfOk}
+use Rattle.std.proofs.Common.{MatchResult}
+use Rattle.rtr_vrps.specs.JsonRefusals.{OrMemory, RefusesArrayItem}
 use Rattle.rtr_vrps.specs.JsonPayloads.{IsItemPayload}
 use Rattle.rtr_vrps.proofs.JsonSoFar.{object_seen}
 use Rattle.rtr_vrps.proofs.json_items.payload_of.Goals as goal
 
 pub returns-in-Object : goal.returns-in-Object
 returns-in-Object c =
-    subst (λ j. IfOk c.payload.result (IsItemPayload c.args.kind j))
+    subst (λ j. MatchResult c.payload.result (IsItemPayload c.args.kind j)
+    (λ r. OrMemory (RefusesArrayItem c.args.kind j) r.reason))
     (sym (object_seen c.args.item.now c.in-Object.members c.deref.result.now c.in-Object.is
     c.deref.ensures.value)) c.payload.ensures

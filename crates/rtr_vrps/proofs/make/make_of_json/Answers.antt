@@ -6,4 +6,4 @@ returns-in-Ok g c =
     (Ok c.in-Ok.items.items, c.in-Ok.ensures, rw c.deref.ensures.value at c.write.ensures)
 
 pub returns : goal.returns
-returns g c = (Err c.in-Err.refusal, tt, (refl, c.tell_refusal.ensures))
+returns g c = (Err c.in-Err.refusal, c.in-Err.ensures, (refl, c.tell_refusal.ensures))

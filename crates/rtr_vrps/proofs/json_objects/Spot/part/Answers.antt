@@ -2,7 +2,7 @@ use Rattle.std.proofs.Common.{refl, sym, subst, take, ◌∙◌}
 use Rattle.json.specs.Value.{members_view}
 use Rattle.rtr_vrps.specs.JsonValues.{members_list}
 use Rattle.rtr_vrps.specs.PrivateJson.{IsOnly}
-use Rattle.rtr_vrps.proofs.PartsSoFar.{named_as, passed}
+use Rattle.rtr_vrps.proofs.PartsSoFar.{another, named_as, passed}
 use Rattle.rtr_vrps.proofs.json_objects.Spot.part.Goals as goal
 use Rattle.rtr_vrps.proofs.json_objects.Spot.part.Goals.{then-is_named+in-None, else-is_named}
 
@@ -22,3 +22,11 @@ loop-member-preserved c =
           c.loop-member.found (sym c.is_named.ensures ∙ w.if-is_named.false)
           c.loop-member.invariant)
     ]
+
+pub returns-in-Some : goal.returns-in-Some
+returns-in-Some c = (
+  c.refusal_of.ensures,
+  another c.args.part c.args.members.now c.loop-member.member-index c.member-item.result
+      c.loop-member.found c.in-Some.field-0 c.loop-member-test.true c.member-item.is c.in-Some.is
+      (sym c.is_named.ensures ∙ c.if-is_named.true) c.loop-member.invariant,
+)

@@ -1,0 +1,57 @@
+-- What a member adds, and why it is refused, by what its name says.
+use Rattle.std.proofs.Common.{◌≡◌, ℕ, Bool, false, List, [], Option}
+use Rattle.std.proofs.Common.{MatchResult, Result, Ok, Err, inr, refl, sym, subst}
+use Rattle.std.specs.Bool.{MatchBool}
+use Rattle.json.specs.Json.{Json}
+use Rattle.rtr_payload.specs.declared.payload.Payload.{Payload}
+use Rattle.rtr_vrps.specs.JsonNames.{holding_named, is_family}
+use Rattle.rtr_vrps.specs.JsonPayloads.{AreFamilyPayloads, AreNoPayloads, ArePayloadsBy}
+use Rattle.rtr_vrps.specs.JsonPayloads.{ArePayloadsIn, AreTopPayloads, has_payloads}
+use Rattle.rtr_vrps.specs.JsonRefusals.{OrMemory, RefusesBy, RefusesFamily, RefusesPayloads}
+use Rattle.rtr_vrps.specs.JsonRefusals.{RefusesTop, RefusesUnknown}
+use Rattle.rtr_vrps.specs.MakeWords.{is_one_of}
+use Rattle.rtr_vrps.specs.PrivateJson.{AddsPayloads}
+use Rattle.rtr_vrps.specs.declared.item.Item.{Item}
+use Rattle.rtr_vrps.specs.declared.item.Reason.{Reason}
+use Rattle.rtr_vrps.specs.declared.item.Refusal.{Refusal}
+use Rattle.rtr_vrps.specs.declared.json_names.Holding.{Holding}
+use Rattle.rtr_vrps.specs.declared.json_names.Kind.TheVariants.{Aspas}
+use Rattle.rtr_vrps.proofs.JsonSoFar.{nothing}
+
+-- payloads of this kind come, or this is why not
+abbrev pub Reads : {T : Type 0} → (List Payload → Type 0) → (Reason → Type 0) →
+    Result T Refusal → List Item → List Item → Type 0
+Reads Are Refuses r old new =
+    MatchResult r (λ _. AddsPayloads Are old new) (λ e. OrMemory Refuses e.reason)
+
+-- a name that isn't ignored, by what it holds
+pub top_by : {T : Type 0} (ignored : List (List ℕ)) (name : List ℕ) (j : Json)
+    (h : Option Holding) (r : Result T Refusal) (old new : List Item) →
+    is_one_of ignored name ≡ false → holding_named name ≡ h →
+    Reads (ArePayloadsBy h j) (RefusesBy h j) r old new →
+    Reads (AreTopPayloads ignored name j) (RefusesTop ignored (name, j)) r old new
+top_by ignored name j h r old new e f reads =
+    subst
+    (λ b. Reads (λ ps. MatchBool b (◌≡◌ {A = List Payload} ps [])
+    (ArePayloadsBy (holding_named name) j ps))
+    (λ why. MatchBool b ⊥ (RefusesBy (holding_named name) j why)) r old new) (sym e)
+    (subst (λ k. Reads (ArePayloadsBy k j) (RefusesBy k j) r old new) (sym f) reads)
+
+-- the name of a family of addresses, or another
+pub family_by : {T : Type 0} (name : List ℕ) (j : Json) (b : Bool) (r : Result T Refusal)
+    (old new : List Item) → is_family name ≡ b →
+    Reads (λ ps. MatchBool b (ArePayloadsIn Aspas j ps) (AreNoPayloads j ps))
+    (λ why. MatchBool b (RefusesPayloads Aspas j why) (RefusesUnknown j why)) r old new →
+    Reads (AreFamilyPayloads name j) (RefusesFamily (name, j)) r old new
+family_by name j b r old new e reads =
+    subst
+    (λ k. Reads (λ ps. MatchBool k (ArePayloadsIn Aspas j ps) (AreNoPayloads j ps))
+    (λ why. MatchBool k (RefusesPayloads Aspas j why) (RefusesUnknown j why)) r old new) (sym e)
+    reads
+
+-- a name that isn't known
+pub unknown : {T : Type 0} (j : Json) (r : Result T Refusal) (items : List Item) →
+    MatchResult r (λ _. has_payloads j ≡ false) (λ e. RefusesUnknown j e.reason) →
+    Reads (AreNoPayloads j) (RefusesUnknown j) r items items
+unknown j (Ok t) items n = nothing (AreNoPayloads j) items (n, refl)
+unknown j (Err e) items h = inr h

@@ -1,0 +1,17 @@
+use Rattle.std.proofs.Common.{MatchResult, subst, sym}
+use Rattle.rtr_vrps.specs.JsonPayloads.{AreAuthorizations}
+use Rattle.rtr_vrps.specs.JsonRefusals.{OrMemory, RefusesAuthorizations}
+use Rattle.rtr_vrps.specs.PrivateJson.{AddsPayloads}
+use Rattle.rtr_vrps.proofs.JsonSoFar.{object_seen}
+use Rattle.rtr_vrps.proofs.json_items.add_authorizations.Goals as goal
+
+pub returns-in-Object : goal.returns-in-Object
+returns-in-Object c =
+    let new = c.add_families.new.items.items in
+    let old = c.args.items.now.items in
+    subst
+    (λ j. MatchResult c.add_families.result
+    (λ _. AddsPayloads (AreAuthorizations j) old new)
+    (λ r. OrMemory (RefusesAuthorizations j) r.reason))
+    (sym (object_seen c.args.value.now c.in-Object.members c.deref.result.now c.in-Object.is
+    c.deref.ensures.value)) c.add_families.ensures
