@@ -1,6 +1,6 @@
 use Rattle.rtr_vrps.proofs.JsonSoFar.{nothing, customer_step, customer_all}
-use Rattle.rtr_vrps.proofs.json_items.add_customers.Goals as goal
 use Rattle.rtr_vrps.proofs.JsonRefused.{customer_refused}
+use Rattle.rtr_vrps.proofs.json_items.add_customers.Goals as goal
 
 pub loop-member-init : goal.loop-member-init
 loop-member-init c = nothing _ _ tt

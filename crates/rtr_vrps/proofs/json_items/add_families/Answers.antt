@@ -1,9 +1,9 @@
 use Rattle.std.proofs.Common.{refl}
 use Rattle.rtr_vrps.specs.JsonPayloads.{AreFamilyPayloads}
 use Rattle.rtr_vrps.proofs.JsonSoFar.{nothing, each_step, each_all}
-use Rattle.rtr_vrps.proofs.json_items.add_families.Goals as goal
 use Rattle.rtr_vrps.specs.JsonRefusals.{RefusesFamily}
 use Rattle.rtr_vrps.proofs.JsonRefused.{each_refused}
+use Rattle.rtr_vrps.proofs.json_items.add_families.Goals as goal
 
 pub loop-member-init : goal.loop-member-init
 loop-member-init c = nothing _ _ refl

@@ -1,6 +1,6 @@
 use Rattle.rtr_vrps.proofs.JsonSoFar.{nothing, list_step, list_all}
-use Rattle.rtr_vrps.proofs.json_items.add_list.Goals as goal
 use Rattle.rtr_vrps.proofs.JsonRefused.{list_refused}
+use Rattle.rtr_vrps.proofs.json_items.add_list.Goals as goal
 
 pub loop-item-init : goal.loop-item-init
 loop-item-init c = nothing _ _ tt

@@ -5,8 +5,8 @@ use Rattle.rtr_vrps.specs.JsonValues.{members_list}
 use Rattle.rtr_vrps.specs.MakeWords.{ignored_by_words}
 use Rattle.rtr_vrps.specs.PrivateJson.{AddsPayloads}
 use Rattle.rtr_vrps.proofs.JsonSoFar.{each_all, each_step, from_none, nothing}
-use Rattle.rtr_vrps.proofs.json_items.items_of.Goals as goal
 use Rattle.rtr_vrps.proofs.JsonRefused.{no_array, top_refused}
+use Rattle.rtr_vrps.proofs.json_items.items_of.Goals as goal
 
 pub loop-member-init : goal.loop-member-init
 loop-member-init c =

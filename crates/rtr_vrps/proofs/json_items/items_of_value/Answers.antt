@@ -1,5 +1,4 @@
-use Rattle.std.proofs.Common.{sym, subst}
-use Rattle.std.proofs.Common.{MatchResult}
+use Rattle.std.proofs.Common.{sym, subst, MatchResult}
 use Rattle.rtr_vrps.specs.JsonRefusals.{OrMemory, RefusesValue}
 use Rattle.rtr_vrps.specs.JsonPayloads.{HasItemsOf}
 use Rattle.rtr_vrps.specs.MakeWords.{ignored_by_words}

@@ -1,5 +1,4 @@
-use Rattle.std.proofs.Common.{sym, subst}
-use Rattle.std.proofs.Common.{MatchResult}
+use Rattle.std.proofs.Common.{sym, subst, MatchResult}
 use Rattle.rtr_vrps.specs.JsonRefusals.{OrMemory, RefusesArrayItem}
 use Rattle.rtr_vrps.specs.JsonPayloads.{IsItemPayload}
 use Rattle.rtr_vrps.proofs.JsonSoFar.{object_seen}
