@@ -1,0 +1,6 @@
+mod Said
+mod Covering
+mod Answering
+mod LinesSoFar
+mod NextWords
+mod KeptData

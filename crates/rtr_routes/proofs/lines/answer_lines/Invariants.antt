@@ -1,0 +1,12 @@
+use Rattle.std.proofs.Common.{◌≡◌}
+use Rattle.rtr_routes.proofs.LinesSoFar.{LinesSoFar}
+use Rattle.rtr_routes.proofs.lines.answer_lines.Given as goal
+
+abbrev pub invariant-lines : goal.invariant-lines
+invariant-lines g l = record {
+  so_far : LinesSoFar l.form l.vrps l.count
+      (g.R.Source.state l.initial.input).left (g.R.Source.state l.input).left
+      (g.W.Sink.state l.initial.output).held (g.W.Sink.state l.output).held;
+  reads : (g.R.Source.state l.input).failed ≡ (g.R.Source.state l.initial.input).failed;
+  writes : (g.W.Sink.state l.output).failed ≡ (g.W.Sink.state l.initial.output).failed;
+}

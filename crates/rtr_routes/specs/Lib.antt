@@ -1,0 +1,9 @@
+pub mod RouteWords
+pub mod RouteTexts
+pub mod Answers
+pub mod LinesAnswered
+pub mod Files
+pub mod RoutesStatus
+pub mod PrivateVrps
+pub mod PrivateAnswers
+pub mod PrivateLines

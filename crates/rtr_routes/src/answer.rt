@@ -1,0 +1,237 @@
+//! The answer on a route.
+
+ghost use Rattle.std.specs.Prelude.{◌≡◌, ◌++◌, OnOk, decimal};
+ghost use Rattle.rtr_base.specs.Addresses.{resolved_len};
+ghost use Rattle.rtr_base.specs.PlainTexts.{prefix_text};
+ghost use Rattle.rtr_validation.specs.Covering.{vrp};
+ghost use Rattle.rtr_routes.specs.Answers.{cover_text, mismatch_value, mismatch_words};
+ghost use Rattle.rtr_routes.specs.Answers.{opening, separator, state_words, vrp_prefix};
+ghost use Rattle.rtr_routes.specs.PrivateAnswers.{AddsAnswer, AddsCovers, AddsReasons};
+ghost use Rattle.rtr_routes.specs.declared.form.Form.TheVariants.{Text, Json};
+
+use crate::form::Form;
+use crate::vrps::Vrps;
+use rtr_base::addr::Prefix;
+use rtr_listing::Line;
+use rtr_payload::payload::RouteOrigin;
+use rtr_validation::{Mismatch, Route, Validity};
+use std::alloc::AllocError;
+
+/// Adds the answer on a route, with a line feed: the route, its validity (RFC 6811 section 2), and
+/// the VRPs that cover it, in the order of payloads, each with why it doesn't match the route. A
+/// line for people has these of an invalid route alone.
+pub fn add_answer(line: &mut Line, form: Form, vrps: &Vrps, route: &Route) -> Result<(), AllocError>
+    ensures { OnOk result (AddsAnswer form vrps.now route.now.prefix route.now.asn
+        line.old line.new) }
+{
+    match form {
+        Form::Text => add_line(line, vrps, route),
+        Form::Json => add_object(line, vrps, route),
+    }
+}
+
+/// Adds the line for people.
+fn add_line(line: &mut Line, vrps: &Vrps, route: &Route) -> Result<(), AllocError>
+    ensures { OnOk result (AddsAnswer Text vrps.now route.now.prefix route.now.asn
+        line.old line.new) }
+{
+    let state = vrps.validity(route);
+    add_prefix(
+        line,
+        "",
+        route.prefix,
+        " AS",
+        u64::from(route.asn.into_u32()),
+    )?;
+    line.text(" ")?;
+    line.text(state_words(state))?;
+    add_reasons(line, vrps, route, state)?;
+    line.text("\n")
+}
+
+/// Adds the VRPs that cover an invalid route.
+fn add_reasons(
+    line: &mut Line,
+    vrps: &Vrps,
+    route: &Route,
+    state: Validity,
+) -> Result<(), AllocError>
+    ensures { OnOk result (AddsReasons state vrps.now route.now.prefix route.now.asn
+        line.old line.new) }
+{
+    match state {
+        Validity::Invalid => add_covers(line, Form::Text, vrps, route),
+        Validity::NotFound | Validity::Valid => Ok(()),
+    }
+}
+
+/// Adds the JSON object.
+fn add_object(line: &mut Line, vrps: &Vrps, route: &Route) -> Result<(), AllocError>
+    ensures { OnOk result (AddsAnswer Json vrps.now route.now.prefix route.now.asn
+        line.old line.new) }
+{
+    let state = vrps.validity(route);
+    let asn = u64::from(route.asn.into_u32());
+    add_prefix(line, "{\"prefix\":\"", route.prefix, "\",\"asn\":", asn)?;
+    line.text(",\"state\":\"")?;
+    line.text(state_words(state))?;
+    line.text("\",\"vrps\":[")?;
+    add_covers(line, Form::Json, vrps, route)?;
+    line.text("]}\n")
+}
+
+/// The word for a validity.
+fn state_words(state: Validity) -> &'static str
+    ensures { result.now ≡ state_words state }
+{
+    match state {
+        Validity::NotFound => "not found",
+        Validity::Valid => "valid",
+        Validity::Invalid => "invalid",
+    }
+}
+
+/// Adds a text, a prefix after it, another text, and a number after that.
+fn add_prefix(
+    line: &mut Line,
+    before: &str,
+    prefix: Prefix,
+    between: &str,
+    number: u64,
+) -> Result<(), AllocError>
+    ensures { OnOk result (line.new ≡ line.old
+        ++ (before.now ++ prefix_text prefix ++ between.now ++ decimal number)) }
+{
+    line.text(before)?;
+    line.show(prefix)?;
+    line.labelled(between, number)
+}
+
+/// Adds the VRPs that cover the route, each with why it doesn't match.
+fn add_covers(line: &mut Line, form: Form, vrps: &Vrps, route: &Route) -> Result<(), AllocError>
+    ensures { OnOk result (AddsCovers form vrps.now route.now.prefix route.now.asn
+        line.old line.new) }
+{
+    let mut between = opening(form);
+    let mut from = 0;
+    'covers: while let Some(found) = vrps.first_covering(route.prefix, from) {
+        line.text(between)?;
+        add_cover(line, form, &found.origin, found.mismatch(route))?;
+        from = found.place + 1;
+        between = separator(form);
+    }
+    Ok(())
+}
+
+/// What stands before the first VRP.
+fn opening(form: Form) -> &'static str
+    ensures { result.now ≡ opening form }
+{
+    match form {
+        Form::Text => ": ",
+        Form::Json => "",
+    }
+}
+
+/// What stands before each other.
+fn separator(form: Form) -> &'static str
+    ensures { result.now ≡ separator form }
+{
+    match form {
+        Form::Text => "; ",
+        Form::Json => ",",
+    }
+}
+
+/// Adds a VRP, and why it doesn't match.
+fn add_cover(
+    line: &mut Line,
+    form: Form,
+    origin: &RouteOrigin,
+    why: Option<Mismatch>,
+) -> Result<(), AllocError>
+    ensures { OnOk result (line.new ≡ line.old
+        ++ cover_text form (record { vrp = vrp origin.now; why = why })) }
+{
+    match form {
+        Form::Text => add_cover_words(line, origin, why),
+        Form::Json => add_cover_object(line, origin, why),
+    }
+}
+
+/// Adds it for people.
+fn add_cover_words(
+    line: &mut Line,
+    origin: &RouteOrigin,
+    why: Option<Mismatch>,
+) -> Result<(), AllocError>
+    ensures { OnOk result (line.new ≡ line.old
+        ++ cover_text Text (record { vrp = vrp origin.now; why = why })) }
+{
+    add_vrp(line, origin, "", "-", " AS")?;
+    line.text(" (")?;
+    add_mismatch(line, why, u64::from(origin.prefix.resolved_max_len()))?;
+    line.text(")")
+}
+
+/// Adds it as a JSON object.
+fn add_cover_object(
+    line: &mut Line,
+    origin: &RouteOrigin,
+    why: Option<Mismatch>,
+) -> Result<(), AllocError>
+    ensures { OnOk result (line.new ≡ line.old
+        ++ cover_text Json (record { vrp = vrp origin.now; why = why })) }
+{
+    add_vrp(
+        line,
+        origin,
+        "{\"prefix\":\"",
+        "\",\"maxLength\":",
+        ",\"asn\":",
+    )?;
+    line.text(",\"mismatch\":")?;
+    line.text(mismatch_value(why))?;
+    line.text("}")
+}
+
+/// Adds the prefix, the max length and the ASN of a VRP, each after a text.
+fn add_vrp(
+    line: &mut Line,
+    origin: &RouteOrigin,
+    before: &str,
+    between: &str,
+    label: &str,
+) -> Result<(), AllocError>
+    ensures { OnOk result (line.new ≡ line.old ++ (before.now ++ vrp_prefix (vrp origin.now)
+        ++ between.now ++ decimal (resolved_len origin.now.prefix) ++ label.now
+        ++ decimal origin.now.asn)) }
+{
+    let max_len = u64::from(origin.prefix.resolved_max_len());
+    add_prefix(line, before, origin.prefix.prefix(), between, max_len)?;
+    line.labelled(label, u64::from(origin.asn.into_u32()))
+}
+
+/// Adds why a VRP of this max length doesn't match.
+fn add_mismatch(line: &mut Line, why: Option<Mismatch>, max_len: u64) -> Result<(), AllocError>
+    ensures { OnOk result (line.new ≡ line.old ++ mismatch_words why max_len) }
+{
+    match why {
+        None => line.text("matches"),
+        Some(Mismatch::AsZero) => line.text("AS 0"),
+        Some(Mismatch::OtherAs) => line.text("another AS"),
+        Some(Mismatch::TooLong) => line.labelled("longer than ", max_len),
+    }
+}
+
+/// Why a VRP doesn't match, as a value of JSON.
+fn mismatch_value(why: Option<Mismatch>) -> &'static str
+    ensures { result.now ≡ mismatch_value why }
+{
+    match why {
+        None => "null",
+        Some(Mismatch::AsZero) => "\"AS 0\"",
+        Some(Mismatch::OtherAs) => "\"another AS\"",
+        Some(Mismatch::TooLong) => "\"too long\"",
+    }
+}
