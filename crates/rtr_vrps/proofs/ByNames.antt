@@ -6,7 +6,7 @@ use Rattle.json.specs.Json.{Json}
 use Rattle.rtr_payload.specs.declared.payload.Payload.{Payload}
 use Rattle.rtr_vrps.specs.JsonNames.{holding_named, is_family}
 use Rattle.rtr_vrps.specs.JsonPayloads.{AreFamilyPayloads, AreNoPayloads, ArePayloadsBy}
-use Rattle.rtr_vrps.specs.JsonPayloads.{ArePayloadsIn, AreTopPayloads, has_payloads}
+use Rattle.rtr_vrps.specs.JsonPayloads.{ArePayloadsIn, AreTopPayloads, HasPayloads}
 use Rattle.rtr_vrps.specs.JsonRefusals.{OrMemory, RefusesBy, RefusesFamily, RefusesPayloads}
 use Rattle.rtr_vrps.specs.JsonRefusals.{RefusesTop, RefusesUnknown}
 use Rattle.rtr_vrps.specs.MakeWords.{is_one_of}
@@ -51,7 +51,7 @@ family_by name j b r old new e reads =
 
 -- a name that isn't known
 pub unknown : {T : Type 0} (j : Json) (r : Result T Refusal) (items : List Item) →
-    MatchResult r (λ _. has_payloads j ≡ false) (λ e. RefusesUnknown j e.reason) →
+    MatchResult r (λ _. ¬ HasPayloads j) (λ e. RefusesUnknown j e.reason) →
     Reads (AreNoPayloads j) (RefusesUnknown j) r items items
 unknown j (Ok t) items n = nothing (AreNoPayloads j) items (n, refl)
 unknown j (Err e) items h = inr h

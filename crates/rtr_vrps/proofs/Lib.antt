@@ -4,13 +4,16 @@ pub mod ByNames
 pub mod JsonRefused
 pub mod JsonSoFar
 pub mod Lacking
+pub mod SeenSoFar
 pub mod SoFar
 pub mod AnySoFar
 pub mod AskedFor
 pub mod Origins
+pub mod Looks
 pub mod Marks
 pub mod NamesSoFar
 pub mod NoPart
+pub mod NoPrefix
 pub mod NoValue
 pub mod Numbers
 pub mod PartsSoFar

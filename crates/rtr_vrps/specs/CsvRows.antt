@@ -1,7 +1,8 @@
 -- Which rows of comma-separated values are which origins, and why others are refused: the shape of
 -- what validators print. A row is the list of its fields, each the bytes of a text.
 use Rattle.std.specs.Prelude.{◌≡◌, ℕ, Bool, true, false, ◌||◌, Option, Some, None, unwrap_or}
-use Rattle.std.specs.Prelude.{List, [], codes, bytes_eq, Result, MatchResult}
+use Rattle.std.specs.List.{starts_with}
+use Rattle.std.specs.Prelude.{List, [], ◌==◌, codes, bytes_eq, Result, MatchResult}
 use Rattle.csv.specs.Records.{field_at}
 use Rattle.rtr_base.specs.Addresses.{PrefixParts, IsMaxLenPrefix, BreaksMaxLen}
 use Rattle.rtr_base.specs.ReadTexts.{IsAsnText, IsLenText, IsPrefixText, RefusesPrefix}
@@ -43,16 +44,16 @@ HasAsn row = (n : ℕ) × IsAsnText (field row 0) n
 abbrev pub HasPrefix : List (List ℕ) → Type 0
 HasPrefix row = (p : PrefixParts) × IsPrefixText (field row 1) p
 
--- the name of a column that some validators print before the others
-abbrev pub is_uri_name : List ℕ → Bool
-is_uri_name text = bytes_eq text (codes "URI")
+-- what some validators print before the others: the name of a column of URIs, or such a URI
+abbrev pub is_uri : List ℕ → Bool
+is_uri text = bytes_eq text (codes "URI") || starts_with ◌==◌ text (codes "rsync://")
 
 -- why a row is no origin: the first of these that holds
 abbrev pub RefusesRow : List (List ℕ) → Reason → Type 0
 RefusesRow row UriColumn =
-    ((n : ℕ) → ¬ IsAsnText (field row 0) n) × (is_uri_name (field row 0) ≡ true)
+    ((n : ℕ) → ¬ IsAsnText (field row 0) n) × (is_uri (field row 0) ≡ true)
 RefusesRow row Asn =
-    ((n : ℕ) → ¬ IsAsnText (field row 0) n) × (is_uri_name (field row 0) ≡ false)
+    ((n : ℕ) → ¬ IsAsnText (field row 0) n) × (is_uri (field row 0) ≡ false)
 RefusesRow row (Prefix e) = HasAsn row × RefusesPrefix (field row 1) e
 RefusesRow row MaxLength =
     HasAsn row × HasPrefix row × ((x : Option ℕ) → ¬ IsMaxLengthField (field row 2) x)

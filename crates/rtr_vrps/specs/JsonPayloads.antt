@@ -1,9 +1,10 @@
 -- Which payloads a document of JSON has, by the names of `JsonNames`: this library's own, after
 -- what validators print.
-use Rattle.std.specs.Prelude.{◌≡◌, ⊤, ℕ, Bool, true, false, not, ◌&&◌, ◌||◌, List, [], ◌∷◌, ◌++◌}
+use Rattle.std.specs.Prelude.{◌≡◌, ◌≢◌, ◌⊎◌, ⊤, ℕ, Bool, true, false, not, ◌&&◌, ◌||◌}
+use Rattle.std.specs.Prelude.{List, [], ◌∷◌, ◌++◌}
 use Rattle.std.specs.Prelude.{map, Option, Some, None, if◌then◌else◌}
 use Rattle.std.specs.Bool.{MatchBool}
-use Rattle.std.specs.List.{list_any}
+use Rattle.std.specs.List.{AllByRecursion, list_any}
 use Rattle.json.specs.Json.{Json, null, boolean, number, string, array, object, document}
 use Rattle.json.specs.Json.{Items, no_items, item, Members, no_members, member}
 use Rattle.csv.specs.Reading.{strip_bom}
@@ -17,6 +18,7 @@ use Rattle.rtr_base.specs.ReadTexts.{IsAsnText}
 use Rattle.rtr_vrps.specs.JsonNames.{holding_named, is_family, is_part}
 use Rattle.rtr_vrps.specs.JsonValues.{IsAsnValue, IsPrefixValue, IsMaxLengthValue, IsKeyInfoValue}
 use Rattle.rtr_vrps.specs.JsonValues.{IsKeyIdentifierValue, AreProviderValues, items_list}
+use Rattle.rtr_vrps.specs.JsonValues.{IsAsnArray, IsSomeAsn, IsSomeAsnText, IsSomePrefix, SomeIs}
 use Rattle.rtr_vrps.specs.JsonValues.{members_list}
 use Rattle.rtr_vrps.specs.MakeWords.{is_one_of}
 use Rattle.rtr_vrps.specs.declared.item.Item.{Item}
@@ -77,23 +79,36 @@ is_like_payload ms = (holds_part ms parts.Asn && holds_part ms parts.Prefix)
     && (holds_part ms parts.KeyIdentifier || holds_part ms parts.KeyInfo))
     || (holds_part ms parts.Customer && holds_part ms parts.Providers))
 
--- a value is such an object, or has one in it at any depth
+-- an array has what an origin has: the text of a prefix, and an ASN beside it
+abbrev pub IsLikeTuple : List Json → Type 0
+IsLikeTuple js = SomeIs IsSomePrefix js × SomeIs IsSomeAsn js
+
+-- a name is an ASN, and its value an array of ASNs
+abbrev pub IsLikeCustomer : List ℕ × Json → Type 0
+IsLikeCustomer m = IsSomeAsnText m.0 × IsAsnArray m.1
+
+-- an object lists ASPAs by their customers, and not none: each member is one
+abbrev pub IsLikeCustomers : List (List ℕ × Json) → Type 0
+IsLikeCustomers ms = (ms ≢ []) × AllByRecursion IsLikeCustomer ms
+
+-- a value is such an array or object, or has one in it at any depth
 abbrev mutual
-  pub has_payloads : Json → Bool
-  has_payloads null = false
-  has_payloads (boolean b) = false
-  has_payloads (number s) = false
-  has_payloads (string s) = false
-  has_payloads (array js) = items_have_payloads js
-  has_payloads (object ms) = is_like_payload (members_list ms) || members_have_payloads ms
+  pub HasPayloads : Json → Type 0
+  HasPayloads null = ⊥
+  HasPayloads (boolean b) = ⊥
+  HasPayloads (number s) = ⊥
+  HasPayloads (string s) = ⊥
+  HasPayloads (array js) = IsLikeTuple (items_list js) ⊎ SomeItemHas js
+  HasPayloads (object ms) = (is_like_payload (members_list ms) ≡ true)
+      ⊎ (IsLikeCustomers (members_list ms) ⊎ SomeMemberHas ms)
 
-  pub items_have_payloads : Items → Bool
-  items_have_payloads no_items = false
-  items_have_payloads (item j js) = has_payloads j || items_have_payloads js
+  pub SomeItemHas : Items → Type 0
+  SomeItemHas no_items = ⊥
+  SomeItemHas (item j js) = HasPayloads j ⊎ SomeItemHas js
 
-  pub members_have_payloads : Members → Bool
-  members_have_payloads no_members = false
-  members_have_payloads (member k j ms) = has_payloads j || members_have_payloads ms
+  pub SomeMemberHas : Members → Type 0
+  SomeMemberHas no_members = ⊥
+  SomeMemberHas (member k j ms) = HasPayloads j ⊎ SomeMemberHas ms
 
 -- ---- the payloads of a document
 
@@ -128,7 +143,7 @@ ArePayloadsIn kind other ps = ⊥
 
 -- what lies under a name that isn't known: nothing that looks like payloads, and so none
 abbrev pub AreNoPayloads : Json → List Payload → Type 0
-AreNoPayloads j ps = (has_payloads j ≡ false) × (ps ≡ [])
+AreNoPayloads j ps = (¬ HasPayloads j) × (ps ≡ [])
 
 -- the payloads in the values of members one after the other, by what each has
 abbrev pub ArePayloadsOfEach : (List ℕ → Json → List Payload → Type 0) → List (List ℕ × Json) →

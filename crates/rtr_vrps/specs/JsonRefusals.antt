@@ -16,7 +16,7 @@ use Rattle.rtr_data.specs.declared.change_error.ChangeError.TheVariants.{KeyTooL
 use Rattle.rtr_payload.specs.declared.payload.Payload.{Payload}
 use Rattle.rtr_vrps.specs.JsonNames.{holding_named, is_family}
 use Rattle.rtr_vrps.specs.JsonPayloads.{AreFamilyPayloads, AreTopPayloads, Has, IsCustomerAspa}
-use Rattle.rtr_vrps.specs.JsonPayloads.{IsItemPayload, MayHave, has_payloads, is_array, values_of}
+use Rattle.rtr_vrps.specs.JsonPayloads.{HasPayloads, IsItemPayload, MayHave, is_array, values_of}
 use Rattle.rtr_vrps.specs.JsonValues.{AreAsnValues, IsAsnValue, IsBase64, IsKeyIdentifierValue}
 use Rattle.rtr_vrps.specs.JsonValues.{IsSomeAsn}
 use Rattle.rtr_vrps.specs.JsonValues.{IsMaxLengthValue, IsPrefixValue, IsSetOf, items_list}
@@ -171,7 +171,7 @@ RefusesPayloads kind other why = why ≡ reasons.NotArray
 
 -- what looks like payloads stands under a name that isn't known
 abbrev pub RefusesUnknown : Json → Reason → Type 0
-RefusesUnknown j why = (why ≡ reasons.UnknownName) × (has_payloads j ≡ true)
+RefusesUnknown j why = (why ≡ reasons.UnknownName) × HasPayloads j
 
 abbrev pub RefusesFamily : List ℕ × Json → Reason → Type 0
 RefusesFamily m why =

@@ -2,6 +2,7 @@
 -- base64 by RFC 4648.
 use Rattle.std.specs.Prelude.{◌≡◌, ◌⊎◌, ◌↔◌, ◌<◌, ◌≤◌, ◌+◌, ◌^◌, ⊤, ℕ, List, [], ◌∷◌}
 use Rattle.std.specs.Prelude.{length, Ok, Err, Contains}
+use Rattle.std.specs.List.{AllByRecursion}
 use Rattle.std.specs.List.Sorted.{IsStrictlyIncreasing}
 use Rattle.base64.specs.Engines.{standard_pad_indifferent, url_safe_pad_indifferent}
 use Rattle.base64.specs.GeneralPurpose.{decode_of}
@@ -33,6 +34,22 @@ IsPrefixValue other p = ⊥
 
 abbrev pub IsSomeAsn : Json → Type 0
 IsSomeAsn j = (n : ℕ) × IsAsnValue j n
+
+abbrev pub IsSomeAsnText : List ℕ → Type 0
+IsSomeAsnText text = (n : ℕ) × IsAsnText text n
+
+-- an array of ASNs, maybe of none
+abbrev pub IsAsnArray : Json → Type 0
+IsAsnArray (array js) = AllByRecursion IsSomeAsn (items_list js)
+IsAsnArray other = ⊥
+
+abbrev pub IsSomePrefix : Json → Type 0
+IsSomePrefix j = (p : PrefixParts) × IsPrefixValue j p
+
+-- one of these is so
+abbrev pub SomeIs : {X : Type 0} → (X → Type 0) → List X → Type 0
+SomeIs Is [] = ⊥
+SomeIs Is (x ∷ xs) = Is x ⊎ SomeIs Is xs
 
 -- a number of at most 255
 abbrev pub IsMaxLengthValue : Json → ℕ → Type 0

@@ -4,7 +4,7 @@ ghost use Rattle.std.specs.Prelude.{◌≡◌, ◌&&◌, IfErr, IfOk, if◌then�
 ghost use Rattle.csv.specs.Reading.{error_kind};
 ghost use Rattle.csv.specs.Records.{fields_of};
 ghost use Rattle.rtr_vrps.specs.CsvItems.{HasItems, IsCsvOf, RefusesCsv, RefusesRows};
-ghost use Rattle.rtr_vrps.specs.CsvRows.{ReadsMaxLength, ReadsRow, field, is_header, is_uri_name};
+ghost use Rattle.rtr_vrps.specs.CsvRows.{ReadsMaxLength, ReadsRow, field, is_header, is_uri};
 ghost use Rattle.rtr_vrps.specs.PrivateCsv.{AddsRow, reason_of};
 
 use crate::item::{Item, Place, Reason, Refusal};
@@ -173,9 +173,9 @@ fn origin(row: &StringRecord) -> Result<Payload, Reason>
 
 /// Why the field is no ASN.
 fn no_asn(text: &str) -> Reason
-    ensures { result ≡ (if is_uri_name text.now then Reason.UriColumn else Reason.Asn) }
+    ensures { result ≡ (if is_uri text.now then Reason.UriColumn else Reason.Asn) }
 {
-    if text == "URI" {
+    if text == "URI" || text.as_bytes().starts_with(b"rsync://") {
         Reason::UriColumn
     } else {
         Reason::Asn

@@ -1,6 +1,6 @@
 //! Payloads in JSON, as validators print them.
 
-ghost use Rattle.std.specs.Prelude.{◌≡◌, MatchResult, false};
+ghost use Rattle.std.specs.Prelude.{◌≡◌, MatchResult};
 ghost use Rattle.std.specs.List.{list_any};
 ghost use Rattle.json.specs.Value.{items_view, members_view, value_view};
 ghost use Rattle.rtr_vrps.specs.JsonPayloads.{AreAuthorizations, AreCustomerAspas};
@@ -8,7 +8,7 @@ ghost use Rattle.rtr_vrps.specs.JsonPayloads.{AreFamilyPayloads};
 ghost use Rattle.rtr_vrps.specs.JsonPayloads.{AreItemPayloads, ArePayloadsIn, ArePayloadsOfEach};
 ghost use Rattle.rtr_vrps.specs.JsonPayloads.{AreTopPayloads, HasItemsOf, HasTopItems};
 ghost use Rattle.rtr_vrps.specs.JsonPayloads.{IsCustomerAspa, IsItemPayload, IsJsonOf};
-ghost use Rattle.rtr_vrps.specs.JsonPayloads.{has_payloads, holds_payloads, is_array};
+ghost use Rattle.rtr_vrps.specs.JsonPayloads.{HasPayloads, holds_payloads, is_array};
 ghost use Rattle.rtr_vrps.specs.JsonRefusals.{HasFamilyPayloads, IsNoDocument, IsSomeCustomer};
 ghost use Rattle.rtr_vrps.specs.JsonRefusals.{IsSomeItem};
 ghost use Rattle.rtr_vrps.specs.JsonRefusals.{OrMemory, RefusesAuthorizations};
@@ -42,7 +42,7 @@ use std::alloc::Global;
 ///
 /// An ASN is a number, or a text with or without `AS` before it. `metadata` is passed over, and
 /// what stands under a name that the words ignore. What stands under other names is passed over
-/// unless it is, or has in it at any depth, an object that looks like a payload.
+/// unless it is, or has in it at any depth, what looks like payloads (`has_payloads`).
 ///
 /// The first place at which that can't go on decides. `scratch` keeps the texts with escapes. A
 /// mark of the byte order at the start is passed over.
@@ -217,7 +217,7 @@ fn add_member<'a>(
 
 /// Refuses what looks like payloads at this place.
 fn check_unknown<'a>(place: Place<'a>, value: &Value<'_>) -> Result<(), Refusal<'a>>
-    ensures { MatchResult result (λ _. has_payloads (value_view value.now) ≡ false)
+    ensures { MatchResult result (λ _. ¬ HasPayloads (value_view value.now))
         (λ r. RefusesUnknown (value_view value.now) r.reason) }
 {
     if has_payloads(value) {

@@ -1,38 +1,58 @@
 //! Whether what stands under a name that isn't known looks like payloads.
 
-ghost use Rattle.std.specs.Prelude.{◌≡◌, ◌&&◌, ◌||◌};
+ghost use Rattle.std.specs.Prelude.{◌≡◌, ◌&&◌, ◌||◌, ◌⊎◌, true, Decides};
+ghost use Rattle.std.specs.List.{AllByRecursion};
 ghost use Rattle.json.specs.Value.{items_view, members_view, value_view};
-ghost use Rattle.rtr_vrps.specs.JsonPayloads.{has_payloads, holds_part, is_like_payload};
-ghost use Rattle.rtr_vrps.specs.JsonPayloads.{items_have_payloads, members_have_payloads};
-ghost use Rattle.rtr_vrps.specs.JsonValues.{members_list};
+ghost use Rattle.rtr_vrps.specs.JsonPayloads.{HasPayloads, IsLikeCustomer, IsLikeCustomers};
+ghost use Rattle.rtr_vrps.specs.JsonPayloads.{IsLikeTuple, SomeItemHas, SomeMemberHas};
+ghost use Rattle.rtr_vrps.specs.JsonPayloads.{holds_part, is_like_payload};
+ghost use Rattle.rtr_vrps.specs.JsonValues.{IsAsnArray, IsSomeAsn, IsSomeAsnText, IsSomePrefix};
+ghost use Rattle.rtr_vrps.specs.JsonValues.{SomeIs};
+ghost use Rattle.rtr_vrps.specs.JsonValues.{items_list, members_list};
 
 use crate::json_names::Part;
+use crate::json_values::{asn_of, asn_of_text, prefix_of};
 use json::Value;
 
-/// Whether a value is, or has in it at any depth, an object that looks like a payload.
+/// Whether a value is, or has in it at any depth, what looks like payloads that would be lost:
+/// - an object with an ASN and a prefix, with an ASN and a key or its identifier, or with a
+///   customer and providers;
+/// - an array with the text of a prefix and an ASN among its items;
+/// - an object whose names are all ASNs, and whose values are all arrays of ASNs.
 #[cycle(looks)]
 pub fn has_payloads(value: &Value<'_>) -> bool
-    ensures { result ≡ has_payloads (value_view value.now) }
+    ensures { Decides result (HasPayloads (value_view value.now)) }
 {
     match value {
-        Value::Array(list) => some_have_payloads(list),
+        Value::Array(list) => array_has_payloads(list),
         Value::Object(members) => object_has_payloads(members),
         _ => false,
     }
 }
 
+/// The same of an array with these items.
+#[cycle(looks)]
+fn array_has_payloads(list: &[Value<'_>]) -> bool
+    ensures { Decides result (IsLikeTuple (items_list (items_view list.now))
+        ⊎ SomeItemHas (items_view list.now)) }
+{
+    is_like_tuple(list) || some_have_payloads(list)
+}
+
 /// The same of an object with these members.
 #[cycle(looks)]
 fn object_has_payloads(members: &[(&str, Value<'_>)]) -> bool
-    ensures { result ≡ (is_like_payload (members_list (members_view members.now))
-        || members_have_payloads (members_view members.now)) }
+    ensures { Decides result
+        ((is_like_payload (members_list (members_view members.now)) ≡ true)
+        ⊎ (IsLikeCustomers (members_list (members_view members.now))
+        ⊎ SomeMemberHas (members_view members.now))) }
 {
-    is_like_payload(members) || members_have_payloads(members)
+    is_like_payload(members) || is_like_customers(members) || members_have_payloads(members)
 }
 
 #[cycle(looks)]
 fn some_have_payloads(list: &[Value<'_>]) -> bool
-    ensures { result ≡ items_have_payloads (items_view list.now) }
+    ensures { Decides result (SomeItemHas (items_view list.now)) }
 {
     for item in list {
         if has_payloads(item) {
@@ -44,7 +64,7 @@ fn some_have_payloads(list: &[Value<'_>]) -> bool
 
 #[cycle(looks)]
 fn members_have_payloads(members: &[(&str, Value<'_>)]) -> bool
-    ensures { result ≡ members_have_payloads (members_view members.now) }
+    ensures { Decides result (SomeMemberHas (members_view members.now)) }
 {
     for member in members {
         if has_payloads(&member.1) {
@@ -52,6 +72,101 @@ fn members_have_payloads(members: &[(&str, Value<'_>)]) -> bool
         }
     }
     false
+}
+
+/// Whether an array has what an origin has: the text of a prefix, and an ASN beside it.
+fn is_like_tuple(list: &[Value<'_>]) -> bool
+    ensures { Decides result (IsLikeTuple (items_list (items_view list.now))) }
+{
+    has_prefix(list) && has_asn(list)
+}
+
+/// Whether an item is the text of a prefix.
+fn has_prefix(list: &[Value<'_>]) -> bool
+    ensures { Decides result (SomeIs IsSomePrefix (items_list (items_view list.now))) }
+{
+    for item in list {
+        if is_prefix(item) {
+            return true;
+        }
+    }
+    false
+}
+
+fn is_prefix(item: &Value<'_>) -> bool
+    ensures { Decides result (IsSomePrefix (value_view item.now)) }
+{
+    prefix_of(item).is_ok()
+}
+
+/// Whether an item is an ASN.
+fn has_asn(list: &[Value<'_>]) -> bool
+    ensures { Decides result (SomeIs IsSomeAsn (items_list (items_view list.now))) }
+{
+    for item in list {
+        if is_asn(item) {
+            return true;
+        }
+    }
+    false
+}
+
+fn is_asn(item: &Value<'_>) -> bool
+    ensures { Decides result (IsSomeAsn (value_view item.now)) }
+{
+    asn_of(item).is_ok()
+}
+
+/// Whether an object lists ASPAs by their customers, and not none.
+fn is_like_customers(members: &[(&str, Value<'_>)]) -> bool
+    ensures { Decides result (IsLikeCustomers (members_list (members_view members.now))) }
+{
+    !members.is_empty() && are_like_customers(members)
+}
+
+fn are_like_customers(members: &[(&str, Value<'_>)]) -> bool
+    ensures { Decides result
+        (AllByRecursion IsLikeCustomer (members_list (members_view members.now))) }
+{
+    for member in members {
+        if !is_like_customer(member.0, &member.1) {
+            return false;
+        }
+    }
+    true
+}
+
+/// Whether the name is an ASN, and the value an array of ASNs.
+fn is_like_customer(name: &str, value: &Value<'_>) -> bool
+    ensures { Decides result (IsLikeCustomer (name.now, value_view value.now)) }
+{
+    is_asn_text(name) && is_asn_array(value)
+}
+
+fn is_asn_text(text: &str) -> bool
+    ensures { Decides result (IsSomeAsnText text.now) }
+{
+    asn_of_text(text).is_ok()
+}
+
+fn is_asn_array(value: &Value<'_>) -> bool
+    ensures { Decides result (IsAsnArray (value_view value.now)) }
+{
+    match value {
+        Value::Array(list) => are_asns(list),
+        _ => false,
+    }
+}
+
+fn are_asns(list: &[Value<'_>]) -> bool
+    ensures { Decides result (AllByRecursion IsSomeAsn (items_list (items_view list.now))) }
+{
+    for item in list {
+        if !is_asn(item) {
+            return false;
+        }
+    }
+    true
 }
 
 /// Whether an object has what a payload has: an ASN and a prefix, an ASN and a key or its

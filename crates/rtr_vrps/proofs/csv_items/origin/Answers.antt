@@ -7,7 +7,7 @@ use Rattle.rtr_base.specs.ReadTexts.{IsAsnText, IsLenText, IsPrefixText}
 use Rattle.rtr_base.specs.declared.addr.MaxLenError.{MaxLenError}
 use Rattle.rtr_base.specs.declared.addr.MaxLenError.TheVariants.{Overflow, Underflow}
 use Rattle.csv.specs.Records.{fields_of}
-use Rattle.rtr_vrps.specs.CsvRows.{IsMaxLengthField, RefusesRow, field, is_uri_name}
+use Rattle.rtr_vrps.specs.CsvRows.{IsMaxLengthField, RefusesRow, field, is_uri}
 use Rattle.rtr_vrps.specs.declared.item.Reason.TheVariants.{Asn, UriColumn}
 use Rattle.rtr_vrps.proofs.csv_items.origin.Goals as goal
 
@@ -24,7 +24,7 @@ rule_broken (Some x) p Underflow text is over under = (x, is, under.0 refl)
 
 -- a text that is no ASN is refused as such, or as the name of a column of URIs
 no_asn : (row : List (List ℕ)) (b : Bool) → ((n : ℕ) → ¬ IsAsnText (field row 0) n) →
-    is_uri_name (field row 0) ≡ b → RefusesRow row (cond b UriColumn Asn)
+    is_uri (field row 0) ≡ b → RefusesRow row (cond b UriColumn Asn)
 no_asn row true h e = (h, e)
 no_asn row false h e = (h, e)
 
@@ -32,7 +32,7 @@ pub returns-in-Err : goal.returns-in-Err
 returns-in-Err c =
     let row = fields_of c.args.row.now in
     let why = c.no_asn.ensures
-    ∙ ap (λ text. cond (is_uri_name text) UriColumn Asn) c.field-in-Err.ensures in
+    ∙ ap (λ text. cond (is_uri text) UriColumn Asn) c.field-in-Err.ensures in
     let refused =
     subst (λ text. (n : ℕ) → ¬ IsAsnText text n) c.field.ensures c.in-Err.ensures.value in
     subst (RefusesRow row) (sym why) (no_asn row _ refused refl)

@@ -1,10 +1,11 @@
-use Rattle.std.proofs.Common.{sym, ap, ◌∙◌}
-use Rattle.rtr_vrps.specs.JsonPayloads.{has_payloads}
+use Rattle.std.proofs.Common.{sym, subst}
+use Rattle.std.specs.Bool.{Decides}
+use Rattle.rtr_vrps.specs.JsonPayloads.{HasPayloads}
 use Rattle.rtr_vrps.proofs.JsonSoFar.{object_seen}
 use Rattle.rtr_vrps.proofs.json_looks.+looks.Goals as goal
 
 pub has_payloads-returns-in-Object : goal.has_payloads-returns-in-Object
 has_payloads-returns-in-Object t c =
-    c.object_has_payloads.ensures
-    ∙ ap has_payloads (sym (object_seen c.args.value.now c.in-Object.members
-    c.deref-in-Object.result.now c.in-Object.is c.deref-in-Object.ensures.value))
+    subst (λ j. Decides c.object_has_payloads.result (HasPayloads j))
+    (sym (object_seen c.args.value.now c.in-Object.members c.deref-in-Object.result.now
+    c.in-Object.is c.deref-in-Object.ensures.value)) c.object_has_payloads.ensures
