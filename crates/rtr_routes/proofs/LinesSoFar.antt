@@ -172,18 +172,18 @@ module _ (form : Form) (d : List Payload) (n : ℕ) (old m : ReaderState) (befor
       TakesLine (Ok Input) line m new → AnswersLine form d number line (Ok tt) k after →
       AnswersLines form d (Ok tt) old new before after
   ends_well line number new after ((is, took, end), count) ((text, answer, wrote), counts) =
-    record {
-      lines = s.lines;
-      last = line;
-      takes = Consumes-trans old.left m.left new.left (lines_bytes s.lines) line s.took took;
-      text = s.text;
-      part = text;
-      answered = s.answered;
-      writes = Appends-trans before.held k.held after.held s.text text s.wrote wrote;
-      ends = (is, end, answer);
-      reader_failures = count ∙ reads;
-      writer_failures = counts ∙ writes;
-    }
+      record {
+        lines = s.lines;
+        last = line;
+        takes = Consumes-trans old.left m.left new.left (lines_bytes s.lines) line s.took took;
+        text = s.text;
+        part = text;
+        answered = s.answered;
+        writes = Appends-trans before.held k.held after.held s.text text s.wrote wrote;
+        ends = (is, end, answer);
+        reader_failures = count ∙ reads;
+        writer_failures = counts ∙ writes;
+      }
 
   pub stops_at_last : n ≡ 2 ^ 64 - 1 →
       AnswersLines form d (Err (stops.Fault faults.TooMany)) old m before k
