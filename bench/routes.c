@@ -2,12 +2,12 @@
  *
  * usage: routes VRPS ROUTES ROUNDS
  *
- * It makes so many VRPs, five in six of IPv4, and as many routes, of which a third is of each state:
- * one below a VRP and of its AS, one below a VRP and of an AS that has none, and one that nothing
- * covers. Each round looks all of them up, by the one and then by the other. The last line has, each
- * after a space: how many VRPs and bytes of data there are; the milliseconds in which the tables are
- * made, and rtrlib's; the median nanoseconds of a lookup of IPv4, of IPv6 and of both, by
- * rtr_validate and by rtrlib; and how many routes are not found, valid, invalid, and answered
+ * It makes so many VRPs, five in six of IPv4, and as many routes, of which a third is of each
+ * state: one below a VRP and of its AS, one below a VRP and of an AS that has none, and one that
+ * nothing covers. Each round looks all of them up, by the one and then by the other. The last line
+ * has, each after a space: how many VRPs and bytes of data there are; the milliseconds in which the
+ * tables are made, and rtrlib's; the median nanoseconds of a lookup of IPv4, of IPv6 and of both,
+ * by rtr_validate and by rtrlib; and how many routes are not found, valid, invalid, and answered
  * otherwise by rtrlib. Without rtrlib, which WITH_RTRLIB says is there, its numbers are 0. */
 #include <stdio.h>
 #include <stdlib.h>

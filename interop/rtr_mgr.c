@@ -2,9 +2,9 @@
  *
  * usage: rtr_mgr PORT < ROUTES
  *
- * The cache is on this machine. Each line of ROUTES has a family, 4 or 6, an address, a prefix length
- * and an AS. For each a line has the state, as rtr_mgr_validate numbers it. It ends with status 1 if
- * there is no data within a minute. */
+ * The cache is on this machine. Each line of ROUTES has a family, 4 or 6, an address, a prefix
+ * length and an AS. For each a line has the state, as rtr_mgr_validate numbers it. It ends with
+ * status 1 if there is no data within a minute. */
 #include <arpa/inet.h>
 #include <rtrlib/rtrlib.h>
 #include <stdio.h>

@@ -21,10 +21,12 @@ import validity  # noqa: E402  (it lies in that folder)
 PART = "validation"
 SECONDS = 120
 
-# How many tables of each kind are drawn, of whose VRPs some are taken, and how many routes are asked.
+# How many tables of each kind are drawn, of whose VRPs some are taken, and how many routes are
+# asked.
 DRAWN, ROUTES = 4, 3000
 
-# The states as rtrlib and as BIRD number them (enum pfxv_state; ROA_UNKNOWN, ROA_VALID, ROA_INVALID).
+# The states as rtrlib and as BIRD number them (enum pfxv_state; ROA_UNKNOWN, ROA_VALID,
+# ROA_INVALID).
 OF_RTRLIB = ["valid", "not found", "invalid"]
 OF_BIRD = ["not found", "valid", "invalid"]
 

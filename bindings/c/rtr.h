@@ -612,9 +612,9 @@ static inline bool rtr_covering(const uint8_t *data, size_t data_length,
  * After each action but RTR_WAIT it calls rtr_router_tick, and rtr_router_read with what is left of
  * the input behind `taken`, until both answer RTR_WAIT with nothing taken. After RTR_END nothing
  * more of that connection is told. Times are in milliseconds, by a clock that doesn't go back, and
- * below 2^63. A struct is plain: it may be copied, and read. Its `phase` is 0 without a connection, 1
- * while one is made, 2 while an answer is awaited, 3 in a response, 4 while its changes are made, and
- * 5 while the router waits. */
+ * below 2^63. A struct is plain: it may be copied, and read. Its `phase` is 0 without a connection,
+ * 1 while one is made, 2 while an answer is awaited, 3 in a response, 4 while its changes are made,
+ * and 5 while the router waits. */
 
 /* What a program may set. Times are in milliseconds. */
 struct rtr_settings {

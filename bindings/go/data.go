@@ -296,8 +296,8 @@ func ApplyInOrder(data Data, changes []byte) (Data, error) {
 
 // Order is the sequence that changes begins with, in canonical form: what its changes come to,
 // made one after the other. Caches send deltas in any order, and Apply takes them in canonical
-// form alone; ApplyInOrder takes them as they are. Where all of the changes are allowed, Apply makes of the data with what Order gives
-// what they make of it one after the other.
+// form alone; ApplyInOrder takes them as they are. Where all of the changes are allowed, Apply
+// makes of the data with what Order gives what they make of it one after the other.
 //
 // Errors, each a Fault with the offset and the bytes of the unit, in this order:
 //   - Short to PrefixRule, at the first unit that is refused;

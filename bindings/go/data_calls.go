@@ -62,8 +62,8 @@ func apply(data, changes, output []byte) (int, error) {
 	return answered(C.apply(first, n, second, m, out, room), data, changes)
 }
 
-// applyInOrder writes what the changes make of the data, in the order in which they came, to output,
-// and answers how long it is. There are at most so many payload units in them.
+// applyInOrder writes what the changes make of the data, in the order in which they came, to
+// output, and answers how long it is. There are at most so many payload units in them.
 func applyInOrder(data, changes, output []byte, units int) (int, error) {
 	index := make([]C.size_t, units+1)
 	first, n := place(data)

@@ -161,8 +161,8 @@ func queryOf(a action) []byte {
 	return C.GoBytes(unsafe.Pointer(&query.bytes), C.int(query.length))
 }
 
-// owedBy is the report that an action owes to the cache about the unit that these bytes begin with, or
-// nothing.
+// owedBy is the report that an action owes to the cache about the unit that these bytes begin with,
+// or nothing.
 func owedBy(a action, unit []byte) []byte {
 	if !a.reports {
 		return nil

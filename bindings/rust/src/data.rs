@@ -112,10 +112,10 @@ pub fn apply_into(data: &[u8], changes: &[u8], output: &mut [u8]) -> Result<usiz
 /// its customer. An output as long as both inputs together always suffices, and nothing is
 /// allocated.
 ///
-/// The data are in canonical form, as `Data` has it; the changes are a sequence, as a cache sends it
-/// after its response. What follows their ends of data doesn't count. The index is room to work in,
-/// with a place for each payload unit of the changes: `changes.len() / 12` always suffice. What it
-/// holds afterwards is open.
+/// The data are in canonical form, as `Data` has it; the changes are a sequence, as a cache sends
+/// it after its response. What follows their ends of data doesn't count. The index is room to work
+/// in, with a place for each payload unit of the changes: `changes.len() / 12` always suffice. What
+/// it holds afterwards is open.
 ///
 /// ```
 /// use rtr_wire::{apply_in_order, Fault};

@@ -42,15 +42,15 @@
 //! # Data and deltas
 //!
 //! `Data` is what a cache has, or a router has of it, in canonical form. `Data::delta_to` makes
-//! what a serial query is answered by, `Data::apply_in_order` makes all changes that a cache sends, or
-//! none, and `Data::apply` those that `order` puts in canonical form. [`delta_into`],
+//! what a serial query is answered by, `Data::apply_in_order` makes all changes that a cache sends,
+//! or none, and `Data::apply` those that `order` puts in canonical form. [`delta_into`],
 //! [`apply_in_order`], [`order_into`] and [`apply_into`] do the same over slices, and allocate
 //! nothing.
 //!
 //! # Routes
 //!
-//! `Data::validate` says whether a route is valid by the data (RFC 6811), and `Data::covering` which
-//! VRPs cover it and why each doesn't match. [`Tables`] does the same over slices.
+//! `Data::validate` says whether a route is valid by the data (RFC 6811), and `Data::covering`
+//! which VRPs cover it and why each doesn't match. [`Tables`] does the same over slices.
 //!
 //! # Features
 //!

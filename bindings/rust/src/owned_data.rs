@@ -258,8 +258,8 @@ impl Data {
 
     /// What the changes of an answer make of this data, made one after the other in the order in
     /// which they came: all of them are made, or none. An ASPA that is announced takes the place of
-    /// the one of its customer. They are a sequence, as a cache sends it after its response, and the
-    /// end of data is theirs.
+    /// the one of its customer. They are a sequence, as a cache sends it after its response, and
+    /// the end of data is theirs.
     ///
     /// # Errors
     ///

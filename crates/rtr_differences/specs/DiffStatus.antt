@@ -26,8 +26,8 @@ has_no_cut (Ok c) = not c.old_cut && not c.new_cut
 has_no_cut (Err trouble) = false
 
 -- Two files were compared, then the output was flushed once, and both decide the status. `Quiet`
--- says that no line was printed on standard error: it holds where two files are compared in which no
--- answer was cut off, and what differs is printed.
+-- says that no line was printed on standard error: it holds where two files are compared in which
+-- no answer was cut off, and what differs is printed.
 abbrev pub RunsDiff : Form → (Quiet : Type 0) → ℕ → (old old_left new new_left : ReaderState) →
     (before after : WriterState) → Type 0
 RunsDiff form Quiet status old old_left new new_left before after =

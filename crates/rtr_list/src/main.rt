@@ -52,8 +52,8 @@ fn buffered_output(rt: &HostRuntime) -> BufWriter<Stdout> {
     }
 }
 
-/// Standard input, which flushes the lines before it reads on, and whose front is kept; unbuffered if
-/// there is no memory for a buffer.
+/// Standard input, which flushes the lines before it reads on, and whose front is kept; unbuffered
+/// if there is no memory for a buffer.
 fn buffered_input<'a>(
     rt: &HostRuntime,
     lines: &'a Lines,

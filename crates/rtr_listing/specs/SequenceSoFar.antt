@@ -58,8 +58,8 @@ given_version unit = None
 abbrev pub sequence_version : List AnyFields → Option ℕ
 sequence_version units = oldest given_version units
 
--- the session that a unit gives its sequence: cache responses do (RFC 8210 section 5.5), and the end
--- of data before a sequence without one (this program's own)
+-- the session that a unit gives its sequence: cache responses do (RFC 8210 section 5.5), and the
+-- end of data before a sequence without one (this program's own)
 abbrev pub given_session : AnyFields → Option ℕ
 given_session (cache_response version session) = Some session
 given_session (end_of_data meaning) = Some meaning.session

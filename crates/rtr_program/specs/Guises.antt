@@ -1,7 +1,7 @@
--- What an input looks like by its first four bytes, as one number: JSON, by its first byte (RFC 8259
--- section 2), or a packet capture, by the magic numbers of pcap files in both orders of bytes, with
--- times in microseconds or in nanoseconds (draft-ietf-opsawg-pcap section 4), and by that of pcapng
--- files (draft-ietf-opsawg-pcapng section 4.1).
+-- What an input looks like by its first four bytes, as one number: JSON, by its first byte (RFC
+-- 8259 section 2), or a packet capture, by the magic numbers of pcap files in both orders of bytes,
+-- with times in microseconds or in nanoseconds (draft-ietf-opsawg-pcap section 4), and by that of
+-- pcapng files (draft-ietf-opsawg-pcapng section 4.1).
 use Rattle.std.specs.Prelude.{ℕ, ◌/◌, ◌^◌, Bool, ◌||◌, ◌==◌}
 use Rattle.std.specs.Prelude.{Option, Some, None, if◌then◌else◌}
 use Rattle.rtr_program.specs.declared.guises.Guise.{Guise}

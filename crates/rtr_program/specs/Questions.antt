@@ -30,7 +30,8 @@ manual_text manual Version = manual.version.now
 
 -- the text was written, or a front of it, and then the writer failed; then the output was flushed
 -- once; the status is 0 where both succeeded, and else the one for a failure
-pub record TellsAbout (text : List ℕ) (failed status : ℕ) (before after : WriterState) : Type 0 where
+pub record TellsAbout (text : List ℕ) (failed status : ℕ) (before after : WriterState)
+    : Type 0 where
   pub answer : Result (Unit {0}) Fault
   pub flushed : Bool
   pub mid : WriterState

@@ -18,8 +18,8 @@ impl fmt::Display for Failed<'_> {
     }
 }
 
-/// A text with an escape such as `\n` or `\x1b` for each byte that isn't ASCII that prints, as texts
-/// in lines of units are written.
+/// A text with an escape such as `\n` or `\x1b` for each byte that isn't ASCII that prints, as
+/// texts in lines of units are written.
 #[derive(Clone, Copy)]
 pub struct Escaped<'a>(pub &'a str);
 

@@ -91,8 +91,8 @@ impl fmt::Display for Guise {
     }
 }
 
-/// Says after the names of the program and of the input what the input looks like, if not units, and
-/// what reads that.
+/// Says after the names of the program and of the input what the input looks like, if not units,
+/// and what reads that.
 pub fn hint<F: Write>(name: &str, input: &str, front: Front, faults: &mut F) {
     if let Some(guise) = front.guise() {
         let input = Escaped(input);

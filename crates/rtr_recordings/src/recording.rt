@@ -12,7 +12,12 @@ ghost use Rattle.rtr_data.specs.declared.change_error.ChangeError.TheVariants.{M
 ghost use Rattle.rtr_session.specs.AnyFields.{HasAnyFields};
 ghost use Rattle.rtr_session.specs.AnyUnits.{any_bytes, any_fields};
 ghost use Rattle.rtr_session.specs.declared.any_unit.AnyUnit.TheVariants as units;
-ghost use Rattle.rtr_recordings.specs.PrivateRecordings.{FinishesAt, Gives, TakesCurrent, TakesUnit};
+ghost use Rattle.rtr_recordings.specs.PrivateRecordings.{
+  FinishesAt,
+  Gives,
+  TakesCurrent,
+  TakesUnit,
+};
 ghost use Rattle.rtr_recordings.specs.RecordingRead.{HoldsStopError, ReadsRecording};
 ghost use Rattle.rtr_recordings.specs.Recordings.{begins_anew, closed, nothing, opens_answer};
 
@@ -51,11 +56,11 @@ pub struct Recording {
 /// 8.3). Serial notifies, queries and error reports are passed over, and versions don't count.
 ///
 /// The first unit at which that can't go on decides, and its offset is told: `Read` with the faults
-/// of `AnyUnit::read` and `pdu::Payload::into_payload`; `Refused` with those of `Data::announce` and
-/// `Data::withdraw`, with `Memory` where an answer goes on with the payloads of those before and
-/// there is none for a copy, and with `Session` at an end of data of another session than its answer
-/// (section 5.8). `Read(Short)` also comes where the input ends before an end of data, or inside an
-/// answer; `Read(TooMany)` after 2^64 - 1 units.
+/// of `AnyUnit::read` and `pdu::Payload::into_payload`; `Refused` with those of `Data::announce`
+/// and `Data::withdraw`, with `Memory` where an answer goes on with the payloads of those before
+/// and there is none for a copy, and with `Session` at an end of data of another session than its
+/// answer (section 5.8). `Read(Short)` also comes where the input ends before an end of data, or
+/// inside an answer; `Read(TooMany)` after 2^64 - 1 units.
 pub fn read_recording<R: Source>(alloc: Global, reader: &mut R) -> Result<Recording, Stop>
     ensures bytes { ReadsRecording result (R.state reader.old) (R.state reader.new) }
     ensures error { IfErr result (HoldsStopError (R.fails reader.new)) }

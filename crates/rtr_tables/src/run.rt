@@ -32,9 +32,10 @@ const REFUSED: u8 = 1;
 const FAILED: u8 = 3;
 
 /// Runs the program with the words that it was started with, its name first, and answers the exit
-/// status: that of `run` where they ask for a table, and of `rtr_listing::print_units` where they ask for
-/// units or broken rules. Where they ask for help or the version it is 0, or 3 where that can't be
-/// written. Otherwise, and where there are no words, since they can't be had as texts, a line on
+/// status: that of `run` where they ask for a table, and of `rtr_listing::print_units` where they
+/// ask for units or broken rules. Where they ask for help or the version it is 0, or 3 where that
+/// can't be written. Otherwise, and where there are no words, since they can't be had as texts, a
+/// line on
 /// `faults` says how the program is called, and the status is 2.
 pub fn program<R: Source, W: Sink, F: Write>(
     alloc: Global,
@@ -87,8 +88,8 @@ pub fn program<R: Source, W: Sink, F: Write>(
 /// - 3 if reading, writing, flushing or memory failed.
 ///
 /// Nothing is written unless the whole table is made, which takes memory for all of its text.
-/// Statuses 1 and 3 come with a line on `faults`, which begins with the program's name, and status 0
-/// with one where payloads are left out, and with one where an answer is. Of a pipe that nobody
+/// Statuses 1 and 3 come with a line on `faults`, which begins with the program's name, and status
+/// 0 with one where payloads are left out, and with one where an answer is. Of a pipe that nobody
 /// reads any more nothing is said. If a line can't be written, nothing else changes.
 pub fn run<R: Source, W: Sink, F: Write>(
     alloc: Global,

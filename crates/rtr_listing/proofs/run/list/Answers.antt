@@ -57,5 +57,7 @@ returns-in-Err-finish g c =
     stops_at_end c.args.wanted c.loop-count.found c.loop-count.count _ _ c.in-Err-finish.fault
     _ _ _ _ _ _ so_far read.0
     (λ before seen place.
-    let k = c.in-Err-finish.ensures.lines before seen place in (k.0.0, k.0.1, k.0.2))
-    (search rules, count_kept (Err c.in-Err-finish.fault) _ _ _ last.1 c.loop-count.invariant.writes)
+    let k = c.in-Err-finish.ensures.lines before seen place in (k.0.0, k.0.1, k.0.2)) (
+      search rules,
+      count_kept (Err c.in-Err-finish.fault) _ _ _ last.1 c.loop-count.invariant.writes,
+    )
