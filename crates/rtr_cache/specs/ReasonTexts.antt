@@ -4,7 +4,7 @@ use Rattle.rtr_cache.specs.declared.event.Reason.{Reason}
 use Rattle.rtr_cache.specs.declared.event.Reason.TheVariants as reasons
 
 abbrev pub reason_text : Reason → List ℕ
-reason_text reasons.Lost = codes "the router once_closed the connection"
+reason_text reasons.Lost = codes "the router closed the connection"
 reason_text reasons.Slow = codes "the router is too slow"
 reason_text reasons.Full = codes "too many connections"
 reason_text reasons.Faulty = codes "unit is refused"

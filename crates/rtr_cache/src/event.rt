@@ -99,7 +99,7 @@ impl Reason {
         ensures { result.now ≡ reason_text self }
     {
         match self {
-            Reason::Lost => "the router once_closed the connection",
+            Reason::Lost => "the router closed the connection",
             Reason::Slow => "the router is too slow",
             Reason::Full => "too many connections",
             Reason::Faulty => "unit is refused",
