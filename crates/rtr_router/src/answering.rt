@@ -22,6 +22,7 @@ use rtr_base::state::Serial;
 use std::cmp::Ordering;
 
 impl Router {
+    #[inline(always)]
     pub(crate) fn came(&mut self, now: u64, unit: &Head) -> Action
         requires time { now < 2 ^ 63 }
         requires fresh { Fresh self.old now }
@@ -176,6 +177,7 @@ impl Router {
     }
 
     /// A unit came in a response.
+    #[inline(always)]
     fn read_on(&mut self, now: u64, unit: &Head) -> Action
         requires time { now < 2 ^ 63 }
         requires reading { self.old.phase ≡ phases.Reading }
@@ -206,6 +208,7 @@ impl Router {
     }
 
     /// A payload unit of the version came in a response.
+    #[inline(always)]
     fn keep(&mut self, now: u64, unit: &Head) -> Action
         requires time { now < 2 ^ 63 }
         requires reading { self.old.phase ≡ phases.Reading }

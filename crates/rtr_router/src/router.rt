@@ -10,7 +10,7 @@ ghost use Rattle.rtr_router.specs.declared.event.Event.TheVariants as events;
 ghost use Rattle.rtr_router.specs.declared.router.Phase.TheVariants as phases;
 
 use crate::event::{Action, Event};
-use crate::head::{Known, Query};
+use crate::head::{Head, Known, Query};
 use crate::settings::Settings;
 
 /// Where a router is.
@@ -146,6 +146,19 @@ impl Router {
             Event::Applied => self.applied(now),
             Event::NotApplied(code) => self.not_applied(now, code),
         }
+    }
+
+    /// The step at a unit: what `step` does, in a form that is laid out where it is called, so that
+    /// a payload unit of a response costs no call.
+    #[inline(always)]
+    pub fn hear(&mut self, now: u64, unit: &Head) -> Action
+        requires time { now < 2 ^ 63 }
+        ensures steps { IsStep self.old now (events.Came unit.now) result self.new }
+    {
+        if (self.has_data && now >= self.expires) || self.is_late(now) {
+            return self.step(now, Event::Came(*unit));
+        }
+        self.came(now, unit)
     }
 
     /// When `Tick` is wanted, if nothing comes before.
