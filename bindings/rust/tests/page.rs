@@ -1,4 +1,4 @@
-//! What `docs/BINDINGS.md` shows of readers and writers, data, and clients.
+//! What `docs/RUST.md` shows of readers and writers, data, and clients.
 #![cfg(feature = "std")]
 
 use rtr_wire::{change_line, Client, ClientOptions, Data, DataError, Event};
