@@ -61,14 +61,16 @@ def structs(text):
         yield name, fields, size
 
 
-def functions(text):
-    """Of each function of the archive its name, what it answers, and what it takes: type and name,
-    where the type of a pointer ends in a star."""
+def functions(text, constant=False):
+    """Of each function of the archive its name, its answer, and its parameters: type and name,
+    where the type of a pointer ends in a star, and with `constant` begins with const where what it
+    points at is."""
+    parameter = r"((?:const )?(?:struct )?\w+ \*?)(\w+)" if constant else \
+        r"(?:const )?((?:struct )?\w+ \*?)(\w+)"
     for answer, name, taken in re.findall(r"^(\w+) (rtr_\w+)\(([^)]*)\);", without_comments(text),
                                           re.MULTILINE):
         parts = [] if taken == "void" else re.split(r",\s*", taken)
-        yield name, answer, [
-            re.fullmatch(r"(?:const )?((?:struct )?\w+ \*?)(\w+)", part).groups() for part in parts]
+        yield name, answer, [re.fullmatch(parameter, part).groups() for part in parts]
 
 
 def texts(text, function):

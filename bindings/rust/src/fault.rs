@@ -1,5 +1,6 @@
 //! What may be wrong with a unit or a call.
 
+use crate::abi::{prefix_rule, status};
 use crate::error::Error;
 use crate::sys;
 use crate::unit::{ErrorReport, ReportParts, MOST_IN_REPORT};
@@ -62,26 +63,26 @@ impl Fault {
     /// The fault of a status other than 0, with its detail.
     pub(crate) fn of(status: u8, detail: u8) -> Self {
         match status {
-            1 => Fault::Short,
-            2 => Fault::UnitType(detail),
-            3 => Fault::UnitVersion(detail),
-            4 => Fault::TooLong,
-            5 => Fault::UnitLength,
-            6 => Fault::EmptyProviders,
-            7 => Fault::Prefix(match detail {
-                1 => PrefixRule::LengthOver,
-                2 => PrefixRule::MaxLengthOver,
+            status::SHORT => Fault::Short,
+            status::UNIT_TYPE => Fault::UnitType(detail),
+            status::UNIT_VERSION => Fault::UnitVersion(detail),
+            status::TOO_LONG => Fault::TooLong,
+            status::UNIT_LENGTH => Fault::UnitLength,
+            status::EMPTY_PROVIDERS => Fault::EmptyProviders,
+            status::PREFIX => Fault::Prefix(match detail {
+                prefix_rule::LENGTH_OVER => PrefixRule::LengthOver,
+                prefix_rule::MAX_LENGTH_OVER => PrefixRule::MaxLengthOver,
                 _ => PrefixRule::MaxLengthUnder,
             }),
-            8 => Fault::TooMany,
-            9 => Fault::NoRoom,
-            10 => Fault::NoForm,
-            12 => Fault::NotCanonical,
-            13 => Fault::OtherSession,
-            14 => Fault::Duplicate,
-            15 => Fault::UnknownRecord,
-            16 => Fault::Undecided,
-            17 => Fault::NoIndex,
+            status::TOO_MANY => Fault::TooMany,
+            status::NO_ROOM => Fault::NoRoom,
+            status::NO_FORM => Fault::NoForm,
+            status::NOT_CANONICAL => Fault::NotCanonical,
+            status::OTHER_SESSION => Fault::OtherSession,
+            status::DUPLICATE => Fault::Duplicate,
+            status::UNKNOWN => Fault::UnknownRecord,
+            status::UNDECIDED => Fault::Undecided,
+            status::NO_INDEX => Fault::NoIndex,
             status => Fault::Unknown(status),
         }
     }
@@ -89,22 +90,22 @@ impl Fault {
     /// The status, as `rtr.h` numbers it.
     pub fn status(self) -> u8 {
         match self {
-            Fault::Short => 1,
-            Fault::UnitType(_) => 2,
-            Fault::UnitVersion(_) => 3,
-            Fault::TooLong => 4,
-            Fault::UnitLength => 5,
-            Fault::EmptyProviders => 6,
-            Fault::Prefix(_) => 7,
-            Fault::TooMany => 8,
-            Fault::NoRoom => 9,
-            Fault::NoForm => 10,
-            Fault::NotCanonical => 12,
-            Fault::OtherSession => 13,
-            Fault::Duplicate => 14,
-            Fault::UnknownRecord => 15,
-            Fault::Undecided => 16,
-            Fault::NoIndex => 17,
+            Fault::Short => status::SHORT,
+            Fault::UnitType(_) => status::UNIT_TYPE,
+            Fault::UnitVersion(_) => status::UNIT_VERSION,
+            Fault::TooLong => status::TOO_LONG,
+            Fault::UnitLength => status::UNIT_LENGTH,
+            Fault::EmptyProviders => status::EMPTY_PROVIDERS,
+            Fault::Prefix(_) => status::PREFIX,
+            Fault::TooMany => status::TOO_MANY,
+            Fault::NoRoom => status::NO_ROOM,
+            Fault::NoForm => status::NO_FORM,
+            Fault::NotCanonical => status::NOT_CANONICAL,
+            Fault::OtherSession => status::OTHER_SESSION,
+            Fault::Duplicate => status::DUPLICATE,
+            Fault::UnknownRecord => status::UNKNOWN,
+            Fault::Undecided => status::UNDECIDED,
+            Fault::NoIndex => status::NO_INDEX,
             Fault::Unknown(status) => status,
         }
     }

@@ -1,5 +1,6 @@
 //! The types of units.
 
+use crate::abi::kind;
 use crate::error::Error;
 use crate::sys;
 use core::fmt;
@@ -10,27 +11,27 @@ use core::fmt;
 #[repr(u8)]
 pub enum Kind {
     /// RFC 8210 section 5.2.
-    SerialNotify = 0,
+    SerialNotify = kind::SERIAL_NOTIFY,
     /// RFC 8210 section 5.3.
-    SerialQuery = 1,
+    SerialQuery = kind::SERIAL_QUERY,
     /// RFC 8210 section 5.4.
-    ResetQuery = 2,
+    ResetQuery = kind::RESET_QUERY,
     /// RFC 8210 section 5.5.
-    CacheResponse = 3,
+    CacheResponse = kind::CACHE_RESPONSE,
     /// RFC 8210 section 5.6.
-    Ipv4Prefix = 4,
+    Ipv4Prefix = kind::IPV4_PREFIX,
     /// RFC 8210 section 5.7.
-    Ipv6Prefix = 6,
+    Ipv6Prefix = kind::IPV6_PREFIX,
     /// RFC 6810 and RFC 8210 section 5.8.
-    EndOfData = 7,
+    EndOfData = kind::END_OF_DATA,
     /// RFC 8210 section 5.9.
-    CacheReset = 8,
+    CacheReset = kind::CACHE_RESET,
     /// RFC 8210 section 5.10.
-    RouterKey = 9,
+    RouterKey = kind::ROUTER_KEY,
     /// RFC 8210 section 5.11.
-    ErrorReport = 10,
+    ErrorReport = kind::ERROR_REPORT,
     /// As in the Rust crate `rpki`.
-    Aspa = 11,
+    Aspa = kind::ASPA,
 }
 
 /// A number that isn't the type of a unit.
@@ -50,17 +51,17 @@ impl TryFrom<u8> for Kind {
 
     fn try_from(number: u8) -> Result<Self, UnknownKind> {
         Ok(match number {
-            0 => Kind::SerialNotify,
-            1 => Kind::SerialQuery,
-            2 => Kind::ResetQuery,
-            3 => Kind::CacheResponse,
-            4 => Kind::Ipv4Prefix,
-            6 => Kind::Ipv6Prefix,
-            7 => Kind::EndOfData,
-            8 => Kind::CacheReset,
-            9 => Kind::RouterKey,
-            10 => Kind::ErrorReport,
-            11 => Kind::Aspa,
+            kind::SERIAL_NOTIFY => Kind::SerialNotify,
+            kind::SERIAL_QUERY => Kind::SerialQuery,
+            kind::RESET_QUERY => Kind::ResetQuery,
+            kind::CACHE_RESPONSE => Kind::CacheResponse,
+            kind::IPV4_PREFIX => Kind::Ipv4Prefix,
+            kind::IPV6_PREFIX => Kind::Ipv6Prefix,
+            kind::END_OF_DATA => Kind::EndOfData,
+            kind::CACHE_RESET => Kind::CacheReset,
+            kind::ROUTER_KEY => Kind::RouterKey,
+            kind::ERROR_REPORT => Kind::ErrorReport,
+            kind::ASPA => Kind::Aspa,
             other => return Err(UnknownKind(other)),
         })
     }

@@ -68,6 +68,8 @@ use core::{error, net};
 #[cfg(feature = "std")]
 use std::{error, net};
 
+#[rustfmt::skip]
+mod abi;
 #[cfg(feature = "std")]
 mod client;
 #[cfg(feature = "std")]

@@ -1,5 +1,6 @@
 //! Units, typed.
 
+use crate::abi::order;
 use crate::fault::{ErrorCode, Fault, PrefixRule};
 use crate::kind::Kind;
 use crate::net::{Ipv4Addr, Ipv6Addr};
@@ -505,9 +506,9 @@ impl<B: AsRef<[u8]>> ErrorReport<B> {
 /// ```
 pub fn compare_serials(left: u32, right: u32) -> Option<Ordering> {
     match sys::serial_order(left, right) {
-        0 => Some(Ordering::Equal),
-        1 => Some(Ordering::Less),
-        2 => Some(Ordering::Greater),
+        order::EQUAL => Some(Ordering::Equal),
+        order::LESS => Some(Ordering::Less),
+        order::GREATER => Some(Ordering::Greater),
         _ => None,
     }
 }

@@ -1,5 +1,6 @@
 //! Origin validation of routes (RFC 6811).
 
+use crate::abi::mismatch;
 use crate::error::Error;
 use crate::net::{IpAddr, Ipv4Addr, Ipv6Addr};
 use crate::sys;
@@ -225,9 +226,9 @@ impl Iterator for Covering<'_> {
             max_length: vrp.max_length,
             asn: vrp.asn,
             mismatch: match vrp.mismatch {
-                1 => Some(Mismatch::AsZero),
-                2 => Some(Mismatch::OtherAs),
-                3 => Some(Mismatch::TooLong),
+                mismatch::AS_ZERO => Some(Mismatch::AsZero),
+                mismatch::OTHER_AS => Some(Mismatch::OtherAs),
+                mismatch::LONGER => Some(Mismatch::TooLong),
                 _ => None,
             },
         })

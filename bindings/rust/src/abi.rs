@@ -1,0 +1,662 @@
+//! What `rtr.h` declares. `generate` made this file of it: don't edit it.
+#![allow(dead_code)]
+
+/// How a call ended; each call below names the statuses that it can answer. The faults of a
+/// unit are 1 to 7, and are checked in the order of docs/PROTOCOL.md.
+pub(crate) mod status {
+    /// the call succeeded
+    pub(crate) const OK: u8 = 0;
+    /// the input ends inside a unit, or before one
+    pub(crate) const SHORT: u8 = 1;
+    /// `detail` is a type that is not allowed here
+    pub(crate) const UNIT_TYPE: u8 = 2;
+    /// `detail` is a version that is not allowed here
+    pub(crate) const UNIT_VERSION: u8 = 3;
+    /// a router key, an ASPA or a report of more than 65535 bytes
+    pub(crate) const TOO_LONG: u8 = 4;
+    /// a length that doesn't suit the type
+    pub(crate) const UNIT_LENGTH: u8 = 5;
+    /// an ASPA that is announced without providers
+    pub(crate) const EMPTY_PROVIDERS: u8 = 6;
+    /// `detail`, an rtr_prefix_rule, is broken by a prefix
+    pub(crate) const PREFIX: u8 = 7;
+    /// `limit` units were taken, and no end of data was among them
+    pub(crate) const TOO_MANY: u8 = 8;
+    /// the output is too short for what comes next
+    pub(crate) const NO_ROOM: u8 = 9;
+    /// rtr_write_unit: no such action, family or part
+    pub(crate) const NO_FORM: u8 = 10;
+    /// a unit or an end of data that may not stand there in data or changes in canonical
+    /// form
+    pub(crate) const NOT_CANONICAL: u8 = 12;
+    /// the second input is of another session than the first
+    pub(crate) const OTHER_SESSION: u8 = 13;
+    /// a payload other than an ASPA is announced that is there already
+    pub(crate) const DUPLICATE: u8 = 14;
+    /// a payload is withdrawn that isn't there
+    pub(crate) const UNKNOWN: u8 = 15;
+    /// rtr_order: an ASPA is announced and then withdrawn, so that what the changes come
+    /// to depends on the data
+    pub(crate) const UNDECIDED: u8 = 16;
+    /// the index has fewer places than there are units
+    pub(crate) const NO_INDEX: u8 = 17;
+}
+
+/// The numbers of enum rtr_prefix_rule.
+pub(crate) mod prefix_rule {
+    /// the prefix length is above 32 for IPv4 or 128 for IPv6
+    pub(crate) const LENGTH_OVER: u8 = 1;
+    /// the max length is above that
+    pub(crate) const MAX_LENGTH_OVER: u8 = 2;
+    /// the max length is below the prefix length
+    pub(crate) const MAX_LENGTH_UNDER: u8 = 3;
+}
+
+/// The kinds of units, by their type.
+pub(crate) mod kind {
+    /// RFC 8210 section 5.2
+    pub(crate) const SERIAL_NOTIFY: u8 = 0;
+    /// RFC 8210 section 5.3
+    pub(crate) const SERIAL_QUERY: u8 = 1;
+    /// RFC 8210 section 5.4
+    pub(crate) const RESET_QUERY: u8 = 2;
+    /// RFC 8210 section 5.5
+    pub(crate) const CACHE_RESPONSE: u8 = 3;
+    /// RFC 8210 section 5.6
+    pub(crate) const IPV4_PREFIX: u8 = 4;
+    /// RFC 8210 section 5.7
+    pub(crate) const IPV6_PREFIX: u8 = 6;
+    /// RFC 6810 and RFC 8210 section 5.8
+    pub(crate) const END_OF_DATA: u8 = 7;
+    /// RFC 8210 section 5.9
+    pub(crate) const CACHE_RESET: u8 = 8;
+    /// RFC 8210 section 5.10
+    pub(crate) const ROUTER_KEY: u8 = 9;
+    /// RFC 8210 section 5.11
+    pub(crate) const ERROR_REPORT: u8 = 10;
+    pub(crate) const ASPA: u8 = 11;
+}
+
+/// The order of two serial numbers (RFC 1982 section 3.2).
+pub(crate) mod order {
+    pub(crate) const EQUAL: u8 = 0;
+    /// the left one is less
+    pub(crate) const LESS: u8 = 1;
+    /// the left one is greater
+    pub(crate) const GREATER: u8 = 2;
+    /// they are 2^31 apart
+    pub(crate) const NO_ORDER: u8 = 3;
+}
+
+/// The two inputs of a comparison.
+pub(crate) mod side {
+    pub(crate) const LEFT: u8 = 1;
+    pub(crate) const RIGHT: u8 = 2;
+}
+
+/// What origin validation says of a route (RFC 6811 section 2).
+pub(crate) mod validity {
+    /// no VRP covers the route
+    pub(crate) const NOT_FOUND: u8 = 0;
+    /// a VRP matches it
+    pub(crate) const VALID: u8 = 1;
+    /// VRPs cover it, and none matches
+    pub(crate) const INVALID: u8 = 2;
+    /// the family is neither 4 nor 6, or the prefix length is above 32 or 128
+    pub(crate) const NO_ROUTE: u8 = 3;
+}
+
+/// Why a VRP that covers a route doesn't match it: the first of these that holds.
+pub(crate) mod mismatch {
+    /// it matches
+    pub(crate) const MATCHES: u8 = 0;
+    /// it is one of AS 0, which says that no route is valid
+    pub(crate) const AS_ZERO: u8 = 1;
+    /// the route isn't from its AS
+    pub(crate) const OTHER_AS: u8 = 2;
+    /// the route's prefix is longer than its max length
+    pub(crate) const LONGER: u8 = 3;
+}
+
+/// The numbers of enum rtr_action_kind.
+pub(crate) mod action {
+    pub(crate) const WAIT: u8 = 0;
+    pub(crate) const CONNECT: u8 = 1;
+    pub(crate) const ASK: u8 = 2;
+    pub(crate) const BEGIN: u8 = 3;
+    pub(crate) const KEEP: u8 = 4;
+    pub(crate) const APPLY: u8 = 5;
+    pub(crate) const SHOW: u8 = 6;
+    pub(crate) const NO_DATA: u8 = 7;
+    pub(crate) const DROP: u8 = 8;
+    pub(crate) const END: u8 = 9;
+}
+
+/// Why a connection ends; rtr_cause_text says it in words.
+pub(crate) mod cause {
+    pub(crate) const LOST: u8 = 0;
+    pub(crate) const SLOW: u8 = 1;
+    /// a unit is refused, for `status`
+    pub(crate) const FAULTY: u8 = 2;
+    /// by the unit between `start` and `taken`
+    pub(crate) const REPORTED: u8 = 3;
+    pub(crate) const OUT_OF_PLACE: u8 = 4;
+    pub(crate) const NO_SUCH_PAYLOAD: u8 = 5;
+    pub(crate) const OTHER_VERSION: u8 = 6;
+    pub(crate) const HIGHER_VERSION: u8 = 7;
+    pub(crate) const OTHER_SESSION: u8 = 8;
+    pub(crate) const OLD_SERIAL: u8 = 9;
+    pub(crate) const OTHER_DATA: u8 = 10;
+    pub(crate) const TOO_LONG: u8 = 11;
+    /// changes are refused, for `status`
+    pub(crate) const NOT_APPLIED: u8 = 12;
+    pub(crate) const EXPIRED: u8 = 13;
+    /// no failure: it connects again at once, in a lower version
+    pub(crate) const LOWER: u8 = 14;
+}
+
+#[repr(C)]
+#[derive(Clone, Copy, Debug, Default, PartialEq, Eq, Hash)]
+pub(crate) struct Answer {
+    pub(crate) units: u64,
+    pub(crate) forms: u64,
+    pub(crate) taken: usize,
+    pub(crate) written: usize,
+    pub(crate) wanted: usize,
+    pub(crate) status: u8,
+    pub(crate) detail: u8,
+}
+
+#[repr(C)]
+#[derive(Clone, Copy, Debug, Default, PartialEq, Eq, Hash)]
+pub(crate) struct DataAnswer {
+    pub(crate) written: usize,
+    pub(crate) offset: usize,
+    pub(crate) status: u8,
+    pub(crate) side: u8,
+    pub(crate) detail: u8,
+}
+
+#[repr(C)]
+#[derive(Clone, Copy, Debug, Default, PartialEq, Eq, Hash)]
+pub(crate) struct Comparison {
+    pub(crate) offset: usize,
+    pub(crate) wanted: usize,
+    pub(crate) status: u8,
+    pub(crate) side: u8,
+    pub(crate) detail: u8,
+    pub(crate) same: bool,
+}
+
+#[repr(C)]
+#[derive(Clone, Copy, Debug, Default, PartialEq, Eq, Hash)]
+pub(crate) struct Unit {
+    pub(crate) size: usize,
+    pub(crate) wanted: usize,
+    pub(crate) part_start: usize,
+    pub(crate) part_length: usize,
+    pub(crate) text_start: usize,
+    pub(crate) text_length: usize,
+    pub(crate) asn: u32,
+    pub(crate) customer: u32,
+    pub(crate) serial: u32,
+    pub(crate) refresh: u32,
+    pub(crate) retry: u32,
+    pub(crate) expire: u32,
+    pub(crate) session: u16,
+    pub(crate) code: u16,
+    pub(crate) kind: u8,
+    pub(crate) version: u8,
+    pub(crate) action: u8,
+    pub(crate) family: u8,
+    pub(crate) prefix_length: u8,
+    pub(crate) max_length: u8,
+    pub(crate) address: [u8; 16],
+    pub(crate) key_identifier: [u8; 20],
+    pub(crate) detail: u8,
+}
+
+#[repr(C)]
+#[derive(Clone, Copy, Debug, Default, PartialEq, Eq, Hash)]
+pub(crate) struct Route {
+    pub(crate) asn: u32,
+    pub(crate) family: u8,
+    pub(crate) prefix_length: u8,
+    pub(crate) address: [u8; 16],
+}
+
+#[repr(C)]
+#[derive(Clone, Copy, Debug, PartialEq, Eq, Hash)]
+pub(crate) struct Tables {
+    pub(crate) ipv4: usize,
+    pub(crate) ipv6: usize,
+    pub(crate) starts: [usize; 256],
+    pub(crate) shortest_ipv4: u8,
+    pub(crate) shortest_ipv6: u8,
+    pub(crate) shortest: [u8; 256],
+}
+
+impl Default for Tables {
+    fn default() -> Self {
+        Self {
+            ipv4: 0,
+            ipv6: 0,
+            starts: [0; 256],
+            shortest_ipv4: 0,
+            shortest_ipv6: 0,
+            shortest: [0; 256],
+        }
+    }
+}
+
+#[repr(C)]
+#[derive(Clone, Copy, Debug, Default, PartialEq, Eq, Hash)]
+pub(crate) struct Covering {
+    pub(crate) place: usize,
+    pub(crate) asn: u32,
+    pub(crate) prefix_length: u8,
+    pub(crate) max_length: u8,
+    pub(crate) mismatch: u8,
+}
+
+#[repr(C)]
+#[derive(Clone, Copy, Debug, Default, PartialEq, Eq, Hash)]
+pub(crate) struct Settings {
+    pub(crate) most_bytes: u64,
+    pub(crate) pause: u32,
+    pub(crate) connect_limit: u32,
+    pub(crate) response_limit: u32,
+    pub(crate) refresh: u32,
+    pub(crate) retry: u32,
+    pub(crate) expire: u32,
+    pub(crate) most_units: u32,
+    pub(crate) chance: u16,
+    pub(crate) highest: u8,
+}
+
+#[repr(C)]
+#[derive(Clone, Copy, Debug, Default, PartialEq, Eq, Hash)]
+pub(crate) struct Known {
+    pub(crate) serial: u32,
+    pub(crate) refresh: u32,
+    pub(crate) retry: u32,
+    pub(crate) expire: u32,
+    pub(crate) session: u16,
+    pub(crate) version: u8,
+}
+
+#[repr(C)]
+#[derive(Clone, Copy, Debug, Default, PartialEq, Eq, Hash)]
+pub(crate) struct Router {
+    pub(crate) settings: Settings,
+    pub(crate) expires: u64,
+    pub(crate) asked: u64,
+    pub(crate) due: u64,
+    pub(crate) bytes: u64,
+    pub(crate) known: Known,
+    pub(crate) answer: Known,
+    pub(crate) wait: u32,
+    pub(crate) units: u32,
+    pub(crate) note: u32,
+    pub(crate) session: u16,
+    pub(crate) phase: u8,
+    pub(crate) version: u8,
+    pub(crate) floor: u8,
+    pub(crate) agreed: bool,
+    pub(crate) fell: bool,
+    pub(crate) changes: bool,
+    pub(crate) resync: bool,
+    pub(crate) answered: bool,
+    pub(crate) noted: bool,
+    pub(crate) has_data: bool,
+}
+
+#[repr(C)]
+#[derive(Clone, Copy, Debug, Default, PartialEq, Eq, Hash)]
+pub(crate) struct Action {
+    pub(crate) start: usize,
+    pub(crate) taken: usize,
+    pub(crate) wanted: usize,
+    pub(crate) serial: u32,
+    pub(crate) session: u16,
+    pub(crate) code: u16,
+    pub(crate) kind: u8,
+    pub(crate) version: u8,
+    pub(crate) cause: u8,
+    pub(crate) status: u8,
+    pub(crate) detail: u8,
+    pub(crate) changes: bool,
+    pub(crate) drops: bool,
+    pub(crate) reports: bool,
+}
+
+extern "C" {
+    pub(crate) fn rtr_normalise_slice_nonnull(
+        input: *const u8,
+        input_length: usize,
+        output: *mut u8,
+        output_length: usize,
+        limit: u64,
+        answer: *mut Answer,
+    ) -> u8;
+    pub(crate) fn rtr_normalise_for_slice_nonnull(
+        input: *const u8,
+        input_length: usize,
+        output: *mut u8,
+        output_length: usize,
+        limit: u64,
+        version: u8,
+        answer: *mut Answer,
+    ) -> u8;
+    pub(crate) fn rtr_unit_size_nonnull(
+        input: *const u8,
+        input_length: usize,
+        size: *mut usize,
+        detail: *mut u8,
+    ) -> u8;
+    pub(crate) fn rtr_next_nonnull(
+        input: *const u8,
+        input_length: usize,
+        unit: *mut Unit,
+    ) -> u8;
+    pub(crate) fn rtr_provider_nonnull(
+        unit: *const Unit,
+        input: *const u8,
+        input_length: usize,
+        index: usize,
+        provider: *mut u32,
+    ) -> bool;
+    pub(crate) fn rtr_error_code_nonnull(
+        status: u8,
+        input: *const u8,
+        input_length: usize,
+        code: *mut u16,
+    ) -> bool;
+    pub(crate) fn rtr_write_unit_nonnull(
+        unit: *const Unit,
+        input: *const u8,
+        input_length: usize,
+        output: *mut u8,
+        output_length: usize,
+        written: *mut usize,
+    ) -> u8;
+    pub(crate) fn rtr_same_meaning_nonnull(
+        left: *const u8,
+        left_length: usize,
+        right: *const u8,
+        right_length: usize,
+        limit: u64,
+        answer: *mut Comparison,
+    ) -> u8;
+    pub(crate) fn rtr_delta_nonnull(
+        old_data: *const u8,
+        old_length: usize,
+        new_data: *const u8,
+        new_length: usize,
+        output: *mut u8,
+        output_length: usize,
+        answer: *mut DataAnswer,
+    ) -> u8;
+    pub(crate) fn rtr_apply_nonnull(
+        data: *const u8,
+        data_length: usize,
+        changes: *const u8,
+        changes_length: usize,
+        output: *mut u8,
+        output_length: usize,
+        answer: *mut DataAnswer,
+    ) -> u8;
+    pub(crate) fn rtr_apply_in_order_nonnull(
+        data: *const u8,
+        data_length: usize,
+        changes: *const u8,
+        changes_length: usize,
+        index: *mut usize,
+        index_length: usize,
+        output: *mut u8,
+        output_length: usize,
+        answer: *mut DataAnswer,
+    ) -> u8;
+    pub(crate) fn rtr_order_nonnull(
+        input: *const u8,
+        input_length: usize,
+        index: *mut usize,
+        index_length: usize,
+        output: *mut u8,
+        output_length: usize,
+        answer: *mut DataAnswer,
+    ) -> u8;
+    pub(crate) fn rtr_tables_nonnull(
+        data: *const u8,
+        data_length: usize,
+        tables: *mut Tables,
+    );
+    pub(crate) fn rtr_validate_nonnull(
+        data: *const u8,
+        data_length: usize,
+        tables: *const Tables,
+        route: *const Route,
+    ) -> u8;
+    pub(crate) fn rtr_covering_nonnull(
+        data: *const u8,
+        data_length: usize,
+        tables: *const Tables,
+        route: *const Route,
+        from: usize,
+        covering: *mut Covering,
+    ) -> bool;
+    pub(crate) fn rtr_serial_order(
+        left: u32,
+        right: u32,
+    ) -> u8;
+    pub(crate) fn rtr_version_has(
+        version: u8,
+        kind: u8,
+    ) -> bool;
+    pub(crate) fn rtr_wire_version(
+    ) -> u32;
+    pub(crate) fn rtr_settings_usual(
+        settings: *mut Settings,
+        highest: u8,
+    );
+    pub(crate) fn rtr_router_init(
+        router: *mut Router,
+        settings: *const Settings,
+    );
+    pub(crate) fn rtr_router_tick(
+        router: *mut Router,
+        now: u64,
+        action: *mut Action,
+    );
+    pub(crate) fn rtr_router_connected(
+        router: *mut Router,
+        now: u64,
+        action: *mut Action,
+    );
+    pub(crate) fn rtr_router_lost(
+        router: *mut Router,
+        now: u64,
+        action: *mut Action,
+    );
+    pub(crate) fn rtr_router_applied(
+        router: *mut Router,
+        now: u64,
+        action: *mut Action,
+    );
+    pub(crate) fn rtr_router_not_applied(
+        router: *mut Router,
+        now: u64,
+        status: u8,
+        action: *mut Action,
+    );
+    pub(crate) fn rtr_router_wakes(
+        router: *const Router,
+    ) -> u64;
+    pub(crate) fn rtr_router_read_nonnull(
+        router: *mut Router,
+        now: u64,
+        input: *const u8,
+        input_length: usize,
+        ended: bool,
+        action: *mut Action,
+    );
+    pub(crate) fn rtr_router_query_nonnull(
+        action: *const Action,
+        output: *mut u8,
+        output_length: usize,
+    ) -> usize;
+    pub(crate) fn rtr_router_report_nonnull(
+        action: *const Action,
+        input: *const u8,
+        input_length: usize,
+        output: *mut u8,
+        output_length: usize,
+        written: *mut usize,
+    ) -> bool;
+}
+
+#[cfg(all(test, target_pointer_width = "64"))]
+mod tests {
+    use core::mem::size_of;
+    use core::ptr::addr_of;
+
+    /// How many bytes come before a field in a struct.
+    macro_rules! place {
+        ($value:ident.$field:ident) => {
+            addr_of!($value.$field) as usize - addr_of!($value) as usize
+        };
+    }
+
+    #[test]
+    fn layout() {
+        let value = super::Answer::default();
+        assert_eq!(size_of::<super::Answer>(), 48);
+        assert_eq!(place!(value.units), 0);
+        assert_eq!(place!(value.forms), 8);
+        assert_eq!(place!(value.taken), 16);
+        assert_eq!(place!(value.written), 24);
+        assert_eq!(place!(value.wanted), 32);
+        assert_eq!(place!(value.status), 40);
+        assert_eq!(place!(value.detail), 41);
+        let value = super::DataAnswer::default();
+        assert_eq!(size_of::<super::DataAnswer>(), 24);
+        assert_eq!(place!(value.written), 0);
+        assert_eq!(place!(value.offset), 8);
+        assert_eq!(place!(value.status), 16);
+        assert_eq!(place!(value.side), 17);
+        assert_eq!(place!(value.detail), 18);
+        let value = super::Comparison::default();
+        assert_eq!(size_of::<super::Comparison>(), 24);
+        assert_eq!(place!(value.offset), 0);
+        assert_eq!(place!(value.wanted), 8);
+        assert_eq!(place!(value.status), 16);
+        assert_eq!(place!(value.side), 17);
+        assert_eq!(place!(value.detail), 18);
+        assert_eq!(place!(value.same), 19);
+        let value = super::Unit::default();
+        assert_eq!(size_of::<super::Unit>(), 120);
+        assert_eq!(place!(value.size), 0);
+        assert_eq!(place!(value.wanted), 8);
+        assert_eq!(place!(value.part_start), 16);
+        assert_eq!(place!(value.part_length), 24);
+        assert_eq!(place!(value.text_start), 32);
+        assert_eq!(place!(value.text_length), 40);
+        assert_eq!(place!(value.asn), 48);
+        assert_eq!(place!(value.customer), 52);
+        assert_eq!(place!(value.serial), 56);
+        assert_eq!(place!(value.refresh), 60);
+        assert_eq!(place!(value.retry), 64);
+        assert_eq!(place!(value.expire), 68);
+        assert_eq!(place!(value.session), 72);
+        assert_eq!(place!(value.code), 74);
+        assert_eq!(place!(value.kind), 76);
+        assert_eq!(place!(value.version), 77);
+        assert_eq!(place!(value.action), 78);
+        assert_eq!(place!(value.family), 79);
+        assert_eq!(place!(value.prefix_length), 80);
+        assert_eq!(place!(value.max_length), 81);
+        assert_eq!(place!(value.address), 82);
+        assert_eq!(place!(value.key_identifier), 98);
+        assert_eq!(place!(value.detail), 118);
+        let value = super::Route::default();
+        assert_eq!(size_of::<super::Route>(), 24);
+        assert_eq!(place!(value.asn), 0);
+        assert_eq!(place!(value.family), 4);
+        assert_eq!(place!(value.prefix_length), 5);
+        assert_eq!(place!(value.address), 6);
+        let value = super::Tables::default();
+        assert_eq!(size_of::<super::Tables>(), 2328);
+        assert_eq!(place!(value.ipv4), 0);
+        assert_eq!(place!(value.ipv6), 8);
+        assert_eq!(place!(value.starts), 16);
+        assert_eq!(place!(value.shortest_ipv4), 2064);
+        assert_eq!(place!(value.shortest_ipv6), 2065);
+        assert_eq!(place!(value.shortest), 2066);
+        let value = super::Covering::default();
+        assert_eq!(size_of::<super::Covering>(), 16);
+        assert_eq!(place!(value.place), 0);
+        assert_eq!(place!(value.asn), 8);
+        assert_eq!(place!(value.prefix_length), 12);
+        assert_eq!(place!(value.max_length), 13);
+        assert_eq!(place!(value.mismatch), 14);
+        let value = super::Settings::default();
+        assert_eq!(size_of::<super::Settings>(), 40);
+        assert_eq!(place!(value.most_bytes), 0);
+        assert_eq!(place!(value.pause), 8);
+        assert_eq!(place!(value.connect_limit), 12);
+        assert_eq!(place!(value.response_limit), 16);
+        assert_eq!(place!(value.refresh), 20);
+        assert_eq!(place!(value.retry), 24);
+        assert_eq!(place!(value.expire), 28);
+        assert_eq!(place!(value.most_units), 32);
+        assert_eq!(place!(value.chance), 36);
+        assert_eq!(place!(value.highest), 38);
+        let value = super::Known::default();
+        assert_eq!(size_of::<super::Known>(), 20);
+        assert_eq!(place!(value.serial), 0);
+        assert_eq!(place!(value.refresh), 4);
+        assert_eq!(place!(value.retry), 8);
+        assert_eq!(place!(value.expire), 12);
+        assert_eq!(place!(value.session), 16);
+        assert_eq!(place!(value.version), 18);
+        let value = super::Router::default();
+        assert_eq!(size_of::<super::Router>(), 136);
+        assert_eq!(place!(value.settings), 0);
+        assert_eq!(place!(value.expires), 40);
+        assert_eq!(place!(value.asked), 48);
+        assert_eq!(place!(value.due), 56);
+        assert_eq!(place!(value.bytes), 64);
+        assert_eq!(place!(value.known), 72);
+        assert_eq!(place!(value.answer), 92);
+        assert_eq!(place!(value.wait), 112);
+        assert_eq!(place!(value.units), 116);
+        assert_eq!(place!(value.note), 120);
+        assert_eq!(place!(value.session), 124);
+        assert_eq!(place!(value.phase), 126);
+        assert_eq!(place!(value.version), 127);
+        assert_eq!(place!(value.floor), 128);
+        assert_eq!(place!(value.agreed), 129);
+        assert_eq!(place!(value.fell), 130);
+        assert_eq!(place!(value.changes), 131);
+        assert_eq!(place!(value.resync), 132);
+        assert_eq!(place!(value.answered), 133);
+        assert_eq!(place!(value.noted), 134);
+        assert_eq!(place!(value.has_data), 135);
+        let value = super::Action::default();
+        assert_eq!(size_of::<super::Action>(), 40);
+        assert_eq!(place!(value.start), 0);
+        assert_eq!(place!(value.taken), 8);
+        assert_eq!(place!(value.wanted), 16);
+        assert_eq!(place!(value.serial), 24);
+        assert_eq!(place!(value.session), 28);
+        assert_eq!(place!(value.code), 30);
+        assert_eq!(place!(value.kind), 32);
+        assert_eq!(place!(value.version), 33);
+        assert_eq!(place!(value.cause), 34);
+        assert_eq!(place!(value.status), 35);
+        assert_eq!(place!(value.detail), 36);
+        assert_eq!(place!(value.changes), 37);
+        assert_eq!(place!(value.drops), 38);
+        assert_eq!(place!(value.reports), 39);
+    }
+}
