@@ -109,9 +109,9 @@ pub enum Event<'a> {
 /// ```
 #[derive(Debug)]
 pub struct Client {
-    address: String,
-    options: ClientOptions,
-    stop: Stop,
+    pub(crate) address: String,
+    pub(crate) options: ClientOptions,
+    pub(crate) stop: Stop,
 }
 
 impl Client {
@@ -131,14 +131,13 @@ impl Client {
     ///
     /// Any but `Expired`.
     pub fn fetch(&self) -> Result<Data, ClientError> {
-        let mut ignore = |_: Event<'_>| ControlFlow::Continue(());
-        Follower::new(&self.address, &self.options, &self.stop, &mut ignore).fetch()
+        Follower::new(self).fetch()
     }
 
     /// Follows the data of the cache until the client is stopped or told to break off, and answers
     /// the data that it then has.
-    pub fn run(&self, mut on: impl FnMut(Event<'_>) -> ControlFlow<()>) -> Option<Data> {
-        Follower::new(&self.address, &self.options, &self.stop, &mut on).run()
+    pub fn run(&self, on: impl FnMut(Event<'_>) -> ControlFlow<()>) -> Option<Data> {
+        Follower::new(self).run(on)
     }
 
     /// Has [`run`](Client::run) and [`fetch`](Client::fetch) end, from another thread: soon, but

@@ -2,6 +2,7 @@
 
 use crate::data::DataError;
 use crate::fault::{ErrorCode, Fault};
+use crate::input::Input;
 use crate::machine::{cause, cause_text, Action};
 use crate::reader::Refusal;
 use crate::unit::{unit_size, ErrorReport, Unit};
@@ -110,9 +111,10 @@ impl std::error::Error for ClientError {
 }
 
 impl ClientError {
-    /// Why an action ends a connection, for the unit that this input begins with, at this offset of
-    /// the connection.
-    pub(crate) fn of(action: &Action, input: &[u8], offset: u64) -> ClientError {
+    /// Why an action ends a connection with this input.
+    pub(crate) fn of(action: &Action, input: &Input) -> ClientError {
+        let offset = input.offset() + action.start as u64;
+        let input = &input.bytes()[action.start..];
         let reason = match action.cause {
             cause::SLOW => return ClientError::TooSlow,
             cause::TOO_LONG => return ClientError::TooLong,

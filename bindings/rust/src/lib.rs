@@ -78,6 +78,8 @@ mod data;
 mod fault;
 #[cfg(feature = "std")]
 mod following;
+#[cfg(feature = "std")]
+mod input;
 mod kind;
 #[cfg(feature = "std")]
 mod lines;

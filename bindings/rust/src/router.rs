@@ -2,11 +2,12 @@
 
 use crate::client::ClientOptions;
 use crate::client_error::ClientError;
+use crate::input::Input;
 use crate::machine::{action, cause, Action, Machine};
 use crate::owned_data::{Changes, Data};
 use std::collections::VecDeque;
 use std::io;
-use std::mem::take;
+use std::mem::replace;
 use std::vec::Vec;
 
 /// What the program that carries a [`Router`] has to do next.
@@ -35,28 +36,21 @@ pub enum Step {
 pub struct Router {
     machine: Machine,
     data: Option<Data>,
-    /// What the changes of an answer made.
-    made: Option<Data>,
-    input: Vec<u8>,
-    /// How much of the input is done with, and how many bytes of the connection before it.
-    taken: usize,
-    before: u64,
-    /// Whether the cache sends no more.
-    ended: bool,
-    kept: Vec<u8>,
-    output: Vec<u8>,
     steps: VecDeque<Step>,
-    /// What the machine is to be told before anything else.
-    told: Option<Told>,
-    error: Option<ClientError>,
-    connected: bool,
+    connection: Connection,
 }
 
-/// What became of a connection.
-#[derive(Debug)]
-enum Told {
-    Connected,
-    Lost,
+/// What there is of a connection, if there is one.
+#[derive(Debug, Default)]
+struct Connection {
+    is_open: bool,
+    input: Input,
+    output: Vec<u8>,
+    /// The units of an answer.
+    kept: Vec<u8>,
+    /// What their changes made.
+    made: Option<Data>,
+    error: Option<ClientError>,
 }
 
 impl Router {
@@ -66,17 +60,8 @@ impl Router {
         Router {
             machine: Machine::new(options, random),
             data: None,
-            made: None,
-            input: Vec::new(),
-            taken: 0,
-            before: 0,
-            ended: false,
-            kept: Vec::new(),
-            output: Vec::new(),
             steps: VecDeque::new(),
-            told: None,
-            error: None,
-            connected: false,
+            connection: Connection::default(),
         }
     }
 
@@ -96,40 +81,38 @@ impl Router {
     }
 
     /// The connection is there.
-    pub fn connected(&mut self) {
-        (self.taken, self.before, self.ended) = (0, 0, false);
-        self.input.clear();
-        self.output.clear();
-        self.connected = true;
-        self.error = None;
-        self.told = Some(Told::Connected);
+    pub fn connected(&mut self, now: u64) {
+        self.connection = Connection {
+            is_open: true,
+            ..Connection::default()
+        };
+        let action = self.machine.connected(now);
+        self.perform(now, &action);
     }
 
     /// No connection could be made, or it broke.
-    pub fn lost(&mut self, error: io::Error) {
-        self.error = Some(ClientError::Io(error));
-        self.ended = true;
-        if !self.connected {
-            self.told = Some(Told::Lost);
+    pub fn lost(&mut self, now: u64, error: io::Error) {
+        self.connection.error = Some(ClientError::Io(error));
+        self.connection.input.end();
+        if !self.connection.is_open {
+            let action = self.machine.lost(now);
+            self.perform(now, &action);
         }
     }
 
     /// These bytes came. Without any, the cache sends no more.
     pub fn received(&mut self, bytes: &[u8]) {
-        self.ended |= bytes.is_empty();
-        self.before += self.taken as u64;
-        self.input.drain(..take(&mut self.taken));
-        self.input.extend_from_slice(bytes);
+        self.connection.input.add(bytes);
     }
 
     /// What is to be sent.
     pub fn output(&self) -> &[u8] {
-        &self.output
+        &self.connection.output
     }
 
     /// So many bytes of it were sent.
     pub fn sent(&mut self, count: usize) {
-        self.output.drain(..count);
+        self.connection.output.drain(..count);
     }
 
     /// What is to be done now. After anything but [`Step::Wait`] call it again.
@@ -138,30 +121,25 @@ impl Router {
             if let Some(step) = self.steps.pop_front() {
                 return step;
             }
-            let at = self.taken;
             let action = self.told_machine(now);
-            self.taken += action.taken;
             if action.kind == action::WAIT && action.taken == 0 {
                 return Step::Wait;
             }
-            self.perform(now, &action, at);
+            self.perform(now, &action);
+            self.connection.input.take(action.taken);
         }
     }
 
-    /// Tells the machine what happened, what came, or the time.
+    /// Tells the machine what came, or the time.
     fn told_machine(&mut self, now: u64) -> Action {
-        match self.told.take() {
-            Some(Told::Connected) => return self.machine.connected(now),
-            Some(Told::Lost) => return self.machine.lost(now),
-            None => {}
+        let connection = &mut self.connection;
+        let (input, ended) = (connection.input.bytes(), connection.input.has_ended());
+        if connection.is_open && ended && input.is_empty() {
+            connection.error.get_or_insert(ClientError::Closed);
+            return self.machine.lost(now);
         }
-        let input = &self.input[self.taken..];
-        if self.connected && (self.ended || !input.is_empty()) {
-            if input.is_empty() {
-                self.error.get_or_insert(ClientError::Closed);
-                return self.machine.lost(now);
-            }
-            let action = self.machine.read(now, input, self.ended);
+        if connection.is_open && !input.is_empty() {
+            let action = self.machine.read(now, input, ended);
             if action.kind != action::WAIT || action.taken > 0 {
                 return action;
             }
@@ -169,96 +147,88 @@ impl Router {
         self.machine.tick(now)
     }
 
-    /// Does what an action says about the input from there on.
-    fn perform(&mut self, now: u64, action: &Action, at: usize) {
-        let unit = at + action.start;
+    /// Does what an action says.
+    fn perform(&mut self, now: u64, action: &Action) {
+        let connection = &mut self.connection;
+        let input = connection.input.bytes();
         match action.kind {
             action::WAIT => {}
             action::CONNECT => self.steps.push_back(Step::Connect),
-            action::ASK => action.append_query(&mut self.output),
-            action::BEGIN => self.kept.clear(),
-            action::KEEP => self.kept.extend_from_slice(&self.input[at..self.taken]),
+            action::ASK => action.append_query(&mut connection.output),
+            action::BEGIN => connection.kept.clear(),
+            action::KEEP => connection.kept.extend_from_slice(&input[..action.taken]),
             action::APPLY => {
-                let next = self.apply(now, action.changes, unit);
-                self.perform(now, &next, at);
+                let next = self.apply(now, action);
+                self.perform(now, &next);
             }
-            action::SHOW => self.show(),
+            action::SHOW => {
+                let made = connection.made.take();
+                self.set_data(made);
+            }
             action::NO_DATA => {
-                let reported = ClientError::reported(&self.input[unit..]);
+                let reported = ClientError::reported(&input[action.start..]);
                 self.steps.push_back(Step::Failed(reported));
             }
             action::DROP => {
-                self.drop_data();
+                self.set_data(None);
                 self.steps.push_back(Step::Failed(ClientError::Expired));
             }
-            _ => self.end(action, unit),
+            _ => self.end(action),
         }
     }
 
-    /// Makes the changes of an answer, whose end of data begins there, and tells the machine.
-    fn apply(&mut self, now: u64, changes: bool, end: usize) -> Action {
-        let end = &self.input[end..self.taken];
-        self.kept.extend_from_slice(end);
-        let made = match self.data.as_ref().filter(|_| changes) {
-            Some(data) => data.apply_in_order(&self.kept),
+    /// Makes the changes of an answer, and tells the machine.
+    fn apply(&mut self, now: u64, action: &Action) -> Action {
+        let connection = &mut self.connection;
+        let end = &connection.input.bytes()[action.start..action.taken];
+        connection.kept.extend_from_slice(end);
+        let made = match self.data.as_ref().filter(|_| action.changes) {
+            Some(data) => data.apply_in_order(&connection.kept),
             // An end of data alone is data without payloads.
-            None => Data::parse(end).and_then(|none| none.apply_in_order(&self.kept)),
+            None => Data::parse(end).and_then(|none| none.apply_in_order(&connection.kept)),
         };
         match made {
             Ok(data) => {
-                self.made = Some(data);
+                connection.made = Some(data);
                 self.machine.applied(now)
             }
             Err(error) => {
-                self.error = Some(ClientError::refused(error, &self.kept));
+                connection.error = Some(ClientError::refused(error, &connection.kept));
                 self.machine.not_applied(now, error.fault.status())
             }
         }
     }
 
-    /// What the changes made are the data now.
-    fn show(&mut self) {
-        if let Some(made) = self.made.take() {
-            let changes = match &self.data {
-                Some(old) => old.difference_to(&made),
-                None => made.without_payloads().difference_to(&made),
-            };
-            self.data = Some(made);
-            self.steps.extend(changes.ok().map(Step::Data));
-        }
+    /// These are the data from now on, if there are some.
+    fn set_data(&mut self, data: Option<Data>) {
+        let old = replace(&mut self.data, data);
+        let step = match (&old, &self.data) {
+            (Some(old), Some(new)) => old.difference_to(new).map(Step::Data),
+            (None, Some(new)) => new.without_payloads().difference_to(new).map(Step::Data),
+            (Some(old), None) => old.delta_to(&old.without_payloads()).map(Step::Dropped),
+            (None, None) => return,
+        };
+        self.steps.extend(step);
     }
 
-    fn drop_data(&mut self) {
-        if let Some(data) = self.data.take() {
-            let changes = data.delta_to(&data.without_payloads());
-            self.steps.extend(changes.ok().map(Step::Dropped));
-        }
-    }
-
-    /// The connection ends, for a unit that begins there if for one.
-    fn end(&mut self, action: &Action, unit: usize) {
-        let error = self.reason(action, unit);
+    /// The connection ends, with the report that is owed.
+    fn end(&mut self, action: &Action) {
         if action.drops {
-            self.drop_data();
+            self.set_data(None);
         }
-        match &error {
-            Some(ClientError::Data { unit, .. }) => action.append_report(unit, &mut self.output),
-            _ => action.append_report(&self.input[unit..], &mut self.output),
-        }
-        self.connected = false;
+        let connection = &mut self.connection;
+        let error = match action.cause {
+            cause::LOWER => None,
+            cause::LOST | cause::NOT_APPLIED => connection.error.take(),
+            _ => Some(ClientError::of(action, &connection.input)),
+        };
+        let unit = match &error {
+            Some(ClientError::Data { unit, .. }) => unit.as_slice(),
+            _ => &connection.input.bytes()[action.start..],
+        };
+        action.append_report(unit, &mut connection.output);
+        connection.is_open = false;
         self.steps.push_back(Step::Close);
         self.steps.extend(error.map(Step::Failed));
-    }
-
-    /// Why a connection ends, unless it does for a lower version.
-    fn reason(&mut self, action: &Action, unit: usize) -> Option<ClientError> {
-        match action.cause {
-            cause::LOWER => None,
-            cause::LOST | cause::NOT_APPLIED => self.error.take(),
-            _ => {
-                let offset = self.before + unit as u64;
-                Some(ClientError::of(action, &self.input[unit..], offset))
-            }
-        }
     }
 }

@@ -42,9 +42,9 @@ pub(crate) fn set_ticks(stream: &TcpStream) -> io::Result<()> {
     stream.set_write_timeout(Some(TICK))
 }
 
-/// Whether the stream had nothing to give, or no room, for a tick.
+/// Whether the stream had nothing to give, or no room, for a tick, or a signal came.
 pub(crate) fn is_tick(error: &io::Error) -> bool {
-    matches!(error.kind(), ErrorKind::WouldBlock)
+    matches!(error.kind(), ErrorKind::WouldBlock | ErrorKind::Interrupted)
 }
 
 /// What a stream gives until the deadline. The first byte brings the deadline closer, since a unit
@@ -166,6 +166,19 @@ pub(crate) fn write_all(
         }
     }
     Ok(())
+}
+
+/// Sends the last bytes of a connection, until then at most, and closes it so that they arrive.
+pub(crate) fn send_last(stream: &TcpStream, bytes: &[u8], until: Instant, stop: &Stop) {
+    let sent = write_all(stream, bytes, |_| {
+        match stop.is_set() || Instant::now() >= until {
+            true => Err(ErrorKind::TimedOut.into()),
+            false => Ok(()),
+        }
+    });
+    if sent.is_ok() {
+        close(stream);
+    }
 }
 
 /// Closes the stream so that what was written still arrives: bytes of the peer that weren't read

@@ -135,13 +135,13 @@ impl Played {
             "accepts" => {
                 self.connected = true;
                 self.broken = false;
-                self.router().connected();
+                self.router().connected(time);
             }
             "closes" => self.router().received(&[]),
             "refuses" | "breaks" => {
                 self.broken = true;
                 let error = io::Error::new(io::ErrorKind::Other, step);
-                self.router().lost(error);
+                self.router().lost(time, error);
             }
             _ => {}
         }
