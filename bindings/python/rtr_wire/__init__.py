@@ -4,10 +4,10 @@ contracts; this package, which is tested, calls it by ctypes. It wants Linux on 
 Python 3.9 or newer, and nothing else.
 
 Units
-    Each of the eleven kinds is a frozen dataclass: `IPv4Prefix`, `IPv6Prefix`, `RouterKey`, `Aspa`,
-    `EndOfData`, `ErrorReport`, `SerialNotify`, `SerialQuery`, `ResetQuery`, `CacheResponse` and
-    `CacheReset`. `units(source)` reads them from bytes or a binary file, `bytes(unit)` is the
-    written form, and units are equal where they mean the same.
+    Each of the eleven kinds is a frozen dataclass: `IPv4Prefix` and `IPv6Prefix`, which are both a
+    `Prefix`, `RouterKey`, `Aspa`, `EndOfData`, `ErrorReport`, `SerialNotify`, `SerialQuery`,
+    `ResetQuery`, `CacheResponse` and `CacheReset`. `units(source)` reads them from bytes or a
+    binary file, `bytes(unit)` is the written form, and units are equal where they mean the same.
 
         for unit in units(open("recording", "rb")):
             print(unit)
@@ -51,15 +51,15 @@ from .faults import (DuplicateError, EmptyProvidersError, Fault, NoFormError, No
 from .reading import Normalised, Units, normalise, same_meaning, units
 from .router import Close, Connect, Failed, NoData, Router, SessionError, Settings, Update
 from .units import (AnyUnit, Aspa, CacheReset, CacheResponse, EndOfData, ErrorReport, IPv4Prefix,
-                    IPv6Prefix, Payload, ResetQuery, RouterKey, SerialNotify, SerialQuery, Unit,
-                    Vrp, serial_order, version_has)
+                    IPv6Prefix, Payload, Prefix, ResetQuery, RouterKey, SerialNotify, SerialQuery,
+                    Unit, Vrp, serial_order, version_has)
 
 __all__ = [
     "AnyUnit", "Aspa", "AsyncClient", "CacheReset", "CacheResponse", "Cause", "Changes", "Client",
     "Close", "Connect", "Covering", "Data", "DuplicateError", "EmptyProvidersError", "EndOfData",
     "ErrorReport", "Failed", "Fault", "IPv4Prefix", "IPv6Prefix", "Kind", "Mismatch", "NoData",
     "NoFormError", "NoIndexError", "NoRoomError", "Normalised", "NotCanonicalError",
-    "OtherSessionError", "Payload", "PrefixError", "PrefixRule", "ResetQuery", "Router",
+    "OtherSessionError", "Payload", "Prefix", "PrefixError", "PrefixRule", "ResetQuery", "Router",
     "RouterKey", "SerialNotify", "SerialOrder", "SerialQuery", "SessionError", "Settings",
     "ShortError", "Side", "Status", "TooLongError", "TooManyError", "UndecidedError", "Unit",
     "UnitLengthError", "UnitTypeError", "UnitVersionError", "Units", "UnknownError", "Update",

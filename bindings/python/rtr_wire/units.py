@@ -4,7 +4,7 @@ from __future__ import annotations
 import ipaddress
 import struct
 from dataclasses import dataclass, fields as fields_of
-from typing import Any, Callable, ClassVar, Dict, NamedTuple, Tuple, Type, TypeVar, Union
+from typing import Any, Callable, ClassVar, Dict, Generic, NamedTuple, Tuple, Type, TypeVar, Union
 
 from . import _library, _rtr
 from ._rtr import Kind, SerialOrder, Status
@@ -39,7 +39,7 @@ class Unit:
 
     def _parts(self) -> Tuple[Dict[str, Any], bytes]:
         """The fields of a struct rtr_unit, and the bytes that they name parts of."""
-        raise TypeError("a Unit is one of its subclasses")
+        return dict(self.__dict__), b""
 
     def __bytes__(self) -> bytes:
         values = list(_EMPTY)
@@ -56,6 +56,8 @@ class Unit:
         return form
 
     def __post_init__(self) -> None:
+        if not hasattr(self, "KIND"):
+            raise TypeError(f"a {type(self).__name__} is one of its subclasses")
         bytes(self)
 
 
@@ -69,18 +71,12 @@ def _made(kind: Type[_One], fields: Dict[str, Any]) -> _One:
     return unit
 
 
-def _network_fields(network: Any, kind: Any, one: Any) -> Dict[str, Any]:
-    """The fields of a prefix."""
-    if not isinstance(network, kind):
-        raise TypeError(f"prefix is no ipaddress.{kind.__name__}: {network!r}")
-    return {"address": network.network_address.packed, "prefix_length": network.prefixlen,
-            "max_length": one.max_length, "asn": one.asn, "action": one.announce,
-            "version": one.version, "family": network.version}
+_Network = TypeVar("_Network", ipaddress.IPv4Network, ipaddress.IPv6Network)
 
 
 @dataclass(frozen=True)
-class IPv4Prefix(Unit):
-    """An IPv4 prefix, type 4 (RFC 8210 section 5.6).
+class Prefix(Unit, Generic[_Network]):
+    """A prefix of either family: an `IPv4Prefix` or an `IPv6Prefix`.
 
     Attributes:
         prefix: the prefix
@@ -89,39 +85,35 @@ class IPv4Prefix(Unit):
         announce: whether it is announced; else it is withdrawn
         version: of the protocol
     """
+
+    FAMILY: ClassVar[Any]
+    prefix: _Network
+    max_length: int
+    asn: int
+    announce: bool = True
+    version: int = 1
+
+    def _parts(self) -> Tuple[Dict[str, Any], bytes]:
+        network = self.prefix
+        if not isinstance(network, self.FAMILY):
+            raise TypeError(f"prefix is no ipaddress.{self.FAMILY.__name__}: {network!r}")
+        return {"address": network.network_address.packed, "prefix_length": network.prefixlen,
+                "max_length": self.max_length, "asn": self.asn, "action": self.announce,
+                "version": self.version, "family": network.version}, b""
+
+
+class IPv4Prefix(Prefix[ipaddress.IPv4Network]):
+    """An IPv4 prefix, type 4 (RFC 8210 section 5.6). Its attributes are those of a `Prefix`."""
 
     KIND: ClassVar[Kind] = Kind.IPV4_PREFIX
-    prefix: ipaddress.IPv4Network
-    max_length: int
-    asn: int
-    announce: bool = True
-    version: int = 1
-
-    def _parts(self) -> Tuple[Dict[str, Any], bytes]:
-        return _network_fields(self.prefix, ipaddress.IPv4Network, self), b""
+    FAMILY: ClassVar[Any] = ipaddress.IPv4Network
 
 
-@dataclass(frozen=True)
-class IPv6Prefix(Unit):
-    """An IPv6 prefix, type 6 (RFC 8210 section 5.7).
-
-    Attributes:
-        prefix: the prefix
-        max_length: the longest prefix length that is meant, from that of the prefix on
-        asn: the AS that may announce it
-        announce: whether it is announced; else it is withdrawn
-        version: of the protocol
-    """
+class IPv6Prefix(Prefix[ipaddress.IPv6Network]):
+    """An IPv6 prefix, type 6 (RFC 8210 section 5.7). Its attributes are those of a `Prefix`."""
 
     KIND: ClassVar[Kind] = Kind.IPV6_PREFIX
-    prefix: ipaddress.IPv6Network
-    max_length: int
-    asn: int
-    announce: bool = True
-    version: int = 1
-
-    def _parts(self) -> Tuple[Dict[str, Any], bytes]:
-        return _network_fields(self.prefix, ipaddress.IPv6Network, self), b""
+    FAMILY: ClassVar[Any] = ipaddress.IPv6Network
 
 
 @dataclass(frozen=True)
@@ -208,9 +200,6 @@ class EndOfData(_ByForm):
     expire: int = 7200
     version: int = 1
 
-    def _parts(self) -> Tuple[Dict[str, Any], bytes]:
-        return dict(self.__dict__), b""
-
 
 @dataclass(frozen=True, eq=False)
 class ErrorReport(_ByForm):
@@ -251,9 +240,6 @@ class SerialNotify(Unit):
     serial: int
     version: int = 1
 
-    def _parts(self) -> Tuple[Dict[str, Any], bytes]:
-        return dict(self.__dict__), b""
-
 
 @dataclass(frozen=True)
 class SerialQuery(Unit):
@@ -270,9 +256,6 @@ class SerialQuery(Unit):
     serial: int
     version: int = 1
 
-    def _parts(self) -> Tuple[Dict[str, Any], bytes]:
-        return dict(self.__dict__), b""
-
 
 @dataclass(frozen=True)
 class ResetQuery(Unit):
@@ -284,9 +267,6 @@ class ResetQuery(Unit):
 
     KIND: ClassVar[Kind] = Kind.RESET_QUERY
     version: int = 1
-
-    def _parts(self) -> Tuple[Dict[str, Any], bytes]:
-        return dict(self.__dict__), b""
 
 
 @dataclass(frozen=True)
@@ -302,9 +282,6 @@ class CacheResponse(Unit):
     session: int
     version: int = 1
 
-    def _parts(self) -> Tuple[Dict[str, Any], bytes]:
-        return dict(self.__dict__), b""
-
 
 @dataclass(frozen=True)
 class CacheReset(Unit):
@@ -316,9 +293,6 @@ class CacheReset(Unit):
 
     KIND: ClassVar[Kind] = Kind.CACHE_RESET
     version: int = 1
-
-    def _parts(self) -> Tuple[Dict[str, Any], bytes]:
-        return dict(self.__dict__), b""
 
 
 Payload = Union[IPv4Prefix, IPv6Prefix, RouterKey, Aspa]

@@ -11,10 +11,10 @@ import unittest
 
 import rtr_wire
 from rtr_wire import (Aspa, CacheReset, CacheResponse, EmptyProvidersError, EndOfData, ErrorReport,
-                      Fault, IPv4Prefix, IPv6Prefix, Kind, NoFormError, PrefixError, PrefixRule,
-                      ResetQuery, RouterKey, SerialNotify, SerialOrder, SerialQuery, Status,
-                      TooLongError, UnitLengthError, UnitVersionError, Vrp, serial_order, units,
-                      version_has)
+                      Fault, IPv4Prefix, IPv6Prefix, Kind, NoFormError, Prefix, PrefixError,
+                      PrefixRule, ResetQuery, RouterKey, SerialNotify, SerialOrder, SerialQuery,
+                      Status, TooLongError, Unit, UnitLengthError, UnitVersionError, Vrp,
+                      serial_order, units, version_has)
 
 V4, V6 = ipaddress.IPv4Network("192.0.2.0/24"), ipaddress.IPv6Network("2001:db8::/32")
 
@@ -96,6 +96,13 @@ class Made(unittest.TestCase):
         self.assertNotEqual(SerialNotify(1, 2), SerialQuery(1, 2))
         self.assertNotEqual(ErrorReport(0, b"ab", b"c"), ErrorReport(0, b"a", b"bc"))
         self.assertNotEqual(ResetQuery(), 5)
+
+    def test_kinds_of_prefixes(self):
+        for unit in (IPv4Prefix(V4, 26, 64496), IPv6Prefix(V6, 48, 1)):
+            self.assertIsInstance(unit, Prefix)
+        for kind, fields in ((Unit, ()), (Prefix, (V4, 26, 64496))):
+            with self.assertRaisesRegex(TypeError, "is one of its subclasses"):
+                kind(*fields)
 
     def test_frozen(self):
         for unit, _ in FORMS:
