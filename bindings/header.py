@@ -9,7 +9,7 @@ HEADER = pathlib.Path(__file__).resolve().parent / "c" / "rtr.h"
 SIZES = {"uint8_t": 1, "bool": 1, "uint16_t": 2, "uint32_t": 4, "uint64_t": 8, "size_t": 8}
 
 # The functions of the header that look a number up in a table of texts.
-TEXTS = ("rtr_status_text", "rtr_kind_text", "rtr_cause_text")
+TEXTS = ("rtr_status_text", "rtr_kind_text", "rtr_cause_text", "rtr_reason_text")
 
 
 def without_comments(text):

@@ -128,6 +128,41 @@ AT(rtr_action, changes, 37);
 AT(rtr_action, drops, 38);
 AT(rtr_action, reports, 39);
 
+_Static_assert(sizeof(struct rtr_present) == 8, "rtr_present");
+AT(rtr_present, serial, 0);
+AT(rtr_present, session, 4);
+AT(rtr_present, has, 6);
+
+_Static_assert(sizeof(struct rtr_cache_settings) == 16, "rtr_cache_settings");
+AT(rtr_cache_settings, first_limit, 0);
+AT(rtr_cache_settings, idle_limit, 4);
+AT(rtr_cache_settings, pause, 8);
+AT(rtr_cache_settings, refuses, 12);
+
+_Static_assert(sizeof(struct rtr_cache) == 48, "rtr_cache");
+AT(rtr_cache, settings, 0);
+AT(rtr_cache, notify_from, 16);
+AT(rtr_cache, due, 24);
+AT(rtr_cache, serial, 32);
+AT(rtr_cache, session, 36);
+AT(rtr_cache, version, 38);
+AT(rtr_cache, live, 39);
+AT(rtr_cache, asked, 40);
+AT(rtr_cache, told, 41);
+
+_Static_assert(sizeof(struct rtr_serving) == 32, "rtr_serving");
+AT(rtr_serving, taken, 0);
+AT(rtr_serving, wanted, 8);
+AT(rtr_serving, serial, 16);
+AT(rtr_serving, session, 20);
+AT(rtr_serving, code, 22);
+AT(rtr_serving, kind, 24);
+AT(rtr_serving, version, 25);
+AT(rtr_serving, reason, 26);
+AT(rtr_serving, status, 27);
+AT(rtr_serving, detail, 28);
+AT(rtr_serving, reports, 29);
+
 #endif
 
 _Static_assert(sizeof(struct rtr_route) == 24, "rtr_route");

@@ -786,6 +786,192 @@ static inline const char *rtr_cause_text(uint8_t cause)
     return cause < sizeof texts / sizeof texts[0] ? texts[cause] : "unknown cause";
 }
 
+/* A cache's end of the protocol: what to answer when, without sockets, clock and memory (RFC 8210;
+ * docs/SESSIONS.md has its rules). A program has a struct rtr_cache for each connection, tells it
+ * what happens and what names its newest data, and does what is answered:
+ *
+ *   RTR_SERVE_WAIT     nothing, until something comes, there are new data, or the time is
+ *                      rtr_cache_wakes
+ *   RTR_SERVE_ALL      send the cache response that rtr_cache_unit writes, and all data, with their
+ *                      end of data
+ *   RTR_SERVE_CHANGES  send the cache response that rtr_cache_unit writes, and the changes that
+ *                      lead from the data of the serial number `serial` to the newest, with the end
+ *                      of data of these
+ *   RTR_SERVE_RESET    send the cache reset that rtr_cache_unit writes
+ *   RTR_SERVE_NO_DATA  send the report that rtr_cache_report writes. The connection stays
+ *   RTR_SERVE_NOTIFY   send the notify that rtr_cache_unit writes
+ *   RTR_SERVE_END      send what rtr_cache_report writes if it `reports`, and close the connection,
+ *                      for this `reason`
+ *
+ * All of it is sent in the version `version`, to its end before anything else. Data and changes in
+ * canonical form are sent as they are: rtr_normalise_for writes data for a version, and rtr_delta
+ * changes. Two data of one session and serial number are the same.
+ *
+ * After each answer but RTR_SERVE_WAIT the program calls rtr_cache_read with what is left of the
+ * input behind `taken`, until it answers RTR_SERVE_WAIT with nothing taken; and rtr_cache_tick, as
+ * it does where there are new data. After RTR_SERVE_END nothing more of the connection is told.
+ * Times are in milliseconds, by a clock that doesn't go back, and below 2^63. A struct is plain: it
+ * may be copied, and read. */
+
+/* What names the newest data of a cache. */
+struct rtr_present {
+    uint32_t serial;
+    uint16_t session;
+    bool has; /* whether there are any; where not, the two others are ignored */
+};
+
+/* What a program may set. Times are in milliseconds. */
+struct rtr_cache_settings {
+    uint32_t first_limit; /* from the connection to the first query; 30 seconds */
+    uint32_t idle_limit;  /* from a query to the next one; 25 hours */
+    uint32_t pause;       /* between two notifies, at least; 1 minute */
+    bool refuses;         /* whether a report of code 0 and the end answer a serial query whose
+                             changes can't be told, in place of a cache reset; false */
+};
+
+struct rtr_cache {
+    struct rtr_cache_settings settings;
+    uint64_t notify_from, due;
+    uint32_t serial; /* of the data that the router knows of, if it was `told` of any */
+    uint16_t session;
+    uint8_t version; /* of the connection, if a query came, `asked` */
+    bool live, asked, told;
+};
+
+enum rtr_serving_kind {
+    RTR_SERVE_WAIT,
+    RTR_SERVE_ALL,
+    RTR_SERVE_CHANGES,
+    RTR_SERVE_RESET,
+    RTR_SERVE_NO_DATA,
+    RTR_SERVE_NOTIFY,
+    RTR_SERVE_END
+};
+
+/* Why a cache ends a connection; rtr_reason_text says it in words. */
+enum rtr_reason {
+    RTR_REASON_LOST,
+    RTR_REASON_SLOW,
+    RTR_REASON_FULL,
+    RTR_REASON_FAULTY,        /* a unit is refused, for `status` */
+    RTR_REASON_REPORTED,      /* by the first `taken` bytes of the input */
+    RTR_REASON_NO_QUERY,
+    RTR_REASON_OTHER_VERSION,
+    RTR_REASON_NO_VERSION,
+    RTR_REASON_NEW_SESSION,
+    RTR_REASON_UNKNOWN
+};
+
+/* What is to be sent. Fields that an answer doesn't have are 0. */
+struct rtr_serving {
+    size_t taken;     /* how many bytes of the input are done with: the unit that it begins with; of
+                         a unit that is refused none, since the connection ends */
+    size_t wanted;    /* after rtr_cache_read, if no whole unit is there, as in an rtr_unit */
+    uint32_t serial;  /* of all data or a notify; of RTR_SERVE_CHANGES, of the data that they lead
+                         from */
+    uint16_t session; /* of all data, changes or a notify */
+    uint16_t code;    /* of the report */
+    uint8_t kind;     /* an rtr_serving_kind */
+    uint8_t version;  /* of what is sent */
+    uint8_t reason;   /* an rtr_reason */
+    uint8_t status;   /* an rtr_status, or 0 */
+    uint8_t detail;   /* as in an rtr_answer */
+    bool reports;     /* whether a report is owed */
+};
+
+/* The usual settings. */
+void rtr_cache_settings_usual(struct rtr_cache_settings *settings);
+
+/* Begins a connection that was made at this time, whatever the struct holds. */
+void rtr_cache_init(struct rtr_cache *cache, uint64_t now,
+                    const struct rtr_cache_settings *settings);
+
+/* Time passed, or there are new data. */
+void rtr_cache_tick(struct rtr_cache *cache, uint64_t now, const struct rtr_present *present,
+                    struct rtr_serving *serving);
+
+/* The connection is one more than the cache may have: it ends with a report. */
+void rtr_cache_full(struct rtr_cache *cache, uint64_t now, const struct rtr_present *present,
+                    struct rtr_serving *serving);
+
+/* The connection is gone and rtr_cache_read has nothing left, or what is sent isn't taken in its
+ * time. */
+void rtr_cache_lost(struct rtr_cache *cache, uint64_t now, const struct rtr_present *present,
+                    struct rtr_serving *serving);
+
+/* When rtr_cache_tick is to be called, if nothing comes before and these stay the newest data. It
+ * may have passed; UINT64_MAX after the end. */
+uint64_t rtr_cache_wakes(const struct rtr_cache *cache, const struct rtr_present *present);
+
+/* The archive's call for rtr_cache_read, which takes no null pointer. */
+void rtr_cache_read_nonnull(struct rtr_cache *cache, uint64_t now,
+                            const struct rtr_present *present,
+                            const uint32_t *kept, size_t kept_count,
+                            const uint8_t *input, size_t input_length, bool ended,
+                            struct rtr_serving *serving);
+
+/* Tells the cache of the unit that the input begins with. `kept` are the serial numbers of the
+ * present session from which the program can tell the changes, in any order; from the present one
+ * it always can, there are none. Where the router has closed, `ended`, what is left of a unit is
+ * refused. RTR_SERVE_WAIT with nothing taken: no whole unit is there. */
+static inline void rtr_cache_read(struct rtr_cache *cache, uint64_t now,
+                                  const struct rtr_present *present,
+                                  const uint32_t *kept, size_t kept_count,
+                                  const uint8_t *input, size_t input_length, bool ended,
+                                  struct rtr_serving *serving)
+{
+    static const uint32_t none;
+    rtr_cache_read_nonnull(cache, now, present, kept ? kept : &none, kept_count,
+                           rtr_readable(input), input_length, ended, serving);
+}
+
+/* The archive's call for rtr_cache_unit, which takes no null pointer. */
+size_t rtr_cache_unit_nonnull(const struct rtr_serving *serving, uint8_t *output,
+                              size_t output_length);
+
+/* Writes the unit that an answer begins with, and answers its length: 8 for a cache response
+ * (RTR_SERVE_ALL and RTR_SERVE_CHANGES) or a cache reset, and 12 for a notify; 0 if the answer has
+ * none, or the output is shorter. */
+static inline size_t rtr_cache_unit(const struct rtr_serving *serving, uint8_t *output,
+                                    size_t output_length)
+{
+    return rtr_cache_unit_nonnull(serving, rtr_writable(output), output_length);
+}
+
+/* The archive's call for rtr_cache_report, which takes no null pointer. */
+bool rtr_cache_report_nonnull(const struct rtr_serving *serving,
+                              const uint8_t *input, size_t input_length,
+                              uint8_t *output, size_t output_length, size_t *written);
+
+/* Writes the report that an answer owes, about the unit that the input begins with, as
+ * rtr_cache_read had it; that of rtr_cache_full is about none. False, with `written` 0, if none is
+ * owed or the output is too short; 65535 bytes are always enough. */
+static inline bool rtr_cache_report(const struct rtr_serving *serving,
+                                    const uint8_t *input, size_t input_length,
+                                    uint8_t *output, size_t output_length, size_t *written)
+{
+    return rtr_cache_report_nonnull(serving, rtr_readable(input), input_length,
+                                    rtr_writable(output), output_length, written);
+}
+
+/* A text for a reason, never null; any number may be passed. */
+static inline const char *rtr_reason_text(uint8_t reason)
+{
+    static const char *const texts[] = {
+        "the router closed the connection",
+        "the router is too slow",
+        "too many connections",
+        "unit is refused",
+        "the router reports an error",
+        "unit is not a query",
+        "unit of another version than the session",
+        "version is not supported",
+        "the data are of a new session",
+        "no data of this session and serial number",
+    };
+    return reason < sizeof texts / sizeof texts[0] ? texts[reason] : "unknown reason";
+}
+
 /* A text for a status, never null; any number may be passed. */
 static inline const char *rtr_status_text(uint8_t status)
 {

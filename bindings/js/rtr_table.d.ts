@@ -165,6 +165,35 @@ export const Cause: {
 };
 export type Cause = (typeof Cause)[keyof typeof Cause];
 
+export const ServingKind: {
+    readonly WAIT: 0;
+    readonly ALL: 1;
+    readonly CHANGES: 2;
+    readonly RESET: 3;
+    readonly NO_DATA: 4;
+    readonly NOTIFY: 5;
+    readonly END: 6;
+};
+export type ServingKind = (typeof ServingKind)[keyof typeof ServingKind];
+
+/** Why a cache ends a connection; rtr_reason_text says it in words. */
+export const Reason: {
+    readonly LOST: 0;
+    readonly SLOW: 1;
+    readonly FULL: 2;
+    /** a unit is refused, for `status` */
+    readonly FAULTY: 3;
+    /** by the first `taken` bytes of the input */
+    readonly REPORTED: 4;
+    readonly NO_QUERY: 5;
+    readonly OTHER_VERSION: 6;
+    readonly NO_VERSION: 7;
+    readonly NEW_SESSION: 8;
+    readonly UNKNOWN: 9;
+};
+export type Reason = (typeof Reason)[keyof typeof Reason];
+
 export function statusText(number: number): string;
 export function kindText(number: number): string;
 export function causeText(number: number): string;
+export function reasonText(number: number): string;

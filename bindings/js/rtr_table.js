@@ -100,6 +100,29 @@ export const Cause = Object.freeze({
     LOWER: 14,
 });
 
+export const ServingKind = Object.freeze({
+    WAIT: 0,
+    ALL: 1,
+    CHANGES: 2,
+    RESET: 3,
+    NO_DATA: 4,
+    NOTIFY: 5,
+    END: 6,
+});
+
+export const Reason = Object.freeze({
+    LOST: 0,
+    SLOW: 1,
+    FULL: 2,
+    FAULTY: 3,
+    REPORTED: 4,
+    NO_QUERY: 5,
+    OTHER_VERSION: 6,
+    NO_VERSION: 7,
+    NEW_SESSION: 8,
+    UNKNOWN: 9,
+});
+
 export const STRUCTS = Object.freeze({
     answer: { size: 48, fields: [
         ["units", 0, "uint64"],
@@ -230,6 +253,41 @@ export const STRUCTS = Object.freeze({
         ["drops", 38, "bool"],
         ["reports", 39, "bool"],
     ] },
+    present: { size: 8, fields: [
+        ["serial", 0, "uint32"],
+        ["session", 4, "uint16"],
+        ["has", 6, "bool"],
+    ] },
+    cacheSettings: { size: 16, fields: [
+        ["firstLimit", 0, "uint32"],
+        ["idleLimit", 4, "uint32"],
+        ["pause", 8, "uint32"],
+        ["refuses", 12, "bool"],
+    ] },
+    cache: { size: 48, fields: [
+        ["settings", 0, "cacheSettings"],
+        ["notifyFrom", 16, "uint64"],
+        ["due", 24, "uint64"],
+        ["serial", 32, "uint32"],
+        ["session", 36, "uint16"],
+        ["version", 38, "uint8"],
+        ["live", 39, "bool"],
+        ["asked", 40, "bool"],
+        ["told", 41, "bool"],
+    ] },
+    serving: { size: 32, fields: [
+        ["taken", 0, "size"],
+        ["wanted", 8, "size"],
+        ["serial", 16, "uint32"],
+        ["session", 20, "uint16"],
+        ["code", 22, "uint16"],
+        ["kind", 24, "uint8"],
+        ["version", 25, "uint8"],
+        ["reason", 26, "uint8"],
+        ["status", 27, "uint8"],
+        ["detail", 28, "uint8"],
+        ["reports", 29, "bool"],
+    ] },
 });
 
 export const FUNCTIONS = Object.freeze({
@@ -262,6 +320,15 @@ export const FUNCTIONS = Object.freeze({
     rtr_router_read_nonnull: ["void", "*", "uint64", "*", "size", "bool", "*"],
     rtr_router_query_nonnull: ["size", "*", "*", "size"],
     rtr_router_report_nonnull: ["bool", "*", "*", "size", "*", "size", "*"],
+    rtr_cache_settings_usual: ["void", "*"],
+    rtr_cache_init: ["void", "*", "uint64", "*"],
+    rtr_cache_tick: ["void", "*", "uint64", "*", "*"],
+    rtr_cache_full: ["void", "*", "uint64", "*", "*"],
+    rtr_cache_lost: ["void", "*", "uint64", "*", "*"],
+    rtr_cache_wakes: ["uint64", "*", "*"],
+    rtr_cache_read_nonnull: ["void", "*", "uint64", "*", "*", "size", "*", "size", "bool", "*"],
+    rtr_cache_unit_nonnull: ["size", "*", "*", "size"],
+    rtr_cache_report_nonnull: ["bool", "*", "*", "size", "*", "size", "*"],
 });
 
 const statusTexts = [
@@ -328,4 +395,21 @@ const causeTexts = [
 
 export function causeText(number) {
     return causeTexts[number] ?? "unknown cause";
+}
+
+const reasonTexts = [
+    "the router closed the connection",
+    "the router is too slow",
+    "too many connections",
+    "unit is refused",
+    "the router reports an error",
+    "unit is not a query",
+    "unit of another version than the session",
+    "version is not supported",
+    "the data are of a new session",
+    "no data of this session and serial number",
+];
+
+export function reasonText(number) {
+    return reasonTexts[number] ?? "unknown reason";
 }

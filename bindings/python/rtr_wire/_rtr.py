@@ -173,6 +173,35 @@ class Cause(enum.IntEnum):
     LOWER = 14
 
 
+class ServingKind(enum.IntEnum):
+    """enum rtr_serving_kind of rtr.h."""
+
+    WAIT = 0
+    ALL = 1
+    CHANGES = 2
+    RESET = 3
+    NO_DATA = 4
+    NOTIFY = 5
+    END = 6
+
+
+class Reason(enum.IntEnum):
+    """Why a cache ends a connection; rtr_reason_text says it in words."""
+
+    LOST = 0
+    SLOW = 1
+    FULL = 2
+    # a unit is refused, for `status`
+    FAULTY = 3
+    # by the first `taken` bytes of the input
+    REPORTED = 4
+    NO_QUERY = 5
+    OTHER_VERSION = 6
+    NO_VERSION = 7
+    NEW_SESSION = 8
+    UNKNOWN = 9
+
+
 class rtr_answer(Structure):
     units: int
     forms: int
@@ -453,6 +482,84 @@ class rtr_action(Structure):
     ]
 
 
+class rtr_present(Structure):
+    serial: int
+    session: int
+    has: bool
+
+    _fields_ = [
+        ("serial", c_uint32),
+        ("session", c_uint16),
+        ("has", c_bool),
+    ]
+
+
+class rtr_cache_settings(Structure):
+    first_limit: int
+    idle_limit: int
+    pause: int
+    refuses: bool
+
+    _fields_ = [
+        ("first_limit", c_uint32),
+        ("idle_limit", c_uint32),
+        ("pause", c_uint32),
+        ("refuses", c_bool),
+    ]
+
+
+class rtr_cache(Structure):
+    settings: rtr_cache_settings
+    notify_from: int
+    due: int
+    serial: int
+    session: int
+    version: int
+    live: bool
+    asked: bool
+    told: bool
+
+    _fields_ = [
+        ("settings", rtr_cache_settings),
+        ("notify_from", c_uint64),
+        ("due", c_uint64),
+        ("serial", c_uint32),
+        ("session", c_uint16),
+        ("version", c_uint8),
+        ("live", c_bool),
+        ("asked", c_bool),
+        ("told", c_bool),
+    ]
+
+
+class rtr_serving(Structure):
+    taken: int
+    wanted: int
+    serial: int
+    session: int
+    code: int
+    kind: int
+    version: int
+    reason: int
+    status: int
+    detail: int
+    reports: bool
+
+    _fields_ = [
+        ("taken", c_size_t),
+        ("wanted", c_size_t),
+        ("serial", c_uint32),
+        ("session", c_uint16),
+        ("code", c_uint16),
+        ("kind", c_uint8),
+        ("version", c_uint8),
+        ("reason", c_uint8),
+        ("status", c_uint8),
+        ("detail", c_uint8),
+        ("reports", c_bool),
+    ]
+
+
 # The fields of these structs, for the module struct.
 UNIT_LETTERS = "@NNNNNNIIIIIIHHBBBBBB16s20sB"
 ROUTE_LETTERS = "@IBB16s"
@@ -509,6 +616,19 @@ CAUSE_TEXTS = {
     14: "the cache may have a lower version",
 }
 
+REASON_TEXTS = {
+    0: "the router closed the connection",
+    1: "the router is too slow",
+    2: "too many connections",
+    3: "unit is refused",
+    4: "the router reports an error",
+    5: "unit is not a query",
+    6: "unit of another version than the session",
+    7: "version is not supported",
+    8: "the data are of a new session",
+    9: "no data of this session and serial number",
+}
+
 # What each function of the library answers, and what it takes.
 PROTOTYPES: dict[str, tuple[Any, list[Any]]] = {
     "rtr_normalise_slice_nonnull": (c_uint8, [c_void_p, c_size_t, c_void_p, c_size_t, c_uint64,
@@ -551,5 +671,19 @@ PROTOTYPES: dict[str, tuple[Any, list[Any]]] = {
         POINTER(rtr_action)]),
     "rtr_router_query_nonnull": (c_size_t, [POINTER(rtr_action), c_void_p, c_size_t]),
     "rtr_router_report_nonnull": (c_bool, [POINTER(rtr_action), c_void_p, c_size_t, c_void_p,
+        c_size_t, c_void_p]),
+    "rtr_cache_settings_usual": (None, [POINTER(rtr_cache_settings)]),
+    "rtr_cache_init": (None, [POINTER(rtr_cache), c_uint64, POINTER(rtr_cache_settings)]),
+    "rtr_cache_tick": (None, [POINTER(rtr_cache), c_uint64, POINTER(rtr_present),
+        POINTER(rtr_serving)]),
+    "rtr_cache_full": (None, [POINTER(rtr_cache), c_uint64, POINTER(rtr_present),
+        POINTER(rtr_serving)]),
+    "rtr_cache_lost": (None, [POINTER(rtr_cache), c_uint64, POINTER(rtr_present),
+        POINTER(rtr_serving)]),
+    "rtr_cache_wakes": (c_uint64, [POINTER(rtr_cache), POINTER(rtr_present)]),
+    "rtr_cache_read_nonnull": (None, [POINTER(rtr_cache), c_uint64, POINTER(rtr_present), c_void_p,
+        c_size_t, c_void_p, c_size_t, c_bool, POINTER(rtr_serving)]),
+    "rtr_cache_unit_nonnull": (c_size_t, [POINTER(rtr_serving), c_void_p, c_size_t]),
+    "rtr_cache_report_nonnull": (c_bool, [POINTER(rtr_serving), c_void_p, c_size_t, c_void_p,
         c_size_t, c_void_p]),
 }

@@ -155,6 +155,33 @@ pub(crate) mod cause {
     pub(crate) const LOWER: u8 = 14;
 }
 
+/// The numbers of enum rtr_serving_kind.
+pub(crate) mod serving {
+    pub(crate) const WAIT: u8 = 0;
+    pub(crate) const ALL: u8 = 1;
+    pub(crate) const CHANGES: u8 = 2;
+    pub(crate) const RESET: u8 = 3;
+    pub(crate) const NO_DATA: u8 = 4;
+    pub(crate) const NOTIFY: u8 = 5;
+    pub(crate) const END: u8 = 6;
+}
+
+/// Why a cache ends a connection; rtr_reason_text says it in words.
+pub(crate) mod reason {
+    pub(crate) const LOST: u8 = 0;
+    pub(crate) const SLOW: u8 = 1;
+    pub(crate) const FULL: u8 = 2;
+    /// a unit is refused, for `status`
+    pub(crate) const FAULTY: u8 = 3;
+    /// by the first `taken` bytes of the input
+    pub(crate) const REPORTED: u8 = 4;
+    pub(crate) const NO_QUERY: u8 = 5;
+    pub(crate) const OTHER_VERSION: u8 = 6;
+    pub(crate) const NO_VERSION: u8 = 7;
+    pub(crate) const NEW_SESSION: u8 = 8;
+    pub(crate) const UNKNOWN: u8 = 9;
+}
+
 #[repr(C)]
 #[derive(Clone, Copy, Debug, Default, PartialEq, Eq, Hash)]
 pub(crate) struct Answer {
@@ -327,6 +354,53 @@ pub(crate) struct Action {
     pub(crate) detail: u8,
     pub(crate) changes: bool,
     pub(crate) drops: bool,
+    pub(crate) reports: bool,
+}
+
+#[repr(C)]
+#[derive(Clone, Copy, Debug, Default, PartialEq, Eq, Hash)]
+pub(crate) struct Present {
+    pub(crate) serial: u32,
+    pub(crate) session: u16,
+    pub(crate) has: bool,
+}
+
+#[repr(C)]
+#[derive(Clone, Copy, Debug, Default, PartialEq, Eq, Hash)]
+pub(crate) struct CacheSettings {
+    pub(crate) first_limit: u32,
+    pub(crate) idle_limit: u32,
+    pub(crate) pause: u32,
+    pub(crate) refuses: bool,
+}
+
+#[repr(C)]
+#[derive(Clone, Copy, Debug, Default, PartialEq, Eq, Hash)]
+pub(crate) struct Cache {
+    pub(crate) settings: CacheSettings,
+    pub(crate) notify_from: u64,
+    pub(crate) due: u64,
+    pub(crate) serial: u32,
+    pub(crate) session: u16,
+    pub(crate) version: u8,
+    pub(crate) live: bool,
+    pub(crate) asked: bool,
+    pub(crate) told: bool,
+}
+
+#[repr(C)]
+#[derive(Clone, Copy, Debug, Default, PartialEq, Eq, Hash)]
+pub(crate) struct Serving {
+    pub(crate) taken: usize,
+    pub(crate) wanted: usize,
+    pub(crate) serial: u32,
+    pub(crate) session: u16,
+    pub(crate) code: u16,
+    pub(crate) kind: u8,
+    pub(crate) version: u8,
+    pub(crate) reason: u8,
+    pub(crate) status: u8,
+    pub(crate) detail: u8,
     pub(crate) reports: bool,
 }
 
@@ -513,6 +587,60 @@ extern "C" {
         output_length: usize,
         written: *mut usize,
     ) -> bool;
+    pub(crate) fn rtr_cache_settings_usual(
+        settings: *mut CacheSettings,
+    );
+    pub(crate) fn rtr_cache_init(
+        cache: *mut Cache,
+        now: u64,
+        settings: *const CacheSettings,
+    );
+    pub(crate) fn rtr_cache_tick(
+        cache: *mut Cache,
+        now: u64,
+        present: *const Present,
+        serving: *mut Serving,
+    );
+    pub(crate) fn rtr_cache_full(
+        cache: *mut Cache,
+        now: u64,
+        present: *const Present,
+        serving: *mut Serving,
+    );
+    pub(crate) fn rtr_cache_lost(
+        cache: *mut Cache,
+        now: u64,
+        present: *const Present,
+        serving: *mut Serving,
+    );
+    pub(crate) fn rtr_cache_wakes(
+        cache: *const Cache,
+        present: *const Present,
+    ) -> u64;
+    pub(crate) fn rtr_cache_read_nonnull(
+        cache: *mut Cache,
+        now: u64,
+        present: *const Present,
+        kept: *const u32,
+        kept_count: usize,
+        input: *const u8,
+        input_length: usize,
+        ended: bool,
+        serving: *mut Serving,
+    );
+    pub(crate) fn rtr_cache_unit_nonnull(
+        serving: *const Serving,
+        output: *mut u8,
+        output_length: usize,
+    ) -> usize;
+    pub(crate) fn rtr_cache_report_nonnull(
+        serving: *const Serving,
+        input: *const u8,
+        input_length: usize,
+        output: *mut u8,
+        output_length: usize,
+        written: *mut usize,
+    ) -> bool;
 }
 
 #[cfg(all(test, target_pointer_width = "64"))]
@@ -658,5 +786,40 @@ mod tests {
         assert_eq!(place!(value.changes), 37);
         assert_eq!(place!(value.drops), 38);
         assert_eq!(place!(value.reports), 39);
+        let value = super::Present::default();
+        assert_eq!(size_of::<super::Present>(), 8);
+        assert_eq!(place!(value.serial), 0);
+        assert_eq!(place!(value.session), 4);
+        assert_eq!(place!(value.has), 6);
+        let value = super::CacheSettings::default();
+        assert_eq!(size_of::<super::CacheSettings>(), 16);
+        assert_eq!(place!(value.first_limit), 0);
+        assert_eq!(place!(value.idle_limit), 4);
+        assert_eq!(place!(value.pause), 8);
+        assert_eq!(place!(value.refuses), 12);
+        let value = super::Cache::default();
+        assert_eq!(size_of::<super::Cache>(), 48);
+        assert_eq!(place!(value.settings), 0);
+        assert_eq!(place!(value.notify_from), 16);
+        assert_eq!(place!(value.due), 24);
+        assert_eq!(place!(value.serial), 32);
+        assert_eq!(place!(value.session), 36);
+        assert_eq!(place!(value.version), 38);
+        assert_eq!(place!(value.live), 39);
+        assert_eq!(place!(value.asked), 40);
+        assert_eq!(place!(value.told), 41);
+        let value = super::Serving::default();
+        assert_eq!(size_of::<super::Serving>(), 32);
+        assert_eq!(place!(value.taken), 0);
+        assert_eq!(place!(value.wanted), 8);
+        assert_eq!(place!(value.serial), 16);
+        assert_eq!(place!(value.session), 20);
+        assert_eq!(place!(value.code), 22);
+        assert_eq!(place!(value.kind), 24);
+        assert_eq!(place!(value.version), 25);
+        assert_eq!(place!(value.reason), 26);
+        assert_eq!(place!(value.status), 27);
+        assert_eq!(place!(value.detail), 28);
+        assert_eq!(place!(value.reports), 29);
     }
 }

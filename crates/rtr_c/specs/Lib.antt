@@ -11,3 +11,5 @@ pub mod PrivateRanges
 pub mod Routes
 pub mod Routers
 pub mod RouterActions
+pub mod Caches
+pub mod Servings

@@ -6,6 +6,8 @@
 
 mod answer;
 mod apply;
+mod cache;
+mod cache_calls;
 mod compare;
 mod data_answer;
 mod delta;
@@ -19,6 +21,7 @@ mod router;
 mod router_action;
 mod router_calls;
 mod sequence;
+mod serving;
 mod size;
 mod unit;
 mod validation;

@@ -4,6 +4,7 @@ ghost use Rattle.std.specs.Prelude.{◌≡◌};
 ghost use Rattle.std.specs.Option.{option_map};
 ghost use Rattle.rtr_base.specs.Serial.{serial_cmp};
 ghost use Rattle.rtr_c.specs.Numbers.{order_number, has_kind, status_code, code_owed, TellsCode};
+ghost use Rattle.rtr_c.specs.Routers.{clock};
 
 use crate::answer::{
     DUPLICATE, EMPTY_PROVIDERS, PREFIX, SHORT, TOO_LONG, UNIT_LENGTH, UNIT_TYPE, UNIT_VERSION,
@@ -17,6 +18,16 @@ use std::cmp::Ordering;
 /// The version of this library, 100 times 100 times the first number of it, 100 times the second,
 /// and the third.
 const WIRE_VERSION: u32 = 200;
+
+/// The last time that a machine is told.
+const LAST: u64 = u64::MAX / 2;
+
+/// The time that a machine is told.
+pub(crate) fn clock(now: u64) -> u64
+    ensures { result ≡ clock now }
+{
+    now.min(LAST)
+}
 
 /// The version of this library as one number.
 #[unsafe(no_mangle)]

@@ -17,7 +17,7 @@ ghost use Rattle.rtr_c.specs.declared.router_action.RtrAction.{RtrAction};
 
 use crate::answer::{fault_detail, fault_status};
 use crate::next::wanted;
-use crate::numbers::code_of;
+use crate::numbers::{clock, code_of};
 use crate::router::{RtrRouter, RtrSettings, router_from, router_to, settings_from, settings_to};
 use crate::router_action::{
     KEEP, RtrAction, action_to, ending_from, plain, query_from, refusal_from,
@@ -26,9 +26,6 @@ use rtr_conversation::{Told, place_ending, place_query, tell};
 use rtr_router::event::Event;
 use rtr_router::router::Router;
 use rtr_router::settings::Settings;
-
-/// The last time that a machine is told.
-const LAST: u64 = u64::MAX / 2;
 
 /// The usual settings, as `rtr_router::settings::Settings::usual`.
 #[unsafe(no_mangle)]
@@ -78,7 +75,7 @@ fn step(router: &mut RtrRouter, now: u64, event: Event) -> RtrAction
     ensures { IsRouterStep router.old (clock now) event result router.new }
 {
     let mut machine = router_from(router);
-    let action = machine.step(now.min(LAST), event);
+    let action = machine.step(clock(now), event);
     *router = router_to(&machine);
     action_to(action, machine.version)
 }
@@ -151,7 +148,7 @@ pub extern "C" fn rtr_router_read_nonnull(
         × (action.new ≡ read_told told input.now (router_of router.new).version) }
 {
     let mut machine = router_from(router);
-    let told = tell(&mut machine, now.min(LAST), input, ended);
+    let told = tell(&mut machine, clock(now), input, ended);
     *router = router_to(&machine);
     *action = told_to(&told, input, machine.version);
 }

@@ -4,3 +4,5 @@ pub mod Reading
 pub mod PrivateReading
 pub mod Sent
 pub mod ShownData
+pub mod Serving
+pub mod Answered

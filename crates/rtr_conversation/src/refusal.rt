@@ -2,7 +2,7 @@
 
 ghost use Rattle.std.specs.Prelude.{◌≡◌, take};
 ghost use Rattle.rtr_conversation.specs.Sent.{refusal_code, refusal_of, refusal_part, refusal_text};
-ghost use Rattle.rtr_conversation.specs.Sent.{unit_part};
+ghost use Rattle.rtr_conversation.specs.Sent.{about, unit_part};
 
 use rtr_base::error_code::ErrorCode;
 use rtr_units::numbers::u32_at;
@@ -90,6 +90,17 @@ impl Refusal {
             Refusal::Prefix | Refusal::Duplicate | Refusal::Unknown => unit_of(input),
             _ => front(input, HEADER),
         }
+    }
+}
+
+/// How much of the input a report holds about the unit at its front, which is refused for this
+/// reason, if it is.
+pub(crate) fn part(refusal: Option<Refusal>, input: &[u8]) -> &[u8]
+    ensures { result.now ≡ about refusal input.now }
+{
+    match refusal {
+        Some(refusal) => refusal.part(input),
+        None => unit_of(input),
     }
 }
 

@@ -1,9 +1,9 @@
 //! The report that the end of a connection owes the cache.
 
 ghost use Rattle.std.specs.Prelude.{◌≡◌};
-ghost use Rattle.rtr_conversation.specs.Sent.{PlacesEnding, about, ending_text};
+ghost use Rattle.rtr_conversation.specs.Sent.{PlacesEnding, ending_text};
 
-use crate::refusal::{Refusal, unit_of};
+use crate::refusal::{Refusal, part};
 use rtr_base::error_code::ErrorCode;
 use rtr_router::event::{Cause, Ending};
 use rtr_session::placing::place_report;
@@ -44,15 +44,5 @@ pub fn ending_text(cause: Cause, refusal: Option<Refusal>) -> &'static str
     match (cause, refusal) {
         (Cause::Faulty | Cause::NotApplied, Some(refusal)) => refusal.text(),
         _ => cause.text(),
-    }
-}
-
-/// How much of the input a report holds.
-fn part(refusal: Option<Refusal>, input: &[u8]) -> &[u8]
-    ensures { result.now ≡ about refusal input.now }
-{
-    match refusal {
-        Some(refusal) => refusal.part(input),
-        None => unit_of(input),
     }
 }

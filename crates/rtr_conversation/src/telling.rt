@@ -1,24 +1,19 @@
 //! What comes, told to the machine.
 
-ghost use Rattle.std.specs.Prelude.{◌≡◌, ◌<◌, ◌≤◌, ◌^◌, ℕ, Bool, Option, [], length, take};
+ghost use Rattle.std.specs.Prelude.{◌≡◌, ◌<◌, ◌≤◌, ◌^◌, ℕ, Bool, Option, length, take};
 ghost use Rattle.std.specs.Prelude.{IfOk, IfErr, OnErr};
-ghost use Rattle.rtr_units.specs.Codes.{code_of};
-ghost use Rattle.rtr_units.specs.Header.{type_field};
-ghost use Rattle.rtr_views.specs.Owed.{owed, read_fault};
 ghost use Rattle.rtr_session.specs.SessionViews.{IsSessionFault};
 ghost use Rattle.rtr_conversation.specs.PrivateReading.{Comes};
 ghost use Rattle.rtr_conversation.specs.PrivateReading.{begins_payload as is_payload_begun};
-ghost use Rattle.rtr_conversation.specs.Reading.{Hears, KeepsAll, fault_of};
-ghost use Rattle.rtr_router.specs.Step.{IsStep};
-ghost use Rattle.rtr_router.specs.declared.event.Event.TheVariants as events;
+ghost use Rattle.rtr_conversation.specs.Reading.{Hears, KeepsAll};
 
+use crate::fault::fault_of;
 use crate::head::head_of;
 use rtr_payload::pdu::{Aspa, RouterKey};
 use rtr_router::event::{Action, Event};
-use rtr_router::head::Fault;
 use rtr_router::router::Router;
 use rtr_session::laws::bounded_lengths;
-use rtr_session::{Report, SessionFault, SessionView};
+use rtr_session::{SessionFault, SessionView};
 use rtr_units::numbers::u32_at;
 use rtr_units::prefixes::{Ipv4Prefix, Ipv6Prefix};
 use rtr_units::unit::Unit;
@@ -139,33 +134,8 @@ fn refuse(router: &mut Router, now: u64, input: &[u8], ended: bool, fault: ViewF
     match fault {
         ViewFault::Short if !ended => Told::Awaits,
         fault => {
-            let action = faulty(router, now, input, &fault);
+            let action = router.step(now, Event::Faulty(fault_of(input, &fault)));
             Told::Refused { fault, action }
         }
-    }
-}
-
-/// Tells the machine of a unit that is refused for this fault.
-fn faulty(router: &mut Router, now: u64, input: &[u8], fault: &ViewFault) -> Action
-    requires now { now < 2 ^ 63 }
-    requires some { 0 < length input.now }
-    ensures { IsStep router.old now (events.Faulty (fault_of input.now fault.now)) result
-        router.new }
-{
-    let code = owed(input, fault);
-    let version = input[0];
-    router.step(now, Event::Faulty(Fault { version, code }))
-}
-
-/// The code of the report that is owed about a refused unit (RFC 8210 sections 5.11 and 12).
-fn owed(input: &[u8], fault: &ViewFault) -> Option<u16>
-    ensures { result ≡ owed (type_field input.now) (code_of (read_fault [] fault.now)) }
-{
-    if input.len() >= 2 && input[1] == Report::PDU {
-        return None;
-    }
-    match fault.code() {
-        Some(code) => Some(code.0),
-        None => None,
     }
 }

@@ -1,0 +1,120 @@
+//! A cache's machine, in numbers.
+
+ghost use Rattle.std.specs.Prelude.{◌≡◌};
+ghost use Rattle.rtr_c.specs.Caches.{cache_of, cache_settings_of, present_of};
+
+use rtr_cache::cache::Cache;
+use rtr_cache::event::Present;
+use rtr_cache::settings::CacheSettings;
+
+/// What names the newest data of a cache: as `rtr_cache::event::Present`.
+#[repr(C)]
+#[derive(Clone, Copy)]
+pub struct RtrPresent {
+    pub serial: u32,
+    pub session: u16,
+    pub has: bool,
+}
+
+// The fields stand one after the other, and one byte is left at the end.
+const _: () = prove!(size_of::<RtrPresent>() == 8);
+
+/// What a caller sets: as `rtr_cache::settings::CacheSettings`.
+#[repr(C)]
+#[derive(Clone, Copy)]
+pub struct RtrCacheSettings {
+    pub first_limit: u32,
+    pub idle_limit: u32,
+    pub pause: u32,
+    pub refuses: bool,
+}
+
+// The fields stand one after the other, and three bytes are left at the end.
+const _: () = prove!(size_of::<RtrCacheSettings>() == 16);
+
+/// A cache's end of a connection: as `rtr_cache::cache::Cache`.
+#[repr(C)]
+#[derive(Clone, Copy)]
+pub struct RtrCache {
+    pub settings: RtrCacheSettings,
+    pub notify_from: u64,
+    pub due: u64,
+    pub serial: u32,
+    pub session: u16,
+    pub version: u8,
+    pub live: bool,
+    pub asked: bool,
+    pub told: bool,
+}
+
+// The fields stand one after the other, and six bytes are left at the end.
+const _: () = prove!(size_of::<RtrCache>() == 48);
+
+/// The data that the struct names.
+pub(crate) fn present_from(present: &RtrPresent) -> Present
+    ensures { result ≡ present_of present.now }
+{
+    Present {
+        has: present.has,
+        session: present.session,
+        serial: present.serial,
+    }
+}
+
+/// The settings that the struct stands for.
+pub(crate) fn cache_settings_from(settings: &RtrCacheSettings) -> CacheSettings
+    ensures { result ≡ cache_settings_of settings.now }
+{
+    CacheSettings {
+        first_limit: settings.first_limit,
+        idle_limit: settings.idle_limit,
+        pause: settings.pause,
+        refuses: settings.refuses,
+    }
+}
+
+/// The struct that stands for settings.
+pub(crate) fn cache_settings_to(settings: &CacheSettings) -> RtrCacheSettings
+    ensures { cache_settings_of result ≡ settings.now }
+{
+    RtrCacheSettings {
+        first_limit: settings.first_limit,
+        idle_limit: settings.idle_limit,
+        pause: settings.pause,
+        refuses: settings.refuses,
+    }
+}
+
+/// The machine that the struct stands for.
+pub(crate) fn cache_from(cache: &RtrCache) -> Cache
+    ensures { result ≡ cache_of cache.now }
+{
+    Cache {
+        settings: cache_settings_from(&cache.settings),
+        live: cache.live,
+        asked: cache.asked,
+        version: cache.version,
+        told: cache.told,
+        session: cache.session,
+        serial: cache.serial,
+        notify_from: cache.notify_from,
+        due: cache.due,
+    }
+}
+
+/// The struct that stands for a machine.
+pub(crate) fn cache_to(cache: &Cache) -> RtrCache
+    ensures { cache_of result ≡ cache.now }
+{
+    RtrCache {
+        settings: cache_settings_to(&cache.settings),
+        notify_from: cache.notify_from,
+        due: cache.due,
+        serial: cache.serial,
+        session: cache.session,
+        version: cache.version,
+        live: cache.live,
+        asked: cache.asked,
+        told: cache.told,
+    }
+}

@@ -1,0 +1,185 @@
+//! A cache's machine: one call for each thing that happens, and what it wants sent.
+
+ghost use Rattle.std.specs.Prelude.{◌≡◌, ◌+◌, ℕ, Option, true, false};
+ghost use Rattle.std.specs.Option.{unwrap_or};
+ghost use Rattle.rtr_cache.specs.CacheSteps.{cache_wakes_at};
+ghost use Rattle.rtr_cache.specs.declared.event.CacheEvent.TheVariants as events;
+ghost use Rattle.rtr_conversation.specs.Answered.{PlacesOpening};
+ghost use Rattle.rtr_conversation.specs.Serving.{HearsRouter};
+ghost use Rattle.rtr_conversation.specs.declared.serving.Served.{Served};
+ghost use Rattle.rtr_c.specs.Caches.{cache_of, cache_settings_of, present_of};
+ghost use Rattle.rtr_c.specs.Routers.{clock};
+ghost use Rattle.rtr_c.specs.Servings.{IsServingStep, PlacesAnswer, served_of, state_of, unit_told};
+
+use crate::answer::{fault_detail, fault_status};
+use crate::cache::{
+    RtrCache, RtrCacheSettings, RtrPresent, cache_from, cache_settings_from, cache_settings_to,
+    cache_to, present_from,
+};
+use crate::next::wanted;
+use crate::numbers::clock;
+use crate::router_action::refusal_from;
+use crate::serving::{RtrServing, answer_from, serving_to, state_from, waiting};
+use rtr_cache::cache::Cache;
+use rtr_cache::event::{CacheEvent, Present};
+use rtr_cache::settings::CacheSettings;
+use rtr_conversation::{Served, place_opening, place_owed, serve};
+
+/// The usual settings, as `rtr_cache::settings::CacheSettings::usual`.
+#[unsafe(no_mangle)]
+pub extern "C" fn rtr_cache_settings_usual(settings: &mut RtrCacheSettings)
+    ensures first_limit { settings.new.first_limit ≡ 30000 }
+    ensures idle_limit { settings.new.idle_limit ≡ 90000000 }
+    ensures pause { settings.new.pause ≡ 60000 }
+    ensures refuses { settings.new.refuses ≡ false }
+{
+    *settings = cache_settings_to(&CacheSettings::usual());
+}
+
+/// Begins a connection that was made at this time, whatever the struct holds, as
+/// `rtr_cache::cache::Cache::new`.
+#[unsafe(no_mangle)]
+pub extern "C" fn rtr_cache_init(cache: &mut RtrCache, now: u64, settings: &RtrCacheSettings)
+    ensures settings { cache_settings_of cache.new.settings ≡ cache_settings_of settings.now }
+    ensures live { cache.new.live ≡ true }
+    ensures asked { cache.new.asked ≡ false }
+    ensures told { cache.new.told ≡ false }
+    ensures notify_from { cache.new.notify_from ≡ 0 }
+    ensures due { cache.new.due ≡ clock now + settings.now.first_limit }
+{
+    *cache = cache_to(&Cache::new(clock(now), cache_settings_from(settings)));
+}
+
+/// When the cache is to be told that time passed, where these are the newest data, if nothing comes
+/// before.
+#[unsafe(no_mangle)]
+pub extern "C" fn rtr_cache_wakes(cache: &RtrCache, present: &RtrPresent) -> u64
+    ensures { result ≡ cache_wakes_at (cache_of cache.now) (present_of present.now) }
+{
+    cache_from(cache).wakes(present_from(present))
+}
+
+/// A step of the machine.
+fn step(cache: &mut RtrCache, now: u64, present: &RtrPresent, event: CacheEvent) -> RtrServing
+    ensures { IsServingStep cache.old (clock now) present.now event result cache.new }
+{
+    let present = present_from(present);
+    let mut machine = cache_from(cache);
+    let answer = machine.step(clock(now), present, event);
+    *cache = cache_to(&machine);
+    serving_to(&answer, machine.version, &present)
+}
+
+/// Time passed, or there are new data.
+#[unsafe(no_mangle)]
+pub extern "C" fn rtr_cache_tick(
+    cache: &mut RtrCache,
+    now: u64,
+    present: &RtrPresent,
+    serving: &mut RtrServing,
+)
+    ensures { IsServingStep cache.old (clock now) present.now events.Tick serving.new cache.new }
+{
+    *serving = step(cache, now, present, CacheEvent::Tick);
+}
+
+/// The connection is one more than the cache may have.
+#[unsafe(no_mangle)]
+pub extern "C" fn rtr_cache_full(
+    cache: &mut RtrCache,
+    now: u64,
+    present: &RtrPresent,
+    serving: &mut RtrServing,
+)
+    ensures { IsServingStep cache.old (clock now) present.now events.Full serving.new cache.new }
+{
+    *serving = step(cache, now, present, CacheEvent::Full);
+}
+
+/// The connection is gone, and what came over it was read; or something that is sent isn't taken in
+/// its time.
+#[unsafe(no_mangle)]
+pub extern "C" fn rtr_cache_lost(
+    cache: &mut RtrCache,
+    now: u64,
+    present: &RtrPresent,
+    serving: &mut RtrServing,
+)
+    ensures { IsServingStep cache.old (clock now) present.now events.Lost serving.new cache.new }
+{
+    *serving = step(cache, now, present, CacheEvent::Lost);
+}
+
+/// Tells the cache of the unit that the input begins with, as `rtr_conversation::serve`.
+#[unsafe(no_mangle)]
+pub extern "C" fn rtr_cache_read_nonnull(
+    cache: &mut RtrCache,
+    now: u64,
+    present: &RtrPresent,
+    kept: &[u32],
+    input: &[u8],
+    ended: bool,
+    serving: &mut RtrServing,
+)
+    ensures { (came : Served)
+        × HearsRouter (cache_of cache.old) (clock now) (present_of present.now) kept.now input.now
+        ended came (cache_of cache.new)
+        × (serving.new ≡ unit_told came input.now cache.new.version (present_of present.now)) }
+{
+    let present = present_from(present);
+    let mut machine = cache_from(cache);
+    let came = serve(&mut machine, clock(now), present, kept, input, ended);
+    *cache = cache_to(&machine);
+    *serving = served_to(&came, input, machine.version, &present);
+}
+
+/// What came of the unit that an input begins with, in numbers.
+fn served_to(came: &Served, input: &[u8], version: u8, present: &Present) -> RtrServing
+    ensures { result ≡ unit_told came.now input.now version present.now }
+{
+    match came {
+        Served::Awaits => RtrServing {
+            wanted: wanted(input),
+            ..waiting()
+        },
+        Served::Answered(size, answer) => RtrServing {
+            taken: *size,
+            ..serving_to(answer, version, present)
+        },
+        Served::Refused(fault, answer) => RtrServing {
+            status: fault_status(fault),
+            detail: fault_detail(fault),
+            ..serving_to(answer, version, present)
+        },
+    }
+}
+
+/// Writes the unit that an answer begins with, as `rtr_conversation::place_opening`. Answers its
+/// length in bytes, 8 or 12, or 0 if it begins with none or the output is shorter.
+#[unsafe(no_mangle)]
+pub extern "C" fn rtr_cache_unit_nonnull(serving: &RtrServing, output: &mut [u8]) -> usize
+    ensures { (n : Option ℕ)
+        × PlacesOpening serving.now.version (served_of serving.now) (state_of serving.now) n
+        output.old output.new × (result ≡ unwrap_or n 0) }
+{
+    let answer = answer_from(serving);
+    place_opening(serving.version, &answer, &state_from(serving), output).unwrap_or(0)
+}
+
+/// Writes the report that an answer owes about the unit that the input begins with, as
+/// `rtr_conversation::place_owed`. Answers whether it is written.
+#[unsafe(no_mangle)]
+pub extern "C" fn rtr_cache_report_nonnull(
+    serving: &RtrServing,
+    input: &[u8],
+    output: &mut [u8],
+    written: &mut usize,
+) -> bool
+    ensures { PlacesAnswer serving.now input.now output.old output.new written.new result }
+{
+    let answer = answer_from(serving);
+    let refusal = refusal_from(serving.status);
+    let placed = place_owed(serving.version, &answer, refusal, input, output);
+    *written = placed.unwrap_or(0);
+    placed.is_some()
+}

@@ -1,0 +1,211 @@
+//! What a cache's machine answers, in numbers.
+
+ghost use Rattle.std.specs.Prelude.{◌≡◌};
+ghost use Rattle.rtr_c.specs.Servings.{answer_told, bare_serving, closing_of, closing_told};
+ghost use Rattle.rtr_c.specs.Servings.{numbered_reason, reason_number, served_of, state_of};
+
+use rtr_cache::event::{Answer, Closing, OwedReport, Present, Reason};
+
+const WAIT: u8 = 0;
+
+const ALL: u8 = 1;
+
+const CHANGES: u8 = 2;
+
+const RESET: u8 = 3;
+
+const NO_DATA: u8 = 4;
+
+const NOTIFY: u8 = 5;
+
+const END: u8 = 6;
+
+/// The code of a report that there are no data yet (RFC 8210 section 12).
+const NO_DATA_CODE: u16 = 2;
+
+/// What the machine answers: as `rtr_cache::event::Answer`, with what is needed to send it. Fields
+/// that an answer doesn't have are zero.
+#[repr(C)]
+#[derive(Clone, Copy)]
+pub struct RtrServing {
+    /// What was taken of the input.
+    pub taken: usize,
+    /// Where no whole unit is there, how many bytes of the input are wanted for certain.
+    pub wanted: usize,
+    /// The serial number of all data or of a notify, or that which changes lead from.
+    pub serial: u32,
+    /// The session of data, of changes or of a notify.
+    pub session: u16,
+    /// The code of a report.
+    pub code: u16,
+    /// What is to be sent.
+    pub kind: u8,
+    /// The version of all that is sent.
+    pub version: u8,
+    /// Why the connection ends.
+    pub reason: u8,
+    /// The status of a unit that is refused, and its detail.
+    pub status: u8,
+    pub detail: u8,
+    /// Whether a report is owed.
+    pub reports: bool,
+}
+
+// The fields stand one after the other, and two bytes are left at the end.
+const _: () = prove!(size_of::<RtrServing>() == 32);
+
+/// An answer of this version, and no other fields.
+pub(crate) fn bare(kind: u8, version: u8) -> RtrServing
+    ensures { result ≡ bare_serving kind version }
+{
+    RtrServing {
+        taken: 0,
+        wanted: 0,
+        serial: 0,
+        session: 0,
+        code: 0,
+        kind,
+        version,
+        reason: 0,
+        status: 0,
+        detail: 0,
+        reports: false,
+    }
+}
+
+/// Nothing is to be sent.
+pub(crate) fn waiting() -> RtrServing
+    ensures { result ≡ bare_serving 0 0 }
+{
+    bare(WAIT, 0)
+}
+
+/// An answer in numbers, of a machine that has this version after it, where these are the newest
+/// data.
+pub(crate) fn serving_to(answer: &Answer, version: u8, present: &Present) -> RtrServing
+    ensures { result ≡ answer_told answer.now version present.now }
+{
+    match answer {
+        Answer::Wait => waiting(),
+        Answer::All => RtrServing {
+            serial: present.serial,
+            session: present.session,
+            ..bare(ALL, version)
+        },
+        Answer::Changes(since) => RtrServing {
+            serial: *since,
+            session: present.session,
+            ..bare(CHANGES, version)
+        },
+        Answer::Reset => bare(RESET, version),
+        Answer::NoData => RtrServing {
+            code: NO_DATA_CODE,
+            reports: true,
+            ..bare(NO_DATA, version)
+        },
+        Answer::Notify => RtrServing {
+            serial: present.serial,
+            session: present.session,
+            ..bare(NOTIFY, version)
+        },
+        Answer::End(closing) => closing_to(closing),
+    }
+}
+
+/// The end of a connection in numbers.
+fn closing_to(closing: &Closing) -> RtrServing
+    ensures { result ≡ closing_told closing.now }
+{
+    let reason = reason_to(closing.reason);
+    match closing.report {
+        None => RtrServing {
+            reason,
+            ..bare(END, 0)
+        },
+        Some(OwedReport { version, code }) => RtrServing {
+            code,
+            reason,
+            reports: true,
+            ..bare(END, version)
+        },
+    }
+}
+
+/// The number of a reason.
+fn reason_to(reason: Reason) -> u8
+    ensures { result ≡ reason_number reason }
+{
+    match reason {
+        Reason::Lost => 0,
+        Reason::Slow => 1,
+        Reason::Full => 2,
+        Reason::Faulty => 3,
+        Reason::Reported => 4,
+        Reason::NoQuery => 5,
+        Reason::OtherVersion => 6,
+        Reason::NoVersion => 7,
+        Reason::NewSession => 8,
+        Reason::Unknown => 9,
+    }
+}
+
+/// The reason of a number; of a number that is none, that the connection is gone.
+fn reason_from(reason: u8) -> Reason
+    ensures { result ≡ numbered_reason reason }
+{
+    match reason {
+        1 => Reason::Slow,
+        2 => Reason::Full,
+        3 => Reason::Faulty,
+        4 => Reason::Reported,
+        5 => Reason::NoQuery,
+        6 => Reason::OtherVersion,
+        7 => Reason::NoVersion,
+        8 => Reason::NewSession,
+        9 => Reason::Unknown,
+        _ => Reason::Lost,
+    }
+}
+
+/// The answer that the struct tells of.
+pub(crate) fn answer_from(serving: &RtrServing) -> Answer
+    ensures { result ≡ served_of serving.now }
+{
+    match serving.kind {
+        ALL => Answer::All,
+        CHANGES => Answer::Changes(serving.serial),
+        RESET => Answer::Reset,
+        NO_DATA => Answer::NoData,
+        NOTIFY => Answer::Notify,
+        END => Answer::End(closing_from(serving)),
+        _ => Answer::Wait,
+    }
+}
+
+/// The end of a connection that the struct tells of.
+fn closing_from(serving: &RtrServing) -> Closing
+    ensures { result ≡ closing_of serving.now }
+{
+    Closing {
+        report: if serving.reports {
+            Some(OwedReport {
+                version: serving.version,
+                code: serving.code,
+            })
+        } else {
+            None
+        },
+        reason: reason_from(serving.reason),
+    }
+}
+
+/// What the struct says of the data that are sent.
+pub(crate) fn state_from(serving: &RtrServing) -> Present
+    ensures { result ≡ state_of serving.now }
+{
+    Present {
+        has: true,
+        session: serving.session,
+        serial: serving.serial,
+    }
+}

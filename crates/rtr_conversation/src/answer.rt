@@ -1,0 +1,99 @@
+//! What a cache's machine wants sent, but for data and changes.
+
+ghost use Rattle.std.specs.Prelude.{◌≡◌};
+ghost use Rattle.rtr_conversation.specs.Answered.{PlacesOpening, PlacesServed, about_reason};
+ghost use Rattle.rtr_conversation.specs.Answered.{closing_text};
+
+use crate::refusal::{Refusal, part, unit_of};
+use rtr_base::error_code::ErrorCode;
+use rtr_base::state::{Serial, State};
+use rtr_cache::event::{Answer, OwedReport, Present, Reason};
+use rtr_session::placing::{place_report, place_unit};
+use rtr_units::queries::{CacheReset, CacheResponse, SerialNotify};
+
+/// What to say of the want of data, in a report (RFC 8210 section 8.4).
+const NO_DATA: &str = "the cache has no data yet";
+
+/// Writes the unit that this answer begins with, on a connection of this version, where these are
+/// the newest data, to the front of the output, and answers its length in bytes: a cache response
+/// before data and changes, or a cache reset, of 8 bytes; or a notify, of 12 (RFC 8210 sections
+/// 5.2, 5.5 and 5.9). If the answer begins with none of these, or the output is shorter, it answers
+/// none and leaves the output unchanged.
+pub fn place_opening(
+    version: u8,
+    answer: &Answer,
+    present: &Present,
+    output: &mut [u8],
+) -> Option<usize>
+    ensures { PlacesOpening version answer.now present.now result output.old output.new }
+{
+    let state = State::from_parts(present.session, Serial(present.serial));
+    match answer {
+        Answer::All | Answer::Changes(_) => {
+            place_unit(&CacheResponse::new(version, state), output)
+        }
+        Answer::Reset => place_unit(&CacheReset::new(version), output),
+        Answer::Notify => place_unit(&SerialNotify::new(version, state), output),
+        Answer::Wait | Answer::NoData | Answer::End(_) => None,
+    }
+}
+
+/// Writes the report that this answer owes the router (RFC 8210 section 5.11), on a connection of
+/// this version, to the front of the output, and answers its length in bytes. If none is owed, or
+/// the output is shorter, it answers none and leaves the output unchanged; 65535 bytes are always
+/// enough.
+///
+/// The report is about the unit that `about` begins with, which is refused for this reason, if it
+/// is; where there are too many connections, it is about none.
+pub fn place_owed(
+    version: u8,
+    answer: &Answer,
+    refusal: Option<Refusal>,
+    about: &[u8],
+    output: &mut [u8],
+) -> Option<usize>
+    ensures { PlacesServed version answer.now refusal about.now result output.old output.new }
+{
+    match answer {
+        Answer::NoData => place_report(
+            version,
+            ErrorCode::NO_DATA_AVAILABLE,
+            unit_of(about),
+            NO_DATA.as_bytes(),
+            output,
+        ),
+        Answer::End(closing) => {
+            let Some(OwedReport { version, code }) = closing.report else {
+                return None;
+            };
+            place_report(
+                version,
+                ErrorCode(code),
+                about_reason(closing.reason, refusal, about),
+                closing_text(closing.reason, refusal).as_bytes(),
+                output,
+            )
+        }
+        _ => None,
+    }
+}
+
+/// What to say of an end for this reason, of a unit that is refused for this one.
+pub fn closing_text(reason: Reason, refusal: Option<Refusal>) -> &'static str
+    ensures { result.now ≡ closing_text reason refusal }
+{
+    match (reason, refusal) {
+        (Reason::Faulty, Some(refusal)) => refusal.text(),
+        _ => reason.text(),
+    }
+}
+
+/// How much of the input the report of an end for this reason holds.
+fn about_reason(reason: Reason, refusal: Option<Refusal>, input: &[u8]) -> &[u8]
+    ensures { result.now ≡ about_reason reason refusal input.now }
+{
+    match reason {
+        Reason::Full => &[],
+        _ => part(refusal, input),
+    }
+}
