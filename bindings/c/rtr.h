@@ -111,8 +111,8 @@ struct rtr_answer {
     size_t taken;   /* bytes of the input that were taken: whole units, and the end of data. Where
                        the call stopped, the offset of the unit that it stopped at */
     size_t written; /* bytes of the output that were written, from its front */
-    size_t wanted;  /* after RTR_SHORT, how many bytes from input + taken on are wanted for certain,
-                       as in an rtr_unit; else 0 */
+    size_t wanted;  /* after RTR_SHORT, how many bytes from input + taken on are needed at least, as
+                       in an rtr_unit; else 0 */
     uint8_t status; /* an rtr_status, as the call returns it */
     uint8_t detail; /* as enum rtr_status says of RTR_UNIT_TYPE, RTR_UNIT_VERSION and RTR_PREFIX;
                        else 0 */
@@ -133,8 +133,8 @@ struct rtr_data_answer {
 struct rtr_comparison {
     size_t offset;  /* where the unit that the call stopped at begins, in the input of `side`; 0
                        after RTR_OK */
-    size_t wanted;  /* after RTR_SHORT, how many bytes of that input from there on are wanted for
-                       certain, as in an rtr_unit; else 0 */
+    size_t wanted;  /* after RTR_SHORT, how many bytes of that input from there on are needed at
+                       least, as in an rtr_unit; else 0 */
     uint8_t status; /* an rtr_status, as the call returns it */
     uint8_t side;   /* an rtr_side: the input that the call stopped in; 0 after RTR_OK */
     uint8_t detail; /* as in an rtr_answer */
@@ -145,8 +145,8 @@ struct rtr_comparison {
 struct rtr_unit {
     size_t size;        /* bytes of the unit in the input, header included; of a unit that
                            rtr_next refuses by RTR_PREFIX, too */
-    size_t wanted;      /* if rtr_next answers RTR_SHORT, how many bytes of input are wanted for
-                           certain: 8 without a whole header, and then the length of the unit */
+    size_t wanted;      /* if rtr_next answers RTR_SHORT, how many bytes of input are needed at
+                           least: 8 without a whole header, and then the length of the unit */
     size_t part_start;  /* where the key info of a router key, the providers of an ASPA, or the
                            unit that a report is about begin: counted from the front of the unit */
     size_t part_length; /* their length in bytes; a provider has 4, in network order */

@@ -60,7 +60,7 @@ enum rtr_client_failure {
     RTR_CLIENT_MEMORY    /* there is no memory for an answer, or for what it changes */
 };
 
-/* Limits if a program sets no others; a compiler's -D has others yet. */
+/* Limits if a program sets no others; override with -D. */
 #ifndef RTR_CLIENT_RESPONSE_LIMIT
 #define RTR_CLIENT_RESPONSE_LIMIT 120000 /* milliseconds */
 #endif
