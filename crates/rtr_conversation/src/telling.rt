@@ -1,7 +1,8 @@
 //! What comes, told to the machine.
 
 ghost use Rattle.std.specs.Prelude.{◌≡◌, ◌<◌, ◌≤◌, ◌^◌, ℕ, Bool, Option, length, take};
-ghost use Rattle.std.specs.Prelude.{IfOk, IfErr, OnErr};
+ghost use Rattle.std.specs.Prelude.{IfOk, IfErr, IfSome, OnErr, None};
+ghost use Rattle.rtr_payload.specs.FirstFault.{BeginsUnit};
 ghost use Rattle.rtr_session.specs.SessionViews.{IsSessionFault};
 ghost use Rattle.rtr_conversation.specs.PrivateReading.{Comes};
 ghost use Rattle.rtr_conversation.specs.PrivateReading.{begins_payload as is_payload_begun};
@@ -77,8 +78,8 @@ fn tell_on(router: &mut Router, now: u64, input: &[u8], size: usize) -> Told
         if !begins_payload(rest) {
             return Told::Kept(kept);
         }
-        match came(router, now, rest) {
-            Ok((action, size)) => match action {
+        match heard(router, now, rest) {
+            Some((action, size)) => match action {
                 Action::Keep => kept += size,
                 _ => {
                     return Told::Acted {
@@ -88,7 +89,7 @@ fn tell_on(router: &mut Router, now: u64, input: &[u8], size: usize) -> Told
                     };
                 }
             },
-            Err(_) => return Told::Kept(kept),
+            None => return Told::Kept(kept),
         }
     }
 }
@@ -119,7 +120,23 @@ fn came(router: &mut Router, now: u64, input: &[u8]) -> Result<(Action, usize), 
     };
     bounded_lengths();
     let head = head_of(&view, u32_at(input, 4));
-    Ok((router.step(now, Event::Came(head)), size))
+    Ok((router.hear(now, &head), size))
+}
+
+/// Tells the machine of the payload unit that the input begins with, unless it is refused.
+#[inline(always)]
+fn heard(router: &mut Router, now: u64, input: &[u8]) -> Option<(Action, usize)>
+    requires { now < 2 ^ 63 }
+    ensures unit { IfSome result (λ p. Comes router.old now input.now p.0 p.1 router.new) }
+    ensures none { result ≡ None → (router.new ≡ router.old) × (BeginsUnit input.now → ⊥) }
+{
+    let (view, size) = match SessionView::first(input) {
+        Ok(first) => first,
+        Err(_) => return None,
+    };
+    bounded_lengths();
+    let head = head_of(&view, u32_at(input, 4));
+    Some((router.hear(now, &head), size))
 }
 
 /// Tells the machine of a unit that is refused, unless more of it may come.

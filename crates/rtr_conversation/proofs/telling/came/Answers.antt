@@ -14,5 +14,5 @@ returns-clause-unit c =
           c.in-Ok.ensures.view c.head_of-head.ensures;
       some = omega (arith, bounds.least);
       within = c.in-Ok.ensures.within;
-      step = c.step.ensures.steps;
+      step = c.hear.ensures.steps;
     }

@@ -1,51 +1,47 @@
 use native.Mathlib.Omega.{arith}
 use Rattle.std.proofs.Common.{drop, take, subst, sym}
 use Rattle.rtr_router.specs.declared.event.Action.TheVariants as actions
-use Rattle.rtr_session.specs.SessionViews.{IsSessionFault}
+use Rattle.rtr_payload.specs.FirstFault.{BeginsUnit}
 use Rattle.rtr_conversation.specs.PrivateReading.{Comes}
 use Rattle.rtr_conversation.specs.Reading.{KeepsAll}
 use Rattle.rtr_conversation.proofs.Units.{acts_on, keeps_on, within}
-use Rattle.rtr_conversation.proofs.Left.{not_refused}
 use Rattle.rtr_conversation.proofs.telling.tell_on.Goals as goal
 
 pub returns-in_default : goal.returns-in_default
 returns-in_default c =
     let comes = subst
-    (λ rest. Comes c.units.router c.args.now rest c.in-Ok.action c.in-Ok.size c.came.new.router)
-    c.split_at.ensures.back c.in-Ok.ensures.unit in
+    (λ rest. Comes c.units.router c.args.now rest c.in-Some.action c.in-Some.size c.heard.new.router)
+    c.split_at.ensures.back c.in-Some.ensures.unit in
     λ before ended kept.
-    acts_on c.args.now before c.units.router c.came.new.router c.args.input.now c.in-Ok.action
-    c.units.kept c.in-Ok.size c.units.invariant.within (c.units.invariant.keeps before kept) comes
+    acts_on c.args.now before c.units.router c.heard.new.router c.args.input.now c.in-Some.action
+    c.units.kept c.in-Some.size c.units.invariant.within (c.units.invariant.keeps before kept) comes
     c.in_default.not-Keep
 
-pub returns-in-Err : goal.returns-in-Err
-returns-in-Err c =
-    let rest = drop c.units.kept c.args.input.now in
-    let wrong = c.in-Err.field-0 in
-    let fault = subst (λ rest. IsSessionFault rest wrong.fault wrong.size)
-    c.split_at.ensures.back c.in-Err.ensures.fault in
+pub returns-in-None : goal.returns-in-None
+returns-in-None c =
+    let (same, refused) = c.heard.ensures.none c.in-None.is in
     λ before ended kept. record {
       some = c.units.invariant.some;
       within = c.units.invariant.within;
-      kept = subst (KeepsAll c.args.now before (take c.units.kept c.args.input.now))
-          (sym c.in-Err.ensures.same) (c.units.invariant.keeps before kept);
-      no_more = not_refused rest wrong.fault wrong.size fault;
+      kept = subst (KeepsAll c.args.now before (take c.units.kept c.args.input.now)) (sym same)
+          (c.units.invariant.keeps before kept);
+      no_more = subst (λ rest. BeginsUnit rest → ⊥) c.split_at.ensures.back refused;
     }
 
 pub units-preserved : goal.units-preserved
 units-preserved c =
     let at = subst
-    (λ rest. Comes c.units.router c.args.now rest c.in-Ok.action c.in-Ok.size c.came.new.router)
-    c.split_at.ensures.back c.in-Ok.ensures.unit in
+    (λ rest. Comes c.units.router c.args.now rest c.in-Some.action c.in-Some.size c.heard.new.router)
+    c.split_at.ensures.back c.in-Some.ensures.unit in
     let comes = subst
-    (λ a. Comes c.units.router c.args.now (drop c.units.kept c.args.input.now) a c.in-Ok.size
-    c.came.new.router)
+    (λ a. Comes c.units.router c.args.now (drop c.units.kept c.args.input.now) a c.in-Some.size
+    c.heard.new.router)
     c.in-Keep.is at in
     record {
       some = omega (arith, c.units.invariant.some);
-      within = within c.units.router c.came.new.router c.args.now c.args.input.now actions.Keep
-          c.units.kept c.in-Ok.size c.units.invariant.within comes;
+      within = within c.units.router c.heard.new.router c.args.now c.args.input.now actions.Keep
+          c.units.kept c.in-Some.size c.units.invariant.within comes;
       keeps = λ before kept.
-          keeps_on c.args.now before c.units.router c.came.new.router c.args.input.now
-          c.units.kept c.in-Ok.size (c.units.invariant.keeps before kept) comes;
+          keeps_on c.args.now before c.units.router c.heard.new.router c.args.input.now
+          c.units.kept c.in-Some.size (c.units.invariant.keeps before kept) comes;
     }
