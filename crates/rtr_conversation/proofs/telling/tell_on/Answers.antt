@@ -10,7 +10,7 @@ use Rattle.rtr_conversation.proofs.telling.tell_on.Goals as goal
 pub returns-in_default : goal.returns-in_default
 returns-in_default c =
     let comes = subst
-    (λ rest. Comes c.units.router c.args.now rest c.in-Some.action c.in-Some.size c.heard.new.router)
+    (λ b. Comes c.units.router c.args.now b c.in-Some.action c.in-Some.size c.heard.new.router)
     c.split_at.ensures.back c.in-Some.ensures.unit in
     λ before ended kept.
     acts_on c.args.now before c.units.router c.heard.new.router c.args.input.now c.in-Some.action
@@ -31,7 +31,7 @@ returns-in-None c =
 pub units-preserved : goal.units-preserved
 units-preserved c =
     let at = subst
-    (λ rest. Comes c.units.router c.args.now rest c.in-Some.action c.in-Some.size c.heard.new.router)
+    (λ b. Comes c.units.router c.args.now b c.in-Some.action c.in-Some.size c.heard.new.router)
     c.split_at.ensures.back c.in-Some.ensures.unit in
     let comes = subst
     (λ a. Comes c.units.router c.args.now (drop c.units.kept c.args.input.now) a c.in-Some.size
