@@ -920,7 +920,7 @@ static inline void rtr_cache_read(struct rtr_cache *cache, uint64_t now,
                                   const uint8_t *input, size_t input_length, bool ended,
                                   struct rtr_serving *serving)
 {
-    static const uint32_t none;
+    static const uint32_t none = 0;
     rtr_cache_read_nonnull(cache, now, present, kept ? kept : &none, kept_count,
                            rtr_readable(input), input_length, ended, serving);
 }
