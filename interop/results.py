@@ -25,6 +25,10 @@ class Names(NamedTuple):
     version: str
     release: str
 
+    def column(self):
+        """Its column in a table of scenes."""
+        return f"{self.peer} ({self.release})"
+
 
 class Row(NamedTuple):
     """A comparison: with whom, of what, of how many units, and how it ended."""
@@ -104,6 +108,10 @@ class Pair:
         said = difference(got, wanted) if got != wanted else ""
         counts = units if units is not None else len(wanted)
         return self.add(what, FAILED if said else PASSED, counts, said)
+
+    def column(self):
+        """Its column in a table of scenes."""
+        return self.names.column()
 
     def known(self):
         """The findings that README.md lists for this pair."""

@@ -44,6 +44,8 @@ class Router:
     """A router, or a client, that asks a cache. Its files lie in a folder of its own."""
 
     name = package = ""
+    # What of its times its configuration sets, so that it soon asks again.
+    times = ""
 
     def __init__(self, folder, port):
         self.folder = folder
@@ -121,6 +123,7 @@ class Bird(Router):
     """BIRD: its two tables of ROAs."""
 
     name, package = "BIRD", "bird2"
+    times = "retry keep 2;"
     LINE = re.compile(r"^(\S+)/(\d+)-(\d+) AS(\d+) ", re.MULTILINE)
 
     def start(self):
@@ -134,7 +137,7 @@ class Bird(Router):
                 roa4 {{ table origins4; }};
                 roa6 {{ table origins6; }};
                 remote 127.0.0.1 port {self.cache};
-                retry keep 2;
+                {self.times}
             }}
         """)
         control = ["-s", self.path("control"), "-P", self.path("process")]
@@ -153,6 +156,7 @@ class FRR(Router):
     """bgpd of FRR with its module rpki, which is rtrlib."""
 
     name, package = "FRR", "frr"
+    times = " rpki polling_period 3600\n rpki retry_interval 2\n"
     MODULES = "/usr/lib/*/frr/modules/bgpd_rpki.so"
 
     def start(self):
@@ -163,8 +167,8 @@ class FRR(Router):
         if not glob.glob(self.MODULES):
             raise Missing("frr-rpki-rtrlib isn't installed")
         program("vtysh")
-        path = self.keep("conf", "rpki\n rpki polling_period 3600\n rpki retry_interval 2\n"
-                                 f" rpki cache 127.0.0.1 {self.cache} preference 1\n exit\n")
+        cache = f" rpki cache 127.0.0.1 {self.cache} preference 1\n"
+        path = self.keep("conf", f"rpki\n{self.times}{cache} exit\n")
         words = ["-M", "rpki", "-f", path, "-i", self.path("process"), "-Z", "-S", "-P", "0"]
         words += ["--vty_socket", self.folder, "-l", "127.0.0.1", "-p", "0"]
         self.run([daemon, *words])
@@ -185,13 +189,16 @@ class OpenBGPD(Router):
     valid."""
 
     name, package = "OpenBGPD", "openbgpd"
+    # The lists whose origins its routes try, in place of the usual ones.
+    lists = None
     INSIDE = "mount -t tmpfs none /run && mkdir -m 755 /run/openbgpd && exec \"$@\""
     NEEDS_ROOT = "bgpd of OpenBGPD changes its root and its user: that needs root and a namespace"
 
     def __init__(self, folder, port):
         super().__init__(folder, port)
         old, new = payloads.made_up()
-        origins = {each for each in payloads.varied(old | new, 1) if isinstance(each, Origin)}
+        lists = [payloads.varied(old | new, 1)] if self.lists is None else self.lists
+        origins = {each for each in set().union(*lists) if isinstance(each, Origin)}
         self.routes = speaker.routes_of(origins)
         self.speaker = None
 
@@ -308,3 +315,10 @@ def ours(folder):
 
 
 ROUTERS = (RtrClient, Bird, FRR, OpenBGPD)
+
+
+def at_default_times(lists):
+    """A maker of each router of others that sets no time of its own. OpenBGPD's routes are those of
+    these lists."""
+    for maker in ROUTERS:
+        yield type(maker.__name__, (maker,), {"times": "", "lists": lists})

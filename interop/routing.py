@@ -104,7 +104,7 @@ class Beside:
     def listed(self):
         """Passes if our programs read all that the router asked, and find nothing."""
         with self.pair:
-            queries = [queries for queries, _ in self.tap.recorded()]
+            queries = [queries for queries, _ in self.tap.recorded() if queries]
             units = sum(len(programs.listed(each)) for each in queries)
             found = [line for each in queries for line in programs.found(each)]
             self.pair.equal("rtr_list --check of its queries", found, [], units)

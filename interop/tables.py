@@ -54,6 +54,28 @@ def answers(found):
     return table(["Cache", "Version", *heads], rows)
 
 
+def scenes(found, part, names, across=False):
+    """A row for each of these scenes, and a column for each peer of a part that was seen in it;
+    with `across`, a column for each scene."""
+    seen = {}
+    for peer, scene, did in found.seen:
+        if peer.part == part and scene in names:
+            seen.setdefault(peer.column(), {})[scene] = did
+    lines = [("After", *sorted(seen))]
+    lines += [(scene, *(seen[peer].get(scene, "") for peer in sorted(seen))) for scene in names]
+    heads, *rows = zip(*lines) if across else lines
+    return table(heads, rows) if seen else []
+
+
+def written(name):
+    """What such a table of the page says: for each row what each column has."""
+    with open(PAGE, encoding="utf-8") as file:
+        part = re.search(rf"<!-- measured: {name} -->\n(.*?)<!-- end -->", file.read(), re.DOTALL)
+    lines = [[cell.strip() for cell in line.strip("|").split("|")]
+             for line in part[1].splitlines()]
+    return {row[0]: dict(zip(lines[0], row)) for row in lines[2:]}
+
+
 def replace(text, name, lines):
     """The text with these lines between its marks of this name."""
     marks = re.compile(rf"(<!-- measured: {name} -->\n).*?(<!-- end -->)", re.DOTALL)
@@ -62,8 +84,9 @@ def replace(text, name, lines):
     return marks.sub(lambda mark: mark[1] + "\n".join(lines) + "\n" + mark[2], text)
 
 
-def write(found, parts):
-    """Writes into the page what this run measured of these parts, each with its mark."""
+def write(found, parts, more):
+    """Writes into the page what this run measured of these parts, each with its mark, and more
+    tables with theirs."""
     with open(PAGE, encoding="utf-8") as file:
         text = file.read()
     heads = ["Peer", "Package", "RTR", "Comparisons", "Units", "Differences"]
@@ -73,6 +96,9 @@ def write(found, parts):
             text = replace(text, mark, table(heads, rows))
     if any("query" in what for _, what, _ in found.seen):
         text = replace(text, "answers", answers(found))
+    for mark, lines in more.items():
+        if lines:
+            text = replace(text, mark, lines)
     skipped = [f"- {row.names.peer} {row.what}: {row.said}" for row in found.rows
                if row.outcome == SKIPPED]
     day = time.strftime("%Y-%m-%d", time.gmtime())
