@@ -124,7 +124,7 @@ abbrev pub run_detail : Result Unit IntoFault → ℕ
 run_detail (Ok done) = 0
 run_detail (Err f) = stop_detail f
 
--- How many bytes are wanted for certain of a unit that b begins: those of a header, and then as
+-- How many bytes are needed at least of a unit that b begins: those of a header, and then as
 -- many as it says (RFC 8210 section 5.1).
 abbrev pub wanted : List ℕ → ℕ
 wanted b = if nat_lt (length b) 8 then 8 else length_field b

@@ -56,7 +56,7 @@ pub struct RtrAnswer {
     pub taken: usize,
     /// Bytes of the output that were written.
     pub written: usize,
-    /// With `SHORT`, how many bytes from `taken` on are wanted for certain: 8 without a whole
+    /// With `SHORT`, how many bytes from `taken` on are needed at least: 8 without a whole
     /// header, and then the length of the unit. Otherwise 0.
     pub wanted: usize,
     /// How the call ended.

@@ -18,7 +18,7 @@ pub struct RtrComparison {
     /// Where the unit begins that the comparison stopped at, in its input. If both inputs are
     /// accepted it is 0.
     pub offset: usize,
-    /// With `SHORT`, how many bytes from there on are wanted for certain, as in an `RtrAnswer`.
+    /// With `SHORT`, how many bytes from there on are needed at least, as in an `RtrAnswer`.
     /// Otherwise 0.
     pub wanted: usize,
     /// How the call ended.

@@ -83,7 +83,7 @@ fn refuse(refusal: &SessionFault, input: &[u8], unit: &mut RtrUnit) -> u8
     fault_status(&refusal.fault)
 }
 
-/// How many bytes are wanted for certain of a unit that isn't all in the input: those of a header,
+/// How many bytes are needed at least of a unit that isn't all in the input: those of a header,
 /// and then as many as it says.
 #[inline(always)]
 pub(crate) fn wanted(input: &[u8]) -> usize

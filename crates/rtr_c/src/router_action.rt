@@ -44,7 +44,7 @@ pub struct RtrAction {
     pub start: usize,
     /// Where it ends, and with it what was taken of the input.
     pub taken: usize,
-    /// Where no whole unit is there, how many bytes of the input are wanted for certain.
+    /// Where no whole unit is there, how many bytes of the input are needed at least.
     pub wanted: usize,
     /// The serial number of a serial query.
     pub serial: u32,

@@ -87,7 +87,7 @@ fn answer_of(input: &[u8], progress: Progress, end: Result<(), IntoFault>) -> Rt
     }
 }
 
-/// How many bytes are wanted for certain from here on, if a run stopped because they are too few.
+/// How many bytes are needed at least from here on, if a run stopped because they are too few.
 #[inline(always)]
 fn stop_wanted(stop: &IntoFault, input: &[u8], taken: usize) -> usize
     requires { taken ≤ length input.now }

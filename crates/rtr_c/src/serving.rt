@@ -30,7 +30,7 @@ const NO_DATA_CODE: u16 = 2;
 pub struct RtrServing {
     /// What was taken of the input.
     pub taken: usize,
-    /// Where no whole unit is there, how many bytes of the input are wanted for certain.
+    /// Where no whole unit is there, how many bytes of the input are needed at least.
     pub wanted: usize,
     /// The serial number of all data or of a notify, or that which changes lead from.
     pub serial: u32,

@@ -9,7 +9,7 @@ ghost use Rattle.rtr_c.specs.Shown.{none};
 pub struct RtrUnit {
     /// Bytes of the unit in the input. Of a unit that is refused for its prefix lengths, too.
     pub size: usize,
-    /// If the input is too short, how many bytes of it are wanted for certain: 8 without a whole
+    /// If the input is too short, how many bytes of it are needed at least: 8 without a whole
     /// header, and then the length of the unit.
     pub wanted: usize,
     /// Where the key info of a router key, the providers of an ASPA, or the unit that an error

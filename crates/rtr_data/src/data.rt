@@ -116,7 +116,7 @@ impl Data {
             PayloadRef::Origin(origin) => self.origins.contains(&KeptOrigin::from(*origin)),
             PayloadRef::RouterKey(key) => self.router_keys.contains(*key),
             PayloadRef::Aspa(aspa) => {
-                // Gives the proof that the customers are in order.
+                // Called for its clause: the map's keys are sorted.
                 let _count = self.aspas.len();
                 match self.aspas.get(&aspa.customer) {
                     Some(providers) => aspa.providers == *providers,

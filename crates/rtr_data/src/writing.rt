@@ -153,7 +153,7 @@ pub(crate) fn is_there(
 ) -> bool
     ensures { result ≡ has (entries aspas.now) (entry_of (customer, providers.now)) }
 {
-    // Gives the proof that the customers are in order.
+    // Called for its clause: the map's keys are sorted.
     let _count = aspas.len();
     match aspas.get(&customer) {
         Some(there) => *providers == *there,

@@ -27,7 +27,7 @@ struct Least<'a> {
 
 /// Writes the units that announce what announcements and withdrawals make of data, in order, and
 /// answers their length in bytes, or none where there is no room for all of them. Most units come
-/// before the next change: these are told first.
+/// before the next change: these are checked first.
 pub(crate) fn place_applied(
     old: &[u8],
     announced: &[u8],

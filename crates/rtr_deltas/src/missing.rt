@@ -24,7 +24,7 @@ use std::cmp::Ordering;
 
 /// Writes the units that announce or withdraw what these data have and those lack, in order, and
 /// answers their length in bytes, or none where there is no room for all of them. Most units are
-/// the same in both, so these are told first.
+/// the same in both, so these are checked first.
 pub(crate) fn place_missing(
     these: &[u8],
     those: &[u8],

@@ -19,7 +19,7 @@ pub enum OrderFault {
     Unknown { offset: usize },
     /// The unit at this offset in the end withdraws an ASPA whose customer was first announced, so
     /// that what comes of it depends on the data.
-    #[error("what the withdrawal at byte {offset} comes to depends on the data")]
+    #[error("whether the withdrawal at byte {offset} takes effect depends on the data")]
     Undecided { offset: usize },
     /// The output has no room for all of the changes.
     #[error("no room in the output")]

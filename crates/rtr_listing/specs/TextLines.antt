@@ -91,7 +91,7 @@ report_words (Some (pdu, text)) =
     codes " pdu \"" ++ encode_lower pdu
     ++ codes "\" text \"" ++ flat_map escape_ascii text ++ codes "\""
 
--- what is unit_words after the version
+-- the words of a unit that follow its version
 abbrev pub unit_words : AnyFields → List ℕ
 unit_words (serial_notify version session serial) =
     codes " serial notify session " ++ decimal session ++ codes " serial " ++ decimal serial

@@ -253,7 +253,7 @@ fn will_replace(announced: &Data, payload: &PayloadRef<'_>) -> bool
 fn withdraw(announced: &mut Data, payload: &PayloadRef<'_>)
     ensures { Names announced.old announced.new (payload_of_ref payload.now) false }
 {
-    // Gives the proof that the payloads are in order.
+    // Called for its clause: the payloads are in order.
     let _parts = announced.parts();
     match announced.withdraw(payload) {
         Ok(()) => {}

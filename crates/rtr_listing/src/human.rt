@@ -37,7 +37,7 @@ use rtr_units::unit::Unit;
 use std::alloc::{AllocError, Global};
 use std::net::{Ipv4Addr, Ipv6Addr};
 
-/// Writes what the unit says.
+/// Writes the unit in words.
 pub fn describe(
     alloc: Global,
     line: &mut Line,

@@ -57,8 +57,8 @@ impl<R: Read> BufferedSource<R> {
         self.counted.read(piece)
     }
 
-    /// The same. A function clears room for the answer of each call where it begins, so this one
-    /// stands apart, and wraps the answer again: a piece that is copied then needs no such room.
+    /// The same. The compiler zeroes a slot for each call's result on entry; in a function of its
+    /// own, which rebuilds the result, so that the fast path pays nothing.
     #[inline(always)]
     fn read_apart(&mut self, piece: &mut [u8]) -> io::Result<usize>
         ensures { ReadsCounted (reader_remaining R.remaining) result self.old self.new piece.new }
@@ -75,7 +75,7 @@ impl<R: Read> Source for BufferedSource<R> {
 
     ghost fails = { FailedWith };
 
-    // It has no hint: so it is inlined where the size of the piece is known, and only there.
+    // Deliberately without an inline hint: see docs/decisions/SPEED.md.
     fn read(&mut self, piece: &mut [u8]) -> io::Result<usize> {
         let held = self.counted.inner.buffer();
         let taken = piece.len();

@@ -122,7 +122,7 @@ fn run<S: Writing>(
     (progress, Err(IntoFault::TooMany))
 }
 
-/// How far a run came that took so many units, and left out so many of them.
+/// The progress after `units`, of which `left_out` weren't written.
 #[inline(always)]
 fn came(units: u64, left_out: u64, taken: usize, written: usize) -> Progress
     requires { left_out ≤ units }

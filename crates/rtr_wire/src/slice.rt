@@ -49,7 +49,7 @@ pub fn normalise_slice<W: Sink>(
 /// and what follows it.
 ///
 /// Each type goes its own way, on which the compiler knows the kind of the view at each step. The
-/// answer of the rare ones is wrapped again, so that the others' need not lie in memory.
+/// results of the rare ones are rebuilt, which lets the common ones stay in registers.
 #[inline(always)]
 fn step<'a, W: Sink>(rest: &'a [u8], writer: &mut W) -> Result<(bool, &'a [u8]), ViewFault>
     ensures unit { IfOk result (λ p. Steps everything (Ok (passed p.0))

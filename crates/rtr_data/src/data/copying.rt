@@ -20,7 +20,7 @@ impl Data {
     pub fn clone(&self, alloc: Global) -> Result<Self, AllocError>
         ensures { IfOk result (λ copy. copy ≡ self.now) }
     {
-        // Gives the proof that the payloads are in order.
+        // Called for its clause: the payloads are in order.
         let _parts = self.parts();
         let mut copy = Data::new(alloc);
         copy.add_origins(&self.origins)?;
