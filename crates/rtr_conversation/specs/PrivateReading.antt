@@ -1,5 +1,5 @@
--- A unit at the front of an input, and told to a router's machine. Only contracts of private functions
--- cite this.
+-- A unit at the front of an input, and told to a router's machine. Only contracts of private
+-- functions cite this.
 use Rattle.std.specs.Prelude.{ℕ, ◌<◌, ◌≤◌, List, length, take, Bool, ◌==◌, ◌||◌, ◌&&◌, nat_le}
 use Rattle.rtr_units.specs.Header.{type_field}
 use Rattle.rtr_router.specs.Step.{IsStep}
@@ -25,7 +25,7 @@ pub record Comes (r : Router) (n : ℕ) (input : List ℕ) (a : Action) (size : 
   pub step : IsStep r n (events.Came head) a r'
 
 -- the input begins with a unit of this size, of which a machine sees this
-pub record IsFirstUnit (input : List ℕ) (head : Head) (size : ℕ) : Type 0 where
+pub record HasFirstHead (input : List ℕ) (head : Head) (size : ℕ) : Type 0 where
   pub unit : HasHead (take size input) head
   pub some : 0 < size
   pub within : size ≤ length input

@@ -1,4 +1,5 @@
--- What comes of reading at a cache: the unit that an input begins with is told to a cache's machine.
+-- What comes of reading at a cache: the unit that an input begins with is told to a cache's
+-- machine.
 use Rattle.std.specs.Prelude.{◌≡◌, ℕ, Bool, true, ◌==◌, ◌<◌, ◌≤◌, List, [], length, take, Option}
 use Rattle.std.specs.List.{list_any}
 use Rattle.rtr_views.specs.declared.fault.ViewFault.{ViewFault}

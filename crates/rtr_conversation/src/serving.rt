@@ -1,8 +1,8 @@
 //! What comes from a router, told to a cache's machine.
 
-ghost use Rattle.std.specs.Prelude.{◌≡◌, ◌<◌, ◌^◌, ℕ, Option, IfOk, IfErr};
+ghost use Rattle.std.specs.Prelude.{◌≡◌, ◌<◌, ◌^◌, ℕ, List, Option, IfOk, IfErr};
 ghost use Rattle.rtr_session.specs.SessionViews.{IsSessionFault};
-ghost use Rattle.rtr_conversation.specs.PrivateReading.{IsFirstUnit};
+ghost use Rattle.rtr_conversation.specs.PrivateReading.{HasFirstHead};
 ghost use Rattle.rtr_conversation.specs.Serving.{HearsRouter};
 
 use crate::fault::fault_of;
@@ -51,7 +51,7 @@ pub fn serve(
 
 /// What the machine sees of the unit that the input begins with, and its size in bytes.
 fn first_head(input: &[u8]) -> Result<(Head, usize), SessionFault>
-    ensures unit { IfOk result (λ p. IsFirstUnit input.now p.0 p.1) }
+    ensures unit { IfOk result (λ p. HasFirstHead input.now p.0 p.1) }
     ensures fault { IfErr result (λ e. IsSessionFault input.now e.fault e.size) }
 {
     let (view, size) = match SessionView::first(input) {
