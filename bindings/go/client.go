@@ -7,50 +7,9 @@ import (
 	"crypto/rand"
 	"encoding/binary"
 	"errors"
+	"net"
 	"time"
 )
-
-// ClientLimits bound what a cache can ask of a Client in time and memory. Each that is zero stands
-// for the one that NewClient gives.
-type ClientLimits struct {
-	Dial     time.Duration // to connect
-	Response time.Duration // from a query to the end of data that answers it
-	Bytes    int           // of the payload units of a response
-	Units    uint64        // of a response, the end of data included
-	Pause    time.Duration // between two connections, and between two queries, at least
-	Report   time.Duration // to send a report on a fault, and to let the cache read it
-}
-
-// usualClientLimits are for a cache of some million payloads.
-var usualClientLimits = ClientLimits{
-	Dial:     30 * time.Second,
-	Response: 2 * time.Minute,
-	Bytes:    1 << 27,
-	Units:    1 << 22,
-	Pause:    time.Second,
-	Report:   2 * time.Second,
-}
-
-// orUsual are the limits, with the usual one in the place of each that is zero.
-func (l ClientLimits) orUsual() ClientLimits {
-	usual := usualClientLimits
-	return ClientLimits{
-		Dial:     unlessZero(l.Dial, usual.Dial),
-		Response: unlessZero(l.Response, usual.Response),
-		Bytes:    unlessZero(l.Bytes, usual.Bytes),
-		Units:    unlessZero(l.Units, usual.Units),
-		Pause:    unlessZero(l.Pause, usual.Pause),
-		Report:   unlessZero(l.Report, usual.Report),
-	}
-}
-
-// unlessZero is the limit that was set, or the usual one where none was.
-func unlessZero[T time.Duration | int | uint64](set, usual T) T {
-	if set == 0 {
-		return usual
-	}
-	return set
-}
 
 // Client is a router's end: it asks a cache for data, and follows their changes (RFC 8210 sections
 // 6 to 8). NewClient makes one; Client{Address: address} is one that asks in version 0.
@@ -63,6 +22,11 @@ type Client struct {
 	// Failed is told why a connection ended, or a query has no answer yet, and that the client
 	// goes on. It may be nil.
 	Failed func(error)
+	// Dial makes a connection to the address, for which it has until the end of the context: by
+	// TLS, SSH, or what else there is (RFC 8210 section 9). Where it is nil, it is one of TCP.
+	Dial func(ctx context.Context, network, address string) (net.Conn, error)
+
+	connection net.Conn // the only one that it has, if not nil
 }
 
 // NewClient makes a Client of version 1, that of RFC 8210, with limits for a cache of some million
@@ -122,7 +86,7 @@ func unlessEnded(ctx context.Context, err error) error {
 	return err
 }
 
-// follower is one over TCP.
+// follower is one over connections of the client.
 func (c *Client) follower(ctx context.Context, changed func(Update) error) *follower {
 	limited := *c
 	limited.Limits = c.Limits.orUsual()
@@ -130,10 +94,11 @@ func (c *Client) follower(ctx context.Context, changed func(Update) error) *foll
 	// Where the system has no random number, waits are those of other clients too.
 	_, _ = rand.Read(chance[:])
 	return &follower{
-		client: &limited, changed: changed,
+		client: &limited, changed: changed, last: c.connection != nil,
 		machine: newMachine(&limited, binary.LittleEndian.Uint16(chance[:])),
 		peer: &network{
-			ctx: ctx, address: c.Address, patience: limited.Limits.Report, begun: time.Now(),
+			ctx: ctx, dial: c.dialer(), address: c.Address, patience: limited.Limits.Report,
+			begun: time.Now(),
 		},
 	}
 }

@@ -12,6 +12,7 @@ import (
 type follower struct {
 	client  *Client
 	once    bool // it ends after the first data, or the first failure
+	last    bool // it ends after the first failure
 	changed func(Update) error
 	peer    peer
 	machine machine
@@ -201,9 +202,10 @@ func (f *follower) end(a action) {
 	}
 }
 
-// failed tells the caller of a failure; one that wants data once ends with it.
+// failed tells the caller of a failure; one that wants data once, or has no other connection, ends
+// with it.
 func (f *follower) failed(err error) {
-	if f.once {
+	if f.once || f.last {
 		f.stop(err)
 	}
 	if f.stopped == nil && f.client.Failed != nil {

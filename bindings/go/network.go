@@ -7,6 +7,7 @@ import (
 	"io"
 	"math"
 	"net"
+	"os"
 	"time"
 )
 
@@ -25,9 +26,10 @@ type peer interface {
 	close(last []byte)
 }
 
-// network is a peer over TCP. Its context ends what it waits for.
+// network is a peer over connections. Its context ends what it waits for.
 type network struct {
 	ctx        context.Context
+	dial       func(ctx context.Context, network, address string) (net.Conn, error)
 	address    string
 	patience   time.Duration // for the last unit
 	begun      time.Time
@@ -63,9 +65,13 @@ func (n *network) rest(until uint64) error {
 }
 
 func (n *network) connect(until uint64) error {
-	dialer := net.Dialer{Deadline: n.at(until)}
-	connection, err := dialer.DialContext(n.ctx, "tcp", n.address)
-	if err != nil {
+	ctx, cancel := context.WithDeadline(n.ctx, n.at(until))
+	defer cancel()
+	connection, err := n.dial(ctx, "tcp", n.address)
+	switch {
+	case err != nil && ctx.Err() == context.DeadlineExceeded && n.ctx.Err() == nil:
+		return os.ErrDeadlineExceeded
+	case err != nil:
 		return err
 	}
 	n.connection, n.release = connection, closeAtEnd(n.ctx, connection)

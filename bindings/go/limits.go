@@ -1,0 +1,47 @@
+//go:build cgo && linux && (amd64 || arm64)
+
+package rtr
+
+import "time"
+
+// ClientLimits bound what a cache can ask of a Client in time and memory. Each that is zero stands
+// for the one that NewClient gives.
+type ClientLimits struct {
+	Dial     time.Duration // to connect
+	Response time.Duration // from a query to the end of data that answers it
+	Bytes    int           // of the payload units of a response
+	Units    uint64        // of a response, the end of data included
+	Pause    time.Duration // between two connections, and between two queries, at least
+	Report   time.Duration // to send a report on a fault, and to let the cache read it
+}
+
+// usualClientLimits are for a cache of some million payloads.
+var usualClientLimits = ClientLimits{
+	Dial:     30 * time.Second,
+	Response: 2 * time.Minute,
+	Bytes:    1 << 27,
+	Units:    1 << 22,
+	Pause:    time.Second,
+	Report:   2 * time.Second,
+}
+
+// orUsual are the limits, with the usual one in the place of each that is zero.
+func (l ClientLimits) orUsual() ClientLimits {
+	usual := usualClientLimits
+	return ClientLimits{
+		Dial:     unlessZero(l.Dial, usual.Dial),
+		Response: unlessZero(l.Response, usual.Response),
+		Bytes:    unlessZero(l.Bytes, usual.Bytes),
+		Units:    unlessZero(l.Units, usual.Units),
+		Pause:    unlessZero(l.Pause, usual.Pause),
+		Report:   unlessZero(l.Report, usual.Report),
+	}
+}
+
+// unlessZero is the limit that was set, or the usual one where none was.
+func unlessZero[T time.Duration | int | uint64](set, usual T) T {
+	if set == 0 {
+		return usual
+	}
+	return set
+}

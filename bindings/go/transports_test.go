@@ -1,0 +1,262 @@
+//go:build cgo && linux && (amd64 || arm64)
+
+package rtr_test
+
+import (
+	"context"
+	"crypto/ecdsa"
+	"crypto/elliptic"
+	"crypto/rand"
+	"crypto/tls"
+	"crypto/x509"
+	"crypto/x509/pkix"
+	"errors"
+	"math/big"
+	"net"
+	"os"
+	"strings"
+	"testing"
+	"time"
+
+	"fishreef/rtr"
+)
+
+// overTLS is a client of a cache at an address, which has to prove that it has this name, and which
+// sees the router's certificate (RFC 8210 section 9.2).
+func overTLS(address, name string, trusted *x509.CertPool, router ...tls.Certificate) *rtr.Client {
+	dialer := &tls.Dialer{Config: &tls.Config{
+		ServerName: name, RootCAs: trusted, Certificates: router,
+	}}
+	client := rtr.NewClient(address)
+	client.Dial = dialer.DialContext
+	return client
+}
+
+// cacheOverTLS serves routers whose certificates are by an authority that it trusts.
+func cacheOverTLS(
+	server *rtr.Server, listener net.Listener, cache tls.Certificate, trusted *x509.CertPool,
+) error {
+	return server.Serve(tls.NewListener(listener, &tls.Config{
+		Certificates: []tls.Certificate{cache},
+		ClientAuth:   tls.RequireAndVerifyClientCert, ClientCAs: trusted,
+	}))
+}
+
+// The name of the cache, and how long a test waits at most.
+const (
+	cacheName = "cache.example"
+	tlsWait   = 20 * time.Second
+)
+
+// authority issues certificates.
+type authority struct {
+	t    *testing.T
+	self *x509.Certificate
+	key  *ecdsa.PrivateKey
+}
+
+func newAuthority(t *testing.T) *authority {
+	t.Helper()
+	key, err := ecdsa.GenerateKey(elliptic.P256(), rand.Reader)
+	if err != nil {
+		t.Fatal(err)
+	}
+	template := &x509.Certificate{
+		SerialNumber: big.NewInt(1), Subject: pkix.Name{CommonName: "authority"},
+		NotBefore: time.Now().Add(-time.Hour), NotAfter: time.Now().Add(time.Hour),
+		IsCA: true, BasicConstraintsValid: true, KeyUsage: x509.KeyUsageCertSign,
+	}
+	self, err := x509.CreateCertificate(rand.Reader, template, template, &key.PublicKey, key)
+	if err != nil {
+		t.Fatal(err)
+	}
+	parsed, err := x509.ParseCertificate(self)
+	if err != nil {
+		t.Fatal(err)
+	}
+	return &authority{t, parsed, key}
+}
+
+// pool has this authority alone.
+func (a *authority) pool() *x509.CertPool {
+	pool := x509.NewCertPool()
+	pool.AddCert(a.self)
+	return pool
+}
+
+// issue makes a certificate for a name, which ends after this time.
+func (a *authority) issue(name string, lasts time.Duration) tls.Certificate {
+	a.t.Helper()
+	key, err := ecdsa.GenerateKey(elliptic.P256(), rand.Reader)
+	if err != nil {
+		a.t.Fatal(err)
+	}
+	template := &x509.Certificate{
+		SerialNumber: big.NewInt(2), Subject: pkix.Name{CommonName: name}, DNSNames: []string{name},
+		NotBefore: time.Now().Add(-time.Hour), NotAfter: time.Now().Add(lasts),
+		KeyUsage: x509.KeyUsageDigitalSignature,
+		ExtKeyUsage: []x509.ExtKeyUsage{
+			x509.ExtKeyUsageServerAuth, x509.ExtKeyUsageClientAuth,
+		},
+	}
+	made, err := x509.CreateCertificate(rand.Reader, template, a.self, &key.PublicKey, a.key)
+	if err != nil {
+		a.t.Fatal(err)
+	}
+	return tls.Certificate{Certificate: [][]byte{made}, PrivateKey: key}
+}
+
+// twoPayloads are data of version 1: 192.0.2.0/24 and 198.51.100.0/24 of AS 64496.
+func twoPayloads(t *testing.T) rtr.Data {
+	t.Helper()
+	data, err := rtr.ParseData([]byte{
+		1, 4, 0, 0, 0, 0, 0, 20, 1, 24, 24, 0, 192, 0, 2, 0, 0, 0, 0xfb, 0xf0,
+		1, 4, 0, 0, 0, 0, 0, 20, 1, 24, 24, 0, 198, 51, 100, 0, 0, 0, 0xfb, 0xf0,
+		1, 7, 0, 7, 0, 0, 0, 24, 0, 0, 0, 9, 0, 0, 14, 16, 0, 0, 2, 88, 0, 0, 28, 32,
+	})
+	if err != nil {
+		t.Fatal(err)
+	}
+	return data
+}
+
+// startedTLS serves data over TLS with this certificate until the test ends, and gives the address.
+func startedTLS(t *testing.T, cache tls.Certificate, trusted *x509.CertPool) string {
+	t.Helper()
+	listener, err := net.Listen("tcp", "127.0.0.1:0")
+	if err != nil {
+		t.Fatal(err)
+	}
+	server := rtr.NewServer()
+	if err := server.Update(twoPayloads(t)); err != nil {
+		t.Fatal(err)
+	}
+	served := make(chan error)
+	go func() { served <- cacheOverTLS(server, listener, cache, trusted) }()
+	t.Cleanup(func() {
+		server.Close()
+		<-served
+	})
+	return listener.Addr().String()
+}
+
+// Both ends have certificates by an authority that the other one trusts.
+func TestOverTLS(t *testing.T) {
+	trusted := newAuthority(t)
+	address := startedTLS(t, trusted.issue(cacheName, time.Hour), trusted.pool())
+	ctx, cancel := context.WithTimeout(context.Background(), tlsWait)
+	defer cancel()
+	router := trusted.issue("router.example", time.Hour)
+	data, err := overTLS(address, cacheName, trusted.pool(), router).Fetch(ctx)
+	if err != nil || data.Len() != 2 {
+		t.Errorf("%d payloads, %v", data.Len(), err)
+	}
+}
+
+// A cache of another name, of nobody, or with a certificate that has ended, and a router that has
+// none: no data are shown, and the reason is told.
+func TestStrangersOverTLS(t *testing.T) {
+	trusted, nobody := newAuthority(t), newAuthority(t)
+	router := trusted.issue("router.example", time.Hour)
+	for _, row := range []struct {
+		name   string
+		cache  tls.Certificate
+		router []tls.Certificate
+		says   string
+	}{
+		{"another name", trusted.issue("other.example", time.Hour), []tls.Certificate{router},
+			"not " + cacheName},
+		{"nobody", nobody.issue(cacheName, time.Hour), []tls.Certificate{router},
+			"unknown authority"},
+		{"ended", trusted.issue(cacheName, -time.Minute), []tls.Certificate{router}, "expired"},
+		// What the cache says of the router's may be lost when it closes.
+		{"no router's", trusted.issue(cacheName, time.Hour), nil, ""},
+		{"router of nobody", trusted.issue(cacheName, time.Hour),
+			[]tls.Certificate{nobody.issue("router.example", time.Hour)}, ""},
+	} {
+		t.Run(row.name, func(t *testing.T) {
+			address := startedTLS(t, row.cache, trusted.pool())
+			ctx, cancel := context.WithTimeout(context.Background(), tlsWait)
+			defer cancel()
+			data, err := overTLS(address, cacheName, trusted.pool(), row.router...).Fetch(ctx)
+			if err == nil || !strings.Contains(err.Error(), row.says) || !data.IsZero() {
+				t.Errorf("%d payloads, %v", data.Len(), err)
+			}
+		})
+	}
+}
+
+// A peer that takes the connection and never shakes hands is left after the time for a connection.
+func TestStalledHandshake(t *testing.T) {
+	listener, err := net.Listen("tcp", "127.0.0.1:0")
+	if err != nil {
+		t.Fatal(err)
+	}
+	defer listener.Close()
+	client := overTLS(listener.Addr().String(), cacheName, newAuthority(t).pool())
+	client.Limits.Dial = 50 * time.Millisecond
+	ctx, cancel := context.WithTimeout(context.Background(), tlsWait)
+	defer cancel()
+	if _, err := client.Fetch(ctx); !errors.Is(err, rtr.ErrTooSlow) {
+		t.Error(err)
+	}
+}
+
+// A connection that is there already is the only one of its client: Run ends with it.
+func TestClientOfAConnection(t *testing.T) {
+	listener, err := net.Listen("tcp", "127.0.0.1:0")
+	if err != nil {
+		t.Fatal(err)
+	}
+	defer listener.Close()
+	go func() {
+		cache, err := listener.Accept()
+		if err != nil {
+			return
+		}
+		defer cache.Close()
+		if _, err := cache.Read(make([]byte, 8)); err == nil {
+			cache.Write(append([]byte{1, 3, 0, 7, 0, 0, 0, 8}, twoPayloads(t).Bytes()...))
+		}
+	}()
+	connection, err := net.Dial("tcp", listener.Addr().String())
+	if err != nil {
+		t.Fatal(err)
+	}
+	shown := 0
+	err = rtr.NewClientConn(connection).Run(context.Background(), func(update rtr.Update) error {
+		shown = update.Data.Len()
+		return nil
+	})
+	if shown != 2 || !errors.Is(err, rtr.ErrClosed) {
+		t.Errorf("%d payloads, %v", shown, err)
+	}
+}
+
+// An error of Dial is that of the failure, and the client goes on.
+func TestDialFails(t *testing.T) {
+	refused := errors.New("refused")
+	ctx, cancel := context.WithCancel(context.Background())
+	defer cancel()
+	dials := 0
+	client := rtr.NewClient("nowhere")
+	client.Limits.Pause = time.Millisecond
+	client.Dial = func(_ context.Context, network, address string) (net.Conn, error) {
+		if network != "tcp" || address != "nowhere" {
+			t.Errorf("%s %s", network, address)
+		}
+		if dials++; dials == 2 {
+			cancel()
+		}
+		return nil, refused
+	}
+	client.Failed = func(err error) {
+		if !errors.Is(err, refused) && !errors.Is(err, os.ErrDeadlineExceeded) {
+			t.Error(err)
+		}
+	}
+	err := client.Run(ctx, func(rtr.Update) error { return nil })
+	if dials != 2 || !errors.Is(err, context.Canceled) {
+		t.Errorf("%d times, %v", dials, err)
+	}
+}
