@@ -1,6 +1,7 @@
 """Our clients and caches: the examples in C, Go and Rust, where they are."""
 import collections
 import contextlib
+import itertools
 import json
 import os
 import shutil
@@ -99,7 +100,7 @@ def clients(folder):
 
 def caches(folder):
     """Our caches that can be built here."""
-    examples = [Example(language, "cache", folder) for language in ("Go", "Rust")]
+    examples = [Example(language, "cache", folder) for language in BUILDS]
     return [example for example in examples if not example.lacks()]
 
 
@@ -115,8 +116,7 @@ def build_all(folder):
 def say_absent(results, folder):
     """Names what of ours isn't here."""
     with Pair(results, "our side", "our", "examples") as pair:
-        for language, name in [(language, "client") for language in BUILDS] + [("Go", "cache"),
-                                                                               ("Rust", "cache")]:
+        for language, name in itertools.product(BUILDS, ("client", "cache")):
             lacks = Example(language, name, folder).lacks()
             if lacks:
                 pair.skip(f"{name} in {language}", lacks)

@@ -1,0 +1,546 @@
+/* A cache: serves the data of a file to routers, and takes it up again when it changes (RFC 8210).
+ *
+ * usage: cache FILE [--listen ADDRESS:PORT].. [--refuse]    at [::]:3323 if none is named
+ *
+ * The file has a sequence that only announces, in any order, with or without a cache response
+ * before it. Put another in its place by renaming: one that can't be taken is named, and the data
+ * before it stay. Beside it, as FILE.kept, the cache keeps what it has, for routers that ask after
+ * it was started again. With --refuse a serial query whose changes can't be told is answered by a
+ * report of code 0. On standard error is where it listens, which data it took, and why a file or a
+ * router was refused, with the time in UTC. It ends with status 0 after a signal, 1 where it can't
+ * serve, else with 2. */
+#define _GNU_SOURCE
+#include <errno.h>
+#include <fcntl.h>
+#include <inttypes.h>
+#include <malloc.h>
+#include <netdb.h>
+#include <netinet/in.h>
+#include <signal.h>
+#include <stdarg.h>
+#include <stdio.h>
+#include <stdlib.h>
+#include <string.h>
+#include <sys/epoll.h>
+#include <sys/socket.h>
+#include <sys/stat.h>
+#include <time.h>
+#include <unistd.h>
+#include "rtr_cache.h"
+
+/* Times in milliseconds: between two looks at the file, after an accept that failed, and to read
+ * what a router still sends after the last bytes were sent. */
+enum { LOOK = 250, REST = 100, LINGER = 200 };
+
+/* How many connections above the limit are told so at once, and how long a file may be. */
+enum { MOST_REFUSED = 64, LISTENERS = 16, EVENTS = 64, BUFFER = 1 << 16 };
+static const off_t most_bytes = 1 << 28;
+
+/* A connection, in a list of them all. */
+struct connection {
+    struct connection *next, **place;
+    int socket;
+    bool closing, sending; /* whether it ends, and whether it waits until it may send */
+    int64_t until;         /* when something is to be done with it */
+    char name[80];
+    struct rtr_served served;
+};
+
+/* What shows that a file is another than before. */
+struct stamp {
+    dev_t device;
+    ino_t inode;
+    off_t size;
+    struct timespec written, changed;
+};
+
+static struct rtr_server server;
+static struct connection *connections;
+static size_t taken; /* connections, those above the limit too */
+static int64_t due = INT64_MAX; /* when something is to be done with one of them */
+static int poller, listeners[LISTENERS], listening;
+static volatile sig_atomic_t ended;
+
+/* Times by a clock that doesn't go back, and since 1970. */
+static int64_t time_of(clockid_t clock)
+{
+    struct timespec time;
+    clock_gettime(clock, &time);
+    return (int64_t)time.tv_sec * 1000 + time.tv_nsec / 1000000;
+}
+
+static int64_t now(void)
+{
+    return time_of(CLOCK_MONOTONIC);
+}
+
+/* Writes a line on standard error, with the time before it. */
+static void say(const char *format, ...)
+{
+    char line[5000], date[32];
+    time_t seconds = time(NULL);
+    struct tm utc;
+    va_list words;
+    va_start(words, format);
+    vsnprintf(line, sizeof line, format, words);
+    va_end(words);
+    strftime(date, sizeof date, "%Y-%m-%dT%H:%M:%SZ", gmtime_r(&seconds, &utc));
+    fprintf(stderr, "%s %s\n", date, line);
+}
+
+/* ---- connections */
+
+/* The address and port of a socket or of its peer. */
+static void name_of(int one, bool peer, char *name, size_t size)
+{
+    char host[64], port[8];
+    struct sockaddr_storage address;
+    socklen_t length = sizeof address;
+    int failed = (peer ? getpeername : getsockname)(one, (struct sockaddr *)&address, &length);
+    if (failed || getnameinfo((struct sockaddr *)&address, length, host, sizeof host, port,
+                              sizeof port, NI_NUMERICHOST | NI_NUMERICSERV))
+        snprintf(name, size, "unknown");
+    else
+        snprintf(name, size, strchr(host, ':') ? "[%s]:%s" : "%s:%s", host, port);
+}
+
+/* Waits for what a connection reads, or also until it may send. */
+static void wait_for(struct connection *c, int how, bool sending)
+{
+    struct epoll_event event = {.events = sending ? EPOLLOUT : EPOLLIN, .data.ptr = c};
+    epoll_ctl(poller, how, c->socket, &event);
+    c->sending = sending;
+}
+
+/* Says when something is to be done with a connection, if nothing comes before. */
+static void wait_until(struct connection *c, int64_t until)
+{
+    c->until = until;
+    due = until < due ? until : due;
+}
+
+static void forget(struct connection *c)
+{
+    taken -= 1;
+    *c->place = c->next;
+    if (c->next)
+        c->next->place = c->place;
+    close(c->socket);
+    rtr_served_free(&c->served);
+    free(c);
+}
+
+/* Sends what can be sent; false where the connection broke. */
+static bool send_some(struct connection *c)
+{
+    struct rtr_part parts[2];
+    int count;
+    while ((count = rtr_served_output(&c->served, parts)) > 0) {
+        struct iovec pieces[2];
+        for (int i = 0; i < count; i++)
+            pieces[i] = (struct iovec){(void *)(uintptr_t)parts[i].at, parts[i].length};
+        struct msghdr message = {.msg_iov = pieces, .msg_iovlen = (size_t)count};
+        ssize_t sent = sendmsg(c->socket, &message, MSG_NOSIGNAL | MSG_DONTWAIT);
+        if (sent < 0 && errno == EAGAIN)
+            return true;
+        if (sent < 0 && errno != EINTR) {
+            rtr_served_lost(&c->served, strerror(errno));
+            return false;
+        }
+        if (sent > 0)
+            rtr_served_sent(&c->served, now(), (size_t)sent);
+    }
+    return true;
+}
+
+/* Reads what came. Answers whether something did, or the router closed. */
+static bool read_some(struct connection *c)
+{
+    size_t length;
+    uint8_t *room = rtr_served_room(&c->served, &length);
+    ssize_t count = length ? recv(c->socket, room, length, MSG_DONTWAIT) : -1;
+    if (count > 0)
+        rtr_served_received(&c->served, now(), (size_t)count);
+    else if (length && (count == 0 || (errno != EAGAIN && errno != EINTR)))
+        rtr_served_lost(&c->served, count < 0 ? strerror(errno) : NULL);
+    else
+        return false;
+    return true;
+}
+
+/* Sends the last bytes of a connection, and then reads until the router closes, or for a moment:
+ * bytes of it that weren't read would have the last ones lost. */
+static void go_on_closing(struct connection *c)
+{
+    uint8_t lost[4096];
+    struct rtr_part parts[2];
+    bool sends = send_some(c), sent = sends && !rtr_served_output(&c->served, parts);
+    if (sent && c->sending) {
+        shutdown(c->socket, SHUT_WR);
+        wait_until(c, now() + LINGER);
+        wait_for(c, EPOLL_CTL_MOD, false);
+    }
+    ssize_t count = 1;
+    while (sent && count > 0)
+        count = recv(c->socket, lost, sizeof lost, MSG_DONTWAIT);
+    bool reads = !sent || (count < 0 && errno == EAGAIN);
+    if (!sends || !reads || now() >= c->until)
+        forget(c);
+}
+
+static void begin_closing(struct connection *c)
+{
+    if (c->served.text[0])
+        say("%s: %s", c->name, c->served.text);
+    c->closing = true;
+    wait_until(c, c->served.wakes);
+    wait_for(c, EPOLL_CTL_MOD, true);
+    go_on_closing(c);
+}
+
+/* Does all that there is to do for a connection now. */
+static void go_on(struct connection *c)
+{
+    struct rtr_part parts[2];
+    bool more = true;
+    while (more) {
+        if (rtr_served_next(&c->served, now()) == RTR_SERVED_CLOSE) {
+            begin_closing(c);
+            return;
+        }
+        more = !send_some(c) || (!rtr_served_output(&c->served, parts) && read_some(c));
+    }
+    bool sending = rtr_served_output(&c->served, parts) > 0;
+    if (sending != c->sending)
+        wait_for(c, EPOLL_CTL_MOD, sending);
+    wait_until(c, c->served.wakes);
+}
+
+static void act(struct connection *c)
+{
+    if (c->closing)
+        go_on_closing(c);
+    else
+        go_on(c);
+}
+
+/* Takes a connection. */
+static void take(int one)
+{
+    int bytes = BUFFER;
+    bool refused = taken - server.connections >= MOST_REFUSED;
+    struct connection *c = refused ? NULL : calloc(1, sizeof *c);
+    if (!c) {
+        close(one);
+        return;
+    }
+    taken += 1;
+    setsockopt(one, SOL_SOCKET, SO_SNDBUF, &bytes, sizeof bytes);
+    c->socket = one;
+    name_of(one, true, c->name, sizeof c->name);
+    c->next = connections;
+    c->place = &connections;
+    if (c->next)
+        c->next->place = &c->next;
+    connections = c;
+    rtr_served_init(&c->served, &server, now());
+    wait_for(c, EPOLL_CTL_ADD, false);
+    go_on(c);
+}
+
+/* Takes the connections that wait; when none are taken for a while, answers false. */
+static bool take_all(int listener)
+{
+    int one;
+    while ((one = accept4(listener, NULL, NULL, SOCK_NONBLOCK | SOCK_CLOEXEC)) >= 0)
+        take(one);
+    return errno == EAGAIN || errno == EINTR || errno == ECONNABORTED;
+}
+
+/* Does what is due of all connections, or all of them where there are new data. */
+static void act_all(bool all)
+{
+    int64_t time = now();
+    due = INT64_MAX;
+    for (struct connection *c = connections, *next; c; c = next) {
+        next = c->next;
+        if (all || time >= c->until)
+            act(c);
+        else
+            due = c->until < due ? c->until : due;
+    }
+}
+
+/* ---- the file */
+
+/* A file that is looked at, with the descriptor that is kept for it. */
+struct watched {
+    const char *path;
+    char kept[4096], beside[4096]; /* the file of editions, and where it is written first */
+    struct stamp seen;
+    char failed[200]; /* why the system couldn't give it */
+    int spare;
+    bool unsaved;
+};
+
+static struct stamp stamp_of(const char *path)
+{
+    struct stat now;
+    struct stamp stamp;
+    memset(&stamp, 0, sizeof stamp);
+    if (stat(path, &now) == 0) {
+        stamp.device = now.st_dev;
+        stamp.inode = now.st_ino;
+        stamp.size = now.st_size;
+        stamp.written = now.st_mtim;
+        stamp.changed = now.st_ctim;
+    }
+    return stamp;
+}
+
+/* Reads a file into memory that is to be freed; null where that fails, with the reason in errno. */
+static uint8_t *read_file(const char *path, size_t *length)
+{
+    struct stat now;
+    int file = open(path, O_RDONLY | O_CLOEXEC);
+    ssize_t count = file < 0 || fstat(file, &now) ? -1 : 1;
+    bool long_one = count > 0 && now.st_size > most_bytes;
+    uint8_t *bytes = count > 0 && !long_one ? malloc((size_t)now.st_size + 1) : NULL;
+    errno = long_one ? EFBIG : errno;
+    for (*length = 0; bytes && count > 0; *length += count > 0 ? (size_t)count : 0)
+        count = read(file, bytes + *length, (size_t)now.st_size - *length);
+    int error = errno;
+    if (file >= 0)
+        close(file);
+    if (bytes && count < 0) {
+        free(bytes);
+        bytes = NULL;
+    }
+    errno = error;
+    return bytes;
+}
+
+/* Says which data the server has now, or why it doesn't take others. */
+static void say_update(const char *path, enum rtr_update update)
+{
+    if (update == RTR_UPDATE_TAKEN)
+        say("%s: session %u serial %" PRIu32 ": %zu payloads", path, server.present.session,
+            server.present.serial, server.payloads);
+    else if (update == RTR_UPDATE_REFUSED)
+        say("%s: %s, at byte %zu", path, rtr_update_text(&server, update), server.offset);
+    else if (update == RTR_UPDATE_SERIAL)
+        say("%s: serial %" PRIu32 " of other data isn't after serial %" PRIu32, path,
+            server.refused, server.present.serial);
+    else if (update != RTR_UPDATE_SAME)
+        say("%s: %s", path, rtr_update_text(&server, update));
+}
+
+static bool write_to(void *file, const void *bytes, size_t length)
+{
+    return fwrite(bytes, 1, length, file) == length;
+}
+
+/* Keeps what the server has, in another file that then gets the name. */
+static void save(struct watched *w)
+{
+    FILE *file = fopen(w->beside, "wbe");
+    bool written = file && rtr_server_save(&server, now(), time_of(CLOCK_REALTIME), write_to, file);
+    if (file && fclose(file))
+        written = false;
+    if (!written || rename(w->beside, w->kept))
+        say("%s: %s", w->kept, strerror(errno));
+    w->unsaved = false;
+}
+
+/* Takes what the cache before this one kept. */
+static void restore(struct watched *w)
+{
+    size_t length;
+    uint8_t *bytes = read_file(w->kept, &length);
+    if (bytes)
+        say_update(w->kept, rtr_server_restore(&server, now(), time_of(CLOCK_REALTIME), bytes,
+                                               length));
+    else if (errno != ENOENT)
+        say("%s: %s", w->kept, strerror(errno));
+    free(bytes);
+}
+
+/* Says that the system can't give the file, if it hasn't yet. */
+static void fail(struct watched *w, const char *reason)
+{
+    if (strcmp(w->failed, reason))
+        say("%s: %s", w->path, reason);
+    snprintf(w->failed, sizeof w->failed, "%s", reason);
+}
+
+/* Takes the file, if it is another than before or couldn't be had then. */
+static void look(struct watched *w)
+{
+    size_t length;
+    struct stamp stamp = stamp_of(w->path);
+    if (w->unsaved)
+        save(w);
+    if (!w->failed[0] && !memcmp(&stamp, &w->seen, sizeof stamp))
+        return;
+    if (w->spare >= 0)
+        close(w->spare);
+    uint8_t *bytes = read_file(w->path, &length);
+    int error = errno;
+    w->spare = open("/dev/null", O_RDONLY | O_CLOEXEC);
+    w->seen = stamp;
+    if (!bytes && error == EFBIG) {
+        w->failed[0] = 0;
+        say("%s: more than %lld bytes", w->path, (long long)most_bytes);
+    } else if (!bytes) {
+        fail(w, strerror(error));
+    } else {
+        w->failed[0] = 0;
+        enum rtr_update update = rtr_server_update(&server, now(), bytes, length);
+        free(bytes);
+        say_update(w->path, update);
+        w->unsaved = update == RTR_UPDATE_TAKEN;
+        if (w->unsaved)
+            act_all(true);
+    }
+}
+
+/* ---- the program */
+
+/* Listens at each address of a host and a port; false, if it can't. */
+static bool listen_at(char *word)
+{
+    char name[80], *colon = strrchr(word, ':');
+    struct addrinfo hints = {.ai_socktype = SOCK_STREAM, .ai_flags = AI_PASSIVE}, *found = NULL;
+    if (!colon) {
+        say("%s: no port", word);
+        return false;
+    }
+    bool bracketed = word[0] == '[' && colon > word && colon[-1] == ']';
+    char *host = strndup(word + bracketed, (size_t)(colon - word) - 2 * bracketed);
+    int yes = 1, no = 0, error = host ? getaddrinfo(*host ? host : NULL, colon + 1, &hints, &found)
+                                      : EAI_MEMORY;
+    free(host);
+    if (error) {
+        say("%s: %s", word, gai_strerror(error));
+        return false;
+    }
+    int one = socket(found->ai_family, SOCK_STREAM | SOCK_CLOEXEC | SOCK_NONBLOCK, 0);
+    setsockopt(one, SOL_SOCKET, SO_REUSEADDR, &yes, sizeof yes);
+    if (found->ai_family == AF_INET6)
+        setsockopt(one, IPPROTO_IPV6, IPV6_V6ONLY, &no, sizeof no);
+    bool listens = !bind(one, found->ai_addr, found->ai_addrlen) && !listen(one, SOMAXCONN);
+    freeaddrinfo(found);
+    if (!listens) {
+        say("%s: %s", word, strerror(errno));
+        return false;
+    }
+    name_of(one, false, name, sizeof name);
+    say("listening on %s", name);
+    listeners[listening++] = one;
+    return true;
+}
+
+/* Has the listeners looked at, or not for a moment after one failed. */
+static void look_at_listeners(bool looked_at)
+{
+    for (int i = 0; i < listening; i++) {
+        struct epoll_event event = {.events = EPOLLIN, .data.ptr = &listeners[i]};
+        epoll_ctl(poller, looked_at ? EPOLL_CTL_ADD : EPOLL_CTL_DEL, listeners[i], &event);
+    }
+}
+
+static bool is_listener(const void *one)
+{
+    return (const int *)one >= listeners && (const int *)one < listeners + listening;
+}
+
+static void end(int number)
+{
+    (void)number;
+    ended = 1;
+}
+
+/* Waits for what comes, at most so long, and does what is to be done; false where a listener
+ * failed. Only here a signal ends the program. */
+static bool serve(int64_t until, const sigset_t *signals)
+{
+    bool good = true;
+    struct epoll_event events[EVENTS];
+    int64_t left = (until < due ? until : due) - now();
+    int count = epoll_pwait(poller, events, EVENTS, left < 0 ? 0 : (int)left, signals);
+    for (int i = 0; i < count; i++) {
+        if (is_listener(events[i].data.ptr))
+            good = take_all(*(int *)events[i].data.ptr) && good;
+        else
+            act(events[i].data.ptr);
+    }
+    if (now() >= due)
+        act_all(false);
+    return good;
+}
+
+/* Serves until a signal comes. */
+static void run(struct watched *w, const sigset_t *signals)
+{
+    int64_t next = now(), again = INT64_MAX;
+    look_at_listeners(true);
+    restore(w);
+    while (!ended) {
+        if (now() >= next) {
+            look(w);
+            next = now() + LOOK;
+        }
+        if (!serve(next < again ? next : again, signals)) {
+            look_at_listeners(false);
+            again = now() + REST;
+        } else if (now() >= again) {
+            look_at_listeners(true);
+            again = INT64_MAX;
+        }
+    }
+    if (w->unsaved)
+        save(w);
+}
+
+int main(int count, char **words)
+{
+    static char anywhere[] = "[::]:3323";
+    static struct watched w = {.failed = "not tried", .spare = -1};
+    char *addresses[LISTENERS];
+    int named = 0;
+    bool understood = true, refuse = false;
+    for (int i = 1; i < count; i++) {
+        if (!strcmp(words[i], "--listen") && i + 1 < count && named < LISTENERS)
+            addresses[named++] = words[++i];
+        else if (!strcmp(words[i], "--refuse"))
+            refuse = true;
+        else if (words[i][0] != '-' && words[i][0] && !w.path)
+            w.path = words[i];
+        else
+            understood = false;
+    }
+    if (!understood || !w.path || strlen(w.path) > sizeof w.kept - 16) {
+        fprintf(stderr, "usage: cache FILE [--listen ADDRESS:PORT].. [--refuse]\n");
+        return 2;
+    }
+    if (!named)
+        addresses[named++] = anywhere;
+    snprintf(w.kept, sizeof w.kept, "%s.kept", w.path);
+    snprintf(w.beside, sizeof w.beside, "%s.kept.new", w.path);
+    sigset_t blocked, signals;
+    sigemptyset(&blocked);
+    sigaddset(&blocked, SIGINT);
+    sigaddset(&blocked, SIGTERM);
+    sigprocmask(SIG_BLOCK, &blocked, &signals);
+    signal(SIGINT, end);
+    signal(SIGTERM, end);
+    mallopt(M_MMAP_THRESHOLD, BUFFER); /* so that the memory of data is given back */
+    poller = epoll_create1(EPOLL_CLOEXEC);
+    rtr_server_init(&server);
+    server.settings.refuses = refuse;
+    for (int i = 0; i < named; i++)
+        if (!listen_at(addresses[i]))
+            return 1;
+    run(&w, &signals);
+    return 0;
+}

@@ -1,0 +1,316 @@
+#!/usr/bin/env python3
+"""Runs the cache in C beside routers on the loopback interface that behave or don't.
+
+usage: cache_test.py PROGRAM [TEST..]
+
+The program is `cache.c` with `rtr_cache.c`. Without names all tests are run. What is expected is
+computed here. Quiet but for a line if all is well.
+"""
+import contextlib
+import os
+import re
+import resource
+import signal
+import socket
+import struct
+import subprocess
+import sys
+import tempfile
+import time
+
+PROGRAM = sys.argv[1] if len(sys.argv) > 1 else sys.exit(__doc__)
+SESSION = 4660
+PATIENCE = 120  # seconds for something that has to come
+TIMINGS = (3600, 600, 7200)
+DATE = r"\d{4}-\d\d-\d\dT\d\d:\d\d:\d\dZ "
+
+
+# ---- units (RFC 8210 section 5)
+
+def unit(version, kind, field, body=b""):
+    return struct.pack(">BBHI", version, kind, field, 8 + len(body)) + body
+
+
+def prefix(asn, announce=1, version=1):
+    """10.0.0.0/8-24 of an AS."""
+    return unit(version, 4, 0, bytes([announce, 8, 24, 0, 10, 0, 0, 0]) + struct.pack(">I", asn))
+
+
+def end(serial, session=SESSION, version=1):
+    timings = struct.pack(">3I", *TIMINGS) if version else b""
+    return unit(version, 7, session, struct.pack(">I", serial) + timings)
+
+
+def data(serial, asns, session=SESSION):
+    return b"".join(map(prefix, asns)) + end(serial, session)
+
+
+def response(content, session=SESSION):
+    return unit(1, 3, session) + content
+
+
+def serial_query(serial, session=SESSION, version=1):
+    return unit(version, 1, session, struct.pack(">I", serial))
+
+
+def notify(serial):
+    return unit(1, 0, SESSION, struct.pack(">I", serial))
+
+
+RESET_QUERY, RESET = unit(1, 2, 0), unit(1, 8, 0)
+
+
+# ---- a cache, and routers beside it
+
+class Cache:
+    """The program over a file in a folder of its own, which it leaves there."""
+
+    def __init__(self, folder, words=(), files=None):
+        self.path, self.log = os.path.join(folder, "data"), os.path.join(folder, "log")
+        limit = (lambda: resource.setrlimit(resource.RLIMIT_NOFILE, (files, files))) \
+            if files else None
+        with open(self.log, "w", encoding="utf-8") as log:
+            self.process = subprocess.Popen([PROGRAM, self.path, "--listen", "127.0.0.1:0", *words],
+                                            stderr=log, preexec_fn=limit)
+        found = self.says(r"listening on 127\.0\.0\.1:(\d+)")
+        self.port = int(found[1])
+
+    def __enter__(self):
+        return self
+
+    def __exit__(self, *_):
+        self.process.send_signal(signal.SIGTERM)
+        assert self.process.wait(PATIENCE) == 0
+
+    def lines(self, text):
+        """How many lines match this, with the time before it."""
+        with open(self.log, encoding="utf-8") as log:
+            return len(re.findall(f"^{DATE}{text}$", log.read(), re.MULTILINE))
+
+    def says(self, text):
+        """Waits for a line that matches this."""
+        ends = time.monotonic() + PATIENCE
+        while time.monotonic() < ends:
+            with open(self.log, encoding="utf-8") as log:
+                found = re.search(f"^{DATE}{text}$", log.read(), re.MULTILINE)
+            if found:
+                return found
+            assert self.process.poll() is None, self.process.returncode
+            time.sleep(0.02)
+        raise AssertionError(text)
+
+    def takes(self, serial, count, session=SESSION):
+        """Waits until it has taken data."""
+        self.says(rf"{re.escape(self.path)}: session {session} serial {serial}: {count} payloads")
+
+    def memory(self):
+        """The memory that it has, in bytes."""
+        with open(f"/proc/{self.process.pid}/statm", encoding="ascii") as file:
+            return int(file.read().split()[1]) * resource.getpagesize()
+
+
+@contextlib.contextmanager
+def started(content, **settings):
+    """A cache over a file with this content."""
+    with tempfile.TemporaryDirectory() as folder:
+        put(os.path.join(folder, "data"), content)
+        with Cache(folder, **settings) as cache:
+            yield cache
+
+
+def put(path, content):
+    """Puts a file in the place of another."""
+    with open(path + ".other", "wb") as file:
+        file.write(content)
+    os.replace(path + ".other", path)
+
+
+class Router:
+    """A connection to a cache."""
+
+    def __init__(self, cache, size=None):
+        self.socket = socket.socket()
+        if size:
+            self.socket.setsockopt(socket.SOL_SOCKET, socket.SO_RCVBUF, size)
+        self.socket.settimeout(PATIENCE)
+        self.socket.connect(("127.0.0.1", cache.port))
+
+    def __enter__(self):
+        return self
+
+    def __exit__(self, *_):
+        self.socket.close()
+
+    def asks(self, query, wanted):
+        """Sends a query, and gets exactly this."""
+        self.socket.sendall(query)
+        self.gets(wanted)
+
+    def gets(self, wanted):
+        """Gets exactly this."""
+        got = b""
+        while len(got) < len(wanted):
+            piece = self.socket.recv(len(wanted) - len(got))
+            assert piece, (got.hex(), wanted[:100].hex())
+            got += piece
+        assert got == wanted, (got[:100].hex(), wanted[:100].hex())
+
+    def gets_report(self, version, code):
+        """Gets a report of this code, and then the end."""
+        head = self.socket.recv(8, socket.MSG_WAITALL)
+        assert head[:4] == struct.pack(">BBH", version, 10, code), head.hex()
+        self.socket.recv(struct.unpack(">I", head[4:])[0] - 8, socket.MSG_WAITALL)
+        self.ends()
+
+    def ends(self):
+        """Is ended by the cache."""
+        with contextlib.suppress(ConnectionResetError):
+            while self.socket.recv(1 << 16):
+                pass
+
+
+# ---- tests
+
+def test_arguments():
+    for words in ([], ["--listen", "a:1"], ["a", "b"], ["a", "--listen"], ["a", "--other"],
+                  ["--help"]):
+        done = subprocess.run([PROGRAM, *words], capture_output=True, timeout=PATIENCE, check=False)
+        assert done.returncode == 2 and done.stderr.startswith(b"usage: cache "), words
+    for where in ("192.0.2.1:3323", "nowhere", "127.0.0.1:no-such-port"):
+        done = subprocess.run([PROGRAM, "a", "--listen", where], capture_output=True,
+                              timeout=PATIENCE, check=False)
+        assert done.returncode == 1 and where.encode() in done.stderr, where
+
+
+def test_answers():
+    with started(data(1, [1, 2])) as cache:
+        cache.takes(1, 2)
+        with Router(cache) as router, Router(cache) as other:
+            router.asks(RESET_QUERY, response(data(1, [1, 2])))
+            router.asks(serial_query(1), response(end(1)))
+            other.asks(serial_query(7), RESET)
+            put(cache.path, data(2, [2, 3]))
+            changes = response(prefix(3) + prefix(1, 0) + end(2))
+            for each in (router, other):
+                each.gets(notify(2))
+            router.asks(serial_query(1), changes)
+            other.asks(RESET_QUERY, response(data(2, [2, 3])))
+            put(cache.path, data(1, [4], session=5))
+            router.ends()
+            other.ends()
+        cache.takes(1, 1, 5)
+        assert cache.lines(r"127\.0\.0\.1:\d+: the data are of a new session") == 2
+        with Router(cache) as router:
+            router.socket.sendall(unit(1, 3, 0))
+            router.gets_report(1, 3)
+        cache.says(r"127\.0\.0\.1:\d+: unit is not a query")
+
+
+def test_half_closed():
+    """A router that only reads still gets its answer."""
+    with started(data(1, [1, 2])) as cache, Router(cache) as router:
+        cache.takes(1, 2)
+        router.socket.sendall(RESET_QUERY)
+        router.socket.shutdown(socket.SHUT_WR)
+        router.gets(response(data(1, [1, 2])))
+        router.ends()
+
+
+def test_refuse():
+    with started(data(1, [1]), words=["--refuse"]) as cache, Router(cache) as router:
+        cache.takes(1, 1)
+        router.socket.sendall(serial_query(7))
+        router.gets_report(1, 0)
+
+
+def test_file():
+    """A file that isn't there, is torn, has no later serial number, or only looks as before."""
+    with tempfile.TemporaryDirectory() as folder, Cache(folder) as cache:
+        cache.says(".*: No such file or directory")
+        with Router(cache) as router:
+            router.socket.sendall(RESET_QUERY)
+            assert router.socket.recv(8)[:4] == struct.pack(">BBH", 1, 10, 2)
+        put(cache.path, data(1, [1])[:-1])
+        cache.says(".*: unexpected end of input, at byte 20")
+        put(cache.path, data(1, [1]))
+        cache.takes(1, 1)
+        put(cache.path, data(1, [2]))
+        cache.says(".*: serial 1 of other data isn't after serial 1")
+        put(cache.path, prefix(1) + prefix(2, 0) + end(2))
+        cache.says(".*: not in canonical form, at byte 20")
+        put(cache.path, data(2, [1])[:-1] + b"\1")
+        cache.takes(2, 1)
+        put(cache.path, data(2, [1]))
+        cache.says(".*: new timings want a new serial number")
+        before = os.stat(cache.path)
+        with open(cache.path + ".other", "wb") as file:
+            file.write(data(3, [1]))
+        os.utime(cache.path + ".other", ns=(before.st_atime_ns, before.st_mtime_ns))
+        os.replace(cache.path + ".other", cache.path)
+        cache.takes(3, 1)
+        assert cache.lines(".*: No such file or directory") == 1
+
+
+def test_restart():
+    """A cache that is started again tells the changes from before; not where its file is torn."""
+    with tempfile.TemporaryDirectory() as folder:
+        path = os.path.join(folder, "data")
+        put(path, data(1, [1]))
+        with Cache(folder) as cache:
+            cache.takes(1, 1)
+            put(path, data(2, [1, 2]))
+            cache.takes(2, 2)
+        put(path, data(3, [2, 3]))
+        with Cache(folder) as cache, Router(cache) as router:
+            cache.takes(3, 2)
+            router.asks(serial_query(1), response(prefix(2) + prefix(3) + prefix(1, 0) + end(3)))
+            router.asks(serial_query(2), response(prefix(3) + prefix(1, 0) + end(3)))
+        with open(path + ".kept", "r+b") as file:
+            file.truncate(os.path.getsize(path + ".kept") - 1)
+        with Cache(folder) as cache, Router(cache) as router:
+            cache.says(r".*\.kept: the file of editions is torn")
+            cache.takes(3, 2)
+            router.asks(serial_query(2), RESET)
+
+
+def test_descriptors():
+    """With no descriptor left the file is still read, and routers are taken once there is one."""
+    with started(data(1, [1]), files=40) as cache:
+        cache.takes(1, 1)
+        routers = [Router(cache) for _ in range(60)]
+        routers[0].asks(RESET_QUERY, response(data(1, [1])))
+        put(cache.path, data(2, [1, 2]))
+        routers[0].gets(notify(2))
+        routers[0].asks(serial_query(1), response(prefix(2) + end(2)))
+        for router in routers[:40]:
+            router.socket.close()
+        routers[59].asks(RESET_QUERY, response(data(2, [1, 2])))
+        for router in routers[40:]:
+            router.socket.close()
+
+
+def test_memory():
+    """Routers that take nothing hold no data but those of the last editions."""
+    count, table = 100_000, 100_000 * 20
+    with started(data(1, range(count))) as cache, contextlib.ExitStack() as stack:
+        cache.takes(1, count)
+        for serial in range(2, 17):
+            slow = [stack.enter_context(Router(cache, 4096)) for _ in range(3)]
+            for router in slow:
+                router.socket.sendall(RESET_QUERY)
+                router.socket.recv(8)
+            put(cache.path, data(serial, range(serial, serial + count)))
+            cache.takes(serial, count)
+        assert cache.memory() < 6_000_000 + 3 * table, cache.memory()
+        ended = cache.lines(r"127\.0\.0\.1:\d+: the router is more than two editions behind")
+        assert ended == 3 * 13, ended
+
+
+def main():
+    names = sys.argv[2:] or sorted(name for name in globals() if name.startswith("test_"))
+    for name in names:
+        globals()[name]()
+    print(f"cache in C: {len(names)} tests")
+
+
+main()

@@ -1,0 +1,774 @@
+/* Tests of rtr_cache.h with a clock and routers that are played, and memory that is counted and
+ * denied: link it with -Wl,--wrap=malloc,--wrap=realloc,--wrap=free. What is expected is written by
+ * hand, after RFC 8210 and docs/SESSIONS.md.
+ *
+ * usage: rtr_cache_tests [SESSIONS]   with so many sessions of random bytes; 3000 if not said */
+#include "counting.h"
+#include "rtr_cache.h"
+
+_Static_assert(sizeof(struct rtr_served) == 432, "rtr_cache.h says how large it is");
+
+static struct rtr_server s;
+static struct rtr_served v;
+static int64_t now = 1000000;
+
+/* What a connection has sent that isn't looked at yet, and how many bytes a router takes. */
+static struct text said;
+static size_t piece = SIZE_MAX;
+
+/* Has the connection do all that there is to do; what it answers then. */
+static enum rtr_served_event runs(void)
+{
+    struct rtr_part parts[2];
+    for (;;) {
+        enum rtr_served_event one = rtr_served_next(&v, now);
+        CHECK(one == RTR_SERVED_CLOSE || v.wakes > now);
+        CHECK(strlen(v.text) < sizeof v.text);
+        int count = rtr_served_output(&v, parts);
+        if (count == 0)
+            return one;
+        size_t length = parts[0].length < piece ? parts[0].length : piece;
+        add(&said, parts[0].at, length);
+        rtr_served_sent(&v, now, length);
+    }
+}
+
+static void begins(void)
+{
+    said.length = 0;
+    rtr_served_init(&v, &s, now);
+    CHECK(runs() == RTR_SERVED_WAIT && said.length == 0);
+}
+
+/* These bytes come. */
+static void comes(const void *bytes, size_t length)
+{
+    for (size_t at = 0, most; at < length; at += most) {
+        uint8_t *room = rtr_served_room(&v, &most);
+        most = length - at < most ? length - at : most;
+        CHECK(most > 0);
+        memcpy(room, (const uint8_t *)bytes + at, most);
+        rtr_served_received(&v, now, most);
+        if (runs() == RTR_SERVED_CLOSE)
+            return;
+    }
+}
+
+static void asks_all(uint8_t version)
+{
+    struct text query = {.length = 0};
+    add_header(&query, version, 2, 0, 8);
+    comes(query.bytes, query.length);
+}
+
+static void asks_changes(uint8_t version, uint16_t session, uint32_t serial)
+{
+    struct text query = {.length = 0};
+    add_serial(&query, version, 1, session, serial);
+    comes(query.bytes, query.length);
+}
+
+/* What was sent are these bytes. */
+static void says(const struct text *wanted)
+{
+    CHECK(said.length == wanted->length && !memcmp(said.bytes, wanted->bytes, said.length));
+    said.length = 0;
+}
+
+static void says_nothing(void)
+{
+    CHECK(runs() == RTR_SERVED_WAIT && said.length == 0);
+}
+
+static void says_reset(uint8_t version)
+{
+    struct text wanted = {.length = 0};
+    add_header(&wanted, version, 8, 0, 8);
+    says(&wanted);
+}
+
+static void says_notify(uint8_t version, uint16_t session, uint32_t serial)
+{
+    struct text wanted = {.length = 0};
+    add_serial(&wanted, version, 0, session, serial);
+    says(&wanted);
+}
+
+/* A response without changes. */
+static void says_same(uint8_t version, uint32_t serial)
+{
+    says(whole(version, serial, 2, 1));
+}
+
+/* A report of this version and code, about so many bytes. */
+static void says_report(uint8_t version, uint16_t code, size_t about)
+{
+    struct rtr_unit unit;
+    CHECK(rtr_next(said.bytes, said.length, &unit) == RTR_OK && unit.size == said.length);
+    CHECK(unit.kind == RTR_ERROR_REPORT && unit.version == version && unit.code == code);
+    CHECK(unit.part_length == about && unit.text_length > 0);
+    said.length = 0;
+}
+
+/* The connection is to be closed, for this reason. */
+static void closes(const char *text)
+{
+    CHECK(runs() == RTR_SERVED_CLOSE && v.wakes == now + s.report_limit);
+    CHECK(!strcmp(v.text, text));
+    rtr_served_free(&v);
+}
+
+static void leaves(void)
+{
+    rtr_served_lost(&v, NULL);
+    closes("");
+}
+
+static enum rtr_update takes(const struct text *text)
+{
+    return rtr_server_update(&s, now, text->bytes, text->length);
+}
+
+/* A server that has the prefixes of AS 1 to 3 at serial number 5. */
+static void has_data(uint8_t version)
+{
+    rtr_server_init(&s);
+    CHECK(takes(whole(version, 5, 1, 3)) == RTR_UPDATE_TAKEN);
+    CHECK(s.present.has && s.present.session == SESSION && s.present.serial == 5);
+    CHECK(s.payloads == 3 && s.end.serial == 5);
+}
+
+static void ends(void)
+{
+    CHECK(s.connections == 0);
+    rtr_server_free(&s);
+    CHECK(held == 0);
+}
+
+/* Whatever the version of the file and of the router, each query gets its answer. */
+static void test_answers(void)
+{
+    for (uint8_t of = 0; of < 3; of++) {
+        for (uint8_t version = 0; version < 3; version++) {
+            has_data(of);
+            begins();
+            asks_all(version);
+            says(whole(version, 5, 1, 3));
+            asks_changes(version, SESSION, 5);
+            says_same(version, 5);
+            asks_changes(version, SESSION, 4);
+            says_reset(version);
+            asks_changes(version, SESSION + 1, 5);
+            says_reset(version);
+            leaves();
+            ends();
+        }
+    }
+}
+
+/* Of a file of version 2, versions 0 and 1 have what they know. */
+static void test_versions(void)
+{
+    struct text file = {.length = 0}, wanted;
+    add_prefix(&file, 2, 1, 1);
+    add_key(&file, 2, 1, 5);
+    add_aspa(&file, 1, 7, 8);
+    add_end(&file, 2, SESSION, 5, usual);
+    rtr_server_init(&s);
+    CHECK(takes(&file) == RTR_UPDATE_TAKEN && s.payloads == 3);
+    for (uint8_t version = 0; version < 3; version++) {
+        wanted.length = 0;
+        add_response(&wanted, version, SESSION);
+        add_prefix(&wanted, version, 1, 1);
+        if (version > 0)
+            add_key(&wanted, version, 1, 5);
+        if (version > 1)
+            add_aspa(&wanted, 1, 7, 8);
+        add_end(&wanted, version, SESSION, 5, usual);
+        begins();
+        asks_all(version);
+        says(&wanted);
+        leaves();
+    }
+    ends();
+}
+
+/* However the bytes of queries come, and are taken, the answers are the same. */
+static void test_pieces(void)
+{
+    struct text queries = {.length = 0}, wanted = {.length = 0};
+    for (int i = 0; i < 9; i++) {
+        add_header(&queries, 1, 2, 0, 8);
+        add(&wanted, whole(1, 5, 1, 3)->bytes, whole(1, 5, 1, 3)->length);
+    }
+    has_data(1);
+    for (size_t length = 1; length <= queries.length; length++) {
+        piece = length;
+        begins();
+        for (size_t at = 0; at < queries.length; at += length)
+            comes(queries.bytes + at, length < queries.length - at ? length : queries.length - at);
+        says(&wanted);
+        leaves();
+    }
+    piece = SIZE_MAX;
+    ends();
+}
+
+static void test_no_data(void)
+{
+    rtr_server_init(&s);
+    begins();
+    asks_all(1);
+    says_report(1, 2, 8);
+    asks_changes(1, SESSION, 5);
+    says_report(1, 2, 12);
+    CHECK(takes(whole(1, 5, 1, 3)) == RTR_UPDATE_TAKEN);
+    CHECK(runs() == RTR_SERVED_WAIT);
+    says_notify(1, SESSION, 5);
+    asks_all(1);
+    says(whole(1, 5, 1, 3));
+    leaves();
+    ends();
+}
+
+/* A notify comes at new data: none before the first query, and one a minute at most. */
+static void test_notifies(void)
+{
+    has_data(1);
+    begins();
+    CHECK(takes(whole(1, 6, 1, 4)) == RTR_UPDATE_TAKEN);
+    says_nothing();
+    asks_all(1);
+    says(whole(1, 6, 1, 4));
+    for (uint32_t serial = 7; serial < 12; serial++) {
+        int64_t before = now;
+        CHECK(takes(whole(1, serial, 1, serial)) == RTR_UPDATE_TAKEN);
+        if (serial > 7) {
+            says_nothing();
+            CHECK(v.wakes == before + 60000);
+            now = v.wakes;
+        }
+        CHECK(runs() == RTR_SERVED_WAIT);
+        says_notify(1, SESSION, serial);
+    }
+    leaves();
+    ends();
+}
+
+/* From each of the last serial numbers on, the changes are told, each payload that differs once. */
+static void test_changes(void)
+{
+    has_data(1);
+    for (uint32_t serial = 6; serial < 36; serial++) {
+        now += 4000;
+        CHECK(takes(whole(1, serial, serial - 4, serial - 2)) == RTR_UPDATE_TAKEN);
+    }
+    begins();
+    for (uint32_t round = 0; round < 2; round++) {
+        for (uint32_t serial = 5; serial < 35; serial++) {
+            struct text wanted = {.length = 0};
+            uint32_t first = serial - 4 > 29 ? serial - 4 : 29;
+            add_response(&wanted, 1, SESSION);
+            for (uint32_t asn = 31; asn <= 33; asn++)
+                if (asn > serial - 2)
+                    add_prefix(&wanted, 1, 1, asn);
+            for (uint32_t asn = serial - 4; asn <= serial - 2; asn++)
+                if (asn < 31)
+                    add_prefix(&wanted, 1, 0, asn);
+            CHECK(first >= 29);
+            add_end(&wanted, 1, SESSION, 35, usual);
+            asks_changes(1, SESSION, serial);
+            says(&wanted);
+        }
+    }
+    asks_changes(1, SESSION, 4);
+    says_reset(1);
+    leaves();
+    ends();
+}
+
+/* Changes from data are told for two hours after newer ones came, within a limit of bytes. */
+static void test_kept(void)
+{
+    has_data(1);
+    CHECK(takes(whole(1, 6, 1, 4)) == RTR_UPDATE_TAKEN);
+    now += s.keep;
+    CHECK(takes(whole(1, 7, 1, 5)) == RTR_UPDATE_TAKEN && s.back_count == 2);
+    now += 1;
+    CHECK(takes(whole(1, 8, 1, 6)) == RTR_UPDATE_TAKEN && s.back_count == 2);
+    CHECK(s.kept[0] == 7 && s.kept[1] == 6);
+    s.keep_bytes = 2 * 44; /* one prefix and an end of data each */
+    CHECK(takes(whole(1, 9, 1, 7)) == RTR_UPDATE_TAKEN && s.back_count == 2);
+    CHECK(s.kept[0] == 8 && s.kept[1] == 7);
+    CHECK(takes(whole(1, 10, 1, 9)) == RTR_UPDATE_TAKEN && s.back_count == 1);
+    begins();
+    asks_changes(1, SESSION, 8);
+    says_reset(1);
+    leaves();
+    ends();
+}
+
+/* Serial numbers are compared by RFC 1982: one that isn't before the present one is forgotten. */
+static void test_wrap(void)
+{
+    rtr_server_init(&s);
+    CHECK(takes(whole(1, 0xfffffffe, 1, 3)) == RTR_UPDATE_TAKEN);
+    CHECK(takes(whole(1, 1, 1, 4)) == RTR_UPDATE_TAKEN && s.back_count == 1);
+    CHECK(takes(whole(1, 0xffffffff, 1, 5)) == RTR_UPDATE_SERIAL);
+    CHECK(takes(whole(1, 0x7fffffff, 1, 5)) == RTR_UPDATE_TAKEN && s.back_count == 1);
+    CHECK(s.kept[0] == 1);
+    begins();
+    asks_changes(1, SESSION, 0xfffffffe);
+    says_reset(1);
+    leaves();
+    ends();
+}
+
+/* A file of a higher or of a lower version than the one before. */
+static void test_other_versions(void)
+{
+    for (uint8_t from = 0; from < 3; from++) {
+        for (uint8_t to = 0; to < 3; to++) {
+            has_data(from);
+            CHECK(takes(whole(from, 6, 1, 4)) == RTR_UPDATE_TAKEN);
+            CHECK(takes(whole(to, 7, 1, 5)) == RTR_UPDATE_TAKEN);
+            for (uint8_t version = 0; version < 3; version++) {
+                struct text *wanted = whole(version, 7, 4, 5);
+                begins();
+                asks_changes(version, SESSION, 5);
+                says(wanted);
+                leaves();
+            }
+            ends();
+        }
+    }
+}
+
+static void test_updates(void)
+{
+    struct text text = {.length = 0};
+    const uint32_t others[] = {3600, 600, 7201};
+    has_data(1);
+    CHECK(takes(whole(1, 5, 1, 3)) == RTR_UPDATE_SAME);
+    CHECK(takes(whole(1, 5, 1, 4)) == RTR_UPDATE_SERIAL);
+    CHECK(takes(whole(1, 4, 1, 3)) == RTR_UPDATE_SERIAL && s.refused == 4);
+    for (uint32_t asn = 3; asn > 0; asn--)
+        add_prefix(&text, 1, 1, asn);
+    add_end(&text, 1, SESSION, 5, usual);
+    CHECK(takes(&text) == RTR_UPDATE_SAME); /* in another order, without a response */
+    text.length = 60;
+    add_end(&text, 1, SESSION, 5, others);
+    CHECK(takes(&text) == RTR_UPDATE_TIMING);
+    text.length = 60;
+    add_end(&text, 1, SESSION, 6, others);
+    CHECK(takes(&text) == RTR_UPDATE_TAKEN && s.end.expire == 7201);
+    CHECK(s.back_count == 1 && s.number == 2);
+    text.length = 60;
+    add_end(&text, 1, SESSION + 1, 3, usual);
+    CHECK(takes(&text) == RTR_UPDATE_TAKEN && s.back_count == 0);
+    ends();
+}
+
+struct refused {
+    uint8_t status;
+    size_t offset;
+};
+
+/* What is refused, and where; the data stay. */
+static void test_refusals(void)
+{
+    static const struct refused all[] = {
+        {RTR_SHORT, 68}, {RTR_DUPLICATE, 68}, {RTR_NOT_CANONICAL, 68}, {RTR_UNIT_TYPE, 68}};
+    has_data(1);
+    for (size_t i = 0; i < sizeof all / sizeof all[0]; i++) {
+        struct text text = *whole(1, 6, 1, 3);
+        text.length = 68;
+        if (i == 1)
+            add_prefix(&text, 1, 1, 2);
+        if (i == 2)
+            add_prefix(&text, 1, 0, 4);
+        if (i == 3)
+            add_serial(&text, 1, 0, SESSION, 6);
+        if (i > 0)
+            add_end(&text, 1, SESSION, 6, usual);
+        CHECK(takes(&text) == RTR_UPDATE_REFUSED);
+        CHECK(s.status == all[i].status && s.offset == all[i].offset);
+        CHECK(!strcmp(rtr_update_text(&s, RTR_UPDATE_REFUSED), rtr_status_text(s.status)));
+    }
+    begins();
+    asks_all(1);
+    says(whole(1, 5, 1, 3));
+    leaves();
+    ends();
+}
+
+/* A new session ends a connection whose router knows of data of the one before, and no other. */
+static void test_session(void)
+{
+    for (int asked = 0; asked < 2; asked++) {
+        has_data(1);
+        begins();
+        if (asked)
+            asks_all(1);
+        struct text text = {.length = 0};
+        add_end(&text, 1, SESSION + 1, 1, usual);
+        CHECK(takes(&text) == RTR_UPDATE_TAKEN);
+        if (asked) {
+            closes("the data are of a new session");
+        } else {
+            says_nothing();
+            leaves();
+        }
+        ends();
+    }
+}
+
+/* What a cache tells of a router, and what that gets. */
+static void test_closes(void)
+{
+    static const char late[] = "\1\2\0\0";
+    struct text report = {.length = 0};
+    has_data(1);
+    begins();
+    comes(whole(1, 5, 1, 3)->bytes, 8);
+    says_report(1, 3, 8);
+    closes("unit is not a query");
+    begins();
+    asks_all(3);
+    says_report(2, 4, 8);
+    closes("version is not supported");
+    begins();
+    asks_all(1);
+    said.length = 0;
+    asks_all(2);
+    says_report(1, 8, 8);
+    closes("unit of another version than the session");
+    begins();
+    comes("\1\2\0\0\0\0\0\x09", 8);
+    says_report(1, 0, 8);
+    closes("invalid unit length, at byte 0");
+    begins();
+    add_report(&report, 1, 5);
+    comes(report.bytes, report.length);
+    CHECK(said.length == 0);
+    closes("the router reports code 5: no");
+    begins();
+    now = v.wakes;
+    CHECK(runs() == RTR_SERVED_CLOSE && said.length == 0);
+    closes("the router is too slow");
+    begins();
+    comes(late, 4);
+    CHECK(v.wakes == now + s.unit_limit);
+    now += s.unit_limit;
+    closes("the router is too slow");
+    begins();
+    rtr_served_lost(&v, "Connection reset by peer");
+    closes("Connection reset by peer");
+    ends();
+}
+
+/* With the setting for it, what can't be told is answered by a report of code 0 and the end. */
+static void test_refuses(void)
+{
+    has_data(1);
+    s.settings.refuses = true;
+    begins();
+    asks_changes(1, SESSION, 4);
+    says_report(1, 0, 12);
+    closes("no data of this session and serial number");
+    ends();
+}
+
+/* A unit that is longer than the room that a connection begins with. */
+static void test_long_unit(void)
+{
+    static struct text report, text;
+    has_data(1);
+    report.length = text.length = 0;
+    while (text.length < 65519)
+        add(&text, "a", 1);
+    add_header(&report, 1, 10, 1, 65535);
+    add_number(&report, 0);
+    add_number(&report, 65519);
+    add(&report, text.bytes, text.length);
+    begins();
+    comes(report.bytes, report.length);
+    CHECK(runs() == RTR_SERVED_CLOSE && !strncmp(v.text, "the router reports code 1: aaa", 30));
+    rtr_served_free(&v);
+    ends();
+}
+
+/* The connection above the limit gets a report, and those before it go on. */
+static void test_connections(void)
+{
+    struct rtr_served first;
+    has_data(1);
+    s.most_connections = 1;
+    rtr_served_init(&first, &s, now);
+    said.length = 0;
+    rtr_served_init(&v, &s, now);
+    CHECK(runs() == RTR_SERVED_CLOSE);
+    says_report(2, 1, 0);
+    closes("too many connections");
+    CHECK(s.connections == 1);
+    rtr_served_free(&first);
+    begins();
+    leaves();
+    ends();
+}
+
+/* A router that takes nothing more of its answer. */
+static void stalls(void)
+{
+    struct rtr_part parts[2];
+    struct text query = {.length = 0};
+    size_t room;
+    begins();
+    add_header(&query, 1, 2, 0, 8);
+    memcpy(rtr_served_room(&v, &room), query.bytes, query.length);
+    rtr_served_received(&v, now, query.length);
+    CHECK(rtr_served_next(&v, now) == RTR_SERVED_WAIT && rtr_served_output(&v, parts) == 2);
+    CHECK(v.wakes == now + s.write_limit);
+    rtr_served_room(&v, &room);
+    CHECK(room == 0);
+}
+
+/* What is sent has its times, and may be of data that two newer ones followed. */
+static void test_stalls(void)
+{
+    struct rtr_part parts[2];
+    int64_t began;
+    has_data(1);
+    stalls();
+    now = v.wakes;
+    closes("the router is too slow");
+    stalls();
+    for (began = now; now - began < s.response_limit; now += s.write_limit - 1) {
+        CHECK(rtr_served_next(&v, now) == RTR_SERVED_WAIT);
+        rtr_served_sent(&v, now, 1);
+        CHECK(rtr_served_next(&v, now) == RTR_SERVED_WAIT);
+    }
+    closes("the router is too slow");
+    for (uint32_t newer = 2; newer < 4; newer++) {
+        stalls();
+        for (uint32_t i = 0; i < newer; i++) {
+            uint32_t serial = s.present.serial + 1;
+            CHECK(takes(whole(1, serial, 1, serial)) == RTR_UPDATE_TAKEN);
+        }
+        if (newer == 2) {
+            CHECK(rtr_served_next(&v, now) == RTR_SERVED_WAIT);
+            CHECK(rtr_served_output(&v, parts) == 2 && parts[1].length == 3 * 20 + 24);
+            rtr_served_lost(&v, "Broken pipe");
+            closes("Broken pipe");
+        } else {
+            closes("the router is more than two editions behind");
+        }
+    }
+    ends();
+}
+
+/* ---- what is saved */
+
+static bool write_to(void *to, const void *bytes, size_t length)
+{
+    add(to, bytes, length);
+    return true;
+}
+
+static const int64_t date = INT64_C(1800000000000); /* in January 2027 */
+
+/* A server that is started again answers as the one before, by as much time as that would have. */
+static void test_saved(void)
+{
+    static struct text saved;
+    has_data(1);
+    for (uint32_t serial = 6; serial < 9; serial++) {
+        now += 1000;
+        CHECK(takes(whole(1, serial, 1, serial)) == RTR_UPDATE_TAKEN);
+    }
+    saved.length = 0;
+    CHECK(rtr_server_save(&s, now, date, write_to, &saved));
+    ends();
+    rtr_server_init(&s);
+    now = 50;
+    CHECK(rtr_server_restore(&s, now, date + 60000, saved.bytes, saved.length)
+          == RTR_UPDATE_TAKEN);
+    CHECK(s.present.serial == 8 && s.payloads == 8 && s.back_count == 3);
+    CHECK(rtr_server_restore(&s, now, date, saved.bytes, saved.length) == RTR_UPDATE_SAME);
+    CHECK(takes(whole(1, 8, 1, 8)) == RTR_UPDATE_SAME);
+    CHECK(takes(whole(1, 9, 1, 9)) == RTR_UPDATE_TAKEN);
+    begins();
+    asks_changes(1, SESSION, 5);
+    says(whole(1, 9, 4, 9));
+    leaves();
+    now += s.keep - 60000 - 1000; /* newer data than number 6 came 1000 before it was saved */
+    CHECK(takes(whole(1, 10, 1, 10)) == RTR_UPDATE_TAKEN && s.back_count == 4);
+    CHECK(s.kept[0] == 9 && s.kept[1] == 8 && s.kept[2] == 7 && s.kept[3] == 6);
+    ends();
+}
+
+/* Where a byte is another, or the end is cut off, nothing is taken. */
+static void test_torn(void)
+{
+    static struct text saved, torn;
+    has_data(1);
+    CHECK(takes(whole(1, 6, 1, 4)) == RTR_UPDATE_TAKEN);
+    saved.length = 0;
+    CHECK(rtr_server_save(&s, now, date, write_to, &saved));
+    ends();
+    rtr_server_init(&s);
+    for (size_t at = 0; at < 2 * saved.length; at++) {
+        torn = saved;
+        if (at < saved.length)
+            torn.bytes[at] ^= 1;
+        else
+            torn.length = at - saved.length;
+        CHECK(rtr_server_restore(&s, now, date, torn.bytes, torn.length) == RTR_UPDATE_TORN);
+        CHECK(!s.present.has && s.back_count == 0);
+    }
+    CHECK(!strcmp(rtr_update_text(&s, RTR_UPDATE_TORN), "the file of editions is torn"));
+    CHECK(rtr_server_restore(&s, now, date, saved.bytes, saved.length) == RTR_UPDATE_TAKEN);
+    ends();
+}
+
+/* ---- memory */
+
+/* One allocation is denied: the data are those before or after, and a connection ends by name.
+ * Whether that many are made. */
+static bool denies(uint8_t version, size_t which)
+{
+    has_data(version);
+    CHECK(takes(whole(1, 6, 1, 4)) == RTR_UPDATE_TAKEN);
+    struct text next = *whole(2, 7, 1, 5);
+    allocations = 0;
+    denied = which;
+    enum rtr_update update = takes(&next);
+    CHECK(update == RTR_UPDATE_TAKEN || update == RTR_UPDATE_MEMORY);
+    CHECK(s.present.serial == (update == RTR_UPDATE_TAKEN ? 7 : 6));
+    CHECK(s.payloads == s.present.serial - 2);
+    rtr_served_init(&v, &s, now);
+    said.length = 0;
+    asks_changes(1, SESSION, 5);
+    bool ended = runs() == RTR_SERVED_CLOSE, made = allocations >= which;
+    denied = 0;
+    CHECK(ended == !said.length);
+    if (ended)
+        closes("no memory");
+    else
+        leaves();
+    begins();
+    asks_all(1);
+    says(whole(1, s.present.serial, 1, s.present.serial - 2));
+    leaves();
+    ends();
+    return made;
+}
+
+static void test_memory(void)
+{
+    for (uint8_t version = 1; version < 3; version++)
+        for (size_t which = 1; denies(version, which); which++)
+            CHECK(which < 100);
+}
+
+/* A table that many routers ask for is held once. */
+static void test_held(void)
+{
+    static struct rtr_served many[100];
+    struct rtr_part parts[2];
+    size_t room;
+    rtr_server_init(&s);
+    CHECK(takes(whole(1, 5, 1, 3000)) == RTR_UPDATE_TAKEN);
+    for (size_t i = 0; i < 100; i++) {
+        rtr_served_init(&many[i], &s, now);
+        memcpy(rtr_served_room(&many[i], &room), "\1\2\0\0\0\0\0\x08", 8);
+        rtr_served_received(&many[i], now, 8);
+        CHECK(rtr_served_next(&many[i], now) == RTR_SERVED_WAIT);
+        CHECK(rtr_served_output(&many[i], parts) == 2);
+        CHECK(parts[1].length == 3000 * 20 + 24 && held < 61000);
+    }
+    for (size_t i = 0; i < 100; i++)
+        rtr_served_free(&many[i]);
+    ends();
+}
+
+/* ---- random sessions */
+
+static uint32_t some(uint32_t bound)
+{
+    static uint64_t state = 1;
+    state = state * UINT64_C(6364136223846793005) + 1442695040888963407;
+    return (uint32_t)(state >> 33) % bound;
+}
+
+/* A query, or something else that a router may send. */
+static void add_something(struct text *to)
+{
+    uint8_t version = some(8) ? 1 : (uint8_t)some(3);
+    uint32_t what = some(8);
+    if (what < 3)
+        add_header(to, version, 2, 0, 8);
+    else if (what < 6)
+        add_serial(to, version, 1, SESSION, s.present.serial - some(4));
+    else if (what == 6)
+        add_report(to, version, (uint16_t)some(9));
+    else
+        add_prefix(to, version, 1, 1);
+    if (some(16) == 0)
+        to->bytes[some((uint32_t)to->length)] = (uint8_t)some(256);
+}
+
+static void test_random(int sessions)
+{
+    has_data(1);
+    for (int session = 0; session < sessions; session++) {
+        piece = some(2) ? SIZE_MAX : 1 + some(30);
+        begins();
+        for (int turn = 0; turn < 30; turn++) {
+            struct text text = {.length = 0};
+            uint32_t serial = s.present.serial + 1;
+            said.length = 0;
+            if (runs() == RTR_SERVED_CLOSE)
+                break;
+            if (some(8) == 0)
+                CHECK(takes(whole(1, serial, some(9), 9)) == RTR_UPDATE_TAKEN);
+            add_something(&text);
+            if (some(20) == 0)
+                rtr_served_lost(&v, some(2) ? NULL : "it broke");
+            else if (some(8))
+                comes(text.bytes, some(8) ? text.length : some((uint32_t)text.length));
+            else
+                now = some(2) ? v.wakes : now + some(2000);
+        }
+        rtr_served_free(&v);
+    }
+    piece = SIZE_MAX;
+    ends();
+}
+
+int main(int count, char **words)
+{
+    test_answers();
+    test_versions();
+    test_pieces();
+    test_no_data();
+    test_notifies();
+    test_changes();
+    test_kept();
+    test_wrap();
+    test_other_versions();
+    test_updates();
+    test_refusals();
+    test_session();
+    test_closes();
+    test_refuses();
+    test_long_unit();
+    test_connections();
+    test_stalls();
+    test_saved();
+    test_torn();
+    test_memory();
+    test_held();
+    test_random(count > 1 ? atoi(words[1]) : 3000);
+    return 0;
+}
