@@ -5,6 +5,7 @@ package rtr
 import (
 	"bytes"
 	"encoding/binary"
+	"errors"
 	"math"
 )
 
@@ -146,12 +147,30 @@ func (d Data) Timing() Timing {
 //
 // Errors, each a Fault: UnitVersion for a version above 2.
 func (d Data) For(version uint8) (Data, error) {
-	output := make([]byte, len(d.bytes)+longestEnd)
-	progress, err := NormaliseFor(d.bytes, output, uint64(d.units)+1, version)
+	if version == d.Version() && !d.IsZero() {
+		return d, nil
+	}
+	form, err := formFor(d.bytes, version)
 	if err != nil {
 		return Data{}, err
 	}
-	return checkedData(fitted(output, progress.Written)), nil
+	return checkedData(form), nil
+}
+
+// formFor is what a version has of a sequence in canonical form.
+func formFor(sequence []byte, version uint8) ([]byte, error) {
+	output := make([]byte, len(sequence)+longestEnd)
+	progress, err := NormaliseFor(sequence, output, math.MaxUint64, version)
+	return fitted(output, progress.Written), err
+}
+
+// parts are the units of a sequence in canonical form, and its end of data.
+func parts(sequence []byte) (units, end []byte) {
+	size := longestEnd
+	if sequence[0] == 0 {
+		size = shortestEnd
+	}
+	return sequence[:len(sequence)-size], sequence[len(sequence)-size:]
 }
 
 // fitted is the front of an output, in a copy where much of the output isn't used.
@@ -168,11 +187,8 @@ func (d Data) inSession(session uint16) Data {
 		return d
 	}
 	d.bytes = append([]byte{}, d.bytes...)
-	size := longestEnd
-	if d.Version() == 0 {
-		size = shortestEnd
-	}
-	binary.BigEndian.PutUint16(d.bytes[len(d.bytes)-size+2:], session)
+	_, end := parts(d.bytes)
+	binary.BigEndian.PutUint16(end[2:], session)
 	d.session = session
 	return d
 }
@@ -216,8 +232,13 @@ func (u *Units) Unit() *Unit {
 // Errors, each a Fault, in this order: Short for the zero Data; UnitVersion if the new data are of
 // another version; OtherSession if they are of another session.
 func Delta(old, new Data) ([]byte, error) {
-	output := make([]byte, len(old.bytes)+len(new.bytes))
+	// Most deltas are much shorter than data.
+	output := make([]byte, len(old.bytes)/8+len(new.bytes)/8)
 	written, err := delta(old.bytes, new.bytes, output)
+	if errors.Is(err, NoRoom) {
+		output = make([]byte, len(old.bytes)+len(new.bytes))
+		written, err = delta(old.bytes, new.bytes, output)
+	}
 	if err != nil {
 		return nil, err
 	}
