@@ -2,6 +2,9 @@
 
 package rtr
 
+// #include "rtr.h"
+import "C"
+
 import (
 	"errors"
 	"fmt"
@@ -17,7 +20,7 @@ var (
 	// ErrHigherVersion is of an answer whose version is above that of the query.
 	ErrHigherVersion = errors.New(causeHigherVersion.String())
 	// ErrNoVersion is of a query whose version isn't supported at all.
-	ErrNoVersion = errors.New("version is not supported")
+	ErrNoVersion = errors.New(reasonText(C.RTR_REASON_NO_VERSION))
 	// ErrOtherSession is of a unit of a cache whose session isn't that of its data.
 	ErrOtherSession = errors.New(causeOtherSession.String())
 	// ErrSerialBack is of an end of data whose serial number comes before that of the query.
@@ -25,7 +28,7 @@ var (
 	// ErrOtherData is of an end of data with changes at the serial number of the query.
 	ErrOtherData = errors.New(causeOtherData.String())
 	// ErrNoQuery is of a unit of a client that is no query.
-	ErrNoQuery = errors.New("unit is not a query")
+	ErrNoQuery = errors.New(reasonText(C.RTR_REASON_NO_QUERY))
 	// ErrMisplaced is of a unit of a cache that may not stand where it came.
 	ErrMisplaced = errors.New(causeOutOfPlace.String())
 	// ErrNoPayload is of a payload unit that its version doesn't have.
@@ -41,6 +44,45 @@ var breaches = map[cause]error{
 	causeOtherSession:  ErrOtherSession,
 	causeOldSerial:     ErrSerialBack,
 	causeOtherData:     ErrOtherData,
+}
+
+// Why a Server ended a connection, besides a Fault, a Breach, a Reported, ErrTooSlow, and errors of
+// the connection itself.
+var (
+	// ErrServerClosed is of a Server that was closed or shut down.
+	ErrServerClosed = errors.New("rtr: the server is closed")
+	// ErrManyClients is of a client above the limit.
+	ErrManyClients = errors.New("rtr: " + reasonText(C.RTR_REASON_FULL))
+	// ErrSessionEnded is of a client that has data of the session before.
+	ErrSessionEnded = errors.New("rtr: " + reasonText(C.RTR_REASON_NEW_SESSION))
+	// ErrUnknownData is of a serial query that was refused, as the limits say.
+	ErrUnknownData = errors.New("rtr: " + reasonText(C.RTR_REASON_UNKNOWN))
+	// ErrBehind is of a client that takes an answer so slowly that three newer data have come.
+	ErrBehind = errors.New("rtr: the router is too far behind")
+)
+
+// Data that a Server can't take: they aren't those that it has, and are of the same session.
+var (
+	// ErrSameSerial is of data whose serial number doesn't come later (RFC 1982).
+	ErrSameSerial = errors.New("the serial number isn't after the present one")
+	// ErrNewTiming is of data that differ in their timing alone.
+	ErrNewTiming = errors.New("rtr: new timings want a new serial number")
+)
+
+// endings are the errors that the reasons are told by.
+var endings = map[C.uint8_t]error{
+	C.RTR_REASON_SLOW:          ErrTooSlow,
+	C.RTR_REASON_FULL:          ErrManyClients,
+	C.RTR_REASON_NO_QUERY:      ErrNoQuery,
+	C.RTR_REASON_OTHER_VERSION: ErrOtherVersion,
+	C.RTR_REASON_NO_VERSION:    ErrNoVersion,
+	C.RTR_REASON_NEW_SESSION:   ErrSessionEnded,
+	C.RTR_REASON_UNKNOWN:       ErrUnknownData,
+}
+
+// reasonText is the text of a reason, as reports have it.
+func reasonText(reason C.uint8_t) string {
+	return C.GoString(C.rtr_reason_text(reason))
 }
 
 // ErrTooSlow is of a peer that let a limit of time pass.
@@ -76,11 +118,6 @@ func (b *Breach) Report() (report *Unit, owed bool) {
 	return reportOn(b.Code, b.Unit, b.Reason.Error()), true
 }
 
-// breach is the breach of a unit, of which it has a copy.
-func breach(reason error, code ErrorCode, unit []byte) error {
-	return &Breach{Reason: reason, Code: code, Unit: append([]byte{}, unit...)}
-}
-
 // Reported is an error report that the peer sent, which ended the session unless it says that a
 // cache has no data yet.
 type Reported struct {
@@ -97,9 +134,9 @@ func (r *Reported) Error() string {
 	return fmt.Sprintf("rtr: the peer reports: %v: %.200q", r.Code, r.Text)
 }
 
-// breachOf is the breach that the machine names, of the unit that these bytes begin with, of which
-// it has a copy.
-func breachOf(why cause, code ErrorCode, input []byte) error {
+// breachOf is the breach that a machine names, of the unit that these bytes begin with, of which it
+// has a copy.
+func breachOf(why error, code ErrorCode, input []byte) error {
 	size, err := UnitSize(input)
 	if err != nil {
 		size = header
@@ -107,7 +144,7 @@ func breachOf(why cause, code ErrorCode, input []byte) error {
 	if size > len(input) {
 		size = len(input)
 	}
-	return breach(breaches[why], code, input[:size])
+	return &Breach{Reason: why, Code: code, Unit: append([]byte{}, input[:size]...)}
 }
 
 // owned is the error with a copy of the unit, if it is a Fault.
@@ -133,29 +170,17 @@ func reported(unit *Unit) error {
 	return &Reported{Version: unit.Version, Code: unit.Code, Text: string(unit.Text)}
 }
 
-// owing is an error for which a report may be owed to the peer: a Fault or a Breach.
-type owing interface {
-	error
-	Report() (*Unit, bool)
-}
-
-// owedReport is the report that an error owes to the peer, in the version of the session, or nil.
-func owedReport(err error, version uint8) *Unit {
-	var one owing
-	if !errors.As(err, &one) {
-		return nil
-	}
-	report, owed := one.Report()
-	if !owed {
-		return nil
-	}
-	report.Version = version
-	return report
-}
-
 // isTimeout says whether a deadline passed.
 func isTimeout(err error) bool {
 	return errors.Is(err, os.ErrDeadlineExceeded)
+}
+
+// slowIfLate is the error, or ErrTooSlow where a deadline passed.
+func slowIfLate(err error) error {
+	if isTimeout(err) {
+		return ErrTooSlow
+	}
+	return err
 }
 
 // How much is read of a peer, and how long, after a report was sent to it: a connection that is

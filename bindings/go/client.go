@@ -97,8 +97,8 @@ func (c *Client) follower(ctx context.Context, changed func(Update) error) *foll
 		client: &limited, changed: changed, last: c.connection != nil,
 		machine: newMachine(&limited, binary.LittleEndian.Uint16(chance[:])),
 		peer: &network{
-			ctx: ctx, dial: c.dialer(), address: c.Address, patience: limited.Limits.Report,
-			begun: time.Now(),
+			clock: clock{time.Now()},
+			ctx:   ctx, dial: c.dialer(), address: c.Address, patience: limited.Limits.Report,
 		},
 	}
 }

@@ -205,7 +205,7 @@ func TestFollow(t *testing.T) {
 	noLeaks(t)
 	random := rand.New(rand.NewSource(8))
 	sets := []records{{}}
-	server, address := started(t, func(limits *ServerLimits) { limits.Keep = 1 })
+	server, address := started(t, func(limits *ServerLimits) { limits.KeepBytes = 1500 })
 	next := func() {
 		serial := uint32(len(sets))
 		sets = append(sets, someRecords(random, 20))

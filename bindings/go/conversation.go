@@ -238,5 +238,5 @@ func (f *follower) reason(a action) error {
 	case causeFaulty:
 		return owned(refusal(Status(a.status), uint8(a.detail), f.unit, f.offset))
 	}
-	return breachOf(cause(a.cause), ErrorCode(a.code), f.unit)
+	return breachOf(breaches[cause(a.cause)], ErrorCode(a.code), f.unit)
 }

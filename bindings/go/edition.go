@@ -2,20 +2,41 @@
 
 package rtr
 
-import "sync"
+// #include "rtr.h"
+import "C"
+
+import (
+	"bytes"
+	"encoding/binary"
+	"fmt"
+	"sync"
+	"time"
+)
 
 // How many versions of the protocol there are.
 const versions = 3
 
-// edition is what a cache has at one serial number, with what was made of it for clients. It has
-// the data before it too, of the same session, the newest first.
+// How many editions a client may be behind in the middle of an answer.
+const mostBehind = 2
+
+// edition is what a cache has at one serial number. Of the data before these, of the same session,
+// it has what leads back to them. It never changes, but for what it makes for clients.
 type edition struct {
+	number int // of all that the cache had
 	data   Data
-	before []Data
+	back   []stepBack   // from these data, one after the other
+	known  []C.uint32_t // the serial numbers that they lead to
 
 	lock   sync.Mutex
-	all    [versions]*Data
+	forms  [versions]Data
 	deltas map[question][]byte
+	room   int // for more deltas
+}
+
+// stepBack leads back from the data after it.
+type stepBack struct {
+	until   time.Time // when those came
+	changes []byte    // in canonical form, with the end of data that it leads to
 }
 
 // question is a serial query, without its session.
@@ -24,81 +45,156 @@ type question struct {
 	serial  uint32
 }
 
-// edit is the edition of new data after this one, which may be none. It keeps so many data of the
-// same session.
-func (e *edition) edit(data Data, keep int) *edition {
-	next := &edition{data: data, deltas: map[question][]byte{}}
-	if e == nil || e.data.Session() != data.Session() || keep < 1 {
-		return next
-	}
-	next.before = append(next.before, e.data)
-	next.before = append(next.before, e.before...)
-	if len(next.before) > keep {
-		next.before = next.before[:keep:keep]
-	}
-	return next
-}
-
-// everything is what the version has of the data.
-func (e *edition) everything(version uint8) (Data, error) {
-	e.lock.Lock()
-	defer e.lock.Unlock()
-	return e.everythingLocked(version)
-}
-
-func (e *edition) everythingLocked(version uint8) (Data, error) {
-	if e.all[version] == nil {
-		data, err := e.data.For(version)
-		if err != nil {
-			return Data{}, err
+// newEdition is one of data, and of these steps back those that the limits allow, to serial numbers
+// that come before theirs.
+func newEdition(number int, data Data, back []stepBack, limits ServerLimits) *edition {
+	e := &edition{number: number, data: data, deltas: map[question][]byte{}, room: limits.KeepBytes}
+	room := limits.KeepBytes
+	for i, one := range back {
+		_, end := parts(one.changes)
+		serial := binary.BigEndian.Uint32(end[8:])
+		order, ok := CompareSerials(serial, data.Serial())
+		room -= len(one.changes)
+		if !ok || order >= 0 || room < 0 || time.Since(one.until) > limits.Keep {
+			break
 		}
-		e.all[version] = &data
+		e.back, e.known = back[:i+1], append(e.known, C.uint32_t(serial))
 	}
-	return *e.all[version], nil
+	return e
 }
 
-// since is the delta from the data with this session and serial number for clients of a version.
-// There is none where these data aren't kept, or where it would be much longer than all data.
-func (e *edition) since(version uint8, session uint16, serial uint32) ([]byte, bool, error) {
-	old, kept := e.kept(session, serial)
-	if !kept {
-		return nil, false, nil
+// next is the edition of new data after this one, which may be none. Where they are the same it is
+// this one.
+func (e *edition) next(data Data, limits ServerLimits) (*edition, error) {
+	if e == nil {
+		return newEdition(0, data, nil, limits), nil
 	}
+	version := e.data.Version()
+	if version < data.Version() {
+		version = data.Version()
+	}
+	old, back, err := e.in(version)
+	if err == nil {
+		data, err = data.For(version)
+	}
+	if err != nil || old.Equal(data) {
+		return e, err
+	}
+	if old.Session() != data.Session() {
+		return newEdition(e.number+1, data, nil, limits), nil
+	}
+	if order, ok := CompareSerials(old.Serial(), data.Serial()); !ok || order >= 0 {
+		before, _ := parts(old.Bytes())
+		if after, _ := parts(data.Bytes()); order == 0 && bytes.Equal(before, after) {
+			return e, ErrNewTiming
+		}
+		return e, &serialError{old.Serial(), data.Serial()}
+	}
+	changes, err := Delta(data, old)
+	back = append([]stepBack{{time.Now(), changes}}, back...)
+	return newEdition(e.number+1, data, back, limits), err
+}
+
+// serialError is an ErrSameSerial of these serial numbers.
+type serialError struct{ old, new uint32 }
+
+func (e *serialError) Error() string {
+	return fmt.Sprintf("rtr: serial %d of other data isn't after serial %d", e.new, e.old)
+}
+
+func (e *serialError) Unwrap() error { return ErrSameSerial }
+
+// in are the data and the steps back in a version that isn't below theirs.
+func (e *edition) in(version uint8) (Data, []stepBack, error) {
+	data, err := e.data.For(version)
+	if version == e.data.Version() || err != nil {
+		return data, e.back, err
+	}
+	back := append([]stepBack{}, e.back...)
+	for i := range back {
+		if back[i].changes, err = formFor(back[i].changes, version); err != nil {
+			return Data{}, nil, err
+		}
+	}
+	return data, back, nil
+}
+
+// serials are those of the data before it that are known.
+func (e *edition) serials() (*C.uint32_t, C.size_t) {
+	if e == nil || len(e.known) == 0 {
+		return nil, 0
+	}
+	return &e.known[0], C.size_t(len(e.known))
+}
+
+// behind says why no more of the edition is to be sent, if that is so.
+func (e *edition) behind(present *edition) error {
+	switch {
+	case e == nil || present == nil:
+		return nil
+	case e.data.Session() != present.data.Session():
+		return ErrSessionEnded
+	case present.number-e.number > mostBehind:
+		return ErrBehind
+	}
+	return nil
+}
+
+// form is what the version has of the data.
+func (e *edition) form(version uint8) (data Data, err error) {
 	e.lock.Lock()
 	defer e.lock.Unlock()
-	new, err := e.everythingLocked(version)
+	if e.forms[version].IsZero() {
+		e.forms[version], err = e.data.For(version)
+	}
+	return e.forms[version], err
+}
+
+// since is the delta for clients of a version from the data of a serial number that is known, or
+// from these data.
+func (e *edition) since(version uint8, serial uint32) ([]byte, error) {
+	new, err := e.form(version)
 	if err != nil {
-		return nil, false, err
-	}
-	asked := question{version, serial}
-	changes, made := e.deltas[asked]
-	if !made {
-		if old, err = old.For(version); err != nil {
-			return nil, false, err
-		}
-		if changes, err = Delta(old, new); err != nil {
-			return nil, false, err
-		}
-		if len(changes) > len(new.Bytes())+chunk {
-			changes = nil
-		}
-		e.deltas[asked] = changes
-	}
-	return changes, changes != nil, nil
-}
-
-// kept are the data with this session and serial number.
-func (e *edition) kept(session uint16, serial uint32) (Data, bool) {
-	if session != e.data.Session() {
-		return Data{}, false
+		return nil, err
 	}
 	if serial == e.data.Serial() {
-		return e.data, true
+		_, end := parts(new.Bytes())
+		return end, nil
 	}
-	for _, data := range e.before {
-		if serial == data.Serial() {
-			return data, true
-		}
+	e.lock.Lock()
+	defer e.lock.Unlock()
+	asked := question{version, serial}
+	if changes, made := e.deltas[asked]; made {
+		return changes, nil
 	}
-	return Data{}, false
+	steps := 1
+	for steps < len(e.known) && uint32(e.known[steps-1]) != serial {
+		steps++
+	}
+	old, err := before(e.data, e.back[:steps])
+	if err == nil {
+		old, err = old.For(version)
+	}
+	if err != nil {
+		return nil, err
+	}
+	changes, err := Delta(old, new)
+	if e.room -= len(changes); e.room >= 0 && err == nil {
+		e.deltas[asked] = changes
+	}
+	return changes, err
+}
+
+// before are the data that steps back make of data, one after the other.
+func before(data Data, back []stepBack) (Data, error) {
+	if len(back) == 0 {
+		return data, nil
+	}
+	var changes, end []byte
+	for _, one := range back {
+		var units []byte
+		units, end = parts(one.changes)
+		changes = append(changes, units...)
+	}
+	return ApplyInOrder(data, append(changes, end...))
 }

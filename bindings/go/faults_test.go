@@ -384,7 +384,7 @@ func TestCrowd(t *testing.T) {
 	}
 	server, address := started(t, func(limits *ServerLimits) {
 		limits.First, limits.Unit = 2*time.Second, 2*time.Second
-		limits.Write, limits.Keep = 2*time.Second, 4
+		limits.Write, limits.KeepBytes = 2*time.Second, 10000
 	}, data[1])
 	ctx, cancel := limited(t)
 	defer cancel()

@@ -26,31 +26,34 @@ type peer interface {
 	close(last []byte)
 }
 
+// clock has times in milliseconds since it began.
+type clock struct{ begun time.Time }
+
+func (c clock) now() uint64 {
+	return uint64(time.Since(c.begun).Milliseconds())
+}
+
+// at is a time of the clock.
+func (c clock) at(until uint64) time.Time {
+	if most := uint64(math.MaxInt64 / time.Millisecond); until > most {
+		until = most
+	}
+	return c.begun.Add(time.Duration(until) * time.Millisecond)
+}
+
 // network is a peer over connections. Its context ends what it waits for.
 type network struct {
+	clock
 	ctx        context.Context
 	dial       func(ctx context.Context, network, address string) (net.Conn, error)
 	address    string
 	patience   time.Duration // for the last unit
-	begun      time.Time
 	connection net.Conn
 	release    func() // the context closes the connection no longer
 }
 
-func (n *network) now() uint64 {
-	return uint64(time.Since(n.begun).Milliseconds())
-}
-
 func (n *network) ended() error {
 	return n.ctx.Err()
-}
-
-// at is a time of the clock.
-func (n *network) at(until uint64) time.Time {
-	if most := uint64(math.MaxInt64 / time.Millisecond); until > most {
-		until = most
-	}
-	return n.begun.Add(time.Duration(until) * time.Millisecond)
 }
 
 func (n *network) rest(until uint64) error {

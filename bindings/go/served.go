@@ -2,292 +2,250 @@
 
 package rtr
 
+// #include "rtr.h"
+import "C"
+
 import (
-	"bufio"
-	"fmt"
 	"io"
 	"net"
+	"sync"
 	"time"
 )
 
-// How much of a response is written at once.
+// How much of an answer is written at once.
 const chunk = 1 << 16
 
-// served is a client of a Server. Its queries come from one goroutine, and all is written by
-// another.
+// A deadline that has passed: it ends a read or a write that waits.
+var passed = time.Unix(1, 0)
+
+// served is a client of a Server: its connection, and the proved machine of rtr.h, which says what
+// to answer. It has no bytes of data, but its place in an edition.
 type served struct {
 	server     *Server
 	connection net.Conn
-	input      *bufio.Reader
-	reader     *Reader
-	asked      bool  // it sent a query, whose version is that of the session
-	version    uint8 // that one, which the reading goroutine sets before it hands on a query
-	woken      chan struct{}
+	cache      C.struct_rtr_cache
+	present    C.struct_rtr_present // what names the data of its place
+	serving    C.struct_rtr_serving // what the machine said last
+	input      []byte               // what came and isn't done with; in the buffer, if it can be
+	buffer     [64]byte
+	offset     int64  // where the input begins in what came
+	began      uint64 // when the unit that it begins with began to come
+	closed     error  // why nothing more comes
 
-	// For the writing goroutine: whether the client knows of data, and of which, by an answer or
-	// by a notify, and when the last notify was sent.
-	told     bool
-	session  uint16
-	serial   uint32
-	notified time.Time
-}
-
-// query is a query that came, or why none comes any more.
-type query struct {
-	unit  *Unit
-	bytes []byte
-	err   error
+	lock  sync.Mutex
+	place *edition // of which it is served
+	woken bool     // there may be a newer one
+	long  bool     // more than a chunk of it is written
+	cut   error    // why no more of the place is written
+	last  bool     // nothing more is written but a report
 }
 
 func newServed(server *Server, connection net.Conn) *served {
-	input := bufio.NewReaderSize(connection, 512)
-	return &served{
-		server: server, connection: connection, input: input, reader: NewReader(input),
-		woken: make(chan struct{}, 1),
+	c := &served{server: server, connection: connection}
+	c.input = c.buffer[:0]
+	var wanted C.struct_rtr_cache_settings
+	wanted.first_limit = milliseconds(server.Limits.First)
+	wanted.idle_limit = milliseconds(server.Limits.Idle)
+	wanted.pause = milliseconds(server.Limits.Notify)
+	wanted.refuses = C.bool(server.Limits.Refuse)
+	C.rtr_cache_init(&c.cache, C.uint64_t(server.clock.now()), &wanted)
+	return c
+}
+
+// wake says that there is a newer edition, or that the server ends. It never waits.
+func (c *served) wake(present *edition) {
+	c.lock.Lock()
+	defer c.lock.Unlock()
+	if c.last {
+		return
+	}
+	c.woken = true
+	c.connection.SetReadDeadline(passed)
+	if why := c.place.behind(present); why == ErrSessionEnded || why != nil && c.long {
+		c.cut = why
+		c.connection.SetWriteDeadline(passed)
 	}
 }
 
-// wake says that there are new data. It never waits.
-func (c *served) wake() {
-	select {
-	case c.woken <- struct{}{}:
-	default:
+// look goes to the present edition, which may be none.
+func (c *served) look() {
+	c.lock.Lock()
+	defer c.lock.Unlock()
+	c.place, c.woken, c.long, c.cut = c.server.present.Load(), false, false, nil
+	c.present = C.struct_rtr_present{}
+	if c.place != nil {
+		c.present.session = C.uint16_t(c.place.data.Session())
+		c.present.serial = C.uint32_t(c.place.data.Serial())
+		c.present.has = true
 	}
 }
 
 // serve answers queries until the connection ends, and says why it did.
 func (c *served) serve() error {
-	queries, done := make(chan query), make(chan struct{})
-	ended := make(chan struct{})
-	go func() {
-		defer close(ended)
-		c.read(queries, done)
-	}()
-	err := c.answerAll(queries)
-	c.connection.Close()
-	close(done)
-	<-ended
-	switch {
-	case c.server.isClosed():
-		return ErrServerClosed
-	case err == io.EOF:
-		return nil
-	case isTimeout(err):
-		return fmt.Errorf("%w: %v", ErrTooSlow, err)
+	for c.serving.kind != C.RTR_SERVE_END {
+		if c.look(); c.server.closed.Load() {
+			return ErrServerClosed
+		}
+		switch c.tell(); c.serving.kind {
+		case C.RTR_SERVE_END:
+		case C.RTR_SERVE_WAIT:
+			c.receive()
+		default:
+			if err := c.answer(); err != nil {
+				c.input, c.closed = nil, err
+			}
+		}
 	}
+	c.lock.Lock()
+	c.last = true
+	c.lock.Unlock()
+	sendLast(c.connection, c.opening(), c.server.Limits.Unit)
+	return c.why()
+}
+
+// refuse has the connection end, since there are as many as there may be.
+func (c *served) refuse() {
+	C.rtr_cache_full(&c.cache, C.uint64_t(c.server.clock.now()), &c.present, &c.serving)
+}
+
+// tell tells the machine of a unit that came, or that the connection is gone, or of the time.
+func (c *served) tell() {
+	now := C.uint64_t(c.server.clock.now())
+	if len(c.input) > 0 {
+		kept, count := c.place.serials()
+		in, n := place(c.input)
+		C.rtr_cache_read(&c.cache, now, &c.present, kept, count, in, n, C.bool(c.closed != nil),
+			&c.serving)
+		if c.serving.kind != C.RTR_SERVE_WAIT {
+			return
+		}
+	} else if c.closed != nil {
+		C.rtr_cache_lost(&c.cache, now, &c.present, &c.serving)
+		return
+	}
+	C.rtr_cache_tick(&c.cache, now, &c.present, &c.serving)
+}
+
+// answer sends what the machine says, and is done with the unit that it is about.
+func (c *served) answer() (err error) {
+	var body []byte
+	switch version := uint8(c.serving.version); c.serving.kind {
+	case C.RTR_SERVE_ALL:
+		var data Data
+		data, err = c.place.form(version)
+		body = data.Bytes()
+	case C.RTR_SERVE_CHANGES:
+		body, err = c.place.since(version, uint32(c.serving.serial))
+	}
+	if err == nil {
+		err = c.write(c.opening(), body)
+	}
+	taken := int(c.serving.taken)
+	c.input, c.offset = append(c.buffer[:0], c.input[taken:]...), c.offset+int64(taken)
+	c.began = c.server.clock.now()
 	return err
 }
 
-// read hands queries on, the last one with an error.
-func (c *served) read(queries chan<- query, done <-chan struct{}) {
-	for {
-		var next query
-		next.unit, next.err = c.next()
-		if next.err == nil {
-			next.unit = next.unit.Clone()
-			next.bytes = append([]byte{}, c.reader.Bytes()...)
-		}
-		select {
-		case queries <- next:
-		case <-done:
-			return
-		}
-		if next.err != nil {
-			return
-		}
+// opening is the unit that an answer begins with, or the report that is owed.
+func (c *served) opening() []byte {
+	if !c.serving.reports {
+		output := make([]byte, 12)
+		out, room := place(output)
+		return output[:C.rtr_cache_unit(&c.serving, out, room)]
 	}
+	output := make([]byte, longest)
+	in, n := place(c.input)
+	out, room := place(output)
+	var written C.size_t
+	C.rtr_cache_report(&c.serving, in, n, out, room, &written)
+	return output[:written]
 }
 
-// next reads a query. The first one says what version the session has (RFC 8210 section 7).
-func (c *served) next() (*Unit, error) {
-	limits := c.server.Limits
-	patience := limits.Idle
-	if !c.asked {
-		patience = limits.First
+// receive waits until something comes, or it is woken, or it is time.
+func (c *served) receive() {
+	until := uint64(C.rtr_cache_wakes(&c.cache, &c.present))
+	late := c.began + uint64(c.server.Limits.Unit.Milliseconds())
+	if len(c.input) > 0 && late < until {
+		until = late
 	}
-	c.connection.SetReadDeadline(time.Now().Add(patience))
-	if _, err := c.input.Peek(1); err != nil {
-		return nil, err
+	if len(c.input) == cap(c.input) {
+		c.input = append(c.input, 0)[:len(c.input)]
 	}
-	c.connection.SetReadDeadline(time.Now().Add(limits.Unit))
-	if head, err := c.input.Peek(header); err == nil {
-		if err := c.checkVersion(head); err != nil {
-			return nil, err
-		}
+	c.lock.Lock()
+	if !c.woken {
+		c.connection.SetReadDeadline(c.server.clock.at(until))
 	}
-	unit, err := c.reader.Next()
-	if err != nil {
-		return nil, err
+	c.lock.Unlock()
+	n, err := c.connection.Read(c.input[len(c.input):cap(c.input)])
+	if len(c.input) == 0 {
+		c.began = c.server.clock.now()
 	}
-	switch unit.Kind {
-	case SerialQuery, ResetQuery:
-		if !c.asked {
-			c.asked, c.version = true, unit.Version
-		}
-		return unit, nil
-	case ErrorReport:
-		return nil, reported(unit)
-	}
-	return nil, breach(ErrNoQuery, InvalidRequest, c.reader.Bytes())
-}
-
-// checkVersion refuses a header of a version that the session can't have.
-func (c *served) checkVersion(head []byte) error {
+	c.input = c.input[:len(c.input)+n]
 	switch {
-	case c.asked && head[0] != c.version:
-		return breach(ErrOtherVersion, UnexpectedProtocolVersion, head)
-	case head[0] >= versions:
-		return breach(ErrNoVersion, UnsupportedProtocolVersion, head)
+	case n > 0 || err == nil:
+	case !isTimeout(err):
+		c.closed = err
+	case len(c.input) > 0 && c.server.clock.now() >= late:
+		c.input, c.closed = nil, ErrTooSlow
 	}
-	return nil
-}
-
-// answerAll answers queries and sends notifies until there is an error.
-func (c *served) answerAll(queries <-chan query) error {
-	timer := time.NewTimer(0)
-	defer timer.Stop()
-	<-timer.C
-	asked := false
-	for {
-		select {
-		case next := <-queries:
-			if next.err != nil {
-				c.refuse(next.err, asked)
-				return next.err
-			}
-			asked = true
-			if err := c.answer(next); err != nil {
-				return err
-			}
-		case <-c.woken:
-		case <-timer.C:
-		case <-c.server.stopping:
-			return ErrServerClosed
-		}
-		wait, err := c.notify(asked)
-		if err != nil {
-			return err
-		}
-		if wait > 0 {
-			timer.Reset(wait)
-		}
-	}
-}
-
-// refuse sends the report that an error owes, in the version of the session, or else in that of
-// the unit if there is such a version, and else in the highest.
-func (c *served) refuse(err error, asked bool) {
-	report := owedReport(err, c.version)
-	if report != nil && !asked {
-		report.Version = versions - 1
-		if len(report.Enclosed) > 0 && report.Enclosed[0] < versions {
-			report.Version = report.Enclosed[0]
-		}
-	}
-	if report != nil {
-		last, _ := report.AppendBinary(nil)
-		sendLast(c.connection, last, c.server.Limits.Unit)
-	}
-}
-
-// answer answers a query (RFC 8210 section 8).
-func (c *served) answer(next query) error {
-	edition := c.server.edition()
-	if edition == nil {
-		return c.send(reportOn(NoDataAvailable, next.bytes, "the cache has no data yet"))
-	}
-	if err := c.tell(edition.data); err != nil {
-		return err
-	}
-	version := next.unit.Version
-	if next.unit.Kind == ResetQuery {
-		data, err := edition.everything(version)
-		if err != nil {
-			return err
-		}
-		return c.respond(version, data.Bytes())
-	}
-	changes, known, err := edition.since(version, next.unit.Session, next.unit.Serial)
-	if err != nil {
-		return err
-	}
-	if !known {
-		return c.send(&Unit{Kind: CacheReset, Version: version})
-	}
-	return c.respond(version, changes)
-}
-
-// tell keeps which data the client gets to know of. Within a connection they are of one session.
-func (c *served) tell(data Data) error {
-	if c.told && c.session != data.Session() {
-		return ErrSessionEnded
-	}
-	c.told, c.session, c.serial = true, data.Session(), data.Serial()
-	return nil
-}
-
-// respond sends a cache response and a sequence.
-func (c *served) respond(version uint8, sequence []byte) error {
-	response := Unit{Kind: CacheResponse, Version: version, Session: c.session}
-	head, err := response.MarshalBinary()
-	if err != nil {
-		return err
-	}
-	return c.write(head, sequence)
-}
-
-// notify tells a client that asked once that there are new data, unless the last notify was sent
-// too lately: then it says how long to wait.
-func (c *served) notify(asked bool) (time.Duration, error) {
-	edition := c.server.edition()
-	if !asked || edition == nil {
-		return 0, nil
-	}
-	data := edition.data
-	if c.told && c.session == data.Session() && c.serial == data.Serial() {
-		return 0, nil
-	}
-	if wait := c.server.Limits.Notify - time.Since(c.notified); wait > 0 {
-		return wait, nil
-	}
-	if err := c.tell(data); err != nil {
-		return 0, err
-	}
-	c.notified = time.Now()
-	return 0, c.send(&Unit{
-		Kind: SerialNotify, Version: c.version, Session: data.Session(), Serial: data.Serial(),
-	})
-}
-
-// send sends a unit.
-func (c *served) send(unit *Unit) error {
-	form, err := unit.MarshalBinary()
-	if err != nil {
-		return err
-	}
-	return c.write(form)
 }
 
 // write writes parts in chunks, each in its time, and all in that of a response.
 func (c *served) write(parts ...[]byte) error {
-	limits := c.server.Limits
-	last := time.Now().Add(limits.Response)
+	last := time.Now().Add(c.server.Limits.Response)
 	for _, part := range parts {
 		for len(part) > 0 {
-			size := len(part)
-			if size > chunk {
-				size = chunk
+			front := part
+			if len(front) > chunk {
+				front = front[:chunk]
 			}
-			deadline := time.Now().Add(limits.Write)
-			if deadline.After(last) {
-				deadline = last
-			}
-			c.connection.SetWriteDeadline(deadline)
-			if _, err := c.connection.Write(part[:size]); err != nil {
+			part = part[len(front):]
+			if err := c.allow(last, len(part) > 0); err != nil {
 				return err
 			}
-			part = part[size:]
+			if _, err := c.connection.Write(front); err != nil {
+				if cut := c.allow(last, false); cut != nil {
+					return cut
+				}
+				return slowIfLate(err)
+			}
 		}
 	}
 	return nil
+}
+
+// allow gives a write its time, or says why no more of the place is to be written.
+func (c *served) allow(last time.Time, long bool) error {
+	c.lock.Lock()
+	defer c.lock.Unlock()
+	c.long = c.long || long
+	if next := time.Now().Add(c.server.Limits.Write); next.Before(last) {
+		last = next
+	}
+	if c.cut == nil {
+		c.connection.SetWriteDeadline(last)
+	}
+	return c.cut
+}
+
+// why is the error that the reason is told by; none where the client closed the connection.
+func (c *served) why() error {
+	switch c.serving.reason {
+	case C.RTR_REASON_LOST:
+		if c.server.closed.Load() {
+			return ErrServerClosed
+		}
+		if c.closed == io.EOF {
+			return nil
+		}
+		return c.closed
+	case C.RTR_REASON_REPORTED:
+		return reportedIn(c.input)
+	case C.RTR_REASON_FAULTY:
+		status, detail := Status(c.serving.status), uint8(c.serving.detail)
+		return owned(refusal(status, detail, c.input, c.offset))
+	case C.RTR_REASON_NO_QUERY, C.RTR_REASON_OTHER_VERSION, C.RTR_REASON_NO_VERSION:
+		return breachOf(endings[c.serving.reason], ErrorCode(c.serving.code), c.input)
+	}
+	return endings[c.serving.reason]
 }

@@ -55,7 +55,7 @@ func TestServerAnswers(t *testing.T) {
 	noLeaks(t)
 	random := rand.New(rand.NewSource(6))
 	var sets []records
-	server, address := started(t, func(limits *ServerLimits) { limits.Keep = 3 })
+	server, address := started(t, nil)
 	for serial := uint32(0); serial < 6; serial++ {
 		sets = append(sets, someRecords(random, 12))
 		if err := server.Update(parsed(t, sets[serial].canonical(2, serial))); err != nil {
@@ -70,7 +70,7 @@ func TestServerAnswers(t *testing.T) {
 			expect(t, connection, join(response(version, 0x1234), last.canonical(version, 5)))
 			for serial := uint32(0); serial < 9; serial++ {
 				send(t, connection, asked(version, 0x1234, serial))
-				if serial < 2 || serial > 5 {
+				if serial > 5 {
 					expect(t, connection, []byte{version, 8, 0, 0, 0, 0, 0, 8})
 					continue
 				}
@@ -107,6 +107,111 @@ func TestServerWithoutData(t *testing.T) {
 	expect(t, silent, join(response(0, 7), ending(0, 7, 2)))
 }
 
+// sequences are the data of serial numbers 1, 2, .., each with another prefix, in these versions.
+func sequences(of ...byte) (all [][]byte) {
+	for i, version := range of {
+		prefix := changed(changed(ipv4, 0, version), 13, byte(i))
+		all = append(all, join(prefix, ending(version, 7, uint32(i+1))))
+	}
+	return all
+}
+
+// stepsBack says how many data before the present ones a client gets the changes from: it asks by
+// the serial numbers below the present one, downwards.
+func stepsBack(t *testing.T, connection net.Conn, serial uint32) (count uint32) {
+	t.Helper()
+	for ; count < serial; count++ {
+		send(t, connection, asked(1, 7, serial-1-count))
+		unit, err := NewReader(connection).Next()
+		if err != nil {
+			t.Fatal(err)
+		}
+		if unit.Kind == CacheReset {
+			break
+		}
+		if _, err := NewReader(connection).Sequence(100).Collect(1000); err != nil {
+			t.Fatal(err)
+		}
+	}
+	return count
+}
+
+// Changes are kept for a time, and within a limit of bytes: each of these has a prefix that is
+// announced, one that is withdrawn, and an end of data, which are 64 bytes.
+func TestServerKeeps(t *testing.T) {
+	noLeaks(t)
+	all := sequences(1, 1, 1, 1, 1, 1, 1, 1, 1, 1, 1, 1)
+	for _, one := range []struct {
+		bytes, count int
+		time         time.Duration
+	}{
+		{1 << 20, 11, time.Hour}, {11 * 64, 11, time.Hour}, {11*64 - 1, 10, time.Hour},
+		{64, 1, time.Hour}, {63, 0, time.Hour}, {1 << 20, 0, 0},
+	} {
+		server, address := started(t, func(limits *ServerLimits) {
+			limits.KeepBytes, limits.Keep = one.bytes, one.time
+		})
+		for _, sequence := range all {
+			if err := server.Update(parsed(t, sequence)); err != nil {
+				t.Fatal(err)
+			}
+		}
+		if got := stepsBack(t, dial(t, address), 12); got != uint32(one.count) {
+			t.Fatalf("%+v: %d", one, got)
+		}
+	}
+}
+
+// Data of other versions than those before them: changes are told in each.
+func TestServerVersions(t *testing.T) {
+	noLeaks(t)
+	all := sequences(1, 0, 1, 2, 0, 2, 1)
+	server, address := started(t, nil)
+	for _, sequence := range all {
+		if err := server.Update(parsed(t, sequence)); err != nil {
+			t.Fatal(err)
+		}
+		if err := server.Update(parsed(t, sequence)); err != nil {
+			t.Fatal(err)
+		}
+	}
+	for version := byte(0); version < 3; version++ {
+		connection := dial(t, address)
+		old := changed(changed(ipv4, 0, version), 8, 0)
+		for i := byte(0); i < 6; i++ {
+			send(t, connection, asked(version, 7, uint32(i)+1))
+			expect(t, connection, join(response(version, 7),
+				changed(changed(ipv4, 0, version), 13, 6), changed(old, 13, i),
+				ending(version, 7, 7)))
+		}
+	}
+}
+
+// A cache that is told so answers by a report of code 0 what it can't tell changes for (RFC 8210
+// section 5.1).
+func TestServerRefuse(t *testing.T) {
+	noLeaks(t)
+	server, address := started(t, func(limits *ServerLimits) { limits.Refuse = true })
+	errs := why(server)
+	for _, sequence := range sequences(1, 1) {
+		if err := server.Update(parsed(t, sequence)); err != nil {
+			t.Fatal(err)
+		}
+	}
+	for _, query := range [][]byte{asked(1, 8, 1), asked(1, 7, 0), asked(1, 7, 3)} {
+		connection := dial(t, address)
+		send(t, connection, asked(1, 7, 2))
+		expect(t, connection, join(response(1, 7), ending(1, 7, 2)))
+		send(t, connection, query)
+		expectEnd(t, connection,
+			reportBytes(1, 0, query, "no data of this session and serial number"))
+		connection.Close()
+		if err := <-errs; err != ErrUnknownData {
+			t.Fatal(err)
+		}
+	}
+}
+
 // What a client may not send to a cache that has one prefix, and what comes before the end.
 var serverRefusals = map[string]struct{ input, expected []byte }{
 	"version 3": {
@@ -129,7 +234,7 @@ var serverRefusals = map[string]struct{ input, expected []byte }{
 	"a notify": {serialNotify, reportBytes(1, 3, serialNotify, "unit is not a query")},
 	"no type": {
 		[]byte{0, 5, 0, 0, 0, 0, 0, 8},
-		reportBytes(0, 5, []byte{0, 5, 0, 0, 0, 0, 0, 8}, "unit type 5 is not allowed here"),
+		reportBytes(0, 5, []byte{0, 5, 0, 0, 0, 0, 0, 8}, "unit type is not allowed here"),
 	},
 	"a long reset query": {
 		[]byte{1, 2, 0, 0, 0, 0, 0, 9, 0},
@@ -212,6 +317,11 @@ func TestServerUpdate(t *testing.T) {
 			t.Fatal(serial, err)
 		}
 	}
+	timed := append([]byte{}, ending(1, 7, 0xffffffff)...)
+	timed[23]++
+	if err := server.Update(parsed(t, join(ipv4, timed))); err != ErrNewTiming {
+		t.Fatal(err)
+	}
 	if err := server.Update(Data{}); !errors.Is(err, Short) {
 		t.Fatal(err)
 	}
@@ -228,6 +338,36 @@ func TestServerUpdate(t *testing.T) {
 	again := dial(t, address)
 	send(t, again, asked(1, 7, 0))
 	expect(t, again, []byte{1, 8, 0, 0, 0, 0, 0, 8})
+}
+
+// A client that is slow to take its answer keeps an edition until three have come after it, and
+// none of another session.
+func TestServerBehind(t *testing.T) {
+	noLeaks(t)
+	for reason, sessions := range map[error][]uint16{
+		ErrBehind: {7, 7, 7}, ErrSessionEnded: {8},
+	} {
+		server, address := started(t, nil)
+		errs := why(server)
+		if err := server.Update(megabytes(t)); err != nil {
+			t.Fatal(err)
+		}
+		slow := dial(t, address)
+		send(t, slow, asked(1, 0))
+		expect(t, slow, response(1, 7))
+		for i, session := range sessions {
+			time.Sleep(50 * time.Millisecond)
+			if len(errs) > 0 {
+				t.Fatal(i, <-errs)
+			}
+			if err := server.Update(parsed(t, ending(1, session, uint32(i+2)))); err != nil {
+				t.Fatal(err)
+			}
+		}
+		if err := <-errs; err != reason {
+			t.Fatal(err)
+		}
+	}
 }
 
 // why gives the errors with which the connections of a server end.
@@ -287,7 +427,7 @@ func TestServerLimits(t *testing.T) {
 	}
 }
 
-// A client above the limit is closed at once, and when another has gone its place is free.
+// A client above the limit gets a report at once, and when another has gone its place is free.
 func TestServerConnections(t *testing.T) {
 	noLeaks(t)
 	server, address := started(t, func(limits *ServerLimits) { limits.Connections = 2 })
@@ -302,7 +442,10 @@ func TestServerConnections(t *testing.T) {
 			send(t, connection, asked(1, 0))
 			expect(t, connection, answer)
 		}
-		expectEnd(t, dial(t, address), nil)
+		many := dial(t, address)
+		send(t, many, asked(1, 0))
+		expectEnd(t, many, reportBytes(2, 1, nil, "too many connections"))
+		many.Close()
 		if err := <-errs; err != ErrManyClients {
 			t.Fatal(err)
 		}

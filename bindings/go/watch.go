@@ -3,13 +3,19 @@
 package rtr
 
 import (
+	"bytes"
 	"context"
 	"errors"
 	"fmt"
 	"io"
 	"os"
+	"runtime/debug"
+	"syscall"
 	"time"
 )
+
+// What the name of a file of editions has behind that of the data.
+const kept = ".kept"
 
 // MostDataBytes is how long a file of data may be.
 const MostDataBytes = 1 << 28
@@ -26,11 +32,20 @@ func LoadData(path string) (Data, error) {
 		return Data{}, err
 	}
 	defer file.Close()
-	input, err := io.ReadAll(io.LimitReader(file, MostDataBytes+1))
+	info, err := file.Stat()
 	if err != nil {
 		return Data{}, err
 	}
-	if len(input) > MostDataBytes {
+	var read bytes.Buffer
+	if info.Size() <= MostDataBytes {
+		read.Grow(int(info.Size()) + bytes.MinRead)
+		_, err = read.ReadFrom(io.LimitReader(file, MostDataBytes+1))
+	}
+	if err != nil {
+		return Data{}, err
+	}
+	input := read.Bytes()
+	if info.Size() > MostDataBytes || len(input) > MostDataBytes {
 		return Data{}, fmt.Errorf("%s: %w", path, &Fault{Status: NoRoom, Offset: MostDataBytes})
 	}
 	data, err := orderedData(input)
@@ -71,21 +86,23 @@ func moved(err error, by int) error {
 	return err
 }
 
-// Watch looks at a file of data in this interval, until the context ends. It gives new data to the
-// server when the file has another time or size than before, and once at the beginning. Each time
-// it tells which data these are, or why they couldn't be taken; the server then keeps those that
-// it has.
+// Watch looks at a file of data in this interval, until the context ends. It gives the data to the
+// server when the file is another than before, and once at the beginning. It tells which new data
+// the server has, or why data couldn't be taken; the server then keeps those that it has. A file
+// that the system can't give is tried again each time, and told once.
+//
+// Beside the file it keeps another, with ".kept" behind its name, by Restore at the beginning and
+// Save after new data: so a server that is started again goes on where it was.
 func (s *Server) Watch(
 	ctx context.Context, path string, every time.Duration, told func(Data, error),
 ) {
 	ticks := time.NewTicker(every)
 	defer ticks.Stop()
-	seen := stamp{size: -1}
+	w := newWatcher(s, path, told)
+	defer func() { w.spare.Close() }()
+	w.restore()
 	for {
-		if now := stampOf(path); now != seen {
-			seen = now
-			told(s.load(path))
-		}
+		w.look()
 		select {
 		case <-ctx.Done():
 			return
@@ -94,29 +111,87 @@ func (s *Server) Watch(
 	}
 }
 
-// load takes the data of a file.
-func (s *Server) load(path string) (Data, error) {
-	data, err := LoadData(path)
-	if err != nil {
-		return Data{}, err
+// watcher looks at a file of data for a Server.
+type watcher struct {
+	server *Server
+	path   string
+	told   func(Data, error)
+	seen   stamp
+	failed string   // why the system couldn't give the file, as it was told
+	spare  *os.File // a descriptor that is kept for the file
+}
+
+func newWatcher(server *Server, path string, told func(Data, error)) *watcher {
+	return &watcher{server: server, path: path, told: told, seen: stamp{size: -1}}
+}
+
+// restore takes the editions of the server before this one.
+func (w *watcher) restore() {
+	err := w.server.Restore(w.path + kept)
+	if present := w.server.present.Load(); err == nil {
+		w.told(present.data, nil)
+	} else if !errors.Is(err, os.ErrNotExist) {
+		w.told(Data{}, err)
 	}
-	if err := s.Update(data); err != nil {
-		return Data{}, fmt.Errorf("%s: %w", path, err)
+}
+
+// look takes the file, if it is another than before or couldn't be had then.
+func (w *watcher) look() {
+	now := stampOf(w.path)
+	if now == w.seen && w.failed == "" {
+		return
 	}
-	return data, nil
+	w.seen = now
+	w.spare.Close()
+	old := w.server.present.Load()
+	failed := w.load()
+	if present := w.server.present.Load(); present != old {
+		w.told(present.data, nil)
+		failed = w.server.Save(w.path + kept)
+	}
+	w.spare, _ = os.Open(os.DevNull)
+	debug.FreeOSMemory() // the file, as it was read
+	before := w.failed
+	w.failed = ""
+	if failed == nil {
+		return
+	}
+	if errors.As(failed, new(syscall.Errno)) {
+		w.failed = failed.Error()
+	}
+	if w.failed == "" || w.failed != before {
+		w.told(Data{}, failed)
+	}
+}
+
+// load gives the data of the file to the server.
+func (w *watcher) load() error {
+	data, err := LoadData(w.path)
+	var system *os.PathError
+	switch {
+	case errors.As(err, &system):
+		return fmt.Errorf("%s: %w", w.path, system.Err)
+	case err != nil:
+		return err
+	}
+	if err := w.server.Update(data); err != nil {
+		return fmt.Errorf("%s: %w", w.path, err)
+	}
+	return nil
 }
 
 // stamp says which state of a file was read.
 type stamp struct {
-	changed int64 // in nanoseconds
-	size    int64
+	device, inode    uint64
+	size             int64
+	written, changed syscall.Timespec
 }
 
-// stampOf is that of the file now; one of its own if there is no file.
+// stampOf is that of the file now; the zero one if there is no file.
 func stampOf(path string) stamp {
-	info, err := os.Stat(path)
-	if err != nil {
-		return stamp{size: -2}
+	var now syscall.Stat_t
+	if syscall.Stat(path, &now) != nil {
+		return stamp{}
 	}
-	return stamp{info.ModTime().UnixNano(), info.Size()}
+	return stamp{now.Dev, now.Ino, now.Size, now.Mtim, now.Ctim}
 }

@@ -1,5 +1,6 @@
 // Cache serves the data in a file to RTR clients of versions 0 to 2, and takes it up again when
-// the file changes. SIGINT and SIGTERM end it.
+// the file changes. What it has to know after it was started again is kept beside the file, with
+// ".kept" behind its name. SIGINT and SIGTERM end it.
 package main
 
 import (
@@ -9,60 +10,71 @@ import (
 	"net"
 	"os"
 	"os/signal"
+	"strings"
 	"syscall"
 	"time"
 
 	"fishreef/rtr"
 )
 
-const usage = "usage: cache FILE [--listen ADDRESS:PORT].."
+const usage = "usage: cache FILE [--listen ADDRESS:PORT].. [--refuse]"
 
 // Where a cache listens that isn't told where: every address, at a port that needs no rights.
 const anywhere = ":3323"
 
 // How often the file is looked at.
-const interval = time.Second
+const interval = time.Second / 4
+
+// options are what the command line asks for.
+type options struct {
+	path      string
+	addresses []string
+	refuse    bool
+}
 
 func main() {
-	path, addresses, ok := arguments(os.Args[1:])
+	wanted, ok := arguments(os.Args[1:])
 	if !ok {
 		fmt.Fprintln(os.Stderr, usage)
 		os.Exit(2)
 	}
 	ctx, stop := signal.NotifyContext(context.Background(), syscall.SIGINT, syscall.SIGTERM)
 	defer stop()
-	if err := run(ctx, path, addresses); err != nil {
+	if err := run(ctx, wanted); err != nil {
 		say(err)
 		os.Exit(1)
 	}
 }
 
-// arguments are the file and the addresses of a command line.
-func arguments(words []string) (path string, addresses []string, ok bool) {
+// arguments are the options of a command line.
+func arguments(words []string) (wanted options, ok bool) {
 	for ; len(words) > 0; words = words[1:] {
 		switch {
 		case words[0] == "--listen" && len(words) > 1:
-			addresses = append(addresses, words[1])
+			wanted.addresses = append(wanted.addresses, words[1])
 			words = words[1:]
-		case path == "" && words[0] != "" && words[0][0] != '-':
-			path = words[0]
+		case words[0] == "--refuse":
+			wanted.refuse = true
+		case wanted.path == "" && words[0] != "" && words[0][0] != '-':
+			wanted.path = words[0]
 		default:
-			return "", nil, false
+			return options{}, false
 		}
 	}
-	if len(addresses) == 0 {
-		addresses = []string{anywhere}
+	if len(wanted.addresses) == 0 {
+		wanted.addresses = []string{anywhere}
 	}
-	return path, addresses, path != ""
+	return wanted, wanted.path != ""
 }
 
 // run serves until the context ends, or a listener fails.
-func run(ctx context.Context, path string, addresses []string) error {
+func run(ctx context.Context, wanted options) error {
 	server := rtr.NewServer()
+	server.Limits.Refuse = wanted.refuse
 	defer server.Close()
 	server.Ended = func(client net.Addr, err error) { say(client, ": ", err) }
-	failed := make(chan error, len(addresses))
-	for _, address := range addresses {
+	failed := make(chan error, len(wanted.addresses))
+	for _, address := range wanted.addresses {
 		listener, err := net.Listen("tcp", address)
 		if err != nil {
 			return err
@@ -74,13 +86,13 @@ func run(ctx context.Context, path string, addresses []string) error {
 	watched := make(chan struct{})
 	go func() {
 		defer close(watched)
-		server.Watch(ctx, path, interval, func(data rtr.Data, err error) {
+		server.Watch(ctx, wanted.path, interval, func(data rtr.Data, err error) {
 			if err != nil {
 				say(err)
 				return
 			}
 			say(fmt.Sprintf("%s: session %d serial %d: %d payloads",
-				path, data.Session(), data.Serial(), data.Len()))
+				wanted.path, data.Session(), data.Serial(), data.Len()))
 		})
 	}()
 	var err error
@@ -96,7 +108,8 @@ func run(ctx context.Context, path string, addresses []string) error {
 	return err
 }
 
-// say writes a line on standard error.
+// say writes a line on standard error, with the time before it.
 func say(words ...any) {
-	fmt.Fprintln(os.Stderr, fmt.Sprint(words...))
+	line := strings.ReplaceAll(fmt.Sprint(words...), "rtr: ", "")
+	fmt.Fprintln(os.Stderr, time.Now().UTC().Format(time.RFC3339), line)
 }

@@ -1,0 +1,122 @@
+//go:build cgo && linux && (amd64 || arm64)
+
+package rtr
+
+import (
+	"bytes"
+	"encoding/binary"
+	"errors"
+	"fmt"
+	"hash/fnv"
+	"io"
+	"os"
+	"time"
+)
+
+// A file of editions begins with these bytes, and with the FNV-1a hash in 64 bits of what follows:
+// the present data, and then each step back. Before each stand when newer data came, in
+// milliseconds since 1970, and its length. Numbers have 64 bits, the highest first.
+const keptMagic = "rtrkept1"
+
+// How long the beginning is, and what stands before a sequence.
+const keptHead = 16
+
+// ErrTorn is of a file of editions that isn't as Save wrote it.
+var ErrTorn = errors.New("rtr: the file of editions is torn")
+
+// Save writes the present data, and what leads back to those before them, to a file: by another one
+// beside it, which then gets its name. Without data it writes nothing.
+func (s *Server) Save(path string) error {
+	present := s.present.Load()
+	if present == nil {
+		return nil
+	}
+	file, err := os.Create(path + ".new")
+	if err != nil {
+		return err
+	}
+	defer file.Close()
+	if err := present.write(file); err != nil {
+		return err
+	}
+	if err := file.Close(); err != nil {
+		return err
+	}
+	return os.Rename(path+".new", path)
+}
+
+// write writes the edition to a file that is empty.
+func (e *edition) write(file *os.File) error {
+	sum := fnv.New64a()
+	output := io.MultiWriter(file, sum)
+	_, err := file.Write(make([]byte, keptHead))
+	for _, one := range append([]stepBack{{time.Now(), e.data.Bytes()}}, e.back...) {
+		head := [2]uint64{uint64(one.until.UnixMilli()), uint64(len(one.changes))}
+		if err == nil {
+			err = binary.Write(output, binary.BigEndian, head)
+		}
+		if err == nil {
+			_, err = output.Write(one.changes)
+		}
+	}
+	if err == nil {
+		_, err = file.WriteAt(sum.Sum([]byte(keptMagic)), 0)
+	}
+	return err
+}
+
+// Restore takes what Save wrote, if the server has no data yet: with the session and the serial
+// number of then, clients go on where they are.
+//
+// Errors: those of the file; ErrTorn.
+func (s *Server) Restore(path string) error {
+	input, err := os.ReadFile(path)
+	if err != nil {
+		return err
+	}
+	data, back, ok := parseKept(input)
+	if !ok {
+		return fmt.Errorf("%s: %w", path, ErrTorn)
+	}
+	s.updating.Lock()
+	defer s.updating.Unlock()
+	if s.present.CompareAndSwap(nil, newEdition(0, data, back, s.Limits)) {
+		s.wake()
+	}
+	return nil
+}
+
+// parseKept gives the data and the steps back of a file, and whether it is as it was written.
+func parseKept(input []byte) (data Data, back []stepBack, ok bool) {
+	if len(input) < keptHead {
+		return Data{}, nil, false
+	}
+	sum := fnv.New64a()
+	sum.Write(input[keptHead:])
+	if !bytes.Equal(input[:keptHead], sum.Sum([]byte(keptMagic))) {
+		return Data{}, nil, false
+	}
+	for rest := input[keptHead:]; len(rest) > 0; {
+		if len(rest) < keptHead {
+			return Data{}, nil, false
+		}
+		until, size := binary.BigEndian.Uint64(rest), binary.BigEndian.Uint64(rest[8:])
+		if rest = rest[keptHead:]; size > uint64(len(rest)) {
+			return Data{}, nil, false
+		}
+		var err error
+		if data.IsZero() {
+			data, err = ParseData(rest[:size])
+		} else {
+			var changes []byte
+			changes, err = formFor(rest[:size], data.Version())
+			back = append(back, stepBack{time.UnixMilli(int64(until)), changes})
+		}
+		if err != nil {
+			return Data{}, nil, false
+		}
+		rest = rest[size:]
+	}
+	_, err := before(data, back)
+	return data, back, err == nil
+}

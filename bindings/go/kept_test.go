@@ -1,0 +1,235 @@
+//go:build cgo && linux && (amd64 || arm64)
+
+package rtr
+
+import (
+	"bytes"
+	"context"
+	"errors"
+	"os"
+	"syscall"
+	"testing"
+	"time"
+)
+
+// restarted is a server with what a server of these data saved, and its address.
+func restarted(t *testing.T, path string, all ...[]byte) (*Server, string) {
+	t.Helper()
+	first := NewServer()
+	for _, sequence := range all {
+		if err := first.Update(parsed(t, sequence)); err != nil {
+			t.Fatal(err)
+		}
+	}
+	if err := first.Save(path); err != nil {
+		t.Fatal(err)
+	}
+	server, address := started(t, nil)
+	if err := server.Restore(path); err != nil {
+		t.Fatal(err)
+	}
+	return server, address
+}
+
+// A server that is started again has the session, the serial number, and the changes from data of
+// before; also where its data are newer by then.
+func TestServerRestart(t *testing.T) {
+	noLeaks(t)
+	path := t.TempDir() + "/kept"
+	all := sequences(1, 1, 2, 1, 1)
+	server, address := restarted(t, path, all[:4]...)
+	connection := dial(t, address)
+	send(t, connection, asked(1, 0))
+	expect(t, connection, join(response(1, 7), all[3]))
+	if got := stepsBack(t, connection, 4); got != 3 {
+		t.Fatal(got)
+	}
+	if err := server.Update(parsed(t, all[4])); err != nil {
+		t.Fatal(err)
+	}
+	expect(t, connection, numbered(1, 0, 7, 5))
+	if got := stepsBack(t, dial(t, address), 5); got != 4 {
+		t.Fatal(got)
+	}
+	// It has data now, and takes no others.
+	if err := server.Restore(path); err != nil {
+		t.Fatal(err)
+	}
+	send(t, connection, asked(1, 7, 4))
+	expect(t, connection, join(response(1, 7), changed(changed(ipv4, 0, 1), 13, 4),
+		changed(changed(changed(ipv4, 0, 1), 13, 3), 8, 0), ending(1, 7, 5)))
+}
+
+// A server without data saves nothing, and a file that isn't there or isn't whole is refused.
+func TestServerTorn(t *testing.T) {
+	noLeaks(t)
+	path := t.TempDir() + "/kept"
+	server := NewServer()
+	if err := server.Save(path); err != nil {
+		t.Fatal(err)
+	}
+	if err := server.Restore(path); !errors.Is(err, os.ErrNotExist) {
+		t.Fatal(err)
+	}
+	restarted(t, path, sequences(1, 1, 1)...)
+	whole, err := os.ReadFile(path)
+	if err != nil {
+		t.Fatal(err)
+	}
+	torn := [][]byte{append(append([]byte{}, whole...), 0)}
+	for i := range whole {
+		torn = append(torn, whole[:i], changed(whole, i, whole[i]^1))
+	}
+	for _, input := range torn {
+		if err := os.WriteFile(path, input, 0o600); err != nil {
+			t.Fatal(err)
+		}
+		if err := server.Restore(path); !errors.Is(err, ErrTorn) {
+			t.Fatalf("%x: %v", input, err)
+		}
+	}
+	if server.present.Load() != nil {
+		t.Fatal("data of a torn file")
+	}
+}
+
+// watched is a watcher of a file that isn't there yet, and what it told last.
+func watched(t *testing.T) (w *watcher, last *error) {
+	last = new(error)
+	w = newWatcher(NewServer(), t.TempDir()+"/data", func(_ Data, err error) { *last = err })
+	t.Cleanup(func() { w.spare.Close() })
+	return w, last
+}
+
+// overwrite puts bytes in the place of those that a file has, at the same time.
+func overwrite(t *testing.T, path string, input []byte) {
+	t.Helper()
+	if err := os.WriteFile(path, input, 0o600); err != nil {
+		t.Fatal(err)
+	}
+	if err := os.Chtimes(path, time.Unix(1, 0), time.Unix(1, 0)); err != nil {
+		t.Fatal(err)
+	}
+}
+
+// A file with other bytes, of the same length and the same time, is taken; one that stays isn't
+// read again.
+func TestWatchSameTime(t *testing.T) {
+	w, last := watched(t)
+	for _, input := range sequences(1, 1, 1, 1) {
+		overwrite(t, w.path, input)
+		w.look()
+		if *last != nil || !bytes.Equal(w.server.present.Load().data.Bytes(), input) {
+			t.Fatal(*last)
+		}
+		*last = errFailed
+		w.look()
+		if *last != errFailed {
+			t.Fatal(*last)
+		}
+	}
+}
+
+// withoutDescriptors takes all descriptors that the process may have, until the function is called
+// that it answers.
+func withoutDescriptors(t *testing.T) (release func()) {
+	t.Helper()
+	var usual syscall.Rlimit
+	if err := syscall.Getrlimit(syscall.RLIMIT_NOFILE, &usual); err != nil {
+		t.Fatal(err)
+	}
+	few := usual
+	few.Cur = 64
+	if err := syscall.Setrlimit(syscall.RLIMIT_NOFILE, &few); err != nil {
+		t.Fatal(err)
+	}
+	var taken []*os.File
+	for {
+		file, err := os.Open(os.DevNull)
+		if err != nil {
+			break
+		}
+		taken = append(taken, file)
+	}
+	return func() {
+		for _, file := range taken {
+			file.Close()
+		}
+		if err := syscall.Setrlimit(syscall.RLIMIT_NOFILE, &usual); err != nil {
+			t.Fatal(err)
+		}
+	}
+}
+
+// Where no descriptor is left a file is taken by the one that was kept for it. Where that isn't
+// there it is told once, and the file tried again.
+func TestWatchFull(t *testing.T) {
+	w, last := watched(t)
+	all := sequences(1, 1)
+	overwrite(t, w.path, all[0])
+	release := withoutDescriptors(t)
+	w.look()
+	w.look()
+	err := *last
+	*last = nil
+	w.look()
+	again := *last
+	release()
+	if !errors.Is(err, syscall.EMFILE) || again != nil {
+		t.Fatal(err, again)
+	}
+	w.look()
+	if *last != nil || w.server.present.Load().data.Serial() != 1 {
+		t.Fatal(*last)
+	}
+	release = withoutDescriptors(t)
+	os.Chtimes(w.path, time.Unix(2, 0), time.Unix(2, 0))
+	w.server.Update(parsed(t, all[1]))
+	w.look()
+	release()
+	if !errors.Is(*last, ErrSameSerial) {
+		t.Fatal(*last)
+	}
+}
+
+// A server that watches a file goes on where the one before it was, and says what is wrong with
+// what that one left.
+func TestWatchRestart(t *testing.T) {
+	noLeaks(t)
+	path := t.TempDir() + "/data"
+	all := sequences(1, 1, 1)
+	for i, sequence := range all {
+		if err := os.WriteFile(path, sequence, 0o600); err != nil {
+			t.Fatal(err)
+		}
+		server, address := started(t, nil)
+		ctx, stop := context.WithCancel(context.Background())
+		told, ended := make(chan Data, 10), make(chan struct{})
+		go func() {
+			defer close(ended)
+			server.Watch(ctx, path, time.Hour, func(data Data, err error) {
+				if err != nil {
+					t.Error(err)
+				}
+				told <- data
+			})
+		}()
+		if i > 0 {
+			<-told // what the one before had
+		}
+		if data := <-told; data.Serial() != uint32(i+1) {
+			t.Fatal(i, data)
+		}
+		if got := stepsBack(t, dial(t, address), uint32(i+1)); got != uint32(i) {
+			t.Fatal(i, got)
+		}
+		stop()
+		<-ended
+	}
+	w, last := watched(t)
+	overwrite(t, w.path+kept, []byte("rtrkept"))
+	w.restore()
+	if !errors.Is(*last, ErrTorn) {
+		t.Fatal(*last)
+	}
+}
