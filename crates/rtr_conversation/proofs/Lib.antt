@@ -3,3 +3,4 @@ mod Units
 mod Whole
 mod Left
 mod Heard
+mod Connected

@@ -1,16 +1,20 @@
 -- What comes of reading at a cache: the unit that an input begins with is told to a cache's
 -- machine.
-use Rattle.std.specs.Prelude.{◌≡◌, ℕ, Bool, true, ◌==◌, ◌<◌, ◌≤◌, List, [], length, take, Option}
+use Rattle.std.specs.Prelude.{◌≡◌, ℕ, Bool, true, ◌==◌, ◌<◌, ◌≤◌, List, [], ◌∷◌, length, take}
+use Rattle.std.specs.Prelude.{Option}
 use Rattle.std.specs.List.{list_any}
 use Rattle.rtr_views.specs.declared.fault.ViewFault.{ViewFault}
 use Rattle.rtr_views.specs.declared.fault.ViewFault.TheVariants.{Short}
 use Rattle.rtr_session.specs.SessionViews.{IsSessionFault}
 use Rattle.rtr_router.specs.declared.head.Head.{Head}
 use Rattle.rtr_cache.specs.CacheSteps.{IsCacheStep}
+use Rattle.rtr_cache.specs.Connections.{CacheMoment, IsConnection}
 use Rattle.rtr_cache.specs.declared.cache.Cache.{Cache}
 use Rattle.rtr_cache.specs.declared.event.Answer.{Answer}
+use Rattle.rtr_cache.specs.declared.event.CacheEvent.{CacheEvent}
 use Rattle.rtr_cache.specs.declared.event.CacheEvent.TheVariants as events
 use Rattle.rtr_cache.specs.declared.event.Present.{Present}
+use Rattle.rtr_cache.specs.declared.settings.CacheSettings.{CacheSettings}
 use Rattle.rtr_conversation.specs.Heads.{HasHead}
 use Rattle.rtr_conversation.specs.Reading.{fault_of}
 use Rattle.rtr_conversation.specs.declared.serving.Served.{Served}
@@ -52,3 +56,18 @@ HearsRouter c n p kept input ended (served.Answered size a) c' =
     AnswersUnit c n p kept input size a c'
 HearsRouter c n p kept input ended (served.Refused e a) c' =
     AnswersRefused c n p input ended e a c'
+
+-- ---- whole connections
+
+-- the connection that had these moments goes on by one more, in which the cache answered this
+pub record AnswersOn (s : CacheSettings) (ms : List CacheMoment) (n : ℕ) (p : Present) (a : Answer)
+    (c' : Cache) : Type 0 where
+  pub event : CacheEvent
+  pub goes_on :
+      IsConnection s (record { now = n; present = p; event = event; answer = a } ∷ ms) c'
+
+-- and so by what came of an input, if anything did
+abbrev pub ServesOn : CacheSettings → List CacheMoment → ℕ → Present → Served → Cache → Type 0
+ServesOn s ms n p served.Awaits c' = IsConnection s ms c'
+ServesOn s ms n p (served.Answered size a) c' = AnswersOn s ms n p a c'
+ServesOn s ms n p (served.Refused e a) c' = AnswersOn s ms n p a c'

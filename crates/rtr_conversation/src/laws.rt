@@ -1,9 +1,15 @@
 //! What holds of whole runs, in bytes.
 
-ghost use Rattle.std.specs.Prelude.{◌≡◌, ◌⊎◌, ℕ, List, None, Some, drop, take};
+ghost use Rattle.std.specs.Prelude.{◌≡◌, ◌⊎◌, ℕ, Bool, List, None, Some, drop, take};
+ghost use Rattle.rtr_cache.specs.Connections.{CacheMoment, IsConnection};
+ghost use Rattle.rtr_cache.specs.declared.cache.Cache.{Cache};
+ghost use Rattle.rtr_cache.specs.declared.event.Present.{Present};
+ghost use Rattle.rtr_cache.specs.declared.settings.CacheSettings.{CacheSettings};
 ghost use Rattle.rtr_conversation.specs.Reading.{Acts, KeepsAll};
+ghost use Rattle.rtr_conversation.specs.Serving.{HearsRouter, ServesOn};
 ghost use Rattle.rtr_conversation.specs.ShownData.{ActsOn, AppliesAnswers, AreHeard, KeepsOn};
 ghost use Rattle.rtr_conversation.specs.ShownData.{ShowsAnswer};
+ghost use Rattle.rtr_conversation.specs.declared.serving.Served.{Served};
 ghost use Rattle.rtr_router.specs.Histories.{Caller, Host, IsHistory, Moment};
 ghost use Rattle.rtr_router.specs.declared.event.Action.{Action};
 ghost use Rattle.rtr_router.specs.declared.router.Router.{Router};
@@ -34,4 +40,13 @@ pub fn what_is_told_is_heard()
         (after : Router)
         → IsHistory c history r h → AreHeard history → Acts r now input start end a after
         → ActsOn c h now (take start input) (drop start (take end input)) a after }
+{}
+
+/// Whatever bytes come to a cache, its connection goes on by what `serve` answers of them: so what
+/// `orderly` of `rtr_cache` says of whole connections holds of them in bytes.
+pub fn what_is_served_goes_on()
+    ensures { (s : CacheSettings) (moments : List CacheMoment) (c : Cache) (now : ℕ) (p : Present)
+        (kept input : List ℕ) (ended : Bool) (came : Served) (after : Cache)
+        → IsConnection s moments c → HearsRouter c now p kept input ended came after
+        → ServesOn s moments now p came after }
 {}
