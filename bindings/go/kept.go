@@ -66,24 +66,24 @@ func (e *edition) write(file *os.File) error {
 }
 
 // Restore takes what Save wrote, if the server has no data yet: with the session and the serial
-// number of then, clients go on where they are.
+// number of then, clients go on where they are. Call it before Serve. It gives the data.
 //
 // Errors: those of the file; ErrTorn.
-func (s *Server) Restore(path string) error {
+func (s *Server) Restore(path string) (Data, error) {
 	input, err := os.ReadFile(path)
 	if err != nil {
-		return err
+		return Data{}, err
 	}
 	data, back, ok := parseKept(input)
 	if !ok {
-		return fmt.Errorf("%s: %w", path, ErrTorn)
+		return Data{}, fmt.Errorf("%s: %w", path, ErrTorn)
 	}
 	s.updating.Lock()
 	defer s.updating.Unlock()
 	if s.present.CompareAndSwap(nil, newEdition(0, data, back, s.Limits)) {
 		s.wake()
 	}
-	return nil
+	return data, nil
 }
 
 // parseKept gives the data and the steps back of a file, and whether it is as it was written.

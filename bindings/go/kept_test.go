@@ -25,8 +25,9 @@ func restarted(t *testing.T, path string, all ...[]byte) (*Server, string) {
 		t.Fatal(err)
 	}
 	server, address := started(t, nil)
-	if err := server.Restore(path); err != nil {
-		t.Fatal(err)
+	data, err := server.Restore(path)
+	if err != nil || !bytes.Equal(data.Bytes(), first.present.Load().data.Bytes()) {
+		t.Fatal(data, err)
 	}
 	return server, address
 }
@@ -52,7 +53,7 @@ func TestServerRestart(t *testing.T) {
 		t.Fatal(got)
 	}
 	// It has data now, and takes no others.
-	if err := server.Restore(path); err != nil {
+	if _, err := server.Restore(path); err != nil {
 		t.Fatal(err)
 	}
 	send(t, connection, asked(1, 7, 4))
@@ -68,7 +69,7 @@ func TestServerTorn(t *testing.T) {
 	if err := server.Save(path); err != nil {
 		t.Fatal(err)
 	}
-	if err := server.Restore(path); !errors.Is(err, os.ErrNotExist) {
+	if _, err := server.Restore(path); !errors.Is(err, os.ErrNotExist) {
 		t.Fatal(err)
 	}
 	restarted(t, path, sequences(1, 1, 1)...)
@@ -84,7 +85,7 @@ func TestServerTorn(t *testing.T) {
 		if err := os.WriteFile(path, input, 0o600); err != nil {
 			t.Fatal(err)
 		}
-		if err := server.Restore(path); !errors.Is(err, ErrTorn) {
+		if _, err := server.Restore(path); !errors.Is(err, ErrTorn) {
 			t.Fatalf("%x: %v", input, err)
 		}
 	}
@@ -192,8 +193,7 @@ func TestWatchFull(t *testing.T) {
 	}
 }
 
-// A server that watches a file goes on where the one before it was, and says what is wrong with
-// what that one left.
+// A server that watches a file goes on where the one before it was.
 func TestWatchRestart(t *testing.T) {
 	noLeaks(t)
 	path := t.TempDir() + "/data"
@@ -203,6 +203,10 @@ func TestWatchRestart(t *testing.T) {
 			t.Fatal(err)
 		}
 		server, address := started(t, nil)
+		data, err := server.Restore(path + KeptSuffix)
+		if errors.Is(err, os.ErrNotExist) != (i == 0) || data.Serial() != uint32(i) {
+			t.Fatal(i, data, err)
+		}
 		ctx, stop := context.WithCancel(context.Background())
 		told, ended := make(chan Data, 10), make(chan struct{})
 		go func() {
@@ -214,9 +218,6 @@ func TestWatchRestart(t *testing.T) {
 				told <- data
 			})
 		}()
-		if i > 0 {
-			<-told // what the one before had
-		}
 		if data := <-told; data.Serial() != uint32(i+1) {
 			t.Fatal(i, data)
 		}
@@ -225,11 +226,5 @@ func TestWatchRestart(t *testing.T) {
 		}
 		stop()
 		<-ended
-	}
-	w, last := watched(t)
-	overwrite(t, w.path+kept, []byte("rtrkept"))
-	w.restore()
-	if !errors.Is(*last, ErrTorn) {
-		t.Fatal(*last)
 	}
 }

@@ -14,8 +14,8 @@ import (
 	"time"
 )
 
-// What the name of a file of editions has behind that of the data.
-const kept = ".kept"
+// KeptSuffix is what the name of a file that Watch saves has behind that of the data.
+const KeptSuffix = ".kept"
 
 // MostDataBytes is how long a file of data may be.
 const MostDataBytes = 1 << 28
@@ -91,8 +91,8 @@ func moved(err error, by int) error {
 // the server has, or why data couldn't be taken; the server then keeps those that it has. A file
 // that the system can't give is tried again each time, and told once.
 //
-// Beside the file it keeps another, with ".kept" behind its name, by Restore at the beginning and
-// Save after new data: so a server that is started again goes on where it was.
+// After new data it saves what a restart needs beside the file, with KeptSuffix behind its name. A
+// server that is started has to Restore that first.
 func (s *Server) Watch(
 	ctx context.Context, path string, every time.Duration, told func(Data, error),
 ) {
@@ -100,7 +100,6 @@ func (s *Server) Watch(
 	defer ticks.Stop()
 	w := newWatcher(s, path, told)
 	defer func() { w.spare.Close() }()
-	w.restore()
 	for {
 		w.look()
 		select {
@@ -125,16 +124,6 @@ func newWatcher(server *Server, path string, told func(Data, error)) *watcher {
 	return &watcher{server: server, path: path, told: told, seen: stamp{size: -1}}
 }
 
-// restore takes the editions of the server before this one.
-func (w *watcher) restore() {
-	err := w.server.Restore(w.path + kept)
-	if present := w.server.present.Load(); err == nil {
-		w.told(present.data, nil)
-	} else if !errors.Is(err, os.ErrNotExist) {
-		w.told(Data{}, err)
-	}
-}
-
 // look takes the file, if it is another than before or couldn't be had then.
 func (w *watcher) look() {
 	now := stampOf(w.path)
@@ -147,7 +136,7 @@ func (w *watcher) look() {
 	failed := w.load()
 	if present := w.server.present.Load(); present != old {
 		w.told(present.data, nil)
-		failed = w.server.Save(w.path + kept)
+		failed = w.server.Save(w.path + KeptSuffix)
 	}
 	w.spare, _ = os.Open(os.DevNull)
 	debug.FreeOSMemory() // the file, as it was read

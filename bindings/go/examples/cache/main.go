@@ -73,6 +73,12 @@ func run(ctx context.Context, wanted options) error {
 	server.Limits.Refuse = wanted.refuse
 	defer server.Close()
 	server.Ended = func(client net.Addr, err error) { say(client, ": ", err) }
+	kept := wanted.path + rtr.KeptSuffix
+	if data, err := server.Restore(kept); err == nil {
+		sayTaken(kept, data)
+	} else if !errors.Is(err, os.ErrNotExist) {
+		say(err)
+	}
 	failed := make(chan error, len(wanted.addresses))
 	for _, address := range wanted.addresses {
 		listener, err := net.Listen("tcp", address)
@@ -91,8 +97,7 @@ func run(ctx context.Context, wanted options) error {
 				say(err)
 				return
 			}
-			say(fmt.Sprintf("%s: session %d serial %d: %d payloads",
-				wanted.path, data.Session(), data.Serial(), data.Len()))
+			sayTaken(wanted.path, data)
 		})
 	}()
 	var err error
@@ -106,6 +111,12 @@ func run(ctx context.Context, wanted options) error {
 		err = nil
 	}
 	return err
+}
+
+// sayTaken says which data of a file the server has.
+func sayTaken(path string, data rtr.Data) {
+	say(fmt.Sprintf("%s: session %d serial %d: %d payloads",
+		path, data.Session(), data.Serial(), data.Len()))
 }
 
 // say writes a line on standard error, with the time before it.
