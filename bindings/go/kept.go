@@ -118,5 +118,5 @@ func parseKept(input []byte) (data Data, back []stepBack, ok bool) {
 		rest = rest[size:]
 	}
 	_, err := before(data, back)
-	return data, back, err == nil
+	return data, back, err == nil && !data.IsZero()
 }

@@ -77,7 +77,9 @@ func TestServerTorn(t *testing.T) {
 	if err != nil {
 		t.Fatal(err)
 	}
-	torn := [][]byte{append(append([]byte{}, whole...), 0)}
+	// One byte too many, and no data, with the hash of nothing.
+	nothing := append([]byte(keptMagic), 0xcb, 0xf2, 0x9c, 0xe4, 0x84, 0x22, 0x23, 0x25)
+	torn := [][]byte{append(append([]byte{}, whole...), 0), nothing}
 	for i := range whole {
 		torn = append(torn, whole[:i], changed(whole, i, whole[i]^1))
 	}
