@@ -7,7 +7,6 @@ mod AgainPayload
 mod DeltaRoom
 mod Wanted
 mod ApplyRoom
-mod OneList
 mod Made
 mod MadePlain
 mod MadeEnd

@@ -12,7 +12,7 @@ use Rattle.rtr_session.specs.AnyFields.{AnyFields, HasAnyFields}
 use Rattle.rtr_session.specs.SessionViews.{session_fault}
 use Rattle.rtr_session.proofs.Viewed.{whole_bounded}
 use Rattle.rtr_session.proofs.Wholes.{any_whole, any_one}
-use Rattle.rtr_c.proofs.OneList.{one_list}
+use Rattle.rtr_conversation.proofs.OneList.{one_list}
 use Rattle.rtr_c.specs.Kept.{kept, kept_part, kept_text, IsShownAgain}
 use Rattle.rtr_c.specs.Said.{piece_said, part_said, text_said}
 use Rattle.rtr_c.specs.Shown.{CallShows, ShowsFirst}

@@ -47,10 +47,10 @@ pub is_begun : (rest : List ℕ) → BeginsUnit rest → begins_payload rest ≡
 is_begun rest x =
     let b = begun rest x in of_type (length rest) (type_field rest) b.long b.kind
 
-typed : (t : ℕ) → IsPayloadType t → IsTrue (is_payload_or_end t)
+pub typed : (t : ℕ) → IsPayloadType t → IsTrue (is_payload_or_end t)
 typed t kind = grind (arith, nat_tests)
 
-none_named : (b : List ℕ) (wrong : Option Refusal) (e : ViewFault) → wrong ≡ None →
+pub none_named : (b : List ℕ) (wrong : Option Refusal) (e : ViewFault) → wrong ≡ None →
     NamesRefusal b wrong e → ⊥
 none_named b wrong (faults.Writer e) none is = is
 none_named b wrong faults.Short none is = let w = sym none ∙ is in cc

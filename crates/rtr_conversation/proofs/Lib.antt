@@ -1,6 +1,8 @@
 mod Heads
 mod Units
-mod Whole
+pub mod Whole
 mod Left
+pub mod OneList
+pub mod Sending
 mod Heard
 mod Connected

@@ -143,13 +143,13 @@ read_changes q v s ms units (still_read n b e ms₀ bodies still read) heard =
 
 -- ---- a whole answer
 
-record EndsAs (k : Known) (last : List ℕ) : Type 0 where
+pub record EndsAs (k : Known) (last : List ℕ) : Type 0 where
   pub end : EndMeaning
   pub is : IsEnd last end
   pub named : known_of (end_head end 0) ≡ k
   pub version : k.version ≡ end.version
 
-end_named : (b : List ℕ) (u : Head) (k : Known) → HasHead b u → u.kind ≡ kinds.EndOfData →
+pub end_named : (b : List ℕ) (u : Head) (k : Known) → HasHead b u → u.kind ≡ kinds.EndOfData →
     k ≡ known_of u → EndsAs k b
 end_named b u k x kind names = go x.fields x.has x.head
   where
@@ -218,7 +218,7 @@ sends k units last w = record {
 }
 
 -- an end of data alone is data of no payloads
-alone : (last : List ℕ) (e : EndMeaning) → IsEnd last e → HoldsData last [] e
+pub alone : (last : List ℕ) (e : EndMeaning) → IsEnd last e → HoldsData last [] e
 alone last e is = record {
   bytes = last;
   accepts = record {
@@ -231,7 +231,8 @@ alone last e is = record {
 
 -- ---- what is written
 
-record Written (d : List Payload) (cs : List Change) (e : EndMeaning) (new : List ℕ) : Type 0 where
+pub record Written (d : List Payload) (cs : List Change) (e : EndMeaning) (new : List ℕ)
+    : Type 0 where
   pub payloads : List Payload
   pub made : after_all cs (Ok d) ≡ Ok payloads
   pub holds : HoldsData new payloads e
@@ -241,7 +242,7 @@ front_is : (n : ℕ) (piece rest after : List ℕ) → n ≡ length piece → af
 front_is n piece rest after size is =
     (λ i. take (size i) (is i)) ∙ take-append_seam piece rest
 
-written : (base input : List ℕ) (places size : ℕ) (before after : List ℕ) (d : List Payload)
+pub written : (base input : List ℕ) (places size : ℕ) (before after : List ℕ) (d : List Payload)
     (cs : List Change) (e e' : EndMeaning) →
     AppliesInOrder (Ok size) base input places before after → HoldsData base d e →
     Sends input cs e' → Written d cs e' (take size after)

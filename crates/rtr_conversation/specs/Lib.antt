@@ -1,6 +1,7 @@
 pub mod Heads
 pub mod PrivateHeads
 pub mod Reading
+pub mod Sending
 pub mod PrivateReading
 pub mod Sent
 pub mod ShownData

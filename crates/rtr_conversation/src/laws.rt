@@ -1,15 +1,18 @@
 //! What holds of whole runs, in bytes.
 
-ghost use Rattle.std.specs.Prelude.{◌≡◌, ◌⊎◌, ℕ, Bool, List, None, Some, drop, take};
+ghost use Rattle.std.specs.List.{concat};
+ghost use Rattle.std.specs.Prelude.{◌≡◌, ◌⊎◌, ◌++◌, ℕ, Bool, List, None, Some, drop, take};
 ghost use Rattle.rtr_cache.specs.Connections.{CacheMoment, IsConnection};
 ghost use Rattle.rtr_cache.specs.declared.cache.Cache.{Cache};
 ghost use Rattle.rtr_cache.specs.declared.event.Present.{Present};
 ghost use Rattle.rtr_cache.specs.declared.settings.CacheSettings.{CacheSettings};
-ghost use Rattle.rtr_conversation.specs.Reading.{Acts, KeepsAll};
+ghost use Rattle.rtr_conversation.specs.Reading.{Acts, Hears, KeepsAll};
+ghost use Rattle.rtr_conversation.specs.Sending.{AreWhole, CacheHearsSent, HearsSent};
 ghost use Rattle.rtr_conversation.specs.Serving.{HearsRouter, ServesOn};
 ghost use Rattle.rtr_conversation.specs.ShownData.{ActsOn, AppliesAnswers, AreHeard, KeepsOn};
 ghost use Rattle.rtr_conversation.specs.ShownData.{ShowsAnswer};
 ghost use Rattle.rtr_conversation.specs.declared.serving.Served.{Served};
+ghost use Rattle.rtr_conversation.specs.declared.telling.Told.{Told};
 ghost use Rattle.rtr_router.specs.Histories.{Caller, Host, IsHistory, Moment};
 ghost use Rattle.rtr_router.specs.declared.event.Action.{Action};
 ghost use Rattle.rtr_router.specs.declared.router.Router.{Router};
@@ -49,4 +52,20 @@ pub fn what_is_served_goes_on()
         (kept input : List ℕ) (ended : Bool) (came : Served) (after : Cache)
         → IsConnection s moments c → HearsRouter c now p kept input ended came after
         → ServesOn s moments now p came after }
+{}
+
+/// Units that were sent one after the other are heard as they were sent, in their order, from a
+/// buffer that holds any front of their bytes: each that is told of is the next one that was sent,
+/// byte for byte; `tell` and `serve` wait only where the next one isn't whole, and refuse only what
+/// the end of the connection cuts off.
+pub fn what_is_sent_is_heard()
+    ensures router { (r : Router) (now : ℕ) (sent : List (List ℕ)) (input later : List ℕ)
+        (ended : Bool) (t : Told) (after : Router)
+        → AreWhole sent → concat sent ≡ input ++ later → Hears r now input ended t after
+        → HearsSent r now sent input ended t after }
+    ensures cache { (c : Cache) (now : ℕ) (present : Present) (kept : List ℕ)
+        (sent : List (List ℕ)) (input later : List ℕ) (ended : Bool) (s : Served) (after : Cache)
+        → AreWhole sent → concat sent ≡ input ++ later
+        → HearsRouter c now present kept input ended s after
+        → CacheHearsSent c now present kept sent input ended s after }
 {}
