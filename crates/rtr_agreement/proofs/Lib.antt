@@ -1,1 +1,6 @@
 pub mod Payloads
+mod OnTheWay
+mod Writing
+mod Holding
+mod InBytes
+mod Agreeing

@@ -1,1 +1,3 @@
 pub mod Editions
+pub mod Written
+pub mod Pipes

@@ -1,10 +1,20 @@
-//! What holds of a router and a cache that are joined, over payloads.
+//! What holds of a router and a cache that are joined, over payloads and over bytes.
 
-ghost use Rattle.std.specs.Prelude.{◌≡◌, ◌∷◌, ℕ, List, true};
+ghost use Rattle.std.specs.Prelude.{◌≡◌, ◌∷◌, ◌++◌, ℕ, Bool, List, true};
 ghost use Rattle.rtr_agreement.specs.Editions.{Editions, ShowsEdition, source_of};
+ghost use Rattle.rtr_agreement.specs.Pipes.{IsRunOfUnits, Joined, IsRunInBytes, ShowsBytes};
+ghost use Rattle.rtr_agreement.specs.Written.{AreSendable};
+ghost use Rattle.rtr_cache.specs.declared.cache.Cache.{Cache};
 ghost use Rattle.rtr_cache.specs.Worlds.{GoesOn, IsListening, IsPeaceful, IsReached, Sent, World};
+ghost use Rattle.rtr_conversation.specs.Reading.{Acts, Hears};
+ghost use Rattle.rtr_conversation.specs.Sending.{CacheHearsSent, HearsSent};
+ghost use Rattle.rtr_conversation.specs.Serving.{HearsRouter};
+ghost use Rattle.rtr_conversation.specs.ShownData.{AppliesAnswers};
+ghost use Rattle.rtr_conversation.specs.declared.serving.Served.{Served};
+ghost use Rattle.rtr_conversation.specs.declared.telling.Told.{Told};
 ghost use Rattle.rtr_data.specs.Data.{Change};
 ghost use Rattle.rtr_payload.specs.Payloads.{Payload};
+ghost use Rattle.rtr_router.specs.Histories.{Caller};
 ghost use Rattle.rtr_router.specs.Rules.{Fresh};
 ghost use Rattle.rtr_router.specs.Step.{IsInTime, IsStep};
 ghost use Rattle.rtr_router.specs.declared.event.Action.{Action};
@@ -31,4 +41,45 @@ pub fn payloads_in_peace()
         → IsListening w.router.phase → Fresh w.router n → IsInTime w.router n
         → IsPeaceful w.router x.head → IsStep w.router n (events.Came x.head) a after
         → GoesOn a }
+{}
+
+/// The same in bytes, however reads cut them: over any number of connections of a router and a
+/// cache of ours, whenever the router has data, the bytes that it shows are data in canonical form,
+/// with the payloads of the edition that the cache had under their session and serial number, as
+/// the router's version has them. The cache writes what `write_all`, `write_delta` and `delta_into`
+/// write; the router is told of it by `tell` and makes changes by `apply_in_order`.
+pub fn bytes_agree()
+    ensures { (c : Caller (List ℕ) (List ℕ)) (E : Editions) (w : Joined)
+        → AppliesAnswers c → AreSendable E → IsRunInBytes c E w → w.router.has_data ≡ true
+        → ShowsBytes E w }
+{}
+
+/// In any such run what is on its way is units, each as it was sent, and each side hears the next
+/// of them, byte for byte: of any front of the bytes, with any cuts. Neither refuses any of them,
+/// unless the end of the connection cuts it off.
+pub fn bytes_are_units()
+    ensures units { (c : Caller (List ℕ) (List ℕ)) (E : Editions) (w : Joined)
+        → AppliesAnswers c → AreSendable E → IsRunInBytes c E w → IsRunOfUnits E w }
+    ensures router { (c : Caller (List ℕ) (List ℕ)) (E : Editions) (w : Joined) (n : ℕ)
+        (input later : List ℕ) (ended : Bool) (t : Told) (after : Router)
+        → AppliesAnswers c → AreSendable E → IsRunInBytes c E w → w.to_router ≡ input ++ later
+        → Hears w.router n input ended t after
+        → (x : IsRunOfUnits E w) × HearsSent w.router n x.units input ended t after }
+    ensures cache { (c : Caller (List ℕ) (List ℕ)) (E : Editions) (w : Joined) (n : ℕ)
+        (kept input later : List ℕ) (ended : Bool) (s : Served) (after : Cache)
+        → AppliesAnswers c → AreSendable E → IsRunInBytes c E w → w.to_cache ≡ input ++ later
+        → HearsRouter w.cache n w.present kept input ended s after
+        → (x : IsRunOfUnits E w)
+        × CacheHearsSent w.cache n w.present kept x.queries input ended s after }
+{}
+
+/// In any such run a router of ours ends no connection over the bytes of a cache of ours, with the
+/// same exceptions as over its units.
+pub fn bytes_in_peace()
+    ensures { (c : Caller (List ℕ) (List ℕ)) (E : Editions) (w : Joined) (n : ℕ)
+        (input later : List ℕ) (start end : ℕ) (a : Action) (after : Router)
+        → AppliesAnswers c → AreSendable E → IsRunInBytes c E w → w.to_router ≡ input ++ later
+        → (heard : Acts w.router n input start end a after)
+        → IsListening heard.before.phase → Fresh heard.before n → IsInTime heard.before n
+        → IsPeaceful heard.before heard.head → GoesOn a }
 {}

@@ -515,40 +515,40 @@ no_more : (u : Head) (us tc : List Head) → tc ≡ u ∷ us → tc ≡ [] → �
 no_more u us tc e f = cc
 
 answered : (D C : Type 0) (S : Source D C) (I : IsSource D C S)
-    (had : List Present) (c c' : Cache) (n : ℕ)
+    (had : List Present) (c c' : Cache) (n m : ℕ)
     (p : Present) (u : Head) (kept : Bool) (a : Answer) (q : Query) (us : List Head)
     (tc : List Head) (tr : List (Sent C)) → IsOld had p
     → CacheRule c n p (told.Came u kept) a c' → tc ≡ u ∷ us → UnderWay D C S had q tc tr
-    → UnderWay D C S had q us (tr ++ cache_writes D C S c'.version p a)
-answered D C S I had c c' n p u kept a q us tc tr was w e (inr x) =
+    → UnderWay D C S had q us (tr ++ cache_writes D C S c'.version m p a)
+answered D C S I had c c' n m p u kept a q us tc tr was w e (inr x) =
     absurd (no_more u us tc e x.0)
-answered D C S I had c c' n p u kept a q us tc tr was w e (inl x) =
+answered D C S I had c c' n m p u kept a q us tc tr was w e (inl x) =
     let two : (query_head q ≡ u) × (us ≡ []) = cons_eq q u us (sym x.0 ∙ e) in
     let w' : CacheRule c n p (told.Came (query_head q) kept) a c' =
     subst (λ (u : Head). CacheRule c n p (told.Came u kept) a c') (sym two.0) w in
     inr (
       two.1,
-      coming_after D C S had q tr (cache_writes D C S c'.version p a) x.1
-          (answer_comes D C S I had c c' n p q kept a was w'),
+      coming_after D C S had q tr (cache_writes D C S c'.version m p a) x.1
+          (answer_comes D C S I had c c' n m p q kept a was w'),
     )
 
 on_answer : (D C : Type 0) (S : Source D C) (I : IsSource D C S)
-    (had : List Present) (c c' : Cache) (n : ℕ)
+    (had : List Present) (c c' : Cache) (n m : ℕ)
     (p : Present) (u : Head) (kept : Bool) (a : Answer) (us : List Head) (r : Router)
     (h : Holding D C) (tc : List Head) (tr : List (Sent C)) (f : Phase) → IsOld had p
     → CacheRule c n p (told.Came u kept) a c' → tc ≡ u ∷ us → Talk D C S had r h tc tr f
-    → Talk D C S had r h us (tr ++ cache_writes D C S c'.version p a) f
-on_answer D C S I had c c' n p u kept a us r h tc tr phases.Offline was w e x = tt
-on_answer D C S I had c c' n p u kept a us r h tc tr phases.Connecting was w e x = tt
-on_answer D C S I had c c' n p u kept a us r h tc tr phases.Asked was w e x = record {
+    → Talk D C S had r h us (tr ++ cache_writes D C S c'.version m p a) f
+on_answer D C S I had c c' n m p u kept a us r h tc tr phases.Offline was w e x = tt
+on_answer D C S I had c c' n m p u kept a us r h tc tr phases.Connecting was w e x = tt
+on_answer D C S I had c c' n m p u kept a us r h tc tr phases.Asked was w e x = record {
   own = x.own;
-  coming = answered D C S I had c c' n p u kept a (query r) us tc tr was w e x.coming;
+  coming = answered D C S I had c c' n m p u kept a (query r) us tc tr was w e x.coming;
 }
-on_answer D C S I had c c' n p u kept a us r h tc tr phases.Reading was w e x =
+on_answer D C S I had c c' n m p u kept a us r h tc tr phases.Reading was w e x =
     absurd (no_more u us tc e x.none)
-on_answer D C S I had c c' n p u kept a us r h tc tr phases.Applying was w e x =
+on_answer D C S I had c c' n m p u kept a us r h tc tr phases.Applying was w e x =
     absurd (no_more u us tc e x.none)
-on_answer D C S I had c c' n p u kept a us r h tc tr phases.Waiting was w e x =
+on_answer D C S I had c c' n m p u kept a us r h tc tr phases.Waiting was w e x =
     absurd (no_more u us tc e x.none)
 
 more_coming : (D C : Type 0) (S : Source D C) (had : List Present) (q : Query) (tc : List Head)
@@ -618,20 +618,20 @@ next D C S I w w' (router_hears w₀ n x xs a r is step) y = record {
       (subst (λ tr. Holds D C S w₀.had w₀.router w₀.holding w₀.to_cache tr) is y.holds);
   present = y.present;
 }
-next D C S I w w' (cache_hears w₀ n u us kept a c is step) y = record {
+next D C S I w w' (cache_hears w₀ n m u us kept a c is step) y = record {
   holds = record {
     has = y.holds.has;
-    talk = on_answer D C S I w₀.had w₀.cache c n w₀.present u kept a us w₀.router w₀.holding
+    talk = on_answer D C S I w₀.had w₀.cache c n m w₀.present u kept a us w₀.router w₀.holding
         w₀.to_cache w₀.to_router w₀.router.phase y.present step.rule is y.holds.talk;
   };
   present = y.present;
 }
-next D C S I w w' (cache_told w₀ n e a c tells step) y = record {
+next D C S I w w' (cache_told w₀ n m e a c tells step) y = record {
   holds = record {
     has = y.holds.has;
     talk = on_notify D C S w₀.had w₀.router w₀.holding w₀.to_cache w₀.to_router
-        (cache_writes D C S c.version w₀.present a) w₀.router.phase
-        (notifies D C S w₀.cache c n w₀.present e a tells step.rule) y.holds.talk;
+        (cache_writes D C S c.version m w₀.present a) w₀.router.phase
+        (notifies D C S w₀.cache c n m w₀.present e a tells step.rule) y.holds.talk;
   };
   present = y.present;
 }

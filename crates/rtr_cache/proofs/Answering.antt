@@ -178,21 +178,21 @@ abbrev pub IsOld : List Present → Present → Type 0
 IsOld had p = p.has ≡ true → WasPresent had p.session p.serial
 
 pub report_comes : (D C : Type 0) (S : Source D C) (had : List Present) (q : Query)
-    (r : Option OwedReport) → Coming D C S had q (report_sent C r)
-report_comes D C S had q None = tt
-report_comes D C S had q (Some r) = inr (inr (inr (refl, tt)))
+    (m : ℕ) (r : Option OwedReport) → Coming D C S had q (report_sent C m r)
+report_comes D C S had q m None = tt
+report_comes D C S had q m (Some r) = inr (inr (inr (refl, tt)))
 
 pub answer_comes : (D C : Type 0) (S : Source D C) (I : IsSource D C S)
-    (had : List Present) (c c' : Cache) (n : ℕ)
+    (had : List Present) (c c' : Cache) (n m : ℕ)
     (p : Present) (q : Query) (kept : Bool) (a : Answer) → IsOld had p
     → CacheRule c n p (told.Came (query_head q) kept) a c'
-    → Coming D C S had q (cache_writes D C S c'.version p a)
-answer_comes D C S I had c c' n p q kept answers.Wait was w = tt
-answer_comes D C S I had c c' n p q kept answers.All was w =
+    → Coming D C S had q (cache_writes D C S c'.version m p a)
+answer_comes D C S I had c c' n m p q kept answers.Wait was w = tt
+answer_comes D C S I had c c' n m p q kept answers.All was w =
     response_comes D C S I had c'.version p q None (was w.1.query.has)
     (for_all D C S q q.changes refl w.1.query.kind)
     (I.all_lead c'.version p.session p.serial)
-answer_comes D C S I had c c' n p q kept (answers.Changes since) was w =
+answer_comes D C S I had c c' n m p q kept (answers.Changes since) was w =
     let version : q.version ≡ c'.version = sym (ap (λ (c : Cache). c.version) w.1.after) in
     response_comes D C S I had c'.version p q (Some (S.data_at c'.version p.session since))
     (was w.1.query.has)
@@ -200,36 +200,37 @@ answer_comes D C S I had c c' n p q kept (answers.Changes since) was w =
     ∙ at_same D C S q.version c'.version q.session p.session q.serial since version
     w.1.known.session (sym w.1.since_is))
     (I.changes_lead c'.version p.session since p.serial)
-answer_comes D C S I had c c' n p q kept answers.Reset was w = inr (inr (inl (refl, tt)))
-answer_comes D C S I had c c' n p q kept answers.NoData was w = inr (inr (inr (refl, tt)))
-answer_comes D C S I had c c' n p q kept answers.Notify was w = absurd w
-answer_comes D C S I had c c' n p q kept (answers.End x) was w =
-    report_comes D C S had q x.report
+answer_comes D C S I had c c' n m p q kept answers.Reset was w = inr (inr (inl (refl, tt)))
+answer_comes D C S I had c c' n m p q kept answers.NoData was w = inr (inr (inr (refl, tt)))
+answer_comes D C S I had c c' n m p q kept answers.Notify was w = absurd w
+answer_comes D C S I had c c' n m p q kept (answers.End x) was w =
+    report_comes D C S had q m x.report
 
 -- by itself a cache writes notifies alone
-pub unreported : (C : Type 0) (r : Option OwedReport) → r ≡ None → Quiet C (report_sent C r)
-unreported C None e = tt
-unreported C (Some r) e = cc
+pub unreported : (C : Type 0) (m : ℕ) (r : Option OwedReport) → r ≡ None
+    → Quiet C (report_sent C m r)
+unreported C m None e = tt
+unreported C m (Some r) e = cc
 
-pub notifies : (D C : Type 0) (S : Source D C) (c c' : Cache) (n : ℕ) (p : Present) (e : CacheEvent)
-    (a : Answer) → TellsCache e → CacheRule c n p e a c'
-    → Quiet C (cache_writes D C S c'.version p a)
-notifies D C S c c' n p e answers.Wait t w = tt
-notifies D C S c c' n p told.Tick answers.Notify t w = (refl, tt)
-notifies D C S c c' n p told.Lost answers.Notify t w = absurd w
-notifies D C S c c' n p told.Tick (answers.End x) t w = unreported C x.report (w.1.silent tt)
-notifies D C S c c' n p told.Lost (answers.End x) t w = unreported C x.report (w.1.silent tt)
-notifies D C S c c' n p told.Tick answers.All t w = absurd w
-notifies D C S c c' n p told.Tick (answers.Changes since) t w = absurd w
-notifies D C S c c' n p told.Tick answers.Reset t w = absurd w
-notifies D C S c c' n p told.Tick answers.NoData t w = absurd w
-notifies D C S c c' n p told.Lost answers.All t w = absurd w
-notifies D C S c c' n p told.Lost (answers.Changes since) t w = absurd w
-notifies D C S c c' n p told.Lost answers.Reset t w = absurd w
-notifies D C S c c' n p told.Lost answers.NoData t w = absurd w
-notifies D C S c c' n p told.Full _ t w = absurd t
-notifies D C S c c' n p (told.Came u kept) _ t w = absurd t
-notifies D C S c c' n p (told.Faulty f) _ t w = absurd t
+pub notifies : (D C : Type 0) (S : Source D C) (c c' : Cache) (n m : ℕ) (p : Present)
+    (e : CacheEvent) (a : Answer) → TellsCache e → CacheRule c n p e a c'
+    → Quiet C (cache_writes D C S c'.version m p a)
+notifies D C S c c' n m p e answers.Wait t w = tt
+notifies D C S c c' n m p told.Tick answers.Notify t w = (refl, tt)
+notifies D C S c c' n m p told.Lost answers.Notify t w = absurd w
+notifies D C S c c' n m p told.Tick (answers.End x) t w = unreported C m x.report (w.1.silent tt)
+notifies D C S c c' n m p told.Lost (answers.End x) t w = unreported C m x.report (w.1.silent tt)
+notifies D C S c c' n m p told.Tick answers.All t w = absurd w
+notifies D C S c c' n m p told.Tick (answers.Changes since) t w = absurd w
+notifies D C S c c' n m p told.Tick answers.Reset t w = absurd w
+notifies D C S c c' n m p told.Tick answers.NoData t w = absurd w
+notifies D C S c c' n m p told.Lost answers.All t w = absurd w
+notifies D C S c c' n m p told.Lost (answers.Changes since) t w = absurd w
+notifies D C S c c' n m p told.Lost answers.Reset t w = absurd w
+notifies D C S c c' n m p told.Lost answers.NoData t w = absurd w
+notifies D C S c c' n m p told.Full _ t w = absurd t
+notifies D C S c c' n m p (told.Came u kept) _ t w = absurd t
+notifies D C S c c' n m p (told.Faulty f) _ t w = absurd t
 
 -- what a router asks, where it asks for changes or not
 abbrev pub asking : Router → Bool → Query

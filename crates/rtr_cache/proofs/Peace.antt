@@ -46,24 +46,24 @@ use Rattle.rtr_cache.proofs.Speaking.{query_session, query_version, quiet_more, 
 
 -- ---- what holds in each phase
 
-record TalkAsked (C : Type 0) (r : Router) (c : Cache) (tc : List Head) (tr : List (Sent C))
+pub record TalkAsked (C : Type 0) (r : Router) (c : Cache) (tc : List Head) (tr : List (Sent C))
     : Type 0 where
-  version : InVersion c r.version
-  coming : UnderWay C (query r) tc tr
+  pub version : InVersion c r.version
+  pub coming : UnderWay C (query r) tc tr
 
-record TalkReading (C : Type 0) (r : Router) (c : Cache) (tc : List Head) (tr : List (Sent C))
+pub record TalkReading (C : Type 0) (r : Router) (c : Cache) (tc : List Head) (tr : List (Sent C))
     : Type 0 where
-  version : InVersion c r.version
-  none : tc ≡ []
-  left : Left C (query r) r.session r.units tr
+  pub version : InVersion c r.version
+  pub none : tc ≡ []
+  pub left : Left C (query r) r.session r.units tr
 
-record TalkQuiet (C : Type 0) (r : Router) (c : Cache) (tc : List Head) (tr : List (Sent C))
+pub record TalkQuiet (C : Type 0) (r : Router) (c : Cache) (tc : List Head) (tr : List (Sent C))
     : Type 0 where
-  version : InVersion c r.version
-  none : tc ≡ []
-  quiet : Quiet C r.version tr
+  pub version : InVersion c r.version
+  pub none : tc ≡ []
+  pub quiet : Quiet C r.version tr
 
-abbrev Talk : (C : Type 0) → Router → Cache → List Head → List (Sent C) → Phase → Type 0
+abbrev pub Talk : (C : Type 0) → Router → Cache → List Head → List (Sent C) → Phase → Type 0
 Talk C r c tc tr phases.Offline = Unit {0}
 Talk C r c tc tr phases.Connecting = Unit {0}
 Talk C r c tc tr phases.Asked = TalkAsked C r c tc tr
@@ -75,7 +75,7 @@ to_phase : (C : Type 0) (r : Router) (c : Cache) (tc : List Head) (tr : List (Se
     (p : Phase) → r.phase ≡ p → Talk C r c tc tr p → Talk C r c tc tr r.phase
 to_phase C r c tc tr p e x = subst (λ p. Talk C r c tc tr p) (sym e) x
 
-at_phase : (C : Type 0) (r : Router) (c : Cache) (tc : List Head) (tr : List (Sent C))
+pub at_phase : (C : Type 0) (r : Router) (c : Cache) (tc : List Head) (tr : List (Sent C))
     (p : Phase) → r.phase ≡ p → Talk C r c tc tr r.phase → Talk C r c tc tr p
 at_phase C r c tc tr p e x = subst (λ p. Talk C r c tc tr p) e x
 
@@ -378,13 +378,13 @@ no_more : (u : Head) (us tc : List Head) → tc ≡ u ∷ us → tc ≡ [] → �
 no_more u us tc e f = cc
 
 answered : (D C : Type 0) (S : Source D C) (I : IsSource D C S)
-    (c c' : Cache) (n : ℕ) (p : Present) (u : Head)
+    (c c' : Cache) (n m : ℕ) (p : Present) (u : Head)
     (kept : Bool) (a : Answer) (us : List Head) (r : Router) (tc : List Head)
     (tr : List (Sent C)) → CacheRule c n p (told.Came u kept) a c' → tc ≡ u ∷ us
     → InVersion c r.version → UnderWay C (query r) tc tr
-    → TalkAsked C r c' us (tr ++ cache_writes D C S c'.version p a)
-answered D C S I c c' n p u kept a us r tc tr w e i (inr x) = absurd (no_more u us tc e x.0)
-answered D C S I c c' n p u kept a us r tc tr w e i (inl x) =
+    → TalkAsked C r c' us (tr ++ cache_writes D C S c'.version m p a)
+answered D C S I c c' n m p u kept a us r tc tr w e i (inr x) = absurd (no_more u us tc e x.0)
+answered D C S I c c' n m p u kept a us r tc tr w e i (inl x) =
     let two : (query_head (query r) ≡ u) × (us ≡ []) = cons_eq (query r) u us (sym x.0 ∙ e) in
     let w' : CacheRule c n p (told.Came (query_head (query r)) kept) a c' =
     subst (λ (u : Head). CacheRule c n p (told.Came u kept) a c') (sym two.0) w in
@@ -394,25 +394,25 @@ answered D C S I c c' n p u kept a us r tc tr w e i (inl x) =
           (in_version c c' n p (query r) kept a (subst (λ v. InVersion c v) (sym v) i) w');
       coming = inr (
         two.1,
-        coming_after C (query r) tr (cache_writes D C S c'.version p a) x.1
-            (answer_comes D C S I c c' n p (query r) kept a w'),
+        coming_after C (query r) tr (cache_writes D C S c'.version m p a) x.1
+            (answer_comes D C S I c c' n m p (query r) kept a w'),
       );
     }
 
 on_answer : (D C : Type 0) (S : Source D C) (I : IsSource D C S)
-    (c c' : Cache) (n : ℕ) (p : Present) (u : Head)
+    (c c' : Cache) (n m : ℕ) (p : Present) (u : Head)
     (kept : Bool) (a : Answer) (us : List Head) (r : Router) (tc : List Head)
     (tr : List (Sent C)) (f : Phase) → CacheRule c n p (told.Came u kept) a c' → tc ≡ u ∷ us
-    → Talk C r c tc tr f → Talk C r c' us (tr ++ cache_writes D C S c'.version p a) f
-on_answer D C S I c c' n p u kept a us r tc tr phases.Offline w e x = tt
-on_answer D C S I c c' n p u kept a us r tc tr phases.Connecting w e x = tt
-on_answer D C S I c c' n p u kept a us r tc tr phases.Asked w e x =
-    answered D C S I c c' n p u kept a us r tc tr w e x.version x.coming
-on_answer D C S I c c' n p u kept a us r tc tr phases.Reading w e x =
+    → Talk C r c tc tr f → Talk C r c' us (tr ++ cache_writes D C S c'.version m p a) f
+on_answer D C S I c c' n m p u kept a us r tc tr phases.Offline w e x = tt
+on_answer D C S I c c' n m p u kept a us r tc tr phases.Connecting w e x = tt
+on_answer D C S I c c' n m p u kept a us r tc tr phases.Asked w e x =
+    answered D C S I c c' n m p u kept a us r tc tr w e x.version x.coming
+on_answer D C S I c c' n m p u kept a us r tc tr phases.Reading w e x =
     absurd (no_more u us tc e x.none)
-on_answer D C S I c c' n p u kept a us r tc tr phases.Applying w e x =
+on_answer D C S I c c' n m p u kept a us r tc tr phases.Applying w e x =
     absurd (no_more u us tc e x.none)
-on_answer D C S I c c' n p u kept a us r tc tr phases.Waiting w e x =
+on_answer D C S I c c' n m p u kept a us r tc tr phases.Waiting w e x =
     absurd (no_more u us tc e x.none)
 
 more_coming : (C : Type 0) (q : Query) (tc : List Head) (tr ys : List (Sent C))
@@ -420,47 +420,47 @@ more_coming : (C : Type 0) (q : Query) (tc : List Head) (tr ys : List (Sent C))
 more_coming C q tc tr ys w (inl x) = inl (x.0, quiet_more C q.version tr ys x.1 w)
 more_coming C q tc tr ys w (inr x) = inr (x.0, coming_more C q tr ys x.1 w)
 
-still_quiet : (D C : Type 0) (S : Source D C) (c c' : Cache) (n : ℕ) (p : Present)
+still_quiet : (D C : Type 0) (S : Source D C) (c c' : Cache) (n m : ℕ) (p : Present)
     (e : CacheEvent) (a : Answer) (r : Router) (tc : List Head) (tr : List (Sent C))
     → TellsCache e → CacheRule c n p e a c' → TalkQuiet C r c tc tr
-    → TalkQuiet C r c' tc (tr ++ cache_writes D C S c'.version p a)
-still_quiet D C S c c' n p e a r tc tr t w x =
-    let ys : List (Sent C) = cache_writes D C S c'.version p a in
-    let y : Notified D C S c' p a r.version =
-    notifies D C S c c' n p e a r.version t x.version w in
+    → TalkQuiet C r c' tc (tr ++ cache_writes D C S c'.version m p a)
+still_quiet D C S c c' n m p e a r tc tr t w x =
+    let ys : List (Sent C) = cache_writes D C S c'.version m p a in
+    let y : Notified D C S c' m p a r.version =
+    notifies D C S c c' n m p e a r.version t x.version w in
     record {
       version = y.version;
       none = x.none;
       quiet = quiet_more C r.version tr ys x.quiet y.quiet;
     }
 
-on_notify : (D C : Type 0) (S : Source D C) (c c' : Cache) (n : ℕ) (p : Present)
+on_notify : (D C : Type 0) (S : Source D C) (c c' : Cache) (n m : ℕ) (p : Present)
     (e : CacheEvent) (a : Answer) (r : Router) (tc : List Head) (tr : List (Sent C)) (f : Phase)
     → TellsCache e → CacheRule c n p e a c' → Talk C r c tc tr f
-    → Talk C r c' tc (tr ++ cache_writes D C S c'.version p a) f
-on_notify D C S c c' n p e a r tc tr phases.Offline t w x = tt
-on_notify D C S c c' n p e a r tc tr phases.Connecting t w x = tt
-on_notify D C S c c' n p e a r tc tr phases.Asked t w x =
-    let ys : List (Sent C) = cache_writes D C S c'.version p a in
-    let y : Notified D C S c' p a r.version =
-    notifies D C S c c' n p e a r.version t x.version w in
+    → Talk C r c' tc (tr ++ cache_writes D C S c'.version m p a) f
+on_notify D C S c c' n m p e a r tc tr phases.Offline t w x = tt
+on_notify D C S c c' n m p e a r tc tr phases.Connecting t w x = tt
+on_notify D C S c c' n m p e a r tc tr phases.Asked t w x =
+    let ys : List (Sent C) = cache_writes D C S c'.version m p a in
+    let y : Notified D C S c' m p a r.version =
+    notifies D C S c c' n m p e a r.version t x.version w in
     record {
       version = y.version;
       coming = more_coming C (query r) tc tr ys (to_query C r ys y.quiet) x.coming;
     }
-on_notify D C S c c' n p e a r tc tr phases.Reading t w x =
-    let ys : List (Sent C) = cache_writes D C S c'.version p a in
-    let y : Notified D C S c' p a r.version =
-    notifies D C S c c' n p e a r.version t x.version w in
+on_notify D C S c c' n m p e a r tc tr phases.Reading t w x =
+    let ys : List (Sent C) = cache_writes D C S c'.version m p a in
+    let y : Notified D C S c' m p a r.version =
+    notifies D C S c c' n m p e a r.version t x.version w in
     record {
       version = y.version;
       none = x.none;
       left = left_more C (query r) r.session r.units tr ys x.left (to_query C r ys y.quiet);
     }
-on_notify D C S c c' n p e a r tc tr phases.Applying t w x =
-    still_quiet D C S c c' n p e a r tc tr t w x
-on_notify D C S c c' n p e a r tc tr phases.Waiting t w x =
-    still_quiet D C S c c' n p e a r tc tr t w x
+on_notify D C S c c' n m p e a r tc tr phases.Applying t w x =
+    still_quiet D C S c c' n m p e a r tc tr t w x
+on_notify D C S c c' n m p e a r tc tr phases.Waiting t w x =
+    still_quiet D C S c c' n m p e a r tc tr t w x
 
 -- ---- whole runs
 
@@ -477,15 +477,15 @@ next D C S I w w' (connected w₀ n a r c phase anew step) y =
 next D C S I w w' (router_hears w₀ n x xs a r is step) y =
     on_hears C n x a w₀.router r w₀.cache w₀.to_cache xs step.rule
     (subst (λ tr. Talk C w₀.router w₀.cache w₀.to_cache tr w₀.router.phase) is y)
-next D C S I w w' (cache_hears w₀ n u us kept a c is step) y =
-    on_answer D C S I w₀.cache c n w₀.present u kept a us w₀.router w₀.to_cache w₀.to_router
+next D C S I w w' (cache_hears w₀ n m u us kept a c is step) y =
+    on_answer D C S I w₀.cache c n m w₀.present u kept a us w₀.router w₀.to_cache w₀.to_router
     w₀.router.phase step.rule is y
-next D C S I w w' (cache_told w₀ n e a c tells step) y =
-    on_notify D C S w₀.cache c n w₀.present e a w₀.router w₀.to_cache w₀.to_router
+next D C S I w w' (cache_told w₀ n m e a c tells step) y =
+    on_notify D C S w₀.cache c n m w₀.present e a w₀.router w₀.to_cache w₀.to_router
     w₀.router.phase tells step.rule y
 next D C S I w w' (renewed w₀ p) y = y
 
-in_peace : (D C : Type 0) (S : Source D C) (I : IsSource D C S)
+pub in_peace : (D C : Type 0) (S : Source D C) (I : IsSource D C S)
     (w : World D C) → IsReached D C S w → InPeace D C w
 in_peace D C S I w (world_begins r c p phase none) =
     to_phase C r c [] [] phases.Offline phase tt

@@ -161,9 +161,10 @@ are_changes true k = refl
 are_changes false k = cc
 
 -- a report that ends a connection
-pub report_comes : (C : Type 0) (q : Query) (r : Option OwedReport) → Coming C q (report_sent C r)
-report_comes C q None = tt
-report_comes C q (Some r) = inr (inr (inr (refl, tt)))
+pub report_comes : (C : Type 0) (q : Query) (m : ℕ) (r : Option OwedReport)
+    → Coming C q (report_sent C m r)
+report_comes C q m None = tt
+report_comes C q m (Some r) = inr (inr (inr (refl, tt)))
 
 pub none_since : (D C : Type 0) (S : Source D C) (I : IsSource D C S) (v s m n : ℕ) → m ≡ n
     → S.delta (Some (S.data_at v s m)) (S.data_at v s n) ≡ []
@@ -198,17 +199,17 @@ all_come D C S I v p q ve never = subst (λ v. Coming C q (response D C S v p No
     )))
 
 pub answer_comes : (D C : Type 0) (S : Source D C) (I : IsSource D C S)
-    (c c' : Cache) (n : ℕ) (p : Present) (q : Query)
+    (c c' : Cache) (n m : ℕ) (p : Present) (q : Query)
     (kept : Bool) (a : Answer) → CacheRule c n p (told.Came (query_head q) kept) a c'
-    → Coming C q (cache_writes D C S c'.version p a)
-answer_comes D C S I c c' n p q kept answers.Wait w = tt
-answer_comes D C S I c c' n p q kept answers.All w =
+    → Coming C q (cache_writes D C S c'.version m p a)
+answer_comes D C S I c c' n m p q kept answers.Wait w = tt
+answer_comes D C S I c c' n m p q kept answers.All w =
     all_come D C S I c'.version p q (ap (λ (c : Cache). c.version) w.1.after)
     (no_changes q.changes w.1.query.kind)
-answer_comes D C S I c c' n p q kept (answers.Changes since) w =
+answer_comes D C S I c c' n m p q kept (answers.Changes since) w =
     changes_come D C S I c'.version p q since (ap (λ (c : Cache). c.version) w.1.after)
     (sym w.1.known.session) w.1.since_is
-answer_comes D C S I c c' n p q kept answers.Reset w = inr (inr (inl (
+answer_comes D C S I c c' n m p q kept answers.Reset w = inr (inr (inl (
   record {
     kind = refl;
     version = ap (λ (c : Cache). c.version) w.1.after;
@@ -216,9 +217,9 @@ answer_comes D C S I c c' n p q kept answers.Reset w = inr (inr (inl (
   },
   tt,
 )))
-answer_comes D C S I c c' n p q kept answers.NoData w = inr (inr (inr (refl, tt)))
-answer_comes D C S I c c' n p q kept answers.Notify w = absurd w
-answer_comes D C S I c c' n p q kept (answers.End x) w = report_comes C q x.report
+answer_comes D C S I c c' n m p q kept answers.NoData w = inr (inr (inr (refl, tt)))
+answer_comes D C S I c c' n m p q kept answers.Notify w = absurd w
+answer_comes D C S I c c' n m p q kept (answers.End x) w = report_comes C q m x.report
 
 -- ---- the cache is in the router's version, once it was asked
 
@@ -244,42 +245,42 @@ in_version c c' n p q kept (answers.End x) y w =
 
 -- ---- by itself a cache writes notifies alone
 
-pub record Notified (D C : Type 0) (S : Source D C) (c' : Cache) (p : Present) (a : Answer) (v : ℕ)
-    : Type 0 where
-  pub quiet : Quiet C v (cache_writes D C S c'.version p a)
+pub record Notified (D C : Type 0) (S : Source D C) (c' : Cache) (m : ℕ) (p : Present)
+    (a : Answer) (v : ℕ) : Type 0 where
+  pub quiet : Quiet C v (cache_writes D C S c'.version m p a)
   pub version : InVersion c' v
 
-pub unreported : (C : Type 0) (v : ℕ) (r : Option OwedReport) → r ≡ None
-    → Quiet C v (report_sent C r)
-unreported C v None e = tt
-unreported C v (Some r) e = cc
+pub unreported : (C : Type 0) (v m : ℕ) (r : Option OwedReport) → r ≡ None
+    → Quiet C v (report_sent C m r)
+unreported C v m None e = tt
+unreported C v m (Some r) e = cc
 
-pub notifies : (D C : Type 0) (S : Source D C) (c c' : Cache) (n : ℕ) (p : Present) (e : CacheEvent)
-    (a : Answer) (v : ℕ) → TellsCache e → InVersion c v → CacheRule c n p e a c'
-    → Notified D C S c' p a v
-notifies D C S c c' n p e answers.Wait v t y w =
+pub notifies : (D C : Type 0) (S : Source D C) (c c' : Cache) (n m : ℕ) (p : Present)
+    (e : CacheEvent) (a : Answer) (v : ℕ) → TellsCache e → InVersion c v → CacheRule c n p e a c'
+    → Notified D C S c' m p a v
+notifies D C S c c' n m p e answers.Wait v t y w =
     record { quiet = tt; version = subst (λ (c : Cache). InVersion c v) (sym w.after) y }
-notifies D C S c c' n p told.Tick answers.Notify v t y w =
+notifies D C S c c' n m p told.Tick answers.Notify v t y w =
     let e : c'.version ≡ v =
     ap (λ (c : Cache). c.version) w.1.after ∙ y w.0 w.1.asked in
     record { quiet = (refl, e, tt); version = λ o a. e }
-notifies D C S c c' n p told.Lost answers.Notify v t y w = absurd w
-notifies D C S c c' n p told.Tick (answers.End x) v t y w = record {
-  quiet = unreported C v x.report (w.1.silent tt);
+notifies D C S c c' n m p told.Lost answers.Notify v t y w = absurd w
+notifies D C S c c' n m p told.Tick (answers.End x) v t y w = record {
+  quiet = unreported C v m x.report (w.1.silent tt);
   version = ended_no c' v (ap (λ (c : Cache). c.live) w.1.after);
 }
-notifies D C S c c' n p told.Lost (answers.End x) v t y w = record {
-  quiet = unreported C v x.report (w.1.silent tt);
+notifies D C S c c' n m p told.Lost (answers.End x) v t y w = record {
+  quiet = unreported C v m x.report (w.1.silent tt);
   version = ended_no c' v (ap (λ (c : Cache). c.live) w.1.after);
 }
-notifies D C S c c' n p told.Tick answers.All v t y w = absurd w
-notifies D C S c c' n p told.Tick (answers.Changes since) v t y w = absurd w
-notifies D C S c c' n p told.Tick answers.Reset v t y w = absurd w
-notifies D C S c c' n p told.Tick answers.NoData v t y w = absurd w
-notifies D C S c c' n p told.Lost answers.All v t y w = absurd w
-notifies D C S c c' n p told.Lost (answers.Changes since) v t y w = absurd w
-notifies D C S c c' n p told.Lost answers.Reset v t y w = absurd w
-notifies D C S c c' n p told.Lost answers.NoData v t y w = absurd w
-notifies D C S c c' n p told.Full _ v t y w = absurd t
-notifies D C S c c' n p (told.Came u kept) _ v t y w = absurd t
-notifies D C S c c' n p (told.Faulty f) _ v t y w = absurd t
+notifies D C S c c' n m p told.Tick answers.All v t y w = absurd w
+notifies D C S c c' n m p told.Tick (answers.Changes since) v t y w = absurd w
+notifies D C S c c' n m p told.Tick answers.Reset v t y w = absurd w
+notifies D C S c c' n m p told.Tick answers.NoData v t y w = absurd w
+notifies D C S c c' n m p told.Lost answers.All v t y w = absurd w
+notifies D C S c c' n m p told.Lost (answers.Changes since) v t y w = absurd w
+notifies D C S c c' n m p told.Lost answers.Reset v t y w = absurd w
+notifies D C S c c' n m p told.Lost answers.NoData v t y w = absurd w
+notifies D C S c c' n m p told.Full _ v t y w = absurd t
+notifies D C S c c' n m p (told.Came u kept) _ v t y w = absurd t
+notifies D C S c c' n m p (told.Faulty f) _ v t y w = absurd t

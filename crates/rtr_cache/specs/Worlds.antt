@@ -1,6 +1,6 @@
 -- A router and a cache of ours, joined by a pipe that loses nothing while it is there.
 use Rattle.std.specs.Prelude.{◌≡◌, ◌≢◌, ◌⊎◌, ℕ, Bool, true, false, if◌then◌else◌, map, ◌<◌}
-use Rattle.std.specs.Prelude.{Option, Some, None, List, [], ◌∷◌, ◌++◌}
+use Rattle.std.specs.Prelude.{Option, Some, None, List, [], ◌∷◌, ◌++◌, ◌==◌}
 use Rattle.std.specs.List.{AllByRecursion}
 use Rattle.std.specs.declared.cmp.Ordering.TheVariants.{Less}
 use Rattle.rtr_base.specs.Serial.{serial_cmp}
@@ -71,7 +71,17 @@ pub record Sent (C : Type 0) : Type 0 where
   pub head : Head
   pub body : List C
 
--- The size says something of payloads alone.
+-- How many bytes a unit has that is neither a payload nor a report (sections 5.2 to 5.5, 5.8, 5.9;
+-- of an end of data of version 0 RFC 6810 section 5.8).
+abbrev pub fixed_size : (version : ℕ) → Kind → ℕ
+fixed_size v kinds.SerialNotify = 12
+fixed_size v kinds.SerialQuery = 12
+fixed_size v kinds.ResetQuery = 8
+fixed_size v kinds.CacheResponse = 8
+fixed_size v kinds.CacheReset = 8
+fixed_size v kinds.EndOfData = if v == 0 then 12 else 24
+fixed_size v _ = 0
+
 abbrev pub plain_head : Kind → (version session serial code : ℕ) → Head
 plain_head kind v s n code = record {
   kind = kind;
@@ -82,7 +92,7 @@ plain_head kind v s n code = record {
   refresh = 0;
   retry = 0;
   expire = 0;
-  size = 0;
+  size = fixed_size v kind;
 }
 
 abbrev pub plain_unit : (C : Type 0) → Kind → (version session serial code : ℕ) → Sent C
@@ -94,12 +104,16 @@ change_unit D C S v b = record {
   body = b ∷ [];
 }
 
+-- in version 0 an end of data names no times (RFC 6810 section 5.8)
+abbrev pub named_time : (version time : ℕ) → ℕ
+named_time v n = if v == 0 then 0 else n
+
 abbrev pub data_end : (D C : Type 0) → Source D C → (version : ℕ) → Present → Sent C
 data_end D C S v p = record {
   head = record (plain_head kinds.EndOfData v p.session p.serial 0) {
-    refresh = S.refresh p.session p.serial;
-    retry = S.retry p.session p.serial;
-    expire = S.expire p.session p.serial;
+    refresh = named_time v (S.refresh p.session p.serial);
+    retry = named_time v (S.retry p.session p.serial);
+    expire = named_time v (S.expire p.session p.serial);
   };
   body = [];
 }
@@ -112,23 +126,28 @@ response D C S v p old =
     ∷ (map (change_unit D C S v) (S.delta old (S.data_at v p.session p.serial))
     ++ data_end D C S v p ∷ [])
 
--- a report, if one is owed
-abbrev pub report_sent : (C : Type 0) → Option OwedReport → List (Sent C)
-report_sent C None = []
-report_sent C (Some r) = plain_unit C kinds.ErrorReport r.version 0 0 r.code ∷ []
+-- a report of so many bytes
+abbrev pub sized_report : (C : Type 0) → (version code size : ℕ) → Sent C
+sized_report C v code m =
+    record { head = record (plain_head kinds.ErrorReport v 0 0 code) { size = m }; body = [] }
 
--- what the cache's caller writes
-abbrev pub cache_writes : (D C : Type 0) → Source D C → (version : ℕ) → Present → Answer
+-- a report, if one is owed
+abbrev pub report_sent : (C : Type 0) → (size : ℕ) → Option OwedReport → List (Sent C)
+report_sent C m None = []
+report_sent C m (Some r) = sized_report C r.version r.code m ∷ []
+
+-- what the cache's caller writes; a report has some size, by its text and the unit that it is about
+abbrev pub cache_writes : (D C : Type 0) → Source D C → (version size : ℕ) → Present → Answer
     → List (Sent C)
-cache_writes D C S v p answers.Wait = []
-cache_writes D C S v p answers.All = response D C S v p None
-cache_writes D C S v p (answers.Changes since) =
+cache_writes D C S v m p answers.Wait = []
+cache_writes D C S v m p answers.All = response D C S v p None
+cache_writes D C S v m p (answers.Changes since) =
     response D C S v p (Some (S.data_at v p.session since))
-cache_writes D C S v p answers.Reset = plain_unit C kinds.CacheReset v 0 0 0 ∷ []
-cache_writes D C S v p answers.NoData = plain_unit C kinds.ErrorReport v 0 0 2 ∷ []
-cache_writes D C S v p answers.Notify =
+cache_writes D C S v m p answers.Reset = plain_unit C kinds.CacheReset v 0 0 0 ∷ []
+cache_writes D C S v m p answers.NoData = sized_report C v 2 m ∷ []
+cache_writes D C S v m p answers.Notify =
     plain_unit C kinds.SerialNotify v p.session p.serial 0 ∷ []
-cache_writes D C S v p (answers.End x) = report_sent C x.report
+cache_writes D C S v m p (answers.End x) = report_sent C m x.report
 
 -- what the router's caller writes; after a report the connection ends, and so it is left out
 abbrev pub query_head : Query → Head
@@ -227,19 +246,19 @@ pub data Next (D C : Type 0) (S : Source D C) : World D C → World D C → Type
         to_router = xs;
       })
   cache_hears :
-      (w : World D C) (n : ℕ) (u : Head) (us : List Head) (kept : Bool) (a : Answer) (c : Cache)
+      (w : World D C) (n m : ℕ) (u : Head) (us : List Head) (kept : Bool) (a : Answer) (c : Cache)
       → w.to_cache ≡ u ∷ us → IsCacheStep w.cache n w.present (told.Came u kept) a c
       → Next D C S w (record w {
         cache = c;
         to_cache = us;
-        to_router = w.to_router ++ cache_writes D C S c.version w.present a;
+        to_router = w.to_router ++ cache_writes D C S c.version m w.present a;
       })
   cache_told :
-      (w : World D C) (n : ℕ) (e : CacheEvent) (a : Answer) (c : Cache)
+      (w : World D C) (n m : ℕ) (e : CacheEvent) (a : Answer) (c : Cache)
       → TellsCache e → IsCacheStep w.cache n w.present e a c
       → Next D C S w (record w {
         cache = c;
-        to_router = w.to_router ++ cache_writes D C S c.version w.present a;
+        to_router = w.to_router ++ cache_writes D C S c.version m w.present a;
       })
   -- new data at the cache, of any session and serial number
   renewed :

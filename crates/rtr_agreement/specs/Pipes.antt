@@ -1,0 +1,225 @@
+-- A router and a cache of ours, joined by pipes of bytes that lose nothing while they are there.
+use Rattle.std.specs.Prelude.{◌≡◌, ◌<◌, ◌^◌, ℕ, Bool, false, List, [], ◌∷◌, ◌++◌}
+use Rattle.std.specs.Prelude.{Some, take, drop}
+use Rattle.std.specs.List.{concat}
+use Rattle.rtr_payload.specs.Payloads.{Payload}
+use Rattle.rtr_payload.specs.Units.{IsUnit}
+use Rattle.rtr_units.specs.End.{EndMeaning}
+use Rattle.rtr_data.specs.Data.{Change}
+use Rattle.rtr_data.specs.Deltas.{data_for, unit_of}
+use Rattle.rtr_deltas.specs.Canonical.{HoldsData}
+use Rattle.rtr_router.specs.declared.event.Action.{Action}
+use Rattle.rtr_router.specs.declared.event.Event.{Event}
+use Rattle.rtr_router.specs.declared.event.Event.TheVariants as events
+use Rattle.rtr_router.specs.declared.head.Head.{Head}
+use Rattle.rtr_router.specs.declared.router.Phase.TheVariants as phases
+use Rattle.rtr_router.specs.declared.router.Router.{Router}
+use Rattle.rtr_router.specs.Histories.{Caller, Host, empty_host, host_after}
+use Rattle.rtr_router.specs.Rules.{IsPayloadOf, known_of}
+use Rattle.rtr_router.specs.Step.{IsStep}
+use Rattle.rtr_cache.specs.declared.cache.Cache.{Cache}
+use Rattle.rtr_cache.specs.declared.event.Answer.{Answer}
+use Rattle.rtr_cache.specs.declared.event.CacheEvent.{CacheEvent}
+use Rattle.rtr_cache.specs.declared.event.CacheEvent.TheVariants as asked
+use Rattle.rtr_cache.specs.declared.event.Present.{Present}
+use Rattle.rtr_cache.specs.CacheSteps.{IsCacheStep}
+use Rattle.rtr_cache.specs.Worlds.{Holding, IsReached, Sent, TellsCache, WasPresent, World}
+use Rattle.rtr_conversation.specs.Heads.{HasHead, end_head}
+use Rattle.rtr_conversation.specs.Reading.{Hears}
+use Rattle.rtr_conversation.specs.Serving.{HearsRouter}
+use Rattle.rtr_conversation.specs.declared.serving.Served.TheVariants as served
+use Rattle.rtr_conversation.specs.declared.telling.Told.{Told}
+use Rattle.rtr_conversation.specs.declared.telling.Told.TheVariants as told
+use Rattle.rtr_agreement.specs.Editions.{Editions, source_of}
+use Rattle.rtr_agreement.specs.Written.{CacheWrites, FitsAction, FitsPresent, router_bytes}
+
+-- ---- the router's caller
+
+-- what it keeps, the units of a response as they came; what the changes made; what it shows
+abbrev pub Bytes : Type 0
+Bytes = List ℕ
+
+abbrev pub keeping : Host Bytes Bytes → List ℕ → Host Bytes Bytes
+keeping h b = record { kept = h.kept ++ b ∷ []; made = h.made; shown = h.shown }
+
+-- what it has after `tell` answered so of this input
+abbrev pub host_told : Caller Bytes Bytes → Host Bytes Bytes → List ℕ → Told → Host Bytes Bytes
+host_told c h input told.Awaits = h
+host_told c h input (told.Kept k) = keeping h (take k input)
+host_told c h input (told.Acted start end a) =
+    host_after c (keeping h (take start input)) (drop start (take end input)) a
+host_told c h input (told.Refused e a) = host_after c h [] a
+
+-- what is left of the input
+abbrev pub left_of : List ℕ → Told → List ℕ
+left_of input told.Awaits = input
+left_of input (told.Kept k) = drop k input
+left_of input (told.Acted start end a) = drop end input
+left_of input (told.Refused e a) = input
+
+-- what it writes then
+abbrev pub told_bytes : Told → List ℕ
+told_bytes (told.Acted start end a) = router_bytes a
+told_bytes (told.Refused e a) = router_bytes a
+told_bytes _ = []
+
+abbrev pub FitsTold : Told → Type 0
+FitsTold (told.Acted start end a) = FitsAction a
+FitsTold (told.Refused e a) = FitsAction a
+FitsTold _ = Unit {0}
+
+-- What a router is told of itself: time, the end of a connection, and what its caller did, if it
+-- did.
+abbrev pub TellsOfItself : Host Bytes Bytes → Event → Type 0
+TellsOfItself h (events.Came u) = ⊥
+TellsOfItself h (events.Faulty f) = ⊥
+TellsOfItself h events.Connected = ⊥
+TellsOfItself h events.Applied = (d : List ℕ) × (h.made ≡ Some d)
+TellsOfItself h _ = Unit {0}
+
+-- ---- runs
+
+pub record Joined : Type 0 where
+  pub router : Router
+  pub host : Host Bytes Bytes
+  pub cache : Cache
+  pub present : Present
+  -- what the cache had before, and has, the newest first
+  pub had : List Present
+  -- the bytes on their way
+  pub to_cache : List ℕ
+  pub to_router : List ℕ
+
+-- What may happen next, in any order and at any time. Each side reads a front of what is on its
+-- way, as long as it happens to be there: `input`. The connection may be cut anywhere, for the
+-- router, the cache, or both: what is on its way is lost with it, and `ended` says that the router
+-- was told so.
+pub data NextBytes (c : Caller Bytes Bytes) (E : Editions) : Joined → Joined → Type 0 where
+  told_router :
+      (w : Joined) (n : ℕ) (e : Event) (a : Action) (r : Router)
+      → TellsOfItself w.host e → IsStep w.router n e a r → FitsAction a
+      → NextBytes c E w (record w {
+        router = r;
+        host = host_after c w.host [] a;
+        to_cache = w.to_cache ++ router_bytes a;
+      })
+  -- a connection is there; the cache's end of it is new
+  joined_anew :
+      (w : Joined) (n : ℕ) (a : Action) (r : Router) (new : Cache)
+      → w.router.phase ≡ phases.Connecting → new.asked ≡ false
+      → IsStep w.router n events.Connected a r → FitsAction a
+      → NextBytes c E w (record w {
+        router = r;
+        host = host_after c w.host [] a;
+        cache = new;
+        to_cache = router_bytes a;
+        to_router = [];
+      })
+  heard_bytes :
+      (w : Joined) (n : ℕ) (input later : List ℕ) (ended : Bool) (t : Told) (r : Router)
+      → w.to_router ≡ input ++ later → Hears w.router n input ended t r → FitsTold t
+      → NextBytes c E w (record w {
+        router = r;
+        host = host_told c w.host input t;
+        to_cache = w.to_cache ++ told_bytes t;
+        to_router = left_of input t ++ later;
+      })
+  asked_in_bytes :
+      (w : Joined) (n : ℕ) (kept input later : List ℕ) (ended : Bool) (size : ℕ) (a : Answer)
+      (after : Cache) (b : List ℕ)
+      → w.to_cache ≡ input ++ later
+      → HearsRouter w.cache n w.present kept input ended (served.Answered size a) after
+      → after.version < 2 ^ 8 → CacheWrites E after.version w.present a b
+      → NextBytes c E w (record w {
+        cache = after;
+        to_cache = drop size input ++ later;
+        to_router = w.to_router ++ b;
+      })
+  told_cache :
+      (w : Joined) (n : ℕ) (e : CacheEvent) (a : Answer) (after : Cache) (b : List ℕ)
+      → TellsCache e → IsCacheStep w.cache n w.present e a after
+      → after.version < 2 ^ 8 → CacheWrites E after.version w.present a b
+      → NextBytes c E w (record w { cache = after; to_router = w.to_router ++ b })
+  -- new data at the cache, of any session and serial number
+  data_renewed :
+      (w : Joined) (p : Present) → FitsPresent p
+      → NextBytes c E w (record w { present = p; had = p ∷ w.had })
+
+-- any run, from a router without data
+pub data IsRunInBytes (c : Caller Bytes Bytes) (E : Editions) : Joined → Type 0 where
+  pipes_begin :
+      (r : Router) (new : Cache) (p : Present)
+      → r.phase ≡ phases.Offline → r.has_data ≡ false → FitsPresent p
+      → IsRunInBytes c E (record {
+        router = r;
+        host = empty_host;
+        cache = new;
+        present = p;
+        had = p ∷ [];
+        to_cache = [];
+        to_router = [];
+      })
+  pipes_go_on : (w w' : Joined) → IsRunInBytes c E w → NextBytes c E w w' → IsRunInBytes c E w'
+
+-- ---- what holds of them
+
+-- The bytes that are shown are data in canonical form: the payloads of the edition that the cache
+-- had under the router's session and serial number, as the router's version has them, and an end of
+-- data that names them.
+pub record ShowsBytes (E : Editions) (w : Joined) : Type 0 where
+  pub was : WasPresent w.had w.router.known.session w.router.known.serial
+  pub bytes : List ℕ
+  pub shown : w.host.shown ≡ Some bytes
+  pub end : EndMeaning
+  pub holds :
+      HoldsData bytes
+      (data_for w.router.known.version
+      (E.edition w.router.known.session w.router.known.serial)) end
+  pub named : known_of (end_head end 0) ≡ w.router.known
+
+-- These are the bytes of a unit on its way to the router, of which the machine sees this. If it
+-- carries a payload, it makes the change.
+pub record IsOnItsWay (b : List ℕ) (x : Sent Change) : Type 0 where
+  pub has : HasHead b x.head
+  pub carries :
+      (v : ℕ) → IsPayloadOf v x.head.kind
+      → (c : Change) × (x.body ≡ c ∷ []) × IsUnit b (unit_of x.head.version c)
+
+-- these lists of bytes are these units, one by one
+abbrev pub AreOnTheirWay : List (List ℕ) → List (Sent Change) → Type 0
+AreOnTheirWay [] [] = Unit {0}
+AreOnTheirWay (b ∷ bs) (x ∷ xs) = IsOnItsWay b x × AreOnTheirWay bs xs
+AreOnTheirWay _ _ = ⊥
+
+abbrev pub AreQueries : List (List ℕ) → List Head → Type 0
+AreQueries [] [] = Unit {0}
+AreQueries (b ∷ bs) (u ∷ us) = HasHead b u × AreQueries bs us
+AreQueries _ _ = ⊥
+
+-- the same router, cache and data, with units on their way
+abbrev pub as_units : Joined → Holding (List Payload) Change → List Head → List (Sent Change)
+    → World (List Payload) Change
+as_units w h tc tr = record {
+  router = w.router;
+  holding = h;
+  cache = w.cache;
+  present = w.present;
+  had = w.had;
+  to_cache = tc;
+  to_router = tr;
+}
+
+-- A run in bytes is where a run of units is, and what is on its way are the bytes of the units that
+-- are, one after the other.
+pub record IsRunOfUnits (E : Editions) (w : Joined) : Type 0 where
+  pub holding : Holding (List Payload) Change
+  pub heads : List Head
+  pub sent : List (Sent Change)
+  pub run :
+      IsReached (List Payload) Change (source_of E) (as_units w holding heads sent)
+  pub queries : List (List ℕ)
+  pub to_cache : concat queries ≡ w.to_cache
+  pub are_queries : AreQueries queries heads
+  pub units : List (List ℕ)
+  pub to_router : concat units ≡ w.to_router
+  pub are_units : AreOnTheirWay units sent
