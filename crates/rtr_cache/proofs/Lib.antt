@@ -2,4 +2,5 @@ pub mod Agreement
 pub mod Answering
 pub mod Peace
 pub mod Speaking
+pub mod Calm
 pub mod Orderly

@@ -1,0 +1,602 @@
+-- After the last cut a router has the present data of a cache of ours by a time that is named.
+use Rattle.std.proofs.Common.{◌≡◌, ◌≢◌, ◌⊎◌, ℕ, Bool, true, false, ◌≤◌, map}
+use Rattle.std.proofs.Common.{Option, Some, None, List, [], ◌∷◌, ◌++◌, refl, sym, ap, ◌∙◌, subst}
+use Rattle.std.proofs.Common.{inl, inr}
+use Rattle.std.specs.declared.cmp.Ordering.TheVariants.{Less}
+use Rattle.rtr_base.specs.Serial.{serial_cmp}
+use Rattle.rtr_router.specs.declared.head.Head.{Head}
+use Rattle.rtr_router.specs.declared.head.Kind.TheVariants as kinds
+use Rattle.rtr_router.specs.declared.head.Known.{Known}
+use Rattle.rtr_router.specs.declared.router.Router.{Router}
+use Rattle.rtr_router.specs.declared.router.Phase.{Phase}
+use Rattle.rtr_router.specs.declared.router.Phase.TheVariants as phases
+use Rattle.rtr_router.specs.declared.event.Action.{Action}
+use Rattle.rtr_router.specs.declared.event.Action.TheVariants as actions
+use Rattle.rtr_router.specs.declared.event.Event.{Event}
+use Rattle.rtr_router.specs.declared.event.Event.TheVariants as events
+use Rattle.rtr_router.specs.Recovery.{AnswersWell, GoesOnWell, IsServed, IsServedBy}
+use Rattle.rtr_router.specs.Recovery.{served_until}
+use Rattle.rtr_router.specs.Recovery.AnswersWell.{not_yet, notifies as notifies_well, resets_well}
+use Rattle.rtr_router.specs.Recovery.AnswersWell.{responds}
+use Rattle.rtr_router.specs.Recovery.GoesOnWell.{ends_data, not_more_yet, sends_payload}
+use Rattle.rtr_router.specs.Recovery.IsMadeWell.{are_made, not_made_yet}
+use Rattle.rtr_router.specs.Recovery.IsServed.{served_from, served_on}
+use Rattle.rtr_router.specs.Rules.{Drops, IsPayloadOf, Rule, query}
+use Rattle.rtr_router.specs.Step.{IsStep}
+use Rattle.rtr_router.proofs.Serving.{recovers_offline}
+use Rattle.rtr_cache.specs.declared.cache.Cache.{Cache}
+use Rattle.rtr_cache.specs.declared.event.Answer.{Answer}
+use Rattle.rtr_cache.specs.declared.event.Answer.TheVariants as answers
+use Rattle.rtr_cache.specs.declared.event.CacheEvent.TheVariants as told
+use Rattle.rtr_cache.specs.declared.event.Present.{Present}
+use Rattle.rtr_cache.specs.CacheRules.{CacheRule}
+use Rattle.rtr_cache.specs.Calm.{HasRoomFor, IsCalm, IsAfterCut, ShowsPresent, StaysOpen}
+use Rattle.rtr_cache.specs.Calm.{TellsCalmly}
+use Rattle.rtr_cache.specs.Calm.IsCalm.{calm_cache_hears, calm_cache_told, calm_connected}
+use Rattle.rtr_cache.specs.Calm.IsCalm.{calm_from, calm_hears, calm_told}
+use Rattle.rtr_cache.specs.Worlds.{Agrees, Holding, IsListening, IsReached, IsSource, Sent}
+use Rattle.rtr_cache.specs.Worlds.{Source, TellsItself, World, cache_writes, change_unit}
+use Rattle.rtr_cache.specs.Worlds.{data_end, response}
+use Rattle.rtr_cache.specs.Worlds.Next.{cache_hears, cache_told, connected, router_hears}
+use Rattle.rtr_cache.specs.Worlds.Next.{router_told}
+use Rattle.rtr_cache.specs.Worlds.IsReached.{world_goes_on}
+use Rattle.rtr_cache.proofs.Agreement.{agreement}
+use Rattle.rtr_cache.proofs.Answering.{Quiet, notifies, quiet_more}
+use Rattle.rtr_cache.proofs.Peace.{Talk, in_peace}
+use Rattle.rtr_cache.proofs.Speaking.{Left, UnderWay, query_changes, query_serial}
+use Rattle.rtr_cache.proofs.Speaking.{query_session, query_version}
+use Rattle.rtr_cache.proofs.Speaking.{Quiet as QuietIn}
+
+-- ---- what is on its way is of the present data
+
+record IsLast (p : Present) (u : Head) : Type 0 where
+  kind : u.kind ≡ kinds.EndOfData
+  session : u.session ≡ p.session
+  serial : u.serial ≡ p.serial
+
+-- the rest of a response
+abbrev LeftOf : (C : Type 0) → Present → List (Sent C) → Type 0
+LeftOf C p [] = ⊥
+LeftOf C p (x ∷ xs) =
+    (IsPayloadOf 2 x.head.kind × LeftOf C p xs) ⊎ (IsLast p x.head × Quiet C xs)
+
+-- notifies, and then a response or a cache reset, if any
+abbrev ComingOf : (C : Type 0) → Present → List (Sent C) → Type 0
+ComingOf C p [] = Unit {0}
+ComingOf C p (x ∷ xs) =
+    ((x.head.kind ≡ kinds.SerialNotify) × ComingOf C p xs)
+    ⊎ (((x.head.kind ≡ kinds.CacheReset) × Quiet C xs)
+    ⊎ ((x.head.kind ≡ kinds.CacheResponse) × (x.head.session ≡ p.session) × LeftOf C p xs))
+
+left_more : (C : Type 0) (p : Present) (xs ys : List (Sent C)) → LeftOf C p xs → Quiet C ys
+    → LeftOf C p (xs ++ ys)
+left_more C p [] ys w q = absurd w
+left_more C p (x ∷ xs) ys (inl w) q = inl (w.0, left_more C p xs ys w.1 q)
+left_more C p (x ∷ xs) ys (inr w) q = inr (w.0, quiet_more C xs ys w.1 q)
+
+from_quiet : (C : Type 0) (p : Present) (xs : List (Sent C)) → Quiet C xs → ComingOf C p xs
+from_quiet C p [] q = tt
+from_quiet C p (x ∷ xs) q = inl (q.0, from_quiet C p xs q.1)
+
+coming_more : (C : Type 0) (p : Present) (xs ys : List (Sent C)) → ComingOf C p xs → Quiet C ys
+    → ComingOf C p (xs ++ ys)
+coming_more C p [] ys w q = from_quiet C p ys q
+coming_more C p (x ∷ xs) ys (inl w) q = inl (w.0, coming_more C p xs ys w.1 q)
+coming_more C p (x ∷ xs) ys (inr (inl w)) q = inr (inl (w.0, quiet_more C xs ys w.1 q))
+coming_more C p (x ∷ xs) ys (inr (inr w)) q = inr (inr (w.0, w.1, left_more C p xs ys w.2 q))
+
+coming_after : (C : Type 0) (p : Present) (xs ys : List (Sent C)) → Quiet C xs → ComingOf C p ys
+    → ComingOf C p (xs ++ ys)
+coming_after C p [] ys q w = w
+coming_after C p (x ∷ xs) ys q w = inl (q.0, coming_after C p xs ys q.1 w)
+
+-- ---- what the cache writes
+
+left_written : (D C : Type 0) (S : Source D C) → IsSource D C S → (v : ℕ) (p : Present)
+    (bs : List C) → LeftOf C p (map (change_unit D C S v) bs ++ data_end D C S v p ∷ [])
+left_written D C S I v p [] = inr (record { kind = refl; session = refl; serial = refl }, tt)
+left_written D C S I v p (b ∷ bs) = inl (I.is_payload b, left_written D C S I v p bs)
+
+response_comes : (D C : Type 0) (S : Source D C) → IsSource D C S → (v : ℕ) (p : Present)
+    (old : Option D) → ComingOf C p (response D C S v p old)
+response_comes D C S I v p old =
+    inr (inr (refl, refl, left_written D C S I v p (S.delta old (S.data_at v p.session p.serial))))
+
+written : (D C : Type 0) (S : Source D C) → IsSource D C S → (c c' : Cache) (k v m : ℕ)
+    (p : Present) (u : Head) (kept : Bool) (a : Answer) → p.has ≡ true
+    → CacheRule c k p (told.Came u kept) a c' → StaysOpen a
+    → ComingOf C p (cache_writes D C S v m p a)
+written D C S I c c' k v m p u kept answers.Wait has w stays = tt
+written D C S I c c' k v m p u kept answers.All has w stays = response_comes D C S I v p None
+written D C S I c c' k v m p u kept (answers.Changes since) has w stays =
+    response_comes D C S I v p (Some (S.data_at v p.session since))
+written D C S I c c' k v m p u kept answers.Reset has w stays = inr (inl (refl, tt))
+written D C S I c c' k v m p u kept answers.NoData has w stays =
+    let none = w.1.has in absurd cc
+written D C S I c c' k v m p u kept answers.Notify has w stays = absurd w
+written D C S I c c' k v m p u kept (answers.End x) has w stays = absurd stays
+
+-- ---- what holds in each phase, until data are shown
+
+record CalmReading (C : Type 0) (p : Present) (r : Router) (tr : List (Sent C)) : Type 0 where
+  left : LeftOf C p tr
+  own : r.changes ≡ true → r.known.session ≡ p.session
+
+record CalmApplying (C : Type 0) (p : Present) (r : Router) : Type 0 where
+  session : r.answer.session ≡ p.session
+  serial : r.answer.serial ≡ p.serial
+
+abbrev CalmIn : (C : Type 0) → Present → Router → List (Sent C) → Phase → Type 0
+CalmIn C p r tr phases.Offline = Unit {0}
+CalmIn C p r tr phases.Connecting = Unit {0}
+CalmIn C p r tr phases.Asked = ComingOf C p tr
+CalmIn C p r tr phases.Reading = CalmReading C p r tr
+CalmIn C p r tr phases.Applying = CalmApplying C p r
+CalmIn C p r tr phases.Waiting = ⊥
+
+to_phase : (C : Type 0) (p : Present) (r : Router) (tr : List (Sent C)) (f : Phase)
+    → r.phase ≡ f → CalmIn C p r tr f → CalmIn C p r tr r.phase
+to_phase C p r tr f e x = subst (λ f. CalmIn C p r tr f) (sym e) x
+
+from_phase : (C : Type 0) (p : Present) (r : Router) (tr : List (Sent C)) (f : Phase)
+    → r.phase ≡ f → CalmIn C p r tr r.phase → CalmIn C p r tr f
+from_phase C p r tr f e x = subst (λ f. CalmIn C p r tr f) e x
+
+-- what is known of the data stays, whether they are dropped or not
+known_left : (drop : Bool) (r r' : Router) → Drops drop r r' → r'.known ≡ r.known
+known_left true r r' w = w.known
+known_left false r r' w = w.known
+
+-- a router and what is on its way, after a step
+record Went (C : Type 0) (p : Present) (r r' : Router) (tr : List (Sent C)) : Type 0 where
+  known : r'.known ≡ r.known
+  calm : CalmIn C p r' tr r'.phase
+
+-- the router waits, and nothing came but perhaps a notify
+waits : (C : Type 0) (p : Present) (e : Event) (r r' : Router) (tr : List (Sent C))
+    → Rule r 0 e actions.Wait r' → CalmIn C p r tr r.phase → Went C p r r' tr
+waits C p e r r' tr w x = record {
+  known = w.same.known;
+  calm = to_phase C p r' tr r.phase w.talk.phase (go r.phase x);
+}
+  where
+    go : (f : Phase) → CalmIn C p r tr f → CalmIn C p r' tr f
+    go phases.Offline x = tt
+    go phases.Connecting x = tt
+    go phases.Asked x = x
+    go phases.Reading x = record {
+      left = x.left;
+      own = λ c. ap (λ (k : Known). k.session) w.same.known ∙ x.own (sym w.talk.changes ∙ c);
+    }
+    go phases.Applying x = record {
+      session = ap (λ (k : Known). k.session) w.talk.answer ∙ x.session;
+      serial = ap (λ (k : Known). k.serial) w.talk.answer ∙ x.serial;
+    }
+    go phases.Waiting x = x
+
+-- ---- the router is told of itself
+
+tells : (D C : Type 0) (p : Present) (h : Holding D C) (n : ℕ) (e : Event) (a : Action)
+    (r r' : Router) (tr : List (Sent C)) → TellsCalmly D C h r e → Rule r n e a r'
+    → a ≢ actions.Show → CalmIn C p r tr r.phase → Went C p r r' tr
+tells D C p h n e actions.Wait r r' tr t w s x = waits C p e r r' tr w x
+tells D C p h n e (actions.End z) r r' tr t w s x = record {
+  known = known_left z.drop r r' w.data_then;
+  calm = to_phase C p r' tr phases.Offline w.phase tt;
+}
+tells D C p h n e actions.Drop r r' tr t w s x = record {
+  known = w.lost.known;
+  calm = to_phase C p r' tr phases.Offline w.phase tt;
+}
+tells D C p h n events.Tick actions.Connect r r' tr t w s x = record {
+  known = w.same.known;
+  calm = to_phase C p r' tr phases.Connecting w.phase tt;
+}
+tells D C p h n events.Tick (actions.Ask q) r r' tr t w s x =
+    absurd (from_phase C p r tr phases.Waiting w.may.0 x)
+tells D C p h n events.Applied (actions.Ask q) r r' tr t w s x = absurd w.may
+tells D C p h n events.Applied actions.Show r r' tr t w s x = absurd (s refl)
+tells D C p h n (events.Came u) _ r r' tr t w s x = absurd t
+tells D C p h n (events.Faulty f) _ r r' tr t w s x = absurd t
+tells D C p h n (events.NotApplied code) _ r r' tr t w s x = absurd t
+tells D C p h n events.Connected _ r r' tr t w s x = absurd t
+tells D C p h n events.Lost _ r r' tr t w s x = absurd t
+tells D C p h n _ _ r r' tr t w s x = absurd w
+
+connects : (C : Type 0) (p : Present) (n : ℕ) (a : Action) (r r' : Router)
+    → Rule r n events.Connected a r' → r.phase ≡ phases.Connecting → Went C p r r' []
+connects C p n actions.Wait r r' w at = absurd (w.passes at)
+connects C p n (actions.End z) r r' w at = record {
+  known = known_left z.drop r r' w.data_then;
+  calm = to_phase C p r' [] phases.Offline w.phase tt;
+}
+connects C p n actions.Drop r r' w at = record {
+  known = w.lost.known;
+  calm = to_phase C p r' [] phases.Offline w.phase tt;
+}
+connects C p n (actions.Ask q) r r' w at = record {
+  known = w.same.known;
+  calm = to_phase C p r' [] phases.Asked w.phase tt;
+}
+connects C p n actions.Connect r r' w at = absurd w
+connects C p n actions.Begin r r' w at = absurd w
+connects C p n actions.Keep r r' w at = absurd w
+connects C p n (actions.Apply on) r r' w at = absurd w
+connects C p n actions.Show r r' w at = absurd w
+connects C p n actions.NoData r r' w at = absurd w
+
+-- ---- the router hears
+
+-- a notify is passed over
+drop_notify : (C : Type 0) (p : Present) (r : Router) (x : Sent C) (xs : List (Sent C)) (f : Phase)
+    → IsListening f → x.head.kind ≡ kinds.SerialNotify → CalmIn C p r (x ∷ xs) f → CalmIn C p r xs f
+drop_notify C p r x xs phases.Asked l k (inl w) = w.1
+drop_notify C p r x xs phases.Asked l k (inr (inl w)) = let e = w.0 in cc
+drop_notify C p r x xs phases.Asked l k (inr (inr w)) = let e = w.0 in cc
+drop_notify C p r x xs phases.Reading l k w = absurd (go w.left)
+  where
+    go : LeftOf C p (x ∷ xs) → ⊥
+    go (inl w) = subst (λ k. IsPayloadOf 2 k) k w.0
+    go (inr w) = let e = w.0.kind in cc
+drop_notify C p r x xs phases.Waiting l k w = absurd w
+drop_notify C p r x xs phases.Offline l k w = absurd l
+drop_notify C p r x xs phases.Connecting l k w = absurd l
+drop_notify C p r x xs phases.Applying l k w = absurd l
+
+passed : (r : Router) (u : Head) → IsListening r.phase
+    → (r.phase ≡ phases.Offline) ⊎ (r.phase ≡ phases.Connecting)
+    ⊎ ((r.phase ≢ phases.Applying) × (u.kind ≡ kinds.SerialNotify)) → u.kind ≡ kinds.SerialNotify
+passed r u l (inl e) = absurd (subst (λ f. IsListening f) e l)
+passed r u l (inr (inl e)) = absurd (subst (λ f. IsListening f) e l)
+passed r u l (inr (inr w)) = w.1
+
+after_reset : (C : Type 0) (p : Present) (x : Sent C) (xs : List (Sent C))
+    → x.head.kind ≡ kinds.CacheReset → ComingOf C p (x ∷ xs) → Quiet C xs
+after_reset C p x xs k (inl w) = let e = w.0 in cc
+after_reset C p x xs k (inr (inl w)) = w.1
+after_reset C p x xs k (inr (inr w)) = let e = w.0 in cc
+
+record Begun (C : Type 0) (p : Present) (x : Sent C) (xs : List (Sent C)) : Type 0 where
+  session : x.head.session ≡ p.session
+  left : LeftOf C p xs
+
+after_begin : (C : Type 0) (p : Present) (x : Sent C) (xs : List (Sent C))
+    → x.head.kind ≡ kinds.CacheResponse → ComingOf C p (x ∷ xs) → Begun C p x xs
+after_begin C p x xs k (inl w) = let e = w.0 in cc
+after_begin C p x xs k (inr (inl w)) = let e = w.0 in cc
+after_begin C p x xs k (inr (inr w)) = record { session = w.1; left = w.2 }
+
+after_payload : (C : Type 0) (p : Present) (v : ℕ) (x : Sent C) (xs : List (Sent C))
+    → IsPayloadOf v x.head.kind → LeftOf C p (x ∷ xs) → LeftOf C p xs
+after_payload C p v x xs k (inl w) = w.1
+after_payload C p v x xs k (inr w) = absurd (subst (λ k. IsPayloadOf v k) w.0.kind k)
+
+at_end : (C : Type 0) (p : Present) (x : Sent C) (xs : List (Sent C))
+    → x.head.kind ≡ kinds.EndOfData → LeftOf C p (x ∷ xs) → IsLast p x.head
+at_end C p x xs k (inl w) = absurd (subst (λ k. IsPayloadOf 2 k) k w.0)
+at_end C p x xs k (inr w) = w.0
+
+-- no report is on its way
+no_report : (C : Type 0) (p : Present) (r : Router) (x : Sent C) (xs : List (Sent C))
+    → x.head.kind ≡ kinds.ErrorReport → (r.phase ≡ phases.Asked) ⊎ (r.phase ≡ phases.Reading)
+    → CalmIn C p r (x ∷ xs) r.phase → ⊥
+no_report C p r x xs k (inl e) w = go (from_phase C p r (x ∷ xs) phases.Asked e w)
+  where
+    go : ComingOf C p (x ∷ xs) → ⊥
+    go (inl w) = let e = w.0 in cc
+    go (inr (inl w)) = let e = w.0 in cc
+    go (inr (inr w)) = let e = w.0 in cc
+no_report C p r x xs k (inr e) w = go (from_phase C p r (x ∷ xs) phases.Reading e w).left
+  where
+    go : LeftOf C p (x ∷ xs) → ⊥
+    go (inl w) = subst (λ k. IsPayloadOf 2 k) k w.0
+    go (inr w) = let e = w.0.kind in cc
+
+hears : (C : Type 0) (p : Present) (n : ℕ) (x : Sent C) (xs : List (Sent C)) (a : Action)
+    (r r' : Router) → IsListening r.phase → Rule r n (events.Came x.head) a r'
+    → CalmIn C p r (x ∷ xs) r.phase → Went C p r r' xs
+hears C p n x xs actions.Wait r r' l w y =
+    waits C p (events.Came x.head) r r' xs w
+    (drop_notify C p r x xs r.phase l (passed r x.head l w.passes) y)
+hears C p n x xs (actions.End z) r r' l w y = record {
+  known = known_left z.drop r r' w.data_then;
+  calm = to_phase C p r' xs phases.Offline w.phase tt;
+}
+hears C p n x xs actions.Drop r r' l w y = record {
+  known = w.lost.known;
+  calm = to_phase C p r' xs phases.Offline w.phase tt;
+}
+hears C p n x xs (actions.Ask q) r r' l w y = record {
+  known = w.same.known;
+  calm = to_phase C p r' xs phases.Asked w.phase
+      (from_quiet C p xs
+      (after_reset C p x xs w.may.2 (from_phase C p r (x ∷ xs) phases.Asked w.may.0 y)));
+}
+hears C p n x xs actions.Begin r r' l w y =
+    let b : Begun C p x xs =
+    after_begin C p x xs w.kind (from_phase C p r (x ∷ xs) phases.Asked w.from y) in
+    record {
+      known = w.same.known;
+      calm = to_phase C p r' xs phases.Reading w.phase (record {
+        left = b.left;
+        own = λ c. ap (λ (k : Known). k.session) w.same.known ∙ sym (w.own (sym w.changes ∙ c))
+            ∙ b.session;
+      });
+    }
+hears C p n x xs actions.Keep r r' l w y =
+    let z : CalmReading C p r (x ∷ xs) = from_phase C p r (x ∷ xs) phases.Reading w.phase y in
+    record {
+      known = w.same.known;
+      calm = to_phase C p r' xs phases.Reading (w.talk.phase ∙ w.phase) (record {
+        left = after_payload C p r.version x xs w.kind z.left;
+        own = λ c. ap (λ (k : Known). k.session) w.same.known ∙ z.own (sym w.talk.changes ∙ c);
+      });
+    }
+hears C p n x xs (actions.Apply on) r r' l w y =
+    let z : CalmReading C p r (x ∷ xs) = from_phase C p r (x ∷ xs) phases.Reading w.from y in
+    let last : IsLast p x.head = at_end C p x xs w.kind z.left in
+    record {
+      known = w.same.known;
+      calm = to_phase C p r' xs phases.Applying w.phase (record {
+        session = ap (λ (k : Known). k.session) w.answer ∙ last.session;
+        serial = ap (λ (k : Known). k.serial) w.answer ∙ last.serial;
+      });
+    }
+hears C p n x xs actions.NoData r r' l w y = absurd (no_report C p r x xs w.kind w.from y)
+hears C p n x xs actions.Connect r r' l w y = absurd w
+hears C p n x xs actions.Show r r' l w y = absurd w
+
+-- ---- what the router hears is what a cache that keeps the rules sends
+
+answers_well : (C : Type 0) (p : Present) (r : Router) (tc : List Head) (x : Sent C)
+    (xs : List (Sent C)) → UnderWay C (query r) tc (x ∷ xs) → ComingOf C p (x ∷ xs)
+    → AnswersWell 2 r (events.Came x.head)
+answers_well C p r tc x xs (inl w) y =
+    notifies_well x.head w.1.0 (λ e. w.1.1 ∙ query_version r r.changes refl)
+answers_well C p r tc x xs (inr (t, inl w)) y =
+    notifies_well x.head w.0 (λ e. w.1 ∙ query_version r r.changes refl)
+answers_well C p r tc x xs (inr (t, inr (inl w))) y =
+    responds x.head w.0.kind (w.0.version ∙ query_version r r.changes refl)
+    (λ c. w.0.session (query_changes r r.changes refl ∙ c) ∙ query_session r c)
+answers_well C p r tc x xs (inr (t, inr (inr (inl w)))) y =
+    resets_well x.head w.0.kind (w.0.version ∙ query_version r r.changes refl)
+    (sym (query_changes r r.changes refl) ∙ w.0.changes)
+answers_well C p r tc x xs (inr (t, inr (inr (inr w)))) y = absurd (go y)
+  where
+    go : ComingOf C p (x ∷ xs) → ⊥
+    go (inl v) = let e = v.0 in let f = w.0 in cc
+    go (inr (inl v)) = let e = v.0 in let f = w.0 in cc
+    go (inr (inr v)) = let e = v.0 in let f = w.0 in cc
+
+goes_on_well : (C : Type 0) (p : Present) (r : Router) (x : Sent C) (xs : List (Sent C))
+    → (r.known.session ≡ p.session → serial_cmp p.serial r.known.serial ≢ Some Less)
+    → HasRoomFor r x.head → Left C (query r) r.session r.units (x ∷ xs)
+    → CalmReading C p r (x ∷ xs) → GoesOnWell r (events.Came x.head)
+goes_on_well C p r x xs order room (inl w) y =
+    let v : (query r).version ≡ r.version = query_version r r.changes refl in
+    let k : IsPayloadOf r.version x.head.kind =
+    subst (λ v. IsPayloadOf v x.head.kind) v w.0.kind in
+    sends_payload x.head k (w.0.version ∙ v) (room k)
+goes_on_well C p r x xs order room (inr w) y =
+    let v : (query r).version ≡ r.version = query_version r r.changes refl in
+    let last : IsLast p x.head = at_end C p x xs w.0.kind y.left in
+    ends_data x.head
+    (record { kind = w.0.kind; version = w.0.version ∙ v; session = w.0.session })
+    (λ c less. order (y.own c)
+    (ap (λ n. serial_cmp n r.known.serial) (sym last.serial) ∙ less))
+    (λ c e. w.0.fresh (query_changes r r.changes refl ∙ c) (e ∙ sym (query_serial r c)))
+
+served : (C : Type 0) (p : Present) (r : Router) (c : Cache) (tc : List Head) (x : Sent C)
+    (xs : List (Sent C)) (f : Phase) → IsListening f
+    → (r.known.session ≡ p.session → serial_cmp p.serial r.known.serial ≢ Some Less)
+    → HasRoomFor r x.head → Talk C r c tc (x ∷ xs) f → CalmIn C p r (x ∷ xs) f
+    → IsServedBy 2 f r (events.Came x.head)
+served C p r c tc x xs phases.Asked l order room t y = answers_well C p r tc x xs t.coming y
+served C p r c tc x xs phases.Reading l order room t y =
+    goes_on_well C p r x xs order room t.left y
+served C p r c tc x xs phases.Waiting l order room t y = absurd y
+served C p r c tc x xs phases.Offline l order room t y = absurd l
+served C p r c tc x xs phases.Connecting l order room t y = absurd l
+served C p r c tc x xs phases.Applying l order room t y = absurd l
+
+served_told : (D C : Type 0) (p : Present) (h : Holding D C) (r : Router) (tr : List (Sent C))
+    (e : Event) (f : Phase) → r.phase ≡ f → TellsCalmly D C h r e → CalmIn C p r tr f
+    → IsServedBy 2 f r e
+served_told D C p h r tr events.Tick phases.Offline at t y = refl
+served_told D C p h r tr events.Tick phases.Connecting at t y = inl refl
+served_told D C p h r tr events.Tick phases.Asked at t y = not_yet
+served_told D C p h r tr events.Tick phases.Reading at t y = not_more_yet
+served_told D C p h r tr events.Tick phases.Applying at t y = not_made_yet
+served_told D C p h r tr events.Tick phases.Waiting at t y = absurd y
+served_told D C p h r tr events.Applied phases.Applying at t y = are_made
+served_told D C p h r tr events.Applied phases.Waiting at t y = absurd y
+served_told D C p h r tr events.Applied phases.Offline at t y = let e = t.0 in absurd cc
+served_told D C p h r tr events.Applied phases.Connecting at t y = let e = t.0 in absurd cc
+served_told D C p h r tr events.Applied phases.Asked at t y = let e = t.0 in absurd cc
+served_told D C p h r tr events.Applied phases.Reading at t y = let e = t.0 in absurd cc
+served_told D C p h r tr (events.Came u) f at t y = absurd t
+served_told D C p h r tr (events.Faulty g) f at t y = absurd t
+served_told D C p h r tr (events.NotApplied code) f at t y = absurd t
+served_told D C p h r tr events.Connected f at t y = absurd t
+served_told D C p h r tr events.Lost f at t y = absurd t
+
+-- ---- whole runs
+
+record InCalm (D C : Type 0) (S : Source D C) (before : World D C) (start : ℕ) (w : World D C)
+    (n : ℕ) : Type 0 where
+  reached : IsReached D C S w
+  present : w.present ≡ before.present
+  known : w.router.known ≡ before.router.known
+  calm : CalmIn C w.present w.router w.to_router w.router.phase
+  served : IsServed 2 before.router start w.router n
+
+shows_none : (r r' : Router) (n : ℕ) (e : Event) (a : Action) → Rule r n e a r'
+    → (Rule r n e actions.Show r' → ⊥) → a ≢ actions.Show
+shows_none r r' n e a w never is = never (subst (λ (a : Action). Rule r n e a r') is w)
+
+-- notifies of one version are notifies
+unversioned : (C : Type 0) (v : ℕ) (xs : List (Sent C)) → QuietIn C v xs → Quiet C xs
+unversioned C v [] q = tt
+unversioned C v (x ∷ xs) q = (q.0, unversioned C v xs q.2)
+
+-- the cache answers a query: the router awaits it, and nothing but notifies is on its way
+asked_more : (C : Type 0) (p : Present) (r : Router) (c : Cache) (tc : List Head)
+    (tr ys : List (Sent C)) (u : Head) (us : List Head) (f : Phase) → tc ≡ u ∷ us
+    → Talk C r c tc tr f → ComingOf C p ys → CalmIn C p r tr f → CalmIn C p r (tr ++ ys) f
+asked_more C p r c tc tr ys u us phases.Offline is t w y = tt
+asked_more C p r c tc tr ys u us phases.Connecting is t w y = tt
+asked_more C p r c tc tr ys u us phases.Asked is t w y = go t.coming
+  where
+    go : UnderWay C (query r) tc tr → ComingOf C p (tr ++ ys)
+    go (inl v) = coming_after C p tr ys (unversioned C (query r).version tr v.1) w
+    go (inr v) = let e = v.0 in absurd cc
+asked_more C p r c tc tr ys u us phases.Reading is t w y = let e = t.none in absurd cc
+asked_more C p r c tc tr ys u us phases.Applying is t w y = let e = t.none in absurd cc
+asked_more C p r c tc tr ys u us phases.Waiting is t w y = absurd y
+
+quiet_then : (C : Type 0) (p : Present) (r : Router) (tr ys : List (Sent C)) (f : Phase)
+    → Quiet C ys → CalmIn C p r tr f → CalmIn C p r (tr ++ ys) f
+quiet_then C p r tr ys phases.Offline q y = tt
+quiet_then C p r tr ys phases.Connecting q y = tt
+quiet_then C p r tr ys phases.Asked q y = coming_more C p tr ys y q
+quiet_then C p r tr ys phases.Reading q y =
+    record { left = left_more C p tr ys y.left q; own = y.own }
+quiet_then C p r tr ys phases.Applying q y = record { session = y.session; serial = y.serial }
+quiet_then C p r tr ys phases.Waiting q y = absurd y
+
+module _ (D C : Type 0) (S : Source D C) (I : IsSource D C S) (before : World D C) (start : ℕ)
+    (old : IsReached D C S before) (cut : IsAfterCut D C before) where
+  in_calm : (w : World D C) (n : ℕ) → IsCalm D C S before start w n → InCalm D C S before start w n
+  in_calm w n calm_from = record {
+    reached = old;
+    present = refl;
+    known = refl;
+    calm = to_phase C before.present before.router before.to_router phases.Offline cut.offline tt;
+    served = served_from;
+  }
+  in_calm w n' (calm_told w₀ n n₁ e a r run on t step other) =
+      let x : InCalm D C S before start w₀ n = in_calm w₀ n run in
+      let y : Went C w₀.present w₀.router r w₀.to_router =
+      tells D C w₀.present w₀.holding n' e a w₀.router r w₀.to_router t step.rule other x.calm in
+      record {
+        reached = world_goes_on w₀ w x.reached
+            (router_told w₀ n' e a r (itself e t) step);
+        present = x.present;
+        known = y.known ∙ x.known;
+        calm = y.calm;
+        served = served_on w₀.router n n' e a r x.served on.later on.awake on.in_time
+            (served_told D C w₀.present w₀.holding w₀.router w₀.to_router e w₀.router.phase refl t
+            x.calm)
+            step other;
+      }
+    where
+      itself : (e : Event) → TellsCalmly D C w₀.holding w₀.router e
+          → TellsItself D C w₀.holding e
+      itself events.Tick t = tt
+      itself events.Applied t = t.1
+      itself (events.Came u) t = absurd t
+      itself (events.Faulty f) t = absurd t
+      itself (events.NotApplied code) t = absurd t
+      itself events.Connected t = absurd t
+      itself events.Lost t = absurd t
+  in_calm w n' (calm_connected w₀ n n₁ a r c run on at anew step) =
+      let x : InCalm D C S before start w₀ n = in_calm w₀ n run in
+      let y : Went C w₀.present w₀.router r [] =
+      connects C w₀.present n' a w₀.router r step.rule at in
+      record {
+        reached = world_goes_on w₀ w x.reached (connected w₀ n' a r c at anew step);
+        present = x.present;
+        known = y.known ∙ x.known;
+        calm = y.calm;
+        served = served_on w₀.router n n' events.Connected a r x.served on.later on.awake on.in_time
+            (subst (λ f. IsServedBy 2 f w₀.router events.Connected) (sym at) (inr refl)) step
+            (shows_none w₀.router r n' events.Connected a step.rule (λ z. z));
+      }
+  in_calm w n' (calm_hears w₀ n n₁ u xs a r run on is listens room step) =
+      let x : InCalm D C S before start w₀ n = in_calm w₀ n run in
+      let calm : CalmIn C w₀.present w₀.router (u ∷ xs) w₀.router.phase =
+      subst (λ tr. CalmIn C w₀.present w₀.router tr w₀.router.phase) is x.calm in
+      let talk : Talk C w₀.router w₀.cache w₀.to_cache (u ∷ xs) w₀.router.phase =
+      subst (λ tr. Talk C w₀.router w₀.cache w₀.to_cache tr w₀.router.phase) is
+      (in_peace D C S I w₀ x.reached) in
+      let y : Went C w₀.present w₀.router r xs =
+      hears C w₀.present n' u xs a w₀.router r listens step.rule calm in
+      record {
+        reached = world_goes_on w₀ w x.reached (router_hears w₀ n' u xs a r is step);
+        present = x.present;
+        known = y.known ∙ x.known;
+        calm = y.calm;
+        served = served_on w₀.router n n' (events.Came u.head) a r x.served on.later on.awake
+            on.in_time
+            (served C w₀.present w₀.router w₀.cache w₀.to_cache u xs w₀.router.phase listens
+            (order w₀ x) room talk calm)
+            step (shows_none w₀.router r n' (events.Came u.head) a step.rule (λ z. z));
+      }
+    where
+      order : (w₀ : World D C) → InCalm D C S before start w₀ n
+          → w₀.router.known.session ≡ w₀.present.session
+          → serial_cmp w₀.present.serial w₀.router.known.serial ≢ Some Less
+      order w₀ x = subst
+          (λ (k : Known). k.session ≡ w₀.present.session
+          → serial_cmp w₀.present.serial k.serial ≢ Some Less) (sym x.known)
+          (subst
+          (λ (p : Present). before.router.known.session ≡ p.session
+          → serial_cmp p.serial before.router.known.serial ≢ Some Less) (sym x.present) cut.order)
+  in_calm w n (calm_cache_hears w₀ n₀ k m u us kept a c run is step stays) =
+      let x : InCalm D C S before start w₀ n = in_calm w₀ n run in
+      let has : w₀.present.has ≡ true =
+      ap (λ (p : Present). p.has) x.present ∙ cut.has in
+      record {
+        reached = world_goes_on w₀ w x.reached (cache_hears w₀ k m u us kept a c is step);
+        present = x.present;
+        known = x.known;
+        calm = asked_more C w₀.present w₀.router w₀.cache w₀.to_cache w₀.to_router
+            (cache_writes D C S c.version m w₀.present a) u us w₀.router.phase is
+            (in_peace D C S I w₀ x.reached)
+            (written D C S I w₀.cache c k c.version m w₀.present u kept a has step.rule stays)
+            x.calm;
+        served = x.served;
+      }
+  in_calm w n (calm_cache_told w₀ n₀ k m a c run step stays) =
+      let x : InCalm D C S before start w₀ n = in_calm w₀ n run in
+      record {
+        reached = world_goes_on w₀ w x.reached (cache_told w₀ k m told.Tick a c tt step);
+        present = x.present;
+        known = x.known;
+        calm = quiet_then C w₀.present w₀.router w₀.to_router
+            (cache_writes D C S c.version m w₀.present a) w₀.router.phase
+            (notifies D C S w₀.cache c k m w₀.present told.Tick a tt step.rule) x.calm;
+        served = x.served;
+      }
+
+  pub soon : (w : World D C) (n : ℕ) → IsCalm D C S before start w n
+      → n ≤ served_until before.router start
+  soon w n run =
+      recovers_offline 2 before.router start w.router n cut.offline (in_calm w n run).served
+
+  pub shown : (w : World D C) (n n' : ℕ) (d : D) (r : Router) → IsCalm D C S before start w n
+      → w.holding.made ≡ Some d → IsStep w.router n' events.Applied actions.Show r
+      → ShowsPresent D C S before.present r w.holding.made
+  shown w n n' d r run made step =
+      let x : InCalm D C S before start w n = in_calm w n run in
+      let y : CalmApplying C w.present w.router =
+      from_phase C w.present w.router w.to_router phases.Applying step.rule.from x.calm in
+      let w' : World D C = record w {
+        router = r;
+        holding = record { kept = w.holding.kept; made = w.holding.made; shown = w.holding.made };
+        to_cache = w.to_cache ++ [];
+      } in
+      let agrees : Agrees D C S w' =
+      agreement D C S I w' (world_goes_on w w' x.reached
+      (router_told w n' events.Applied actions.Show r (d, made) step)) step.rule.has_data in
+      let session : r.known.session ≡ before.present.session =
+      ap (λ (k : Known). k.session) step.rule.known ∙ y.session
+      ∙ ap (λ (p : Present). p.session) x.present in
+      let serial : r.known.serial ≡ before.present.serial =
+      ap (λ (k : Known). k.serial) step.rule.known ∙ y.serial
+      ∙ ap (λ (p : Present). p.serial) x.present in
+      record {
+        session = session;
+        serial = serial;
+        data_are = agrees.same ∙ (λ i. Some (S.data_at r.known.version (session i) (serial i)));
+      }

@@ -1,0 +1,119 @@
+-- A router and a cache of ours after the last disturbance: a cut was the last one, and from then on
+-- no connection is cut, no data come, and all that is sent comes in time.
+use Rattle.std.specs.Prelude.{◌≡◌, ◌≢◌, ◌≤◌, ℕ, Bool, true, false, max, Option, Some, List, []}
+use Rattle.std.specs.Prelude.{◌∷◌, ◌++◌}
+use Rattle.std.specs.declared.cmp.Ordering.TheVariants.{Less}
+use Rattle.rtr_base.specs.Serial.{serial_cmp}
+use Rattle.rtr_router.specs.declared.event.Action.{Action}
+use Rattle.rtr_router.specs.declared.event.Action.TheVariants as actions
+use Rattle.rtr_router.specs.declared.event.Event.{Event}
+use Rattle.rtr_router.specs.declared.event.Event.TheVariants as events
+use Rattle.rtr_router.specs.declared.head.Head.{Head}
+use Rattle.rtr_router.specs.declared.router.Phase.TheVariants as phases
+use Rattle.rtr_router.specs.declared.router.Router.{Router}
+use Rattle.rtr_router.specs.Heeding.{HasRoom}
+use Rattle.rtr_router.specs.Pace.{wakes_at}
+use Rattle.rtr_router.specs.Rules.{IsPayloadOf}
+use Rattle.rtr_router.specs.Step.{IsInTime, IsStep}
+use Rattle.rtr_cache.specs.declared.cache.Cache.{Cache}
+use Rattle.rtr_cache.specs.declared.event.Answer.{Answer}
+use Rattle.rtr_cache.specs.declared.event.Answer.TheVariants as answers
+use Rattle.rtr_cache.specs.declared.event.CacheEvent.TheVariants as told
+use Rattle.rtr_cache.specs.declared.event.Present.{Present}
+use Rattle.rtr_cache.specs.CacheSteps.{IsCacheStep}
+use Rattle.rtr_cache.specs.Worlds.{Holding, IsListening, Sent, Source, World, cache_writes}
+use Rattle.rtr_cache.specs.Worlds.{holding_after, router_writes}
+
+-- The router has no connection, whatever it was told before and whatever is on its way. The cache
+-- has data; where the router has some of their session, theirs isn't an earlier serial number (RFC
+-- 1982).
+pub record IsAfterCut (D C : Type 0) (w : World D C) : Type 0 where
+  pub offline : w.router.phase ≡ phases.Offline
+  pub has : w.present.has ≡ true
+  pub order :
+      w.router.known.session ≡ w.present.session
+      → serial_cmp w.present.serial w.router.known.serial ≢ Some Less
+
+-- A step of the router: not after it wakes, and before the limit of what is under way.
+pub record IsOnTime (r : Router) (n n' : ℕ) : Type 0 where
+  pub later : n ≤ n'
+  pub awake : n' ≤ max n (wakes_at r)
+  pub in_time : IsInTime r n'
+
+-- time passes, or the changes of a whole answer were made
+abbrev pub TellsCalmly : (D C : Type 0) → Holding D C → Router → Event → Type 0
+TellsCalmly D C h r events.Tick = Unit {0}
+TellsCalmly D C h r events.Applied = (r.phase ≡ phases.Applying) × ((d : D) × (h.made ≡ Some d))
+TellsCalmly D C h r _ = ⊥
+
+-- the answers are within the limits of the router
+abbrev pub HasRoomFor : Router → Head → Type 0
+HasRoomFor r u = IsPayloadOf r.version u.kind → HasRoom r u.size
+
+-- the cache ends no connection
+abbrev pub StaysOpen : Answer → Type 0
+StaysOpen (answers.End x) = ⊥
+StaysOpen _ = Unit {0}
+
+-- Where they are at a time of the router, if no data were shown since `start`. The cache has a
+-- clock of its own: its steps come at any time.
+pub data IsCalm (D C : Type 0) (S : Source D C) (before : World D C) (start : ℕ) :
+    World D C → ℕ → Type 0 where
+  calm_from : IsCalm D C S before start before start
+  calm_told :
+      (w : World D C) (n n' : ℕ) (e : Event) (a : Action) (r : Router)
+      → IsCalm D C S before start w n → IsOnTime w.router n n'
+      → TellsCalmly D C w.holding w.router e → IsStep w.router n' e a r → a ≢ actions.Show
+      → IsCalm D C S before start (record w {
+        router = r;
+        holding = holding_after D C S w.holding [] a;
+        to_cache = w.to_cache ++ router_writes a;
+      }) n'
+  -- a connection is there; the cache's end of it is new
+  calm_connected :
+      (w : World D C) (n n' : ℕ) (a : Action) (r : Router) (c : Cache)
+      → IsCalm D C S before start w n → IsOnTime w.router n n'
+      → w.router.phase ≡ phases.Connecting → c.asked ≡ false
+      → IsStep w.router n' events.Connected a r
+      → IsCalm D C S before start (record w {
+        router = r;
+        holding = holding_after D C S w.holding [] a;
+        cache = c;
+        to_cache = router_writes a;
+        to_router = [];
+      }) n'
+  calm_hears :
+      (w : World D C) (n n' : ℕ) (x : Sent C) (xs : List (Sent C)) (a : Action) (r : Router)
+      → IsCalm D C S before start w n → IsOnTime w.router n n'
+      → w.to_router ≡ x ∷ xs → IsListening w.router.phase → HasRoomFor w.router x.head
+      → IsStep w.router n' (events.Came x.head) a r
+      → IsCalm D C S before start (record w {
+        router = r;
+        holding = holding_after D C S w.holding x.body a;
+        to_cache = w.to_cache ++ router_writes a;
+        to_router = xs;
+      }) n'
+  calm_cache_hears :
+      (w : World D C) (n k m : ℕ) (u : Head) (us : List Head) (kept : Bool) (a : Answer) (c : Cache)
+      → IsCalm D C S before start w n → w.to_cache ≡ u ∷ us
+      → IsCacheStep w.cache k w.present (told.Came u kept) a c → StaysOpen a
+      → IsCalm D C S before start (record w {
+        cache = c;
+        to_cache = us;
+        to_router = w.to_router ++ cache_writes D C S c.version m w.present a;
+      }) n
+  calm_cache_told :
+      (w : World D C) (n k m : ℕ) (a : Answer) (c : Cache)
+      → IsCalm D C S before start w n
+      → IsCacheStep w.cache k w.present told.Tick a c → StaysOpen a
+      → IsCalm D C S before start (record w {
+        cache = c;
+        to_router = w.to_router ++ cache_writes D C S c.version m w.present a;
+      }) n
+
+-- what is shown then: the present data of the cache, as the router's version has them
+pub record ShowsPresent (D C : Type 0) (S : Source D C) (p : Present) (r : Router)
+    (shown : Option D) : Type 0 where
+  pub session : r.known.session ≡ p.session
+  pub serial : r.known.serial ≡ p.serial
+  pub data_are : shown ≡ Some (S.data_at r.known.version p.session p.serial)
