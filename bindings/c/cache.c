@@ -484,7 +484,6 @@ static void run(struct watched *w, const sigset_t *signals)
 {
     int64_t next = now(), again = INT64_MAX;
     look_at_listeners(true);
-    restore(w);
     while (!ended) {
         if (now() >= next) {
             look(w);
@@ -538,6 +537,7 @@ int main(int count, char **words)
     poller = epoll_create1(EPOLL_CLOEXEC);
     rtr_server_init(&server);
     server.settings.refuses = refuse;
+    restore(&w);
     for (int i = 0; i < named; i++)
         if (!listen_at(addresses[i]))
             return 1;

@@ -302,7 +302,7 @@ def test_memory():
             put(cache.path, data(serial, range(serial, serial + count)))
             cache.takes(serial, count)
         assert cache.memory() < 6_000_000 + 3 * table, cache.memory()
-        ended = cache.lines(r"127\.0\.0\.1:\d+: the router is more than two editions behind")
+        ended = cache.lines(r"127\.0\.0\.1:\d+: the router is too far behind")
         assert ended == 3 * 13, ended
 
 

@@ -675,7 +675,7 @@ static bool sends(struct rtr_served *c, int64_t now)
     else if (now >= until)
         cut_off(c, now, rtr_reason_text(RTR_REASON_SLOW));
     else if (s->number - c->number > MOST_BEHIND)
-        cut_off(c, now, "the router is more than two editions behind");
+        cut_off(c, now, "the router is too far behind");
     else if (c->cache.told && c->cache.session != s->present.session)
         cut_off(c, now, rtr_reason_text(RTR_REASON_NEW_SESSION));
     return !c->over;

@@ -561,7 +561,7 @@ static void test_stalls(void)
             rtr_served_lost(&v, "Broken pipe");
             closes("Broken pipe");
         } else {
-            closes("the router is more than two editions behind");
+            closes("the router is too far behind");
         }
     }
     ends();
