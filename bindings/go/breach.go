@@ -175,14 +175,6 @@ func isTimeout(err error) bool {
 	return errors.Is(err, os.ErrDeadlineExceeded)
 }
 
-// slowIfLate is the error, or ErrTooSlow where a deadline passed.
-func slowIfLate(err error) error {
-	if isTimeout(err) {
-		return ErrTooSlow
-	}
-	return err
-}
-
 // How much is read of a peer, and how long, after a report was sent to it: a connection that is
 // closed while bytes of the peer are unread is reset, and the report may be lost.
 const lingerBytes = 1 << 20

@@ -19,8 +19,9 @@ const versions = 3
 // How many editions a client may be behind in the middle of an answer.
 const mostBehind = 2
 
-// edition is what a cache has at one serial number. Of the data before these, of the same session,
-// it has what leads back to them. It never changes, but for what it makes for clients.
+// edition is what a cache has at one serial number; before its first data it has an empty one. Of
+// the data before these, of the same session, it has what leads back to them. It never changes, but
+// for what it makes for clients.
 type edition struct {
 	number int // of all that the cache had
 	data   Data
@@ -63,10 +64,9 @@ func newEdition(number int, data Data, back []stepBack, limits ServerLimits) *ed
 	return e
 }
 
-// next is the edition of new data after this one, which may be none. Where they are the same it is
-// this one.
+// next is the edition of new data after this one. Where they are the same it is this one.
 func (e *edition) next(data Data, limits ServerLimits) (*edition, error) {
-	if e == nil {
+	if e.data.IsZero() {
 		return newEdition(0, data, nil, limits), nil
 	}
 	version := e.data.Version()
@@ -119,18 +119,10 @@ func (e *edition) in(version uint8) (Data, []stepBack, error) {
 	return data, back, nil
 }
 
-// serials are those of the data before it that are known.
-func (e *edition) serials() (*C.uint32_t, C.size_t) {
-	if e == nil || len(e.known) == 0 {
-		return nil, 0
-	}
-	return &e.known[0], C.size_t(len(e.known))
-}
-
 // behind says why no more of the edition is to be sent, if that is so.
 func (e *edition) behind(present *edition) error {
 	switch {
-	case e == nil || present == nil:
+	case e.data.IsZero():
 		return nil
 	case e.data.Session() != present.data.Session():
 		return ErrSessionEnded

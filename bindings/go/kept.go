@@ -28,7 +28,7 @@ var ErrTorn = errors.New("rtr: the file of editions is torn")
 // beside it, which then gets its name. Without data it writes nothing.
 func (s *Server) Save(path string) error {
 	present := s.present.Load()
-	if present == nil {
+	if present.data.IsZero() {
 		return nil
 	}
 	file, err := os.Create(path + ".new")
@@ -80,7 +80,8 @@ func (s *Server) Restore(path string) (Data, error) {
 	}
 	s.updating.Lock()
 	defer s.updating.Unlock()
-	if s.present.CompareAndSwap(nil, newEdition(0, data, back, s.Limits)) {
+	if s.present.Load().data.IsZero() {
+		s.present.Store(newEdition(0, data, back, s.Limits))
 		s.wake()
 	}
 	return data, nil

@@ -151,6 +151,14 @@ func place(b []byte) (*C.uint8_t, C.size_t) {
 	return (*C.uint8_t)(&b[0]), C.size_t(len(b))
 }
 
+// address is that of a slice, or null where it is empty.
+func address[T any](all []T) *T {
+	if len(all) == 0 {
+		return nil
+	}
+	return &all[0]
+}
+
 // unitSize is UnitSize in numbers.
 func unitSize(input []byte) (size int, status Status, detail uint8) {
 	in, n := place(input)

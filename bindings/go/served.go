@@ -12,7 +12,7 @@ import (
 	"time"
 )
 
-// How much of an answer is written at once.
+// How much of an answer the system buffers.
 const chunk = 1 << 16
 
 // A deadline that has passed: it ends a read or a write that waits.
@@ -35,13 +35,13 @@ type served struct {
 	lock  sync.Mutex
 	place *edition // of which it is served
 	woken bool     // there may be a newer one
-	long  bool     // more than a chunk of it is written
+	long  bool     // more than a chunk of it is being written
 	cut   error    // why no more of the place is written
 	last  bool     // nothing more is written but a report
 }
 
 func newServed(server *Server, connection net.Conn) *served {
-	c := &served{server: server, connection: connection}
+	c := &served{server: server, connection: connection, place: server.present.Load()}
 	c.input = c.buffer[:0]
 	var wanted C.struct_rtr_cache_settings
 	wanted.first_limit = milliseconds(server.Limits.First)
@@ -67,17 +67,14 @@ func (c *served) wake(present *edition) {
 	}
 }
 
-// look goes to the present edition, which may be none.
+// look goes to the present edition.
 func (c *served) look() {
 	c.lock.Lock()
 	defer c.lock.Unlock()
 	c.place, c.woken, c.long, c.cut = c.server.present.Load(), false, false, nil
-	c.present = C.struct_rtr_present{}
-	if c.place != nil {
-		c.present.session = C.uint16_t(c.place.data.Session())
-		c.present.serial = C.uint32_t(c.place.data.Serial())
-		c.present.has = true
-	}
+	data := c.place.data
+	c.present.has = C.bool(!data.IsZero())
+	c.present.session, c.present.serial = C.uint16_t(data.Session()), C.uint32_t(data.Serial())
 }
 
 // serve answers queries until the connection ends, and says why it did.
@@ -112,10 +109,9 @@ func (c *served) refuse() {
 func (c *served) tell() {
 	now := C.uint64_t(c.server.clock.now())
 	if len(c.input) > 0 {
-		kept, count := c.place.serials()
 		in, n := place(c.input)
-		C.rtr_cache_read(&c.cache, now, &c.present, kept, count, in, n, C.bool(c.closed != nil),
-			&c.serving)
+		C.rtr_cache_read(&c.cache, now, &c.present, address(c.place.known),
+			C.size_t(len(c.place.known)), in, n, C.bool(c.closed != nil), &c.serving)
 		if c.serving.kind != C.RTR_SERVE_WAIT {
 			return
 		}
@@ -190,24 +186,20 @@ func (c *served) receive() {
 	}
 }
 
-// write writes parts in chunks, each in its time, and all in that of a response.
+// write writes parts, as long as some of them is taken now and then, in the time of a response.
 func (c *served) write(parts ...[]byte) error {
 	last := time.Now().Add(c.server.Limits.Response)
 	for _, part := range parts {
-		for len(part) > 0 {
-			front := part
-			if len(front) > chunk {
-				front = front[:chunk]
-			}
-			part = part[len(front):]
-			if err := c.allow(last, len(part) > 0); err != nil {
+		for taken := 1; len(part) > 0; part = part[taken:] {
+			if err := c.allow(last, len(part) > chunk); err != nil {
 				return err
 			}
-			if _, err := c.connection.Write(front); err != nil {
-				if cut := c.allow(last, false); cut != nil {
-					return cut
-				}
-				return slowIfLate(err)
+			if taken == 0 {
+				return ErrTooSlow
+			}
+			var err error
+			if taken, err = c.connection.Write(part); err != nil && !isTimeout(err) {
+				return err
 			}
 		}
 	}

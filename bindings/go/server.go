@@ -19,7 +19,7 @@ type ServerLimits struct {
 	First       time.Duration // from the connection to the first query
 	Unit        time.Duration // from the first byte of a unit to its last one
 	Idle        time.Duration // from one query to the next
-	Write       time.Duration // of 64 KiB, or of less
+	Write       time.Duration // in which nothing of an answer is taken
 	Response    time.Duration // of a whole response
 	Notify      time.Duration // between two notifies to a client, at least
 	Keep        time.Duration // how long deltas lead from data after newer ones came, at least
@@ -55,7 +55,7 @@ type Server struct {
 // asks at least once a day (RFC 8210 section 6), and gets a notify at most once a minute (section
 // 8.2); it holds data for two hours, if their expire time is the usual one.
 func NewServer() *Server {
-	return &Server{
+	s := &Server{
 		Limits: ServerLimits{
 			Connections: 1024,
 			First:       30 * time.Second,
@@ -71,6 +71,8 @@ func NewServer() *Server {
 		listeners: map[net.Listener]bool{},
 		clients:   map[*served]bool{},
 	}
+	s.present.Store(new(edition))
+	return s
 }
 
 // Update gives the server new data, and notifies its clients. Those that had data of another
@@ -121,7 +123,12 @@ func (s *Server) Serve(listener net.Listener) (err error) {
 	s.listeners[listener] = true
 	s.running.Add(1)
 	s.lock.Unlock()
-	defer s.running.Done()
+	defer func() {
+		s.lock.Lock()
+		delete(s.listeners, listener)
+		s.lock.Unlock()
+		s.running.Done()
+	}()
 	for failures := 0; failures < mostFailures; {
 		var connection net.Conn
 		if connection, err = listener.Accept(); err == nil {
