@@ -804,8 +804,8 @@ static inline const char *rtr_cause_text(uint8_t cause)
  *                      for this `reason`
  *
  * All of it is sent in the version `version`, to its end before anything else. Data and changes in
- * canonical form are sent as they are: rtr_normalise_for writes data for a version, and rtr_delta
- * changes. Two data of one session and serial number are the same.
+ * canonical form are sent as they are: rtr_normalise_for_slice writes data for a version, and
+ * rtr_delta changes. Two data of one session and serial number are the same.
  *
  * After each answer but RTR_SERVE_WAIT the program calls rtr_cache_read with what is left of the
  * input behind `taken`, until it answers RTR_SERVE_WAIT with nothing taken; and rtr_cache_tick, as
