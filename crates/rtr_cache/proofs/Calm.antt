@@ -1,7 +1,9 @@
--- After the last cut a router has the present data of a cache of ours by a time that is named.
+-- After the last disturbance a router has the present data of a cache of ours by a time that is
+-- named.
 use Rattle.std.proofs.Common.{◌≡◌, ◌≢◌, ◌⊎◌, ℕ, Bool, true, false, ◌≤◌, map}
 use Rattle.std.proofs.Common.{Option, Some, None, List, [], ◌∷◌, ◌++◌, refl, sym, ap, ◌∙◌, subst}
 use Rattle.std.proofs.Common.{inl, inr}
+use Rattle.std.proofs.Common.{arith, ◌+◌, ◌-◌, ◌^◌, min, max}
 use Rattle.std.specs.declared.cmp.Ordering.TheVariants.{Less}
 use Rattle.rtr_base.specs.Serial.{serial_cmp}
 use Rattle.rtr_router.specs.declared.head.Head.{Head}
@@ -15,33 +17,37 @@ use Rattle.rtr_router.specs.declared.event.Action.TheVariants as actions
 use Rattle.rtr_router.specs.declared.event.Event.{Event}
 use Rattle.rtr_router.specs.declared.event.Event.TheVariants as events
 use Rattle.rtr_router.specs.Recovery.{AnswersWell, GoesOnWell, IsServed, IsServedBy}
-use Rattle.rtr_router.specs.Recovery.{served_until}
+use Rattle.rtr_router.specs.Recovery.{served_until, time_needed}
 use Rattle.rtr_router.specs.Recovery.AnswersWell.{not_yet, notifies as notifies_well, resets_well}
 use Rattle.rtr_router.specs.Recovery.AnswersWell.{responds}
 use Rattle.rtr_router.specs.Recovery.GoesOnWell.{ends_data, not_more_yet, sends_payload}
 use Rattle.rtr_router.specs.Recovery.IsMadeWell.{are_made, not_made_yet}
+use Rattle.rtr_router.specs.Recovery.LeavesWell.{not_asked_yet, notifies_then}
 use Rattle.rtr_router.specs.Recovery.IsServed.{served_from, served_on}
-use Rattle.rtr_router.specs.Rules.{Drops, IsPayloadOf, Rule, query}
-use Rattle.rtr_router.specs.Step.{IsStep}
-use Rattle.rtr_router.proofs.Serving.{recovers_offline}
+use Rattle.rtr_router.specs.Heeding.{HeedsWaiting}
+use Rattle.rtr_router.specs.Pace.{Paces, due_in}
+use Rattle.rtr_router.specs.Rules.{Fresh, Drops, IsPayloadOf, Rule, query}
+use Rattle.rtr_router.specs.Step.{IsInTime, IsStep}
+use Rattle.rtr_router.proofs.Connections.{Holds}
+use Rattle.rtr_router.proofs.Serving.{recovers}
 use Rattle.rtr_cache.specs.declared.cache.Cache.{Cache}
 use Rattle.rtr_cache.specs.declared.event.Answer.{Answer}
 use Rattle.rtr_cache.specs.declared.event.Answer.TheVariants as answers
 use Rattle.rtr_cache.specs.declared.event.CacheEvent.TheVariants as told
 use Rattle.rtr_cache.specs.declared.event.Present.{Present}
 use Rattle.rtr_cache.specs.CacheRules.{CacheRule}
-use Rattle.rtr_cache.specs.Calm.{HasRoomFor, IsCalm, IsAfterCut, ShowsPresent, StaysOpen}
-use Rattle.rtr_cache.specs.Calm.{TellsCalmly}
+use Rattle.rtr_cache.specs.Calm.{HasRoomFor, IsAtRest, IsCalm, IsNotified, ShowsPresent}
+use Rattle.rtr_cache.specs.Calm.{StaysOpen, TellsCalmly, WaitsIdly}
 use Rattle.rtr_cache.specs.Calm.IsCalm.{calm_cache_hears, calm_cache_told, calm_connected}
 use Rattle.rtr_cache.specs.Calm.IsCalm.{calm_from, calm_hears, calm_told}
-use Rattle.rtr_cache.specs.Worlds.{Agrees, Holding, IsListening, IsReached, IsSource, Sent}
+use Rattle.rtr_cache.specs.Worlds.{Agrees, Holding, IsListening, IsReached, IsSource, Next, Sent}
 use Rattle.rtr_cache.specs.Worlds.{Source, TellsItself, World, cache_writes, change_unit}
 use Rattle.rtr_cache.specs.Worlds.{data_end, response}
-use Rattle.rtr_cache.specs.Worlds.Next.{cache_hears, cache_told, connected, router_hears}
+use Rattle.rtr_cache.specs.Worlds.Next.{cache_hears, cache_told, connected, renewed, router_hears}
 use Rattle.rtr_cache.specs.Worlds.Next.{router_told}
-use Rattle.rtr_cache.specs.Worlds.IsReached.{world_goes_on}
+use Rattle.rtr_cache.specs.Worlds.IsReached.{world_begins, world_goes_on}
 use Rattle.rtr_cache.proofs.Agreement.{agreement}
-use Rattle.rtr_cache.proofs.Answering.{Quiet, notifies, quiet_more}
+use Rattle.rtr_cache.proofs.Answering.{Quiet, quiet_more}
 use Rattle.rtr_cache.proofs.Peace.{Talk, in_peace}
 use Rattle.rtr_cache.proofs.Speaking.{Left, UnderWay, query_changes, query_serial}
 use Rattle.rtr_cache.proofs.Speaking.{query_session, query_version}
@@ -67,6 +73,21 @@ ComingOf C p (x ∷ xs) =
     ((x.head.kind ≡ kinds.SerialNotify) × ComingOf C p xs)
     ⊎ (((x.head.kind ≡ kinds.CacheReset) × Quiet C xs)
     ⊎ ((x.head.kind ≡ kinds.CacheResponse) × (x.head.session ≡ p.session) × LeftOf C p xs))
+
+-- notifies of the session of the present data
+abbrev QuietOf : (C : Type 0) → Present → List (Sent C) → Type 0
+QuietOf C p [] = Unit {0}
+QuietOf C p (x ∷ xs) =
+    (x.head.kind ≡ kinds.SerialNotify) × (x.head.session ≡ p.session) × QuietOf C p xs
+
+as_quiet : (C : Type 0) (p : Present) (xs : List (Sent C)) → QuietOf C p xs → Quiet C xs
+as_quiet C p [] q = tt
+as_quiet C p (x ∷ xs) q = (q.0, as_quiet C p xs q.2)
+
+quiet_of_more : (C : Type 0) (p : Present) (xs ys : List (Sent C)) → QuietOf C p xs
+    → QuietOf C p ys → QuietOf C p (xs ++ ys)
+quiet_of_more C p [] ys w q = q
+quiet_of_more C p (x ∷ xs) ys w q = (w.0, w.1, quiet_of_more C p xs ys w.2 q)
 
 left_more : (C : Type 0) (p : Present) (xs ys : List (Sent C)) → LeftOf C p xs → Quiet C ys
     → LeftOf C p (xs ++ ys)
@@ -116,6 +137,17 @@ written D C S I c c' k v m p u kept answers.NoData has w stays =
 written D C S I c c' k v m p u kept answers.Notify has w stays = absurd w
 written D C S I c c' k v m p u kept (answers.End x) has w stays = absurd stays
 
+-- by itself it writes notifies of the present data
+told_more : (D C : Type 0) (S : Source D C) (c c' : Cache) (k v m : ℕ) (p : Present) (a : Answer)
+    → CacheRule c k p told.Tick a c' → StaysOpen a → QuietOf C p (cache_writes D C S v m p a)
+told_more D C S c c' k v m p answers.Wait w stays = tt
+told_more D C S c c' k v m p answers.Notify w stays = (refl, refl, tt)
+told_more D C S c c' k v m p answers.All w stays = absurd w
+told_more D C S c c' k v m p (answers.Changes since) w stays = absurd w
+told_more D C S c c' k v m p answers.Reset w stays = absurd w
+told_more D C S c c' k v m p answers.NoData w stays = absurd w
+told_more D C S c c' k v m p (answers.End x) w stays = absurd stays
+
 -- ---- what holds in each phase, until data are shown
 
 record CalmReading (C : Type 0) (p : Present) (r : Router) (tr : List (Sent C)) : Type 0 where
@@ -126,13 +158,17 @@ record CalmApplying (C : Type 0) (p : Present) (r : Router) : Type 0 where
   session : r.answer.session ≡ p.session
   serial : r.answer.serial ≡ p.serial
 
+record CalmWaiting (C : Type 0) (p : Present) (r : Router) (tr : List (Sent C)) : Type 0 where
+  quiet : QuietOf C p tr
+  own : r.has_data ≡ true → r.known.session ≡ p.session
+
 abbrev CalmIn : (C : Type 0) → Present → Router → List (Sent C) → Phase → Type 0
 CalmIn C p r tr phases.Offline = Unit {0}
 CalmIn C p r tr phases.Connecting = Unit {0}
 CalmIn C p r tr phases.Asked = ComingOf C p tr
 CalmIn C p r tr phases.Reading = CalmReading C p r tr
 CalmIn C p r tr phases.Applying = CalmApplying C p r
-CalmIn C p r tr phases.Waiting = ⊥
+CalmIn C p r tr phases.Waiting = CalmWaiting C p r tr
 
 to_phase : (C : Type 0) (p : Present) (r : Router) (tr : List (Sent C)) (f : Phase)
     → r.phase ≡ f → CalmIn C p r tr f → CalmIn C p r tr r.phase
@@ -172,7 +208,10 @@ waits C p e r r' tr w x = record {
       session = ap (λ (k : Known). k.session) w.talk.answer ∙ x.session;
       serial = ap (λ (k : Known). k.serial) w.talk.answer ∙ x.serial;
     }
-    go phases.Waiting x = x
+    go phases.Waiting x = record {
+      quiet = x.quiet;
+      own = λ h. ap (λ (k : Known). k.session) w.same.known ∙ x.own (sym w.same.has_data ∙ h);
+    }
 
 -- ---- the router is told of itself
 
@@ -193,7 +232,11 @@ tells D C p h n events.Tick actions.Connect r r' tr t w s x = record {
   calm = to_phase C p r' tr phases.Connecting w.phase tt;
 }
 tells D C p h n events.Tick (actions.Ask q) r r' tr t w s x =
-    absurd (from_phase C p r tr phases.Waiting w.may.0 x)
+    let y : CalmWaiting C p r tr = from_phase C p r tr phases.Waiting w.may.0 x in
+    record {
+      known = w.same.known;
+      calm = to_phase C p r' tr phases.Asked w.phase (from_quiet C p tr (as_quiet C p tr y.quiet));
+    }
 tells D C p h n events.Applied (actions.Ask q) r r' tr t w s x = absurd w.may
 tells D C p h n events.Applied actions.Show r r' tr t w s x = absurd (s refl)
 tells D C p h n (events.Came u) _ r r' tr t w s x = absurd t
@@ -238,7 +281,7 @@ drop_notify C p r x xs phases.Reading l k w = absurd (go w.left)
     go : LeftOf C p (x ∷ xs) → ⊥
     go (inl w) = subst (λ k. IsPayloadOf 2 k) k w.0
     go (inr w) = let e = w.0.kind in cc
-drop_notify C p r x xs phases.Waiting l k w = absurd w
+drop_notify C p r x xs phases.Waiting l k w = record { quiet = w.quiet.2; own = w.own }
 drop_notify C p r x xs phases.Offline l k w = absurd l
 drop_notify C p r x xs phases.Connecting l k w = absurd l
 drop_notify C p r x xs phases.Applying l k w = absurd l
@@ -394,7 +437,12 @@ served : (C : Type 0) (p : Present) (r : Router) (c : Cache) (tc : List Head) (x
 served C p r c tc x xs phases.Asked l order room t y = answers_well C p r tc x xs t.coming y
 served C p r c tc x xs phases.Reading l order room t y =
     goes_on_well C p r x xs order room t.left y
-served C p r c tc x xs phases.Waiting l order room t y = absurd y
+served C p r c tc x xs phases.Waiting l order room t y =
+    notifies_then x.head (record {
+      kind = y.quiet.0;
+      version = t.quiet.1;
+      session = λ h. y.quiet.1 ∙ sym (y.own h);
+    })
 served C p r c tc x xs phases.Offline l order room t y = absurd l
 served C p r c tc x xs phases.Connecting l order room t y = absurd l
 served C p r c tc x xs phases.Applying l order room t y = absurd l
@@ -407,9 +455,9 @@ served_told D C p h r tr events.Tick phases.Connecting at t y = inl refl
 served_told D C p h r tr events.Tick phases.Asked at t y = not_yet
 served_told D C p h r tr events.Tick phases.Reading at t y = not_more_yet
 served_told D C p h r tr events.Tick phases.Applying at t y = not_made_yet
-served_told D C p h r tr events.Tick phases.Waiting at t y = absurd y
+served_told D C p h r tr events.Tick phases.Waiting at t y = not_asked_yet
 served_told D C p h r tr events.Applied phases.Applying at t y = are_made
-served_told D C p h r tr events.Applied phases.Waiting at t y = absurd y
+served_told D C p h r tr events.Applied phases.Waiting at t y = let e = t.0 in absurd cc
 served_told D C p h r tr events.Applied phases.Offline at t y = let e = t.0 in absurd cc
 served_told D C p h r tr events.Applied phases.Connecting at t y = let e = t.0 in absurd cc
 served_told D C p h r tr events.Applied phases.Asked at t y = let e = t.0 in absurd cc
@@ -452,26 +500,122 @@ asked_more C p r c tc tr ys u us phases.Asked is t w y = go t.coming
     go (inr v) = let e = v.0 in absurd cc
 asked_more C p r c tc tr ys u us phases.Reading is t w y = let e = t.none in absurd cc
 asked_more C p r c tc tr ys u us phases.Applying is t w y = let e = t.none in absurd cc
-asked_more C p r c tc tr ys u us phases.Waiting is t w y = absurd y
+asked_more C p r c tc tr ys u us phases.Waiting is t w y = let e = t.none in absurd cc
 
 quiet_then : (C : Type 0) (p : Present) (r : Router) (tr ys : List (Sent C)) (f : Phase)
-    → Quiet C ys → CalmIn C p r tr f → CalmIn C p r (tr ++ ys) f
+    → QuietOf C p ys → CalmIn C p r tr f → CalmIn C p r (tr ++ ys) f
 quiet_then C p r tr ys phases.Offline q y = tt
 quiet_then C p r tr ys phases.Connecting q y = tt
-quiet_then C p r tr ys phases.Asked q y = coming_more C p tr ys y q
+quiet_then C p r tr ys phases.Asked q y = coming_more C p tr ys y (as_quiet C p ys q)
 quiet_then C p r tr ys phases.Reading q y =
-    record { left = left_more C p tr ys y.left q; own = y.own }
+    record { left = left_more C p tr ys y.left (as_quiet C p ys q); own = y.own }
 quiet_then C p r tr ys phases.Applying q y = record { session = y.session; serial = y.serial }
-quiet_then C p r tr ys phases.Waiting q y = absurd y
+quiet_then C p r tr ys phases.Waiting q y =
+    record { quiet = quiet_of_more C p tr ys y.quiet q; own = y.own }
+
+-- ---- a connection that is there was made by a router that hasn't fallen since
+
+abbrev Stands : Phase → Router → Type 0
+Stands phases.Offline r = Unit {0}
+Stands _ r = r.fell ≡ false
+
+stands_at : (f : Phase) (r : Router) → r.phase ≡ f → Stands f r → Stands r.phase r
+stands_at f r e x = subst (λ f. Stands f r) (sym e) x
+
+stands_from : (f : Phase) (r : Router) → r.phase ≡ f → Stands r.phase r → Stands f r
+stands_from f r e x = subst (λ f. Stands f r) e x
+
+stands_still : (f : Phase) (r r' : Router) → r'.fell ≡ r.fell → Stands f r → Stands f r'
+stands_still phases.Offline r r' e x = tt
+stands_still phases.Connecting r r' e x = e ∙ x
+stands_still phases.Asked r r' e x = e ∙ x
+stands_still phases.Reading r r' e x = e ∙ x
+stands_still phases.Applying r r' e x = e ∙ x
+stands_still phases.Waiting r r' e x = e ∙ x
+
+no_data_from : (r : Router) → (r.phase ≡ phases.Asked) ⊎ (r.phase ≡ phases.Reading)
+    → Stands r.phase r → r.fell ≡ false
+no_data_from r (inl e) x = stands_from phases.Asked r e x
+no_data_from r (inr e) x = stands_from phases.Reading r e x
+
+stands_step : (n : ℕ) (e : Event) (a : Action) (r r' : Router) → Rule r n e a r'
+    → Paces r n e a r' → Stands r.phase r → Stands r'.phase r'
+stands_step n e actions.Wait r r' w t x =
+    stands_at r.phase r' w.talk.phase (stands_still r.phase r r' t.same.fell x)
+stands_step n e (actions.End z) r r' w t x = stands_at phases.Offline r' w.phase tt
+stands_step n e actions.Drop r r' w t x = stands_at phases.Offline r' w.phase tt
+stands_step n events.Tick actions.Connect r r' w t x =
+    stands_at phases.Connecting r' w.phase t.fell
+stands_step n events.Tick (actions.Ask q) r r' w t x =
+    stands_at phases.Asked r' w.phase (t.fell ∙ stands_from phases.Waiting r w.may.0 x)
+stands_step n events.Connected (actions.Ask q) r r' w t x =
+    stands_at phases.Asked r' w.phase (t.fell ∙ stands_from phases.Connecting r w.may.0 x)
+stands_step n (events.Came u) (actions.Ask q) r r' w t x =
+    stands_at phases.Asked r' w.phase (t.fell ∙ stands_from phases.Asked r w.may.0 x)
+stands_step n events.Lost (actions.Ask q) r r' w t x = absurd w.may
+stands_step n (events.Faulty f) (actions.Ask q) r r' w t x = absurd w.may
+stands_step n events.Applied (actions.Ask q) r r' w t x = absurd w.may
+stands_step n (events.NotApplied code) (actions.Ask q) r r' w t x = absurd w.may
+stands_step n (events.Came u) actions.Begin r r' w t x =
+    stands_at phases.Reading r' w.phase (t.same.fell ∙ stands_from phases.Asked r w.from x)
+stands_step n (events.Came u) actions.Keep r r' w t x =
+    stands_at r.phase r' w.talk.phase (stands_still r.phase r r' t.same.fell x)
+stands_step n (events.Came u) (actions.Apply on) r r' w t x =
+    stands_at phases.Applying r' w.phase (t.same.fell ∙ stands_from phases.Reading r w.from x)
+stands_step n (events.Came u) actions.NoData r r' w t x =
+    stands_at phases.Waiting r' w.phase (t.same.fell ∙ no_data_from r w.from x)
+stands_step n events.Applied actions.Show r r' w t x =
+    stands_at phases.Waiting r' w.phase (t.fell ∙ stands_from phases.Applying r w.from x)
+stands_step n _ _ r r' w t x = absurd w
+
+stands : (D C : Type 0) (S : Source D C) (w : World D C) → IsReached D C S w
+    → Stands w.router.phase w.router
+stands D C S w (world_begins r c p phase none) = stands_at phases.Offline r phase tt
+stands D C S w (world_goes_on w₀ w₁ run on) = go w₀ w₁ on (stands D C S w₀ run)
+  where
+    go : (w w' : World D C) → Next D C S w w' → Stands w.router.phase w.router
+        → Stands w'.router.phase w'.router
+    go w w' (router_told w₀ n e a r itself step) x =
+        stands_step n e a w₀.router r step.rule step.paces x
+    go w w' (connected w₀ n a r c phase anew step) x =
+        stands_step n events.Connected a w₀.router r step.rule step.paces x
+    go w w' (router_hears w₀ n u xs a r is step) x =
+        stands_step n (events.Came u.head) a w₀.router r step.rule step.paces x
+    go w w' (cache_hears w₀ n m u us kept a c is step) x = x
+    go w w' (cache_told w₀ n m e a c tells step) x = x
+    go w w' (renewed w₀ p) x = x
+
+-- ---- where a calm begins
+
+begins_calm : (D C : Type 0) (w : World D C) → IsAtRest D C w
+    → CalmIn C w.present w.router w.to_router w.router.phase
+begins_calm D C w rest = go rest.rests
+  where
+    go : (w.router.phase ≡ phases.Offline) ⊎ WaitsIdly D C w
+        → CalmIn C w.present w.router w.to_router w.router.phase
+    go (inl e) = to_phase C w.present w.router w.to_router phases.Offline e tt
+    go (inr x) = to_phase C w.present w.router w.to_router phases.Waiting x.waiting (record {
+      quiet = subst (λ tr. QuietOf C w.present tr) (sym x.none) tt;
+      own = x.session;
+    })
+
+begins_held : (D C : Type 0) (S : Source D C) (w : World D C) → IsReached D C S w
+    → IsAtRest D C w → Holds w.router.phase w.router
+begins_held D C S w run rest = go rest.rests
+  where
+    go : (w.router.phase ≡ phases.Offline) ⊎ WaitsIdly D C w → Holds w.router.phase w.router
+    go (inl e) = subst (λ f. Holds f w.router) (sym e) tt
+    go (inr x) = subst (λ f. Holds f w.router) (sym x.waiting)
+        (stands_from phases.Waiting w.router x.waiting (stands D C S w run))
 
 module _ (D C : Type 0) (S : Source D C) (I : IsSource D C S) (before : World D C) (start : ℕ)
-    (old : IsReached D C S before) (cut : IsAfterCut D C before) where
+    (old : IsReached D C S before) (rest : IsAtRest D C before) where
   in_calm : (w : World D C) (n : ℕ) → IsCalm D C S before start w n → InCalm D C S before start w n
   in_calm w n calm_from = record {
     reached = old;
     present = refl;
     known = refl;
-    calm = to_phase C before.present before.router before.to_router phases.Offline cut.offline tt;
+    calm = begins_calm D C before rest;
     served = served_from;
   }
   in_calm w n' (calm_told w₀ n n₁ e a r run on t step other) =
@@ -541,11 +685,11 @@ module _ (D C : Type 0) (S : Source D C) (I : IsSource D C S) (before : World D 
           → serial_cmp w₀.present.serial k.serial ≢ Some Less) (sym x.known)
           (subst
           (λ (p : Present). before.router.known.session ≡ p.session
-          → serial_cmp p.serial before.router.known.serial ≢ Some Less) (sym x.present) cut.order)
+          → serial_cmp p.serial before.router.known.serial ≢ Some Less) (sym x.present) rest.order)
   in_calm w n (calm_cache_hears w₀ n₀ k m u us kept a c run is step stays) =
       let x : InCalm D C S before start w₀ n = in_calm w₀ n run in
       let has : w₀.present.has ≡ true =
-      ap (λ (p : Present). p.has) x.present ∙ cut.has in
+      ap (λ (p : Present). p.has) x.present ∙ rest.has in
       record {
         reached = world_goes_on w₀ w x.reached (cache_hears w₀ k m u us kept a c is step);
         present = x.present;
@@ -565,14 +709,15 @@ module _ (D C : Type 0) (S : Source D C) (I : IsSource D C S) (before : World D 
         known = x.known;
         calm = quiet_then C w₀.present w₀.router w₀.to_router
             (cache_writes D C S c.version m w₀.present a) w₀.router.phase
-            (notifies D C S w₀.cache c k m w₀.present told.Tick a tt step.rule) x.calm;
+            (told_more D C S w₀.cache c k c.version m w₀.present a step.rule stays) x.calm;
         served = x.served;
       }
 
   pub soon : (w : World D C) (n : ℕ) → IsCalm D C S before start w n
       → n ≤ served_until before.router start
   soon w n run =
-      recovers_offline 2 before.router start w.router n cut.offline (in_calm w n run).served
+      recovers 2 before.router start w.router n (begins_held D C S before old rest)
+      (in_calm w n run).served
 
   pub shown : (w : World D C) (n n' : ℕ) (d : D) (r : Router) → IsCalm D C S before start w n
       → w.holding.made ≡ Some d → IsStep w.router n' events.Applied actions.Show r
@@ -600,3 +745,28 @@ module _ (D C : Type 0) (S : Source D C) (I : IsSource D C S) (before : World D 
         serial = serial;
         data_are = agrees.same ∙ (λ i. Some (S.data_at r.known.version (session i) (serial i)));
       }
+
+-- ---- a router that waits hears a notify
+
+notice : (n d p t asked : ℕ) → d ≡ min p n
+    → max n (max d (min asked (2 ^ 64 - 1))) + t ≤ max n asked + t
+notice n d p t asked e = omega (arith, e)
+
+pub notified : (r : Router) (p : Present) (u : Head) (n : ℕ) (a : Action) (r' : Router)
+    → IsNotified r p u → Fresh r n → IsInTime r n → IsStep r n (events.Came u) a r'
+    → served_until r' n ≤ max n (r'.asked + r'.settings.pause) + time_needed phases.Waiting r'
+notified r p u n a r' is fresh timely step =
+    let h : HeedsWaiting r n u a r' = (step.heeds fresh timely).waiting is.waiting in
+    let rule : Rule r n (events.Came u) actions.Wait r' =
+    subst (λ (a : Action). Rule r n (events.Came u) a r') (h.notified is.news) step.rule in
+    let phase : r'.phase ≡ phases.Waiting = rule.talk.phase ∙ is.waiting in
+    subst
+    (λ f. max n (due_in f r') + time_needed f r'
+    ≤ max n (r'.asked + r'.settings.pause) + time_needed phases.Waiting r') (sym phase)
+    (notice n r'.due r.due (time_needed phases.Waiting r') (r'.asked + r'.settings.pause)
+    (h.asks is.news (other is.other)))
+  where
+    other : (r.has_data ≡ false) ⊎ (p.serial ≢ r.known.serial)
+        → (r.has_data ≡ false) ⊎ (u.serial ≢ r.known.serial)
+    other (inl e) = inl e
+    other (inr differs) = inr (λ e. differs (sym is.present ∙ e))

@@ -1,6 +1,6 @@
--- A router and a cache of ours after the last disturbance: a cut was the last one, and from then on
--- no connection is cut, no data come, and all that is sent comes in time.
-use Rattle.std.specs.Prelude.{◌≡◌, ◌≢◌, ◌≤◌, ℕ, Bool, true, false, max, Option, Some, List, []}
+-- A router and a cache of ours after the last disturbance, a cut or new data: from then on no
+-- connection is cut, no new data come, and all that is sent comes in time.
+use Rattle.std.specs.Prelude.{◌≡◌, ◌≢◌, ◌⊎◌, ◌≤◌, ℕ, Bool, true, false, max, Option, Some, List, []}
 use Rattle.std.specs.Prelude.{◌∷◌, ◌++◌}
 use Rattle.std.specs.declared.cmp.Ordering.TheVariants.{Less}
 use Rattle.rtr_base.specs.Serial.{serial_cmp}
@@ -11,7 +11,7 @@ use Rattle.rtr_router.specs.declared.event.Event.TheVariants as events
 use Rattle.rtr_router.specs.declared.head.Head.{Head}
 use Rattle.rtr_router.specs.declared.router.Phase.TheVariants as phases
 use Rattle.rtr_router.specs.declared.router.Router.{Router}
-use Rattle.rtr_router.specs.Heeding.{HasRoom}
+use Rattle.rtr_router.specs.Heeding.{HasRoom, IsNews}
 use Rattle.rtr_router.specs.Pace.{wakes_at}
 use Rattle.rtr_router.specs.Rules.{IsPayloadOf}
 use Rattle.rtr_router.specs.Step.{IsInTime, IsStep}
@@ -24,11 +24,17 @@ use Rattle.rtr_cache.specs.CacheSteps.{IsCacheStep}
 use Rattle.rtr_cache.specs.Worlds.{Holding, IsListening, Sent, Source, World, cache_writes}
 use Rattle.rtr_cache.specs.Worlds.{holding_after, router_writes}
 
--- The router has no connection, whatever it was told before and whatever is on its way. The cache
--- has data; where the router has some of their session, theirs isn't an earlier serial number (RFC
--- 1982).
-pub record IsAfterCut (D C : Type 0) (w : World D C) : Type 0 where
-  pub offline : w.router.phase ≡ phases.Offline
+-- The router waits on a connection, and nothing is on its way to it; its data are of the session of
+-- the present ones.
+pub record WaitsIdly (D C : Type 0) (w : World D C) : Type 0 where
+  pub waiting : w.router.phase ≡ phases.Waiting
+  pub none : w.to_router ≡ []
+  pub session : w.router.has_data ≡ true → w.router.known.session ≡ w.present.session
+
+-- The router has no connection, whatever is on its way; or it waits. The cache has data; where the
+-- router knows of some of their session, theirs isn't an earlier serial number (RFC 1982).
+pub record IsAtRest (D C : Type 0) (w : World D C) : Type 0 where
+  pub rests : (w.router.phase ≡ phases.Offline) ⊎ WaitsIdly D C w
   pub has : w.present.has ≡ true
   pub order :
       w.router.known.session ≡ w.present.session
@@ -110,6 +116,13 @@ pub data IsCalm (D C : Type 0) (S : Source D C) (before : World D C) (start : �
         cache = c;
         to_router = w.to_router ++ cache_writes D C S c.version m w.present a;
       }) n
+
+-- a notify of the present data, at a router that waits and has others, or none (section 8.2)
+pub record IsNotified (r : Router) (p : Present) (u : Head) : Type 0 where
+  pub waiting : r.phase ≡ phases.Waiting
+  pub news : IsNews r u
+  pub present : u.serial ≡ p.serial
+  pub other : (r.has_data ≡ false) ⊎ (p.serial ≢ r.known.serial)
 
 -- what is shown then: the present data of the cache, as the router's version has them
 pub record ShowsPresent (D C : Type 0) (S : Source D C) (p : Present) (r : Router)

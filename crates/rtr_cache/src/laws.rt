@@ -1,8 +1,8 @@
 //! What holds of whole connections of a cache, and of a router and a cache that are joined.
 
-ghost use Rattle.std.specs.Prelude.{◌≡◌, ◌≤◌, ◌∷◌, ℕ, Bool, List, Some, true};
+ghost use Rattle.std.specs.Prelude.{◌≡◌, ◌≤◌, ◌+◌, ◌∷◌, ℕ, Bool, List, Some, max, true};
 ghost use Rattle.rtr_cache.specs.CacheSteps.{IsCacheStep};
-ghost use Rattle.rtr_cache.specs.Calm.{IsCalm, IsAfterCut, ShowsPresent};
+ghost use Rattle.rtr_cache.specs.Calm.{IsAtRest, IsCalm, IsNotified, ShowsPresent};
 ghost use Rattle.rtr_cache.specs.Connections.{CacheMoment, IsConnection, IsOrderly};
 ghost use Rattle.rtr_cache.specs.Worlds.{AnswersIt, IsAnswering};
 ghost use Rattle.rtr_cache.specs.Worlds.{Agrees, GoesOn, IsListening, IsPeaceful, IsReached, Sent};
@@ -10,8 +10,9 @@ ghost use Rattle.rtr_cache.specs.Worlds.{IsSource, Source, World};
 ghost use Rattle.rtr_cache.specs.declared.cache.Cache.{Cache};
 ghost use Rattle.rtr_cache.specs.declared.event.Answer.{Answer};
 ghost use Rattle.rtr_cache.specs.declared.event.CacheEvent.TheVariants as told;
+ghost use Rattle.rtr_cache.specs.declared.event.Present.{Present};
 ghost use Rattle.rtr_cache.specs.declared.settings.CacheSettings.{CacheSettings};
-ghost use Rattle.rtr_router.specs.Recovery.{served_until};
+ghost use Rattle.rtr_router.specs.Recovery.{served_until, time_needed};
 ghost use Rattle.rtr_router.specs.Rules.{Fresh};
 ghost use Rattle.rtr_router.specs.Step.{IsInTime, IsStep};
 ghost use Rattle.rtr_router.specs.declared.event.Action.{Action};
@@ -59,17 +60,23 @@ pub fn orderly()
         → IsConnection s moments c → IsOrderly s.pause moments }
 {}
 
-/// After a cut, while from then on no connection is cut, no new data come, the cache ends no
-/// connection, and each answer comes in time and is within the limits: the router shows data by
-/// `served_until`, a formula of its pause and its limits, and those are the present data of the
-/// cache, as the router's version has them.
-pub fn current_after_a_cut<D, C>()
+/// After a cut, or from when a router waits and nothing is on its way to it, while from then on no
+/// connection is cut, no new data come, the cache ends no connection, and each answer comes in time
+/// and is within the limits: the router shows data by `served_until`, a formula of its pause and
+/// its limits, and those are the present data of the cache, as the router's version has them. Where
+/// it waited, and is then told of the present data by a notify, that time counts from the notify,
+/// or from a pause after its last query if that is later.
+pub fn current_again<D, C>()
     ensures soon { (S : Source D C) (before w : World D C) (start n : ℕ) → IsSource D C S
-        → IsReached D C S before → IsAfterCut D C before → IsCalm D C S before start w n
+        → IsReached D C S before → IsAtRest D C before → IsCalm D C S before start w n
         → n ≤ served_until before.router start }
     ensures present { (S : Source D C) (before w : World D C) (start n later : ℕ) (d : D)
-        (after : Router) → IsSource D C S → IsReached D C S before → IsAfterCut D C before
+        (after : Router) → IsSource D C S → IsReached D C S before → IsAtRest D C before
         → IsCalm D C S before start w n → w.holding.made ≡ Some d
         → IsStep w.router later events.Applied actions.Show after
         → ShowsPresent D C S before.present after w.holding.made }
+    ensures notified { (r : Router) (p : Present) (u : Head) (n : ℕ) (a : Action) (after : Router)
+        → IsNotified r p u → Fresh r n → IsInTime r n → IsStep r n (events.Came u) a after
+        → served_until after n
+        ≤ max n (after.asked + after.settings.pause) + time_needed phases.Waiting after }
 {}

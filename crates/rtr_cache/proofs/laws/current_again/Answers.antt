@@ -1,0 +1,14 @@
+use Rattle.rtr_cache.proofs.laws.current_again.Goals as goal
+use Rattle.rtr_cache.proofs.Calm.{notified, shown, soon}
+
+pub returns-clause-soon : goal.returns-clause-soon
+returns-clause-soon g = λ c S before w start n is old rest run.
+    soon g.row.D.Denot g.row.C.Denot S is before start old rest w n run
+
+pub returns-clause-present : goal.returns-clause-present
+returns-clause-present g = λ c S before w start n later d after is old rest run made step.
+    shown g.row.D.Denot g.row.C.Denot S is before start old rest w n later d after run made step
+
+pub returns-clause-notified : goal.returns-clause-notified
+returns-clause-notified g = λ c r p u n a after is fresh soon step.
+    notified r p u n a after is fresh soon step
