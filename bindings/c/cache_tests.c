@@ -307,7 +307,7 @@ static void check_reasons(const struct place *place)
     for (uint8_t reason = RTR_REASON_LOST; reason <= RTR_REASON_UNKNOWN; reason++) {
         const struct rtr_serving serving = {.kind = RTR_SERVE_END, .reason = reason, .version = 1,
                                             .reports = true};
-        check_report(place, &serving, NULL, 0, 1, 0, 0, rtr_reason_text(reason));
+        check_report(place, &serving, (const uint8_t *)"", 0, 1, 0, 0, rtr_reason_text(reason));
     }
     CHECK(strcmp(rtr_reason_text(RTR_REASON_UNKNOWN + 1), "unknown reason") == 0);
 }
