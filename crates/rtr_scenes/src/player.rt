@@ -1,328 +1,72 @@
-//! A router that is played with: the machine, and what a program does for it.
+//! The end that a scene has played.
 
-use crate::data::{Made, make_data};
-use rtr_conversation::{Refusal, Told, place_ending, place_query, tell};
-use rtr_router::event::{Action, Ending, Event};
-use rtr_router::head::Query;
-use rtr_router::router::Router;
-use rtr_router::settings::Settings;
-use rtr_session::SessionView;
+use crate::cache_end::CacheEnd;
+use crate::deed::Deed;
+use crate::line::{Given, bytes};
+use crate::router_end::RouterEnd;
 use std::alloc::Global;
-use std::mem;
 use std::test::Fail;
 
-/// The most steps that a router takes by itself until a time.
-const MOST: u32 = 1_000_000;
-
-/// The most bytes of a unit.
-const LONGEST: usize = 65535;
-
-/// What an action is about.
 #[derive(Drop)]
-struct About {
-    unit: Vec<u8>,
-    refusal: Option<Refusal>,
-}
-
-#[derive(Drop)]
-pub struct Player {
-    alloc: Global,
-    router: Router,
-    now: u64,
-    /// What was read and not yet taken.
-    input: Vec<u8>,
-    is_closed: bool,
-    is_broken: bool,
-    /// The payload units of the response.
-    kept: Vec<u8>,
-    /// The data, empty where there are none.
-    data: Vec<u8>,
-    /// What the response made.
-    made: Vec<u8>,
-    /// What the router did.
-    seen: Vec<String>,
+pub enum Player {
+    Router(RouterEnd),
+    Cache(CacheEnd),
 }
 
 impl Player {
-    /// A router without data, at the beginning of time.
-    pub fn new(alloc: Global, settings: Settings) -> Player {
-        Player {
-            alloc,
-            router: Router::new(settings),
-            now: 0,
-            input: Vec::new(alloc),
-            is_closed: false,
-            is_broken: false,
-            kept: Vec::new(alloc),
-            data: Vec::new(alloc),
-            made: Vec::new(alloc),
-            seen: Vec::new(alloc),
-        }
-    }
-
-    /// What the router did since the last call.
-    pub fn take_seen(&mut self) -> Vec<String> {
-        mem::replace(&mut self.seen, Vec::new(self.alloc))
-    }
-
     /// The clock comes to this time.
     pub fn pass(&mut self, time: u64) -> Result<(), Fail> {
-        for _ in 0..MOST {
-            let wakes = self.router.wakes();
-            if wakes > time {
-                break;
-            }
-            self.now = self.now.max(wakes);
-            if !self.settle()? {
-                break;
-            }
-        }
-        self.now = self.now.max(time);
-        Ok(())
-    }
-
-    /// The connection is there.
-    pub fn accepted(&mut self) -> Result<(), Fail> {
-        self.is_closed = false;
-        self.is_broken = false;
-        self.tell_plain(Event::Connected)?;
-        self.settle()?;
-        Ok(())
-    }
-
-    /// None can be made.
-    pub fn refused(&mut self) -> Result<(), Fail> {
-        self.tell_plain(Event::Lost)?;
-        self.settle()?;
-        Ok(())
-    }
-
-    /// These bytes are read.
-    pub fn received(&mut self, bytes: &[u8]) -> Result<(), Fail> {
-        self.input.extend_from_slice(bytes)?;
-        self.settle()?;
-        Ok(())
-    }
-
-    /// Nothing more is read, nor sent if the connection is broken.
-    pub fn closed(&mut self, is_broken: bool) -> Result<(), Fail> {
-        self.is_closed = true;
-        self.is_broken = is_broken;
-        self.settle()?;
-        if self.is_closed {
-            self.tell_plain(Event::Lost)?;
-            self.settle()?;
-        }
-        Ok(())
-    }
-
-    /// Has the machine go on until it waits. Answers whether it did something.
-    fn settle(&mut self) -> Result<bool, Fail> {
-        for steps in 0..MOST {
-            if !self.tick()? && !self.read()? {
-                return Ok(steps > 0);
-            }
-        }
-        Err(Fail::new("the machine doesn't wait"))
-    }
-
-    /// Tells the machine that time passed. Answers whether it did something.
-    fn tick(&mut self) -> Result<bool, Fail> {
-        match self.step(Event::Tick) {
-            Action::Wait => Ok(false),
-            action => {
-                self.act(action, self.about_none())?;
-                Ok(true)
-            }
+        match self {
+            Player::Router(router) => router.pass(time),
+            Player::Cache(cache) => cache.pass(time),
         }
     }
 
-    fn step(&mut self, event: Event) -> Action {
-        let now = self.now.min(u64::MAX / 2);
-        self.router.step(now, event)
-    }
-
-    fn about_none(&self) -> About {
-        About {
-            unit: Vec::new(self.alloc),
-            refusal: None,
+    /// What the end did since the last call.
+    pub fn take_deeds(&mut self) -> Vec<Deed> {
+        match self {
+            Player::Router(router) => router.take_deeds(),
+            Player::Cache(cache) => cache.take_deeds(),
         }
     }
 
-    /// Tells the machine of something that is about no unit.
-    fn tell_plain(&mut self, event: Event) -> Result<(), Fail> {
-        let action = self.step(event);
-        self.act(action, self.about_none())
-    }
-
-    /// Tells the machine of what was read. Answers whether there was something.
-    fn read(&mut self) -> Result<bool, Fail> {
-        let now = self.now.min(u64::MAX / 2);
-        match tell(&mut self.router, now, &self.input, self.is_closed) {
-            Told::Awaits => Ok(false),
-            Told::Kept(size) => {
-                let taken = self.taken(size)?;
-                self.kept.extend_from_slice(&taken)?;
-                Ok(true)
-            }
-            Told::Acted { start, end, action } => {
-                self.taken(start)?;
-                let unit = self.taken(end.saturating_sub(start))?;
-                let about = About {
-                    unit,
-                    refusal: None,
-                };
-                self.act(action, about)?;
-                Ok(true)
-            }
-            Told::Refused { fault, action } => {
-                let unit = mem::replace(&mut self.input, Vec::new(self.alloc));
-                let about = About {
-                    unit,
-                    refusal: Refusal::of(&fault),
-                };
-                self.act(action, about)?;
-                Ok(true)
-            }
+    /// The name of the end.
+    pub fn name(&self) -> &'static str {
+        match self {
+            Player::Router(_) => "router",
+            Player::Cache(_) => "cache",
         }
     }
 
-    /// Takes bytes off the front of the input.
-    fn taken(&mut self, size: usize) -> Result<Vec<u8>, Fail> {
-        let size = size.min(self.input.len());
-        let (front, rest) = self.input.split_at(size);
-        let front = Vec::from_slice(self.alloc, front)?;
-        let rest = Vec::from_slice(self.alloc, rest)?;
-        self.input = rest;
-        Ok(front)
-    }
-
-    /// Does what the machine says.
-    fn act(&mut self, action: Action, about: About) -> Result<(), Fail> {
-        match action {
-            Action::Wait | Action::Keep => Ok(()),
-            Action::Connect => self.note("connects"),
-            Action::Ask(query) => self.ask(&query),
-            Action::Begin => {
-                self.kept.clear();
-                Ok(())
-            }
-            Action::Apply(changes) => self.apply(changes, &about.unit),
-            Action::Show => self.show(),
-            Action::NoData => self.note("no data"),
-            Action::Drop => self.drop_data(),
-            Action::End(ending) => self.end(&ending, &about),
+    /// This happens.
+    pub fn give(&mut self, given: Given<'_>, alloc: Global) -> Result<(), Fail> {
+        match self {
+            Player::Router(router) => give_router(router, given, alloc),
+            Player::Cache(cache) => give_cache(cache, given, alloc),
         }
     }
+}
 
-    /// Notes what the router does, with its time.
-    fn note(&mut self, what: &str) -> Result<(), Fail> {
-        let line = format!(in self.alloc; "{} {what}", self.now)?;
-        self.seen.push(line)?;
-        Ok(())
+fn give_router(router: &mut RouterEnd, given: Given<'_>, alloc: Global) -> Result<(), Fail> {
+    match given {
+        Given::Accepts => router.accepted(),
+        Given::Refuses => router.refused(),
+        Given::Sends(hex) => router.received(&bytes(alloc, hex)?),
+        Given::Closes => router.closed(false),
+        Given::Breaks => router.closed(true),
+        _ => Ok(()),
     }
+}
 
-    fn ask(&mut self, query: &Query) -> Result<(), Fail> {
-        let mut output = [0u8; 12];
-        let size = place_query(query, &mut output).unwrap_or(0);
-        let hex = hex::encode(self.alloc, output.get(..size).unwrap_or(&[]))?;
-        let what = format!(in self.alloc; "router> {hex}")?;
-        self.note(what.as_str())
-    }
-
-    /// Makes the changes that were kept, of the data or of none.
-    fn apply(&mut self, changes: bool, end: &[u8]) -> Result<(), Fail> {
-        self.kept.extend_from_slice(end)?;
-        let made = if changes {
-            make_data(self.alloc, &self.data, &self.kept, end)?
-        } else {
-            make_data(self.alloc, &[], &self.kept, end)?
-        };
-        match made {
-            Made::Data(data) => {
-                self.made = data;
-                let action = self.step(Event::Applied);
-                self.finish(action, &self.about_none())
-            }
-            Made::Refused(offset, refusal) => {
-                let unit = Vec::from_slice(self.alloc, self.kept.get(offset..).unwrap_or(&[]))?;
-                let action = self.step(Event::NotApplied(Some(refusal.code())));
-                let about = About {
-                    unit,
-                    refusal: Some(refusal),
-                };
-                self.finish(action, &about)
-            }
-        }
-    }
-
-    /// Does what the machine says of changes that were made or refused.
-    fn finish(&mut self, action: Action, about: &About) -> Result<(), Fail> {
-        match action {
-            Action::Show => self.show(),
-            Action::End(ending) => self.end(&ending, about),
-            _ => Err(Fail::new("an answer neither is shown nor ends the connection")),
-        }
-    }
-
-    fn show(&mut self) -> Result<(), Fail> {
-        self.data = mem::replace(&mut self.made, Vec::new(self.alloc));
-        let mut what = String::from_str(self.alloc, "shows {")?;
-        let mut rest: &[u8] = &self.data;
-        for _ in 0..self.data.len() {
-            let Ok((_, size)) = SessionView::first(rest) else {
-                break;
-            };
-            let hex = hex::encode(self.alloc, rest.get(..size).unwrap_or(&[]))?;
-            what.push_str(" ")?;
-            what.push_str(hex.as_str())?;
-            rest = rest.get(size..).unwrap_or(&[]);
-        }
-        what.push_str(" }")?;
-        self.note(what.as_str())
-    }
-
-    fn drop_data(&mut self) -> Result<(), Fail> {
-        self.data.clear();
-        self.note("drops")
-    }
-
-    /// Ends the connection, after the report that is owed.
-    fn end(&mut self, ending: &Ending, about: &About) -> Result<(), Fail> {
-        if ending.drop {
-            self.drop_data()?;
-        }
-        if !self.is_broken {
-            self.report(ending, about)?;
-        }
-        self.input.clear();
-        self.kept.clear();
-        self.is_closed = false;
-        self.note("closes")
-    }
-
-    /// Notes the report that an ending owes, if it owes one.
-    fn report(&mut self, ending: &Ending, about: &About) -> Result<(), Fail> {
-        let mut output = Vec::from_elem(self.alloc, 0u8, LONGEST)?;
-        let version = self.router.version;
-        let Some(size) = place_ending(version, ending, about.refusal, &about.unit, &mut output)
-        else {
-            return Ok(());
-        };
-        output.truncate(size);
-        let Ok((SessionView::Error(report), _)) = SessionView::first(&output) else {
-            return Err(Fail::new("no report"));
-        };
-        let hex = hex::encode(self.alloc, report.pdu().unwrap_or(&[]))?;
-        let unit = if hex.is_empty() {
-            String::from_str(self.alloc, "-")?
-        } else {
-            hex
-        };
-        let text = String::from_utf8_lossy(self.alloc, report.text().unwrap_or(&[]))?;
-        let code = report.code().0;
-        let version = report.version();
-        let what = format!(in self.alloc; "router> report {version} {code} {unit} {text}")?;
-        self.note(what.as_str())
+fn give_cache(cache: &mut CacheEnd, given: Given<'_>, alloc: Global) -> Result<(), Fail> {
+    match given {
+        Given::Connects => cache.connected(false),
+        Given::ConnectsBeyond => cache.connected(true),
+        Given::Sends(hex) => cache.received(&bytes(alloc, hex)?),
+        Given::Closes => cache.closed(false),
+        Given::Breaks => cache.closed(true),
+        Given::Data(units) => cache.renewed(bytes(alloc, units)?),
+        Given::Forgets(serial) => cache.editions.forget(serial),
+        _ => Ok(()),
     }
 }

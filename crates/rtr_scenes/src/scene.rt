@@ -1,8 +1,11 @@
 //! A scene that is played.
 
-use crate::line::{Given, Line, bytes, parsed, plain};
+use crate::cache_end::CacheEnd;
+use crate::line::{End, Given, Line, parsed, plain};
 use crate::player::Player;
-use crate::settings::set;
+use crate::router_end::RouterEnd;
+use crate::settings::{set_cache, set_router};
+use rtr_cache::settings::CacheSettings;
 use rtr_router::settings::Settings;
 use std::alloc::Global;
 use std::mem;
@@ -13,9 +16,11 @@ use std::test::Fail;
 pub struct Scene {
     alloc: Global,
     name: String,
-    settings: Settings,
+    end: End,
+    router: Settings,
+    cache: CacheSettings,
     player: Option<Player>,
-    /// The steps that the router has to take before the next one that is given.
+    /// The steps that the end has to take before the next one that is given.
     wanted: Vec<String>,
     /// Where it did otherwise first.
     other: Option<String>,
@@ -27,7 +32,9 @@ impl Scene {
         Ok(Scene {
             alloc,
             name: String::from_str(alloc, name)?,
-            settings: Settings::usual(1),
+            end: End::Router,
+            router: Settings::usual(1),
+            cache: CacheSettings::usual(),
             player: None,
             wanted: Vec::new(alloc),
             other: None,
@@ -36,9 +43,9 @@ impl Scene {
 
     /// Plays a line.
     pub fn line(&mut self, line: &str) -> Result<(), Fail> {
-        match parsed(line)? {
+        match parsed(line, self.end)? {
             Line::Empty => {}
-            Line::Setting(key, value) => set(&mut self.settings, key, value)?,
+            Line::Setting(end, key, value) => self.set(end, key, value)?,
             Line::Wanted(step) => {
                 let step = plain(self.alloc, step)?;
                 self.wanted.push(step)?;
@@ -48,17 +55,28 @@ impl Scene {
         Ok(())
     }
 
-    /// Ends the scene. Answers where the router did otherwise first, if it did.
+    /// Ends the scene. Answers where the end did otherwise first, if it did.
     pub fn end(&mut self) -> Result<Option<String>, Fail> {
         self.compare()?;
         Ok(self.other.take())
+    }
+
+    fn set(&mut self, end: End, key: &str, value: &str) -> Result<(), Fail> {
+        self.end = end;
+        match end {
+            End::Router => set_router(&mut self.router, key, value),
+            End::Cache => set_cache(&mut self.cache, key, value),
+        }
     }
 
     /// The clock comes to a time, and then something happens.
     fn given(&mut self, time: u64, given: Given<'_>) -> Result<(), Fail> {
         let mut player = match self.player.take() {
             Some(player) => player,
-            None => Player::new(self.alloc, self.settings),
+            None => match self.end {
+                End::Router => Player::Router(RouterEnd::new(self.alloc, self.router, 0)),
+                End::Cache => Player::Cache(CacheEnd::new(self.alloc, self.cache)),
+            },
         };
         player.pass(time)?;
         self.player = Some(player);
@@ -68,32 +86,29 @@ impl Scene {
         let Some(player) = &mut self.player else {
             return Ok(());
         };
-        match given {
-            Given::Accepts => player.accepted()?,
-            Given::Refuses => player.refused()?,
-            Given::Sends(hex) => {
-                let bytes = bytes(self.alloc, hex)?;
-                player.received(&bytes)?;
-            }
-            Given::Closes => player.closed(false)?,
-            Given::Breaks => player.closed(true)?,
-            Given::Nothing => {}
-        }
-        Ok(())
+        player.give(given, self.alloc)
     }
 
-    /// Compares what the router did since the last step that was given.
+    /// Compares what the end did since the last step that was given.
     fn compare(&mut self) -> Result<(), Fail> {
         let wanted = mem::replace(&mut self.wanted, Vec::new(self.alloc));
-        let seen = match &mut self.player {
-            Some(player) => player.take_seen(),
-            None => Vec::new(self.alloc),
-        };
+        let seen = self.seen()?;
         if self.other.is_some() || wanted == seen {
             return Ok(());
         }
         self.other = Some(self.told(&wanted, &seen)?);
         Ok(())
+    }
+
+    /// The lines of what the end did since the last call.
+    fn seen(&mut self) -> Result<Vec<String>, Fail> {
+        let mut lines = Vec::new(self.alloc);
+        if let Some(player) = &mut self.player {
+            for deed in &player.take_deeds() {
+                deed.write(player.name(), &mut lines, self.alloc)?;
+            }
+        }
+        Ok(lines)
     }
 
     /// The name of the scene, and the steps that were wanted and those that were seen.

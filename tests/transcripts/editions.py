@@ -1,0 +1,72 @@
+"""The data of a cache at each serial number, and the answers that it owes (RFC 8210 section 8)."""
+from dataclasses import dataclass
+
+import units
+from units import ANNOUNCE, SESSION, WITHDRAW
+
+
+@dataclass(frozen=True)
+class Payload:
+    """A payload, or a payload of another value and the same name, as an ASPA has its customer."""
+    kind: str
+    asn: int
+    providers: tuple = ()
+
+    def name(self):
+        return self.kind, self.asn
+
+    def least(self):
+        """The first version that has it."""
+        return {"key": 1, "aspa": 2}.get(self.kind, 0)
+
+    def unit(self, version, action=ANNOUNCE):
+        if self.kind == "aspa":
+            providers = self.providers if action == ANNOUNCE else ()
+            return units.aspa(version, self.asn, providers, action)
+        make = {"ipv4": units.ipv4, "ipv6": units.ipv6, "key": units.key}[self.kind]
+        return make(version, self.asn, action)
+
+
+def ipv4(*asns):
+    return tuple(Payload("ipv4", asn) for asn in asns)
+
+
+IPV6, KEY = Payload("ipv6", 1), Payload("key", 3)
+ASPA, LONGER = Payload("aspa", 4, (1,)), Payload("aspa", 4, (1, 2))
+
+# The payloads at each serial number, in canonical order.
+AT = {
+    3: ipv4(1),
+    4: (*ipv4(1, 2), KEY, ASPA),
+    5: (*ipv4(1, 2), KEY, LONGER),
+    6: (*ipv4(2, 9), KEY),
+    7: (*ipv4(2, 9, 10), IPV6, KEY),
+    8: (*ipv4(2, 10), IPV6, LONGER),
+}
+
+
+def data(serial, session=SESSION, version=2, payloads=None):
+    """Data in canonical form, as a version has them."""
+    own = AT[serial] if payloads is None else payloads
+    parts = [one.unit(version) for one in own if one.least() <= version]
+    return b"".join(parts) + units.end(version, serial, session)
+
+
+def everything(version, serial, session=SESSION, payloads=None):
+    """The answer to a reset query (8.1)."""
+    return units.response(version, session) + data(serial, session, version, payloads)
+
+
+def delta(old, new, version):
+    """The units that announce what is new, and then those that withdraw what is gone."""
+    names = {one.name() for one in new}
+    announced = [one.unit(version) for one in new if one not in old and one.least() <= version]
+    withdrawn = [one.unit(version, WITHDRAW) for one in old
+                 if one.name() not in names and one.least() <= version]
+    return b"".join(announced + withdrawn)
+
+
+def changes(version, since, serial, session=SESSION):
+    """The answer to a serial query whose changes can be told (8.2)."""
+    return (units.response(version, session) + delta(AT[since], AT[serial], version)
+            + units.end(version, serial, session))
