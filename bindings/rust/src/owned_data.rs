@@ -7,6 +7,7 @@ use crate::unit::{EndOfData, Timing, Unit, UnitRef};
 use crate::units::Units;
 use crate::validation::{Covering, Route, Tables, Validity};
 use std::boxed::Box;
+use std::sync::Arc;
 use std::vec;
 use std::vec::Vec;
 
@@ -15,10 +16,10 @@ const LONGEST_END: usize = 24;
 /// The bytes of a payload unit, at least: those of an ASPA that is withdrawn.
 const SHORTEST_UNIT: usize = 12;
 
-/// Bytes in canonical form that end with an end of data.
+/// Bytes in canonical form that end with an end of data. Copies share them.
 #[derive(Clone, Debug, PartialEq, Eq, Hash)]
 struct Canonical {
-    bytes: Vec<u8>,
+    bytes: Arc<Vec<u8>>,
     payloads: usize,
     end: EndOfData,
 }
@@ -37,9 +38,32 @@ impl Canonical {
         }
         let end = last.expect("the archive wrote an end of data");
         Canonical {
-            bytes,
+            bytes: Arc::new(bytes),
             payloads,
             end,
+        }
+    }
+
+    /// The bytes, which aren't copied unless they are shared.
+    fn into_bytes(self) -> Vec<u8> {
+        Arc::try_unwrap(self.bytes).unwrap_or_else(|shared| shared.to_vec())
+    }
+
+    /// The bytes of the payload units.
+    fn unit_bytes(&self) -> &[u8] {
+        let end: UnitRef = Unit::EndOfData(self.end);
+        &self.bytes[..self.bytes.len() - end.size()]
+    }
+
+    /// Without what a version doesn't have.
+    fn for_version(&self, version: u8) -> Result<Canonical, Fault> {
+        if version == self.end.version {
+            return Ok(self.clone());
+        }
+        let mut bytes = vec![0; self.bytes.len() + LONGEST_END];
+        match normalise_for(&self.bytes, &mut bytes, u64::MAX, version) {
+            Ok(progress) => Ok(Canonical::new(bytes, progress.written)),
+            Err(stopped) => Err(stopped.fault),
         }
     }
 
@@ -167,7 +191,7 @@ impl Data {
 
     /// The bytes.
     pub fn into_bytes(self) -> Vec<u8> {
-        self.0.bytes
+        self.0.into_bytes()
     }
 
     /// The payload units, in their order. Each of them announces.
@@ -221,9 +245,14 @@ impl Data {
     ///
     /// `UnitVersion` with the version of the new data, where this is of another; `OtherSession`.
     pub fn delta_to(&self, new: &Data) -> Result<Changes, DataError> {
-        let mut bytes = vec![0; self.0.bytes.len() + new.0.bytes.len()];
-        let length = delta_into(self.as_bytes(), new.as_bytes(), &mut bytes)?;
-        Ok(Changes(Canonical::new(bytes, length)))
+        let most = self.0.bytes.len() + new.0.bytes.len();
+        let mut bytes = vec![0; most / 8]; // which is more than most changes have
+        let mut length = delta_into(self.as_bytes(), new.as_bytes(), &mut bytes);
+        if matches!(length, Err(error) if error.fault == Fault::NoRoom) {
+            bytes = vec![0; most];
+            length = delta_into(self.as_bytes(), new.as_bytes(), &mut bytes);
+        }
+        Ok(Changes(Canonical::new(bytes, length?)))
     }
 
     /// Data without payloads that have the end of data of these.
@@ -237,9 +266,8 @@ impl Data {
     pub(crate) fn difference_to(&self, new: &Data) -> Result<Changes, DataError> {
         let end = new.end();
         let version = self.end().version.max(end.version);
-        let in_version = |data: &Data| data.for_version(version).expect("there is this version");
-        let old = in_version(self).numbered(end.session, end.serial);
-        old.delta_to(&in_version(new))
+        let old = self.in_version(version).numbered(end.session, end.serial);
+        old.delta_to(&new.in_version(version))
     }
 
     /// What the changes make of this data: all of them are made, or none. An ASPA that is announced
@@ -278,11 +306,20 @@ impl Data {
     ///
     /// `UnitVersion` for a version above 2.
     pub fn for_version(&self, version: u8) -> Result<Data, Fault> {
-        let mut bytes = vec![0; self.0.bytes.len() + LONGEST_END];
-        match normalise_for(self.as_bytes(), &mut bytes, u64::MAX, version) {
-            Ok(progress) => Ok(Data::of(Canonical::new(bytes, progress.written))),
-            Err(stopped) => Err(stopped.fault),
+        if version == self.end().version {
+            return Ok(self.clone());
         }
+        self.0.for_version(version).map(Data::of)
+    }
+
+    /// The same for a version that there is.
+    pub(crate) fn in_version(&self, version: u8) -> Data {
+        self.for_version(version).expect("there is this version")
+    }
+
+    /// The bytes, shared.
+    pub(crate) fn shared(&self) -> Arc<Vec<u8>> {
+        Arc::clone(&self.0.bytes)
     }
 
     /// The same payloads in another session and with another serial number.
@@ -294,11 +331,10 @@ impl Data {
             ..self.0.end
         };
         let unit: UnitRef = Unit::EndOfData(end);
-        let mut bytes = self.0.bytes.clone();
-        bytes.truncate(bytes.len() - unit.size());
+        let mut bytes = self.0.unit_bytes().to_vec();
         unit.append(&mut bytes).expect("its version has this form");
         Data::of(Canonical {
-            bytes,
+            bytes: Arc::new(bytes),
             end,
             ..self.0
         })
@@ -313,7 +349,22 @@ impl Changes {
 
     /// The bytes.
     pub fn into_bytes(self) -> Vec<u8> {
-        self.0.bytes
+        self.0.into_bytes()
+    }
+
+    /// The bytes, shared.
+    pub(crate) fn shared(&self) -> Arc<Vec<u8>> {
+        Arc::clone(&self.0.bytes)
+    }
+
+    /// The bytes of the payload units.
+    pub(crate) fn unit_bytes(&self) -> &[u8] {
+        self.0.unit_bytes()
+    }
+
+    /// Without what a version that there is doesn't have.
+    pub(crate) fn in_version(&self, version: u8) -> Changes {
+        Changes(self.0.for_version(version).expect("there is this version"))
     }
 
     /// The payload units, in their order: first those that announce, then those that withdraw.
