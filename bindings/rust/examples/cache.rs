@@ -1,41 +1,47 @@
 //! A cache: serves the data of a file to routers (RFC 8210).
 //!
-//! usage: cache FILE [--listen ADDRESS]...    at `[::]:3323` if none is named
+//! usage: cache FILE [--listen ADDRESS]... [--refuse]    at `[::]:3323` if none is named
 //!
 //! The file holds a sequence that only announces, in whatever order, with or without a cache
-//! response before it. It is read again when it changes: put another in its place by renaming that
-//! one. A file that can't be taken is named, and the data before it stay. SIGINT and SIGTERM end
-//! the program.
+//! response before it. It is looked at four times a second, and read again when it has changed: put
+//! another in its place by renaming that one. A file that can't be taken is named, and the data
+//! before it stay; one that can't be read is tried again. With `--refuse` a report of code 0 answers
+//! a client whose data aren't known any more, in place of a cache reset. What has to be known after
+//! a restart is in a file beside it, with `.kept` behind its name. SIGINT and SIGTERM end the
+//! program.
 //!
 //! Ends with status 0 after a signal, 1 where it can't serve, 2 for other arguments.
 
 use rtr_wire::{Data, Server, ServerOptions, Unit};
 use std::error::Error;
-use std::fs::{File, Metadata};
-use std::io::Read;
+use std::fmt::Display;
+use std::fs::File;
+use std::io::{self, ErrorKind, Read};
+use std::os::unix::fs::MetadataExt;
 use std::process::ExitCode;
 use std::sync::atomic::{AtomicBool, Ordering};
-use std::time::{Duration, SystemTime};
+use std::time::{Duration, SystemTime, UNIX_EPOCH};
 
 /// The bytes of a file, at most.
 const LARGEST: u64 = 1 << 28;
 const EVERYWHERE: &str = "[::]:3323";
-const TICK: Duration = Duration::from_millis(100);
-/// How many ticks lie between two looks at the file.
-const LOOK: u32 = 10;
+/// How long it is between two looks at the file.
+const LOOK: Duration = Duration::from_millis(250);
 
 struct Arguments {
     file: String,
     listen: Vec<String>,
+    refuse: bool,
 }
 
 fn arguments(words: impl Iterator<Item = String>) -> Option<Arguments> {
-    let (mut file, mut listen) = (None, Vec::new());
+    let (mut file, mut listen, mut refuse) = (None, Vec::new(), false);
     let mut words = words.peekable();
     while let Some(word) = words.next() {
         match word.as_str() {
             "--listen" => listen.push(words.next()?),
-            _ if word.starts_with("--") || file.is_some() => return None,
+            "--refuse" => refuse = true,
+            _ if word.starts_with('-') || file.is_some() => return None,
             _ => file = Some(word),
         }
     }
@@ -45,6 +51,7 @@ fn arguments(words: impl Iterator<Item = String>) -> Option<Arguments> {
     Some(Arguments {
         file: file?,
         listen,
+        refuse,
     })
 }
 
@@ -74,20 +81,138 @@ mod signals {
     }
 }
 
-/// What shows that a file is another than before.
-type Mark = Option<(u64, SystemTime)>;
+/// Has the allocator give a table back to the system once it is free: else memory stays with the
+/// program for data that were replaced.
+#[cfg(target_env = "gnu")]
+fn give_back() {
+    const MMAP_THRESHOLD: i32 = -3;
 
-fn mark(file: &str) -> Mark {
-    let metadata: Metadata = std::fs::metadata(file).ok()?;
-    Some((metadata.len(), metadata.modified().ok()?))
+    extern "C" {
+        /// Of the GNU C library.
+        fn mallopt(parameter: i32, value: i32) -> i32;
+    }
+
+    // SAFETY: it may be called at any time, and sets a number.
+    unsafe { mallopt(MMAP_THRESHOLD, 1 << 20) };
 }
 
-/// Has the server take what the file holds, and says what came of it.
-fn read(file: &str, server: &Server) -> Result<(), Box<dyn Error>> {
-    let mut bytes = Vec::new();
-    File::open(file)?
-        .take(LARGEST + 1)
-        .read_to_end(&mut bytes)?;
+#[cfg(not(target_env = "gnu"))]
+fn give_back() {}
+
+/// The time in UTC, as RFC 3339 has it.
+fn time() -> String {
+    let since = SystemTime::now().duration_since(UNIX_EPOCH);
+    let seconds = since.unwrap_or_default().as_secs();
+    let (mut days, second) = (seconds / 86400, seconds % 86400);
+    let is_leap = |year: u64| year % 4 == 0 && (year % 100 != 0 || year % 400 == 0);
+    let mut year = 1970;
+    while days >= 365 + u64::from(is_leap(year)) {
+        days -= 365 + u64::from(is_leap(year));
+        year += 1;
+    }
+    let february = 28 + u64::from(is_leap(year));
+    let mut month = 1;
+    for length in [31, february, 31, 30, 31, 30, 31, 31, 30, 31, 30] {
+        if days < length {
+            break;
+        }
+        days -= length;
+        month += 1;
+    }
+    let (hour, minute, second) = (second / 3600, second / 60 % 60, second % 60);
+    let day = days + 1;
+    format!("{year:04}-{month:02}-{day:02}T{hour:02}:{minute:02}:{second:02}Z")
+}
+
+/// Writes a line on standard error, with the time before it.
+fn say(line: impl Display) {
+    eprintln!("{} {line}", time());
+}
+
+/// What shows that a file is another than before: its device and inode, its size, and when its
+/// content and its inode changed.
+type Mark = (u64, u64, u64, [i64; 4]);
+
+fn mark(file: &str) -> io::Result<Mark> {
+    let found = std::fs::metadata(file)?;
+    let times = [
+        found.mtime(),
+        found.mtime_nsec(),
+        found.ctime(),
+        found.ctime_nsec(),
+    ];
+    Ok((found.dev(), found.ino(), found.size(), times))
+}
+
+/// The file that is served.
+struct Watched<'f> {
+    file: &'f str,
+    /// Where the server keeps what it has to know after a restart.
+    kept: String,
+    /// That of the file that was read last.
+    mark: Option<Mark>,
+    /// What was said last, if it was a failure.
+    failure: Option<String>,
+}
+
+impl Watched<'_> {
+    /// Has the server go on where it was before a restart.
+    fn restore(&self, server: &Server) {
+        match server.restore(&self.kept) {
+            Ok(data) => say_taken(&self.kept, &data),
+            Err(error) if error.kind() == ErrorKind::NotFound => {}
+            Err(error) => say(format_args!("{}: {error}", self.kept)),
+        }
+    }
+
+    /// Has the server take what the file holds if it has changed, and says what comes of it.
+    fn look(&mut self, server: &Server) {
+        let failure = self.take(server).err().map(|error| error.to_string());
+        if let Some(text) = failure.as_ref().filter(|_| failure != self.failure) {
+            say(format_args!("{}: {text}", self.file));
+        }
+        if failure.is_some() {
+            self.failure = failure;
+        }
+    }
+
+    /// Takes the file if it has changed. One that can't be read is tried again.
+    fn take(&mut self, server: &Server) -> Result<(), Box<dyn Error>> {
+        let found = mark(self.file)?;
+        if self.mark == Some(found) {
+            return Ok(());
+        }
+        let bytes = read(self.file)?;
+        (self.mark, self.failure) = (Some(found), None);
+        let data = data(bytes)?;
+        server.update(data.clone())?;
+        say_taken(self.file, &data);
+        if let Err(error) = server.save(&self.kept) {
+            say(format_args!("{}: {error}", self.kept));
+        }
+        Ok(())
+    }
+}
+
+/// Says which data were taken from a file.
+fn say_taken(file: &str, data: &Data) {
+    let (end, count) = (data.end(), data.len());
+    let (session, serial) = (end.session, end.serial);
+    say(format_args!(
+        "{file}: session {session} serial {serial}: {count} payloads"
+    ));
+}
+
+/// The bytes of a file, one more than are allowed at most.
+fn read(file: &str) -> io::Result<Vec<u8>> {
+    let file = File::open(file)?;
+    let mut bytes = Vec::with_capacity(file.metadata()?.len().min(LARGEST) as usize + 1);
+    file.take(LARGEST + 1).read_to_end(&mut bytes)?;
+    Ok(bytes)
+}
+
+/// The data that a file holds.
+fn data(bytes: Vec<u8>) -> Result<Data, Box<dyn Error>> {
     if bytes.len() as u64 > LARGEST {
         return Err(format!("more than {LARGEST} bytes").into());
     }
@@ -95,41 +220,35 @@ fn read(file: &str, server: &Server) -> Result<(), Box<dyn Error>> {
         Ok((Unit::CacheResponse(_), rest)) => rest,
         _ => &bytes,
     };
-    let data = Data::from_sequence(sequence)?;
-    let (end, count) = (data.end(), data.len());
-    if server.update(data)? {
-        let (session, serial) = (end.session, end.serial);
-        eprintln!("{file}: session {session} serial {serial}: {count} payloads");
-    }
-    Ok(())
+    Ok(Data::from_sequence(sequence)?)
 }
 
 /// Serves until a signal comes.
 fn serve(arguments: &Arguments) -> Result<(), Box<dyn Error>> {
-    let file = arguments.file.as_str();
-    let server = Server::telling(ServerOptions::default(), |client, error| {
-        eprintln!("{client}: {error}");
+    let options = ServerOptions {
+        refuse: arguments.refuse,
+        ..ServerOptions::default()
+    };
+    let server = Server::telling(options, |client, error| {
+        say(format_args!("{client}: {error}"));
     });
     signals::catch();
+    give_back();
+    let mut watched = Watched {
+        file: &arguments.file,
+        kept: format!("{}.kept", arguments.file),
+        mark: None,
+        failure: None,
+    };
+    watched.restore(&server);
     for address in &arguments.listen {
         let bound = server.listen(address.as_str());
         let bound = bound.map_err(|error| format!("{address}: {error}"))?;
-        eprintln!("listening on {bound}");
+        say(format_args!("listening on {bound}"));
     }
-    let (mut last, mut first) = (None, true);
     while !ENDED.load(Ordering::Relaxed) {
-        let now = mark(file);
-        if now != last || first {
-            (last, first) = (now, false);
-            if let Err(error) = read(file, &server) {
-                eprintln!("{file}: {error}");
-            }
-        }
-        for _ in 0..LOOK {
-            if !ENDED.load(Ordering::Relaxed) {
-                std::thread::sleep(TICK);
-            }
-        }
+        watched.look(&server);
+        std::thread::sleep(LOOK);
     }
     server.stop();
     Ok(())
@@ -139,14 +258,14 @@ fn main() -> ExitCode {
     let arguments = match arguments(std::env::args().skip(1)) {
         Some(arguments) => arguments,
         None => {
-            eprintln!("usage: cache FILE [--listen ADDRESS]...");
+            eprintln!("usage: cache FILE [--listen ADDRESS]... [--refuse]");
             return ExitCode::from(2);
         }
     };
     match serve(&arguments) {
         Ok(()) => ExitCode::SUCCESS,
         Err(error) => {
-            eprintln!("{error}");
+            say(error);
             ExitCode::FAILURE
         }
     }

@@ -75,16 +75,22 @@ mod client;
 #[cfg(feature = "std")]
 mod client_error;
 mod data;
+#[cfg(feature = "std")]
+mod editions;
 mod fault;
 #[cfg(feature = "std")]
 mod following;
 #[cfg(feature = "std")]
 mod input;
+#[cfg(feature = "std")]
+mod kept;
 mod kind;
 #[cfg(feature = "std")]
 mod lines;
 #[cfg(feature = "std")]
 mod machine;
+#[cfg(feature = "std")]
+mod output;
 #[cfg(feature = "std")]
 mod owned_data;
 #[cfg(feature = "std")]
@@ -95,15 +101,17 @@ mod sequence;
 #[cfg(feature = "std")]
 mod server;
 #[cfg(feature = "std")]
-mod serving;
+mod server_error;
 #[cfg(feature = "std")]
-mod snapshot;
+mod serving;
 mod sys;
 #[cfg(feature = "std")]
 mod timed;
 mod unit;
 mod units;
 mod validation;
+#[cfg(feature = "std")]
+mod waiting;
 #[cfg(feature = "std")]
 mod writer;
 
@@ -126,9 +134,7 @@ pub use sequence::{normalise, normalise_for, same_meaning, NotCompared, Progress
 #[cfg(feature = "std")]
 pub use server::{Server, ServerOptions};
 #[cfg(feature = "std")]
-pub use serving::ServerError;
-#[cfg(feature = "std")]
-pub use snapshot::UpdateError;
+pub use server_error::{ServerError, UpdateError};
 #[cfg(feature = "std")]
 pub use unit::OwnedUnit;
 pub use unit::{

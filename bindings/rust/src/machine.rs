@@ -1,9 +1,12 @@
-//! Safe calls of the proved machine of a router's end. Times are in milliseconds.
+//! Safe calls of the proved machines of a router's end and of a cache's end. Times are in
+//! milliseconds.
 
 pub(crate) use crate::abi::{action, cause, Action, Router as Machine};
+pub(crate) use crate::abi::{reason, serving, Cache, Present, Serving};
 
-use crate::abi::{self, Settings};
+use crate::abi::{self, CacheSettings, Settings};
 use crate::client::ClientOptions;
+use crate::server::ServerOptions;
 use std::mem::MaybeUninit;
 use std::string::String;
 use std::time::Duration;
@@ -11,7 +14,6 @@ use std::vec::Vec;
 
 /// What a report says of a cause: so the text stands in the archive alone.
 pub(crate) fn cause_text(cause: u8) -> String {
-    const FIXED: usize = 16; // of a report, before its text where no unit is in it
     let action = Action {
         cause,
         reports: true,
@@ -19,11 +21,30 @@ pub(crate) fn cause_text(cause: u8) -> String {
     };
     let mut report = Vec::new();
     action.append_report(&[], &mut report);
+    text_of(&report)
+}
+
+/// What a report says of the reason for which a cache ends a connection.
+pub(crate) fn reason_text(reason: u8) -> String {
+    let serving = Serving {
+        kind: serving::END,
+        reason,
+        reports: true,
+        ..Serving::default()
+    };
+    let mut report = Vec::new();
+    serving.append(&[], &mut report);
+    text_of(&report)
+}
+
+/// The text of a report about no unit.
+fn text_of(report: &[u8]) -> String {
+    const FIXED: usize = 16; // the bytes before it
     String::from_utf8_lossy(report.get(FIXED..).unwrap_or_default()).into_owned()
 }
 
 /// A span in milliseconds; what isn't zero isn't rounded to zero.
-fn milliseconds(span: Duration) -> u32 {
+pub(crate) fn milliseconds(span: Duration) -> u32 {
     let whole = u32::try_from(span.as_millis()).unwrap_or(u32::MAX);
     whole.max(u32::from(!span.is_zero()))
 }
@@ -115,22 +136,95 @@ impl Action {
 
     /// Appends the report that it owes about the unit that the input begins with, if one is owed.
     pub(crate) fn append_report(&self, input: &[u8], output: &mut Vec<u8>) {
-        if !self.reports {
-            return;
+        if self.reports {
+            append_report(output, |report, room, written| unsafe {
+                let (start, length) = (input.as_ptr(), input.len());
+                abi::rtr_router_report_nonnull(self, start, length, report, room, written)
+            });
         }
-        let (mut report, mut written) = (std::vec![0; crate::unit::LONGEST], 0);
-        let owed = unsafe {
-            abi::rtr_router_report_nonnull(
+    }
+}
+
+/// Appends the report that is written at a pointer with so much room behind it; a count says how
+/// long it is.
+fn append_report(output: &mut Vec<u8>, write: impl Fn(*mut u8, usize, &mut usize) -> bool) {
+    let (mut report, mut written) = (std::vec![0; crate::unit::LONGEST], 0);
+    if write(report.as_mut_ptr(), report.len(), &mut written) {
+        output.extend_from_slice(&report[..written]);
+    }
+}
+
+impl Cache {
+    /// A connection that was made now, with these options.
+    pub(crate) fn new(now: u64, options: &ServerOptions) -> Cache {
+        let settings = CacheSettings {
+            first_limit: milliseconds(options.first_query),
+            idle_limit: milliseconds(options.idle),
+            pause: milliseconds(options.notify),
+            refuses: options.refuse,
+        };
+        let mut cache = Cache::default();
+        unsafe { abi::rtr_cache_init(&mut cache, now, &settings) };
+        cache
+    }
+
+    pub(crate) fn tick(&mut self, now: u64, present: &Present) -> Serving {
+        let mut serving = Serving::default();
+        unsafe { abi::rtr_cache_tick(self, now, present, &mut serving) };
+        serving
+    }
+
+    pub(crate) fn full(&mut self, now: u64, present: &Present) -> Serving {
+        let mut serving = Serving::default();
+        unsafe { abi::rtr_cache_full(self, now, present, &mut serving) };
+        serving
+    }
+
+    /// A unit came; `ended` where nothing follows it. Changes can be told from these serial numbers
+    /// on.
+    pub(crate) fn read(
+        &mut self,
+        now: u64,
+        present: &Present,
+        known: &[u32],
+        input: &[u8],
+        ended: bool,
+    ) -> Serving {
+        let mut serving = Serving::default();
+        unsafe {
+            abi::rtr_cache_read_nonnull(
                 self,
+                now,
+                present,
+                known.as_ptr(),
+                known.len(),
                 input.as_ptr(),
                 input.len(),
-                report.as_mut_ptr(),
-                report.len(),
-                &mut written,
+                ended,
+                &mut serving,
             )
         };
-        if owed {
-            output.extend_from_slice(&report[..written]);
+        serving
+    }
+
+    /// When a tick is wanted, if nothing comes before.
+    pub(crate) fn wakes(&self, present: &Present) -> u64 {
+        unsafe { abi::rtr_cache_wakes(self, present) }
+    }
+}
+
+impl Serving {
+    /// Appends the unit that an answer begins with, or the report that is owed about the unit that
+    /// the input begins with.
+    pub(crate) fn append(&self, input: &[u8], output: &mut Vec<u8>) {
+        if self.reports {
+            return append_report(output, |report, room, written| unsafe {
+                let (start, length) = (input.as_ptr(), input.len());
+                abi::rtr_cache_report_nonnull(self, start, length, report, room, written)
+            });
         }
+        let mut unit = [0; 12];
+        let length = unsafe { abi::rtr_cache_unit_nonnull(self, unit.as_mut_ptr(), unit.len()) };
+        output.extend_from_slice(&unit[..length]);
     }
 }

@@ -183,11 +183,6 @@ impl<R> Reader<R> {
         self.inner
     }
 
-    /// Whether a unit was read in part.
-    pub(crate) fn is_inside_unit(&self) -> bool {
-        self.filled > 0 && self.size == 0
-    }
-
     /// A fault of the unit in the buffer.
     fn refusal(&self, fault: Fault) -> Error {
         Error::Refused(Refusal {

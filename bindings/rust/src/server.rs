@@ -1,20 +1,27 @@
 //! A cache.
 
+use crate::editions::Edition;
+use crate::kept::{restore, save};
 use crate::owned_data::Data;
-use crate::serving::{serve, ServerError};
-use crate::snapshot::{locked, Snapshot, UpdateError};
-use crate::timed::{set_ticks, Stop, TICK};
+use crate::server_error::{ServerError, UpdateError};
+use crate::serving::{Connection, Moment};
+use crate::timed::{is_tick, Stop};
+use crate::waiting::{wait, waker, Awaited, Waker, Woken};
 use std::boxed::Box;
 use std::io;
 use std::net::{SocketAddr, TcpListener, TcpStream, ToSocketAddrs};
+use std::path::Path;
 use std::string::ToString;
-use std::sync::{Arc, Condvar, Mutex, PoisonError};
+use std::sync::atomic::{AtomicUsize, Ordering};
+use std::sync::{Arc, Mutex, MutexGuard, PoisonError};
 use std::thread::{self, JoinHandle};
-use std::time::Duration;
+use std::time::{Duration, Instant};
 use std::vec::Vec;
 
-/// The stack of a thread that serves a client.
-const STACK: usize = 1 << 18;
+/// How many connections may be closing beside those that are served.
+const MOST_CLOSING: usize = 64;
+/// How long no client is taken in, in milliseconds, after the system had no place for one.
+const PAUSE: u64 = 100;
 
 /// The limits of a [`Server`].
 ///
@@ -22,14 +29,21 @@ const STACK: usize = 1 << 18;
 /// use rtr_wire::ServerOptions;
 ///
 /// let options = ServerOptions { connections: 50, ..ServerOptions::default() };
-/// assert_eq!(options.serials, 8);
+/// assert_eq!(options.keep.as_secs(), 7200);
 /// ```
 #[derive(Clone, Debug)]
 pub struct ServerOptions {
-    /// How many clients are served at once, 1024 if not said. More are disconnected at once.
+    /// How many clients are served at once, 1024 if not said. One more gets a report of code 1.
     pub connections: usize,
-    /// How many serial numbers before the present one clients may have data of, 8 if not said.
-    pub serials: usize,
+    /// How long it is known what leads from data to the present ones, after newer ones came: two
+    /// hours if not said.
+    pub keep: Duration,
+    /// How many bytes of what leads back are kept for that at most, and of what leads clients from
+    /// there: 64 MiB of each if not said.
+    pub keep_bytes: usize,
+    /// Whether a client whose data aren't known any more is ended by a report of code 0, in place
+    /// of a cache reset: for routers that ask again soon after such a report alone, as BIRD 2.0.
+    pub refuse: bool,
     /// How long a client has for its first query, 30 seconds if not said.
     pub first_query: Duration,
     /// How long a unit may take to come, 10 seconds if not said.
@@ -50,7 +64,9 @@ impl Default for ServerOptions {
     fn default() -> Self {
         ServerOptions {
             connections: 1024,
-            serials: 8,
+            keep: Duration::from_secs(7200),
+            keep_bytes: 1 << 26,
+            refuse: false,
             first_query: Duration::from_secs(30),
             unit: Duration::from_secs(10),
             idle: Duration::from_secs(25 * 3600),
@@ -64,59 +80,28 @@ impl Default for ServerOptions {
 /// What is told of each connection that the server ends.
 type Ended = dyn Fn(SocketAddr, &ServerError) + Send + Sync;
 
-/// What the threads of a server share.
+/// What the thread of a server shares with its callers.
 pub(crate) struct Shared {
     pub(crate) options: ServerOptions,
-    pub(crate) stop: Stop,
-    current: Mutex<Option<Arc<Snapshot>>>,
+    pub(crate) ended: Box<Ended>,
+    stop: Stop,
+    /// The listeners that the thread hasn't taken up.
+    listeners: Mutex<Vec<TcpListener>>,
+    newest: Mutex<Option<Arc<Edition>>>,
     /// How many clients are served.
-    clients: Mutex<usize>,
-    client_gone: Condvar,
-    ended: Box<Ended>,
+    clients: AtomicUsize,
 }
 
-impl Shared {
-    /// What the cache has now.
-    pub(crate) fn current(&self) -> Option<Arc<Snapshot>> {
-        locked(&self.current).clone()
-    }
-}
-
-/// One of the clients that are served, until it is dropped.
-struct Client(Arc<Shared>);
-
-impl Client {
-    /// One more, unless there are as many as are allowed.
-    fn admit(shared: &Arc<Shared>) -> Option<Self> {
-        let mut clients = locked(&shared.clients);
-        if *clients >= shared.options.connections {
-            return None;
-        }
-        *clients += 1;
-        Some(Client(Arc::clone(shared)))
-    }
-}
-
-impl Drop for Client {
-    fn drop(&mut self) {
-        *locked(&self.0.clients) -= 1;
-        self.0.client_gone.notify_all();
-    }
-}
-
-/// A cache over TCP (RFC 8210), for clients of versions 0 to 2, each in a thread of its own.
+/// A cache over TCP (RFC 8210), for clients of versions 0 to 2, in one thread.
 ///
-/// A reset query is answered by all data, and a serial query by the changes since that serial
-/// number, as [`Data::delta_to`] makes them; for a session or a serial number that isn't known, by
-/// a cache reset. The first query says in which version; one that there isn't is answered by a
-/// report with code 4. Before there are data, queries are answered by a report with code 2. Clients
-/// that have asked are notified of new data; where these are of another session they are
-/// disconnected.
+/// The proved machine of `rtr_cache` decides what each client is answered: all data, the changes
+/// since a serial number, as [`Data::delta_to`] makes them, a cache reset where it isn't known what
+/// these are, or a report; and when it is notified of new data. Where these are of another session,
+/// clients that have data are disconnected at once.
 ///
-/// A bad unit is answered by the report that it owes, and the client is disconnected; so it is,
-/// with no report, if it sends a report, or is slower than [`ServerOptions`] allow. No client waits
-/// for another. An answer to a slow one is cut where its data are no longer kept, so that memory
-/// stays bounded by the data of twice as many serial numbers as are kept.
+/// No client waits for another's connection, but all do while data are made for the first that asks
+/// for them, in a version and from a serial number. A client holds its place in data that all share: of one edition
+/// more than two behind it gets no more. A slow one is ended by the limits of [`ServerOptions`].
 ///
 /// Neither is anything encrypted nor is a client authenticated (RFC 8210 section 9).
 ///
@@ -132,7 +117,7 @@ impl Drop for Client {
 /// ```
 pub struct Server {
     shared: Arc<Shared>,
-    listeners: Mutex<Vec<JoinHandle<()>>>,
+    thread: Mutex<Option<(JoinHandle<()>, Waker)>>,
 }
 
 impl Server {
@@ -141,8 +126,8 @@ impl Server {
         Server::telling(options, |_, _| {})
     }
 
-    /// The same, of a server that tells why it ended the connection of a client. Several threads
-    /// may call at once.
+    /// The same, of a server that tells why it ended the connection of a client. Until that returns
+    /// it serves nobody.
     pub fn telling(
         options: ServerOptions,
         ended: impl Fn(SocketAddr, &ServerError) + Send + Sync + 'static,
@@ -150,34 +135,59 @@ impl Server {
         Server {
             shared: Arc::new(Shared {
                 options,
-                stop: Stop::default(),
-                current: Mutex::new(None),
-                clients: Mutex::new(0),
-                client_gone: Condvar::new(),
                 ended: Box::new(ended),
+                stop: Stop::default(),
+                listeners: Mutex::default(),
+                newest: Mutex::default(),
+                clients: AtomicUsize::new(0),
             }),
-            listeners: Mutex::default(),
+            thread: Mutex::default(),
         }
     }
 
     /// Has clients get these data from now on, in the session and with the serial number of their
-    /// end of data. Answers whether that changes anything: where neither the session nor a payload
-    /// differs and the serial number isn't after the present one, it doesn't.
+    /// end of data. Answers whether they aren't those that the server has already.
     ///
     /// # Errors
     ///
-    /// `SerialNotAfter`, for other data under a serial number that clients may have already.
+    /// `NewTimings`; `SerialNotAfter`, also for the same payloads under an earlier serial number.
     pub fn update(&self, data: Data) -> Result<bool, UpdateError> {
-        let mut current = locked(&self.shared.current);
-        let next = match &*current {
-            None => Some(Snapshot::first(data, 0)),
-            Some(present) => present.next(data, self.shared.options.serials)?,
+        let mut newest = locked(&self.shared.newest);
+        let next = match &*newest {
+            None => Some(Edition::first(data, 0)),
+            Some(present) => present.next(&data, &self.shared.options)?,
         };
-        let changed = next.is_some();
+        let is_new = next.is_some();
         if let Some(next) = next {
-            *current = Some(Arc::new(next));
+            *newest = Some(Arc::new(next));
+            self.wake();
         }
-        Ok(changed)
+        Ok(is_new)
+    }
+
+    /// Writes the data, and what leads back to those before them, to a file: by another one beside
+    /// it, which then gets its name. Without data it writes nothing.
+    ///
+    /// # Errors
+    ///
+    /// Those of writing.
+    pub fn save(&self, path: impl AsRef<Path>) -> io::Result<()> {
+        let newest = locked(&self.shared.newest).clone();
+        newest.map_or(Ok(()), |edition| save(&edition, path.as_ref()))
+    }
+
+    /// Takes what [`Server::save`] wrote, if the server has no data yet, and answers the data that it
+    /// then has. So clients go on where they are; call it before [`Server::listen`].
+    ///
+    /// # Errors
+    ///
+    /// Those of reading, of which `InvalidData` is for a file that isn't as it was written.
+    pub fn restore(&self, path: impl AsRef<Path>) -> io::Result<Data> {
+        let edition = restore(path.as_ref(), &self.shared.options)?;
+        let mut newest = locked(&self.shared.newest);
+        let data = newest.get_or_insert_with(|| Arc::new(edition)).data();
+        self.wake();
+        Ok(data)
     }
 
     /// Listens at an address too, and answers which one it is: one with port 0 gets a port that is
@@ -190,28 +200,35 @@ impl Server {
         let listener = TcpListener::bind(address)?;
         listener.set_nonblocking(true)?;
         let address = listener.local_addr()?;
-        let shared = Arc::clone(&self.shared);
-        let thread = thread::Builder::new().name("rtr listener".to_string());
-        let thread = thread.spawn(move || accept(&shared, &listener))?;
-        locked(&self.listeners).push(thread);
+        let mut thread = locked(&self.thread);
+        if thread.is_none() {
+            *thread = Some(start(&self.shared)?);
+        }
+        locked(&self.shared.listeners).push(listener);
+        drop(thread);
+        self.wake();
         Ok(address)
     }
 
-    /// How many clients are connected.
+    /// How many clients are served.
     pub fn clients(&self) -> usize {
-        *locked(&self.shared.clients)
+        self.shared.clients.load(Ordering::Relaxed)
     }
 
-    /// Closes all connections, and ends all threads. A server that is dropped is stopped.
+    /// Closes all connections, and ends the thread. A server that is dropped is stopped.
     pub fn stop(&self) {
         self.shared.stop.set();
-        for thread in locked(&self.listeners).drain(..) {
+        self.wake();
+        let thread = locked(&self.thread).take();
+        if let Some((thread, _)) = thread {
             let _ = thread.join();
         }
-        let mut clients = locked(&self.shared.clients);
-        while *clients > 0 {
-            let woken = self.shared.client_gone.wait(clients);
-            clients = woken.unwrap_or_else(PoisonError::into_inner);
+    }
+
+    /// Has the thread look for what is new.
+    fn wake(&self) {
+        if let Some((_, waker)) = &*locked(&self.thread) {
+            waker.wake();
         }
     }
 }
@@ -222,31 +239,122 @@ impl Drop for Server {
     }
 }
 
-/// Takes in clients until the server stops.
-fn accept(shared: &Arc<Shared>, listener: &TcpListener) {
-    while !shared.stop.is_set() {
-        match listener.accept() {
-            Ok((stream, from)) => start(shared, stream, from),
-            // None has come, or there is no descriptor left.
-            Err(_) => thread::sleep(TICK / 4),
-        }
-    }
+/// The mutex locked. What it holds is whole, even if a thread has panicked.
+pub(crate) fn locked<T>(mutex: &Mutex<T>) -> MutexGuard<'_, T> {
+    mutex.lock().unwrap_or_else(PoisonError::into_inner)
 }
 
-/// Serves a client in a thread, if there is room for one more. Else the stream is closed.
-fn start(shared: &Arc<Shared>, stream: TcpStream, from: SocketAddr) {
-    let client = match Client::admit(shared) {
-        Some(client) => client,
-        None => return (shared.ended)(from, &ServerError::TooManyClients),
+/// Starts the thread of a server.
+fn start(shared: &Arc<Shared>) -> io::Result<(JoinHandle<()>, Waker)> {
+    let (waker, woken) = waker()?;
+    let host = Host {
+        begun: Instant::now(),
+        woken,
+        listeners: Vec::new(),
+        connections: Vec::new(),
+        takes_from: 0,
+        moment: Moment {
+            now: 0,
+            shared: Arc::clone(shared),
+            newest: None,
+        },
     };
-    let thread = thread::Builder::new().name("rtr client".to_string());
-    // Without a thread the client is dropped, and its stream with it.
-    let _ = thread.stack_size(STACK).spawn(move || {
-        let shared = &client.0;
-        let served = set_ticks(&stream).map_err(ServerError::Io);
-        match served.and_then(|()| serve(shared, &stream)) {
-            Err(error) if !shared.stop.is_set() => (shared.ended)(from, &error),
-            _ => {}
+    let thread = thread::Builder::new().name("rtr cache".to_string());
+    Ok((thread.spawn(move || host.run())?, waker))
+}
+
+/// What serves clients, in a thread.
+struct Host {
+    begun: Instant,
+    woken: Woken,
+    listeners: Vec<TcpListener>,
+    connections: Vec<Connection>,
+    /// When clients are taken in again.
+    takes_from: u64,
+    moment: Moment,
+}
+
+impl Host {
+    fn run(mut self) {
+        loop {
+            let awaited = self.wait();
+            if self.moment.shared.stop.is_set() {
+                return self.moment.shared.clients.store(0, Ordering::Relaxed);
+            }
+            self.look();
+            self.go_on(&awaited);
         }
-    });
+    }
+
+    /// Waits until something has come or is to be done: answers what has come for the waker, the
+    /// connections, and the listeners if clients are taken in.
+    fn wait(&mut self) -> Vec<Awaited> {
+        self.moment.now = self.begun.elapsed().as_millis() as u64;
+        let (now, moment) = (self.moment.now, &self.moment);
+        let pause = Some(self.takes_from).filter(|time| *time > now);
+        let times = self.connections.iter().map(|one| one.wakes(moment));
+        let wakes = times.chain(pause).min().unwrap_or(u64::MAX);
+        let most = moment.shared.options.connections;
+        let takes = pause.is_none() && self.connections.len() < most.saturating_add(MOST_CLOSING);
+        let mut awaited = std::vec![self.woken.awaited()];
+        awaited.extend(self.connections.iter().map(Connection::awaited));
+        if takes {
+            awaited.extend(self.listeners.iter().map(Awaited::to_read));
+        }
+        wait(&mut awaited, wakes.saturating_sub(now));
+        self.moment.now = self.begun.elapsed().as_millis() as u64;
+        awaited
+    }
+
+    /// Takes up the listeners and the data that are new.
+    fn look(&mut self) {
+        self.woken.clear();
+        let shared = &self.moment.shared;
+        self.listeners.append(&mut locked(&shared.listeners));
+        self.moment.newest = locked(&shared.newest).clone();
+    }
+
+    /// Goes on with all connections that can or have to, and takes in new ones.
+    fn go_on(&mut self, awaited: &[Awaited]) {
+        let (clients, listeners) = awaited[1..].split_at(self.connections.len());
+        for (connection, awaited) in self.connections.iter_mut().zip(clients) {
+            if awaited.is_ready() || connection.wakes(&self.moment) <= self.moment.now {
+                connection.go_on(&self.moment, awaited.is_ready());
+            }
+        }
+        for at in (0..listeners.len()).filter(|at| listeners[*at].is_ready()) {
+            match self.listeners[at].accept() {
+                Ok((stream, from)) => self.take_in(stream, from),
+                Err(error) if is_tick(&error) => {}
+                Err(_) => self.takes_from = self.moment.now + PAUSE,
+            }
+        }
+        let moment = &self.moment;
+        self.connections.retain(|one| !one.is_over(moment.now));
+        moment
+            .shared
+            .clients
+            .store(self.served(), Ordering::Relaxed);
+    }
+
+    /// How many clients are served.
+    fn served(&self) -> usize {
+        self.connections
+            .iter()
+            .filter(|one| one.is_served())
+            .count()
+    }
+
+    /// Takes a client in, or refuses it: where there are as many as there may be, or the system has
+    /// no descriptor left beside that of its connection.
+    fn take_in(&mut self, stream: TcpStream, from: SocketAddr) {
+        let is_last = stream.try_clone().is_err();
+        let is_full = self.served() >= self.moment.shared.options.connections;
+        if let Ok(mut connection) = Connection::new(stream, from, &self.moment) {
+            if is_last || is_full {
+                connection.refuse(&self.moment);
+            }
+            self.connections.push(connection);
+        }
+    }
 }

@@ -1,340 +1,258 @@
 //! A client of a cache.
 
-use crate::fault::ErrorCode;
-use crate::kind::Kind;
-use crate::reader::{Error, Refusal};
+use crate::editions::Edition;
+use crate::input::Input;
+use crate::machine::{milliseconds, serving, Cache, Present, Serving};
+use crate::output::Output;
 use crate::server::Shared;
-use crate::snapshot::Snapshot;
-use crate::timed::{after, close, is_tick_of_reader, report_on, units, write_all, Units};
-use crate::unit::{CacheReset, CacheResponse, ErrorReport, SerialNotify, Unit, UnitRef};
-use std::fmt;
-use std::io::{self, ErrorKind};
-use std::net::TcpStream;
-use std::string::{String, ToString};
-use std::time::Instant;
+use crate::server_error::ServerError;
+use crate::timed::is_tick;
+use crate::waiting::Awaited;
+use std::io::{self, Read};
+use std::net::{Shutdown, SocketAddr, TcpStream};
+use std::sync::Arc;
+use std::time::Duration;
 use std::vec::Vec;
 
-/// The newest version of the protocol that there is.
-const NEWEST: u8 = 2;
+/// How many bytes are read at once.
+const CHUNK: usize = 4096;
+/// How many editions may come while a client is sent one.
+const MOST_BEHIND: u64 = 2;
+/// How long a client is read on after the last that it is sent, in milliseconds: it would be taken
+/// from it by a close with bytes unread.
+const LINGER: u64 = 200;
 
-/// What a client asks.
-enum Query {
-    Reset,
-    Serial { session: u16, serial: u32 },
+/// What connections go on with: the time, and what the cache has.
+pub(crate) struct Moment {
+    pub(crate) now: u64,
+    pub(crate) shared: Arc<Shared>,
+    pub(crate) newest: Option<Arc<Edition>>,
 }
 
-/// Why a [`Server`](crate::Server) ended a connection.
-#[derive(Debug)]
-#[non_exhaustive]
-pub enum ServerError {
-    /// The connection failed.
-    Io(io::Error),
-    /// The client let a limit of time pass.
-    TooSlow,
-    /// There are as many clients as are allowed.
-    TooManyClients,
-    /// The client has data of a session before the present one.
-    OtherSession,
-    /// A unit of the client is refused.
-    Refused {
-        /// The code that it is reported with, if a report is owed.
-        code: Option<ErrorCode>,
-        /// What is wrong.
-        text: String,
-    },
-    /// The client sent an error report.
-    Reported(ErrorReport<Vec<u8>>),
-}
-
-impl fmt::Display for ServerError {
-    fn fmt(&self, f: &mut fmt::Formatter<'_>) -> fmt::Result {
-        match self {
-            ServerError::Io(error) => error.fmt(f),
-            ServerError::TooSlow => f.write_str("the client is too slow"),
-            ServerError::TooManyClients => f.write_str("too many clients"),
-            ServerError::OtherSession => f.write_str("the data are of a new session"),
-            ServerError::Refused { text, .. } => f.write_str(text),
-            ServerError::Reported(report) => write!(f, "the client reports: {}", report.code),
-        }
+impl Moment {
+    /// What names the newest data.
+    fn present(&self) -> Present {
+        let newest = self.newest.as_ref();
+        newest.map_or_else(Present::default, |newest| newest.present)
     }
 }
 
-impl std::error::Error for ServerError {
-    fn source(&self) -> Option<&(dyn std::error::Error + 'static)> {
-        match self {
-            ServerError::Io(error) => Some(error),
+/// The time so much later.
+fn later(time: u64, span: Duration) -> u64 {
+    time.saturating_add(milliseconds(span).into())
+}
+
+/// How far a connection has come.
+#[derive(PartialEq)]
+enum Phase {
+    Served,
+    /// What is sent is the last.
+    Ending,
+    /// Nothing is sent any more, and what comes until then is passed over.
+    Over {
+        until: u64,
+    },
+}
+
+/// The connection of a client, which holds its place in what is sent, and no data.
+pub(crate) struct Connection {
+    stream: TcpStream,
+    from: SocketAddr,
+    machine: Cache,
+    input: Input,
+    /// When the unit began to come that the input begins with.
+    began: u64,
+    /// Whether something came that the machine wasn't told of.
+    is_untold: bool,
+    output: Option<Output>,
+    /// The session and the number of the edition whose data are sent.
+    place: Option<(u16, u64)>,
+    phase: Phase,
+}
+
+impl Connection {
+    /// A connection from there that was just made.
+    pub(crate) fn new(
+        stream: TcpStream,
+        from: SocketAddr,
+        moment: &Moment,
+    ) -> io::Result<Connection> {
+        stream.set_nonblocking(true)?;
+        stream.set_nodelay(true)?;
+        Ok(Connection {
+            stream,
+            from,
+            machine: Cache::new(moment.now, &moment.shared.options),
+            input: Input::default(),
+            began: moment.now,
+            is_untold: false,
+            output: None,
+            place: None,
+            phase: Phase::Served,
+        })
+    }
+
+    /// Ends the connection, since it is one more than there may be.
+    pub(crate) fn refuse(&mut self, moment: &Moment) {
+        let serving = self.machine.full(moment.now, &moment.present());
+        self.perform(&serving, moment);
+        self.send(moment);
+    }
+
+    /// Whether the connection hasn't ended.
+    pub(crate) fn is_served(&self) -> bool {
+        self.phase == Phase::Served
+    }
+
+    /// Whether nothing is left to be done.
+    pub(crate) fn is_over(&self, now: u64) -> bool {
+        matches!(self.phase, Phase::Over { until } if until <= now)
+    }
+
+    /// What it waits for.
+    pub(crate) fn awaited(&self) -> Awaited {
+        match &self.output {
+            Some(_) => Awaited::to_write(&self.stream),
+            None => Awaited::to_read(&self.stream),
+        }
+    }
+
+    /// When it is to go on if what it waits for doesn't come before.
+    pub(crate) fn wakes(&self, moment: &Moment) -> u64 {
+        match self.phase {
+            Phase::Over { until } => until,
+            _ if self.failure(moment).is_some() => 0,
+            _ if self.output.is_some() => self.due(moment),
+            _ if self.is_untold => 0,
+            _ => self.due(moment).min(self.machine.wakes(&moment.present())),
+        }
+    }
+
+    /// When the time is over for what is sent, or for the unit that comes.
+    fn due(&self, moment: &Moment) -> u64 {
+        let options = &moment.shared.options;
+        match &self.output {
+            Some(output) => {
+                later(output.went_on, options.write).min(later(output.began, options.response))
+            }
+            None if self.input.bytes().is_empty() => u64::MAX,
+            None => later(self.began, options.unit),
+        }
+    }
+
+    /// Why the connection is given up, if it is: the time is over, or what is sent is too old.
+    fn failure(&self, moment: &Moment) -> Option<ServerError> {
+        if moment.now >= self.due(moment) {
+            return Some(ServerError::TooSlow);
+        }
+        let (session, number) = self.place.filter(|_| self.output.is_some())?;
+        match moment.newest.as_ref()? {
+            newest if newest.present.session != session => Some(ServerError::OtherSession),
+            newest if newest.number - number > MOST_BEHIND => Some(ServerError::TooFarBehind),
             _ => None,
         }
     }
-}
 
-/// Why a connection ends, with the report that the client is sent.
-struct End(ServerError, Option<ErrorReport<Vec<u8>>>);
-
-impl From<ServerError> for End {
-    fn from(error: ServerError) -> Self {
-        End(error, None)
-    }
-}
-
-impl From<io::Error> for End {
-    fn from(error: io::Error) -> Self {
-        End::from(match error.kind() {
-            ErrorKind::TimedOut => ServerError::TooSlow,
-            _ => ServerError::Io(error),
-        })
-    }
-}
-
-/// Serves a client, until the connection ends. Answers why, unless the client closed it between two
-/// units.
-pub(crate) fn serve(shared: &Shared, stream: &TcpStream) -> Result<(), ServerError> {
-    let mut connection = Connection {
-        shared,
-        stream,
-        units: units(stream, &shared.stop, shared.options.unit),
-        version: None,
-        told: None,
-        notified: None,
-    };
-    let ended = connection.run();
-    if let Err(End(_, Some(report))) = &ended {
-        let _ = connection.send(&Unit::ErrorReport(report.clone()));
-    }
-    close(stream);
-    ended.map_err(|End(error, _)| error)
-}
-
-struct Connection<'s> {
-    shared: &'s Shared,
-    stream: &'s TcpStream,
-    units: Units<'s>,
-    /// The version of the first query.
-    version: Option<u8>,
-    /// The snapshot that the client knows of.
-    told: Option<Told>,
-    /// When it was notified last.
-    notified: Option<Instant>,
-}
-
-#[derive(Clone, Copy, PartialEq)]
-struct Told {
-    number: u64,
-    session: u16,
-}
-
-impl Told {
-    fn of(snapshot: &Snapshot) -> Self {
-        Told {
-            number: snapshot.number,
-            session: snapshot.session(),
+    /// Goes on without waiting, by one answer at most; it is ready if what it waited for has come.
+    pub(crate) fn go_on(&mut self, moment: &Moment, is_ready: bool) {
+        if is_ready && self.output.is_none() && !self.is_untold {
+            self.receive(moment);
         }
-    }
-}
-
-impl Connection<'_> {
-    /// Answers queries.
-    fn run(&mut self) -> Result<(), End> {
-        let options = &self.shared.options;
-        self.units
-            .expect_until(after(Instant::now(), options.first_query));
-        loop {
-            match self.units.next_unit() {
-                Ok(Some(Unit::ErrorReport(report))) => {
-                    return Err(ServerError::Reported(report.into_owned()).into());
-                }
-                Ok(Some(unit)) => {
-                    let (kind, version, query) = (unit.kind(), unit.version(), query_of(&unit));
-                    self.check(version)?;
-                    match query {
-                        Some(query) => self.answer(version, query)?,
-                        None => return Err(self.refuse_kind(kind)),
-                    }
-                    self.units.expect_until(after(Instant::now(), options.idle));
-                }
-                Ok(None) => return Ok(()),
-                Err(error) if is_tick_of_reader(&error) => {
-                    self.units.after_tick();
-                    self.tick()?;
-                }
-                Err(Error::Refused(refusal)) => return Err(self.refuse(&refusal)),
-                Err(error) => return Err(io::Error::from(error).into()),
+        match self.failure(moment) {
+            Some(error) => self.lose(error, moment),
+            None if self.output.is_none() && self.is_served() => {
+                let serving = self.tell(moment);
+                self.perform(&serving, moment);
             }
+            None => {}
+        }
+        self.send(moment);
+    }
+
+    /// Takes some of what came.
+    fn receive(&mut self, moment: &Moment) {
+        let mut buffer = [0; CHUNK];
+        let is_empty = self.input.bytes().is_empty();
+        match self.stream.read(&mut buffer) {
+            Ok(0) if is_empty => self.phase = Phase::Over { until: 0 },
+            Ok(_) if !self.is_served() => {}
+            Ok(count) => {
+                if is_empty {
+                    self.began = moment.now;
+                }
+                self.input.add(&buffer[..count]);
+                self.is_untold = true;
+            }
+            Err(error) if is_tick(&error) => {}
+            Err(error) => self.lose(ServerError::Io(error), moment),
         }
     }
 
-    /// The unit that came has to be of the version of the session (RFC 8210 section 7).
-    fn check(&mut self, version: u8) -> Result<(), End> {
-        match wrong_version(self.version, version) {
-            Some(code) => {
-                let text = std::format!("{code}: version {version}");
-                Err(self.refused(code, self.units.bytes(), text))
-            }
-            None => {
-                self.version = Some(version);
-                Ok(())
+    /// Tells the machine of a unit that came, or of the time.
+    fn tell(&mut self, moment: &Moment) -> Serving {
+        let (now, present) = (moment.now, moment.present());
+        let (input, ended) = (self.input.bytes(), self.input.has_ended());
+        self.is_untold = false;
+        if !input.is_empty() {
+            let newest = moment.newest.as_ref();
+            let known = newest.map_or(&[][..], |newest| &newest.known);
+            let serving = self.machine.read(now, &present, known, input, ended);
+            if serving.kind != serving::WAIT {
+                return serving;
             }
         }
+        self.machine.tick(now, &present)
     }
 
-    /// That a unit of the wrong kind came.
-    fn refuse_kind(&self, kind: Kind) -> End {
-        let text = std::format!("{kind} is not a query");
-        self.refused(ErrorCode::INVALID_REQUEST, self.units.bytes(), text)
-    }
-
-    /// That a unit can't be read. It may owe a report.
-    fn refuse(&self, refusal: &Refusal) -> End {
-        let (unit, text) = (&refusal.unit, refusal.fault.to_string());
-        let code = match refusal.fault.code(unit) {
-            Some(code) => code,
-            None => return ServerError::Refused { code: None, text }.into(),
+    /// Begins to send what the machine says.
+    fn perform(&mut self, serving: &Serving, moment: &Moment) {
+        let (version, serial, options) = (serving.version, serving.serial, &moment.shared.options);
+        let body = match (serving.kind, &moment.newest) {
+            (serving::WAIT, _) => return,
+            (serving::ALL, Some(newest)) => newest.all(version).shared(),
+            (serving::CHANGES, Some(newest)) => newest.since(version, serial, options).shared(),
+            _ => Arc::default(),
         };
-        let version = unit.first().copied().unwrap_or(NEWEST);
-        let code = wrong_version(self.version, version).unwrap_or(code);
-        self.refused(code, unit, text)
-    }
-
-    /// That a unit is refused, by a report about it.
-    fn refused(&self, code: ErrorCode, unit: &[u8], text: String) -> End {
-        let report = self.report(code, unit, &text);
-        let code = Some(code);
-        End(ServerError::Refused { code, text }, Some(report))
-    }
-
-    /// A report about a unit, in the version of the session.
-    fn report(&self, code: ErrorCode, unit: &[u8], text: &str) -> ErrorReport<Vec<u8>> {
-        let version = unit.first().copied().unwrap_or(NEWEST);
-        let version = self.version.unwrap_or(version.min(NEWEST));
-        report_on(version, code, unit, text)
-    }
-
-    /// Within a connection all data are of one session (RFC 8210 section 5.1).
-    fn check_session(&self, session: u16) -> Result<(), End> {
-        match self.told {
-            Some(told) if told.session != session => Err(ServerError::OtherSession.into()),
-            _ => Ok(()),
+        let newest = moment.newest.as_ref();
+        self.place = newest.map(|newest| (newest.present.session, newest.number));
+        let mut head = Vec::new();
+        serving.append(self.input.bytes(), &mut head);
+        self.output = Some(Output::new(head, body, moment.now));
+        if serving.kind == serving::END {
+            let error = ServerError::of(serving, self.input.bytes());
+            (moment.shared.ended)(self.from, &error);
+            self.phase = Phase::Ending;
+            self.input = Input::default();
         }
+        self.input.take(serving.taken.min(self.input.bytes().len()));
+        self.began = moment.now;
+        self.is_untold = !self.input.bytes().is_empty();
     }
 
-    /// Answers a query (RFC 8210 section 8).
-    fn answer(&mut self, version: u8, query: Query) -> Result<(), End> {
-        let snapshot = match self.shared.current() {
-            Some(snapshot) => snapshot,
-            None => {
-                let code = ErrorCode::NO_DATA_AVAILABLE;
-                let report = self.report(code, self.units.bytes(), &code.to_string());
-                return self.send(&Unit::ErrorReport(report));
-            }
+    /// The connection is over, for this reason.
+    fn lose(&mut self, error: ServerError, moment: &Moment) {
+        if self.is_served() {
+            (moment.shared.ended)(self.from, &error);
+        }
+        self.output = None;
+        self.phase = Phase::Over { until: 0 };
+    }
+
+    /// Sends on.
+    fn send(&mut self, moment: &Moment) {
+        let sent = match &mut self.output {
+            Some(output) => output.send(&self.stream, moment.now),
+            None => return,
         };
-        self.check_session(snapshot.session())?;
-        match query {
-            Query::Reset => self.respond(version, &snapshot, snapshot.data_for(version).as_bytes()),
-            Query::Serial { session, serial } => {
-                let delta = (session == snapshot.session())
-                    .then(|| snapshot.delta_for(version, serial))
-                    .flatten();
-                match delta {
-                    Some(changes) => self.respond(version, &snapshot, changes.as_bytes()),
-                    None => {
-                        let reset: UnitRef = Unit::CacheReset(CacheReset { version });
-                        self.told = Some(Told::of(&snapshot));
-                        self.send(&reset)
-                    }
-                }
-            }
+        match sent {
+            Ok(true) => self.output = None,
+            Err(error) if !is_tick(&error) => self.lose(ServerError::Io(error), moment),
+            _ => {}
         }
-    }
-
-    /// Sends a cache response, and a sequence after it. The answer is cut where the snapshot is
-    /// older than those that are kept, so that slow clients don't keep data.
-    fn respond(&mut self, version: u8, snapshot: &Snapshot, sequence: &[u8]) -> Result<(), End> {
-        let response: UnitRef = Unit::CacheResponse(CacheResponse {
-            version,
-            session: snapshot.session(),
-        });
-        self.send(&response)?;
-        self.write(sequence, Some(snapshot.number))?;
-        self.told = Some(Told::of(snapshot));
-        Ok(())
-    }
-
-    fn send<B: AsRef<[u8]>>(&self, unit: &Unit<B>) -> Result<(), End> {
-        let mut bytes = Vec::new();
-        unit.append(&mut bytes)
-            .map_err(|fault| io::Error::new(ErrorKind::Other, fault))?;
-        Ok(self.write(&bytes, None)?)
-    }
-
-    /// Writes bytes, of the snapshot of this number if there is one, within the limits.
-    fn write(&self, bytes: &[u8], number: Option<u64>) -> io::Result<()> {
-        let options = &self.shared.options;
-        let began = Instant::now();
-        let (mut last, mut progress) = (bytes.len(), began);
-        write_all(self.stream, bytes, |left| {
-            let now = Instant::now();
-            if left < last {
-                (last, progress) = (left, now);
-            }
-            let slow = now - progress >= options.write || now - began >= options.response;
-            let outdated = || match (number, self.shared.current()) {
-                (Some(number), Some(current)) => current.number - number > options.serials as u64,
-                _ => false,
-            };
-            if slow || self.shared.stop.is_set() || outdated() {
-                return Err(ErrorKind::TimedOut.into());
-            }
-            Ok(())
-        })
-    }
-
-    /// Ends where the server does or the session is another, and notifies of new data (RFC 8210
-    /// section 5.2).
-    fn tick(&mut self) -> Result<(), End> {
-        if self.shared.stop.is_set() {
-            return Err(io::Error::from(ErrorKind::TimedOut).into());
+        if self.output.is_none() && self.phase == Phase::Ending {
+            let _ = self.stream.shutdown(Shutdown::Write);
+            let until = moment.now + LINGER;
+            self.phase = Phase::Over { until };
         }
-        let (version, snapshot) = match (self.version, self.shared.current()) {
-            (Some(version), Some(snapshot)) => (version, snapshot),
-            _ => return Ok(()),
-        };
-        let now = Told::of(&snapshot);
-        self.check_session(now.session)?;
-        let waits = self
-            .notified
-            .map_or(false, |time| time.elapsed() < self.shared.options.notify);
-        if self.told == Some(now) || waits {
-            return Ok(());
-        }
-        let notify: UnitRef = Unit::SerialNotify(SerialNotify {
-            version,
-            session: now.session,
-            serial: snapshot.serial(),
-        });
-        self.send(&notify)?;
-        self.told = Some(now);
-        self.notified = Some(Instant::now());
-        Ok(())
-    }
-}
-
-/// The code for a unit of the wrong version: of one that there isn't in the first query, or of
-/// another later.
-fn wrong_version(agreed: Option<u8>, version: u8) -> Option<ErrorCode> {
-    match agreed {
-        None if version > NEWEST => Some(ErrorCode::UNSUPPORTED_PROTOCOL_VERSION),
-        Some(agreed) if agreed != version => Some(ErrorCode::UNEXPECTED_PROTOCOL_VERSION),
-        _ => None,
-    }
-}
-
-fn query_of(unit: &UnitRef) -> Option<Query> {
-    match unit {
-        Unit::ResetQuery(_) => Some(Query::Reset),
-        Unit::SerialQuery(query) => Some(Query::Serial {
-            session: query.session,
-            serial: query.serial,
-        }),
-        _ => None,
     }
 }

@@ -79,7 +79,10 @@ fn memory() {
     // A server: clients that ask over and over and don't read share the data.
     let data = data_of(SESSION, 1, u16::MAX);
     let (count, length) = (64, data.as_bytes().len());
-    let server = Server::new(ServerOptions::default());
+    let server = Server::new(ServerOptions {
+        keep_bytes: 0,
+        ..ServerOptions::default()
+    });
     let address = server.listen("127.0.0.1:0").expect("a port is free");
     assert_eq!(server.update(data), Ok(true));
     let held = most(|| {
@@ -91,7 +94,24 @@ fn memory() {
         assert!(holds(|| server.clients() == count));
         std::thread::sleep(Duration::from_millis(200));
     });
-    let bound = 4 * length + count * (128 << 10);
-    assert!(held < bound && bound < count * length, "{held} bytes");
+    assert!(held < count * (8 << 10), "{held} bytes");
+    // Routers that are slow hold three editions at most, of fifteen.
+    let before = HELD.load(Ordering::Relaxed);
+    let mut slow = Vec::new();
+    for serial in 2..=16 {
+        for _ in 0..3 {
+            let mut client = Peer::connect(address);
+            (0..40).for_each(|_| client.try_send(&reset_query(2)));
+            client.is_sent_to();
+            slow.push(client);
+        }
+        assert_eq!(server.update(data_of(SESSION, serial, u16::MAX)), Ok(true));
+    }
+    let few = || HELD.load(Ordering::Relaxed) < before + 2 * length + 15 * 3 * (8 << 10);
+    assert!(
+        holds(few),
+        "{} bytes",
+        HELD.load(Ordering::Relaxed) - before
+    );
     server.stop();
 }

@@ -6,7 +6,7 @@ mod peers;
 use peers::*;
 use rtr_wire::*;
 use std::io::{BufRead, BufReader, Read};
-use std::path::PathBuf;
+use std::path::{Path, PathBuf};
 use std::process::{Child, Command, Output, Stdio};
 use std::sync::mpsc::{channel, Receiver};
 
@@ -46,15 +46,42 @@ struct Cache {
 
 impl Cache {
     fn start(file: PathBuf) -> Cache {
-        let mut command = program("cache");
+        Cache::run(program("cache"), file)
+    }
+
+    fn run(mut command: Command, file: PathBuf) -> Cache {
         command.arg(&file).args(["--listen", "127.0.0.1:0"]);
         let mut child = command.stderr(Stdio::piped()).spawn().unwrap();
         let lines = Lines::of(child.stderr.take().unwrap());
         Cache { child, lines, file }
     }
 
+    /// The next line, without the time before it.
     fn line(&self) -> String {
-        self.lines.next()
+        let today = || {
+            let date = Command::new("date").args(["-u", "+%Y-%m-%dT"]).output();
+            String::from_utf8(date.unwrap().stdout).unwrap()
+        };
+        let before = today();
+        let line = self.lines.next();
+        let (time, said) = line.split_once(' ').expect("there is a time");
+        let days = [before, today()];
+        let of_a_day = days
+            .iter()
+            .find_map(|day| time.strip_prefix(day.trim_end()));
+        let time = of_a_day
+            .expect("it is of today")
+            .split(|byte| ":Z".contains(byte));
+        assert!(time
+            .take(3)
+            .all(|number| number.len() == 2 && number.parse::<u8>().is_ok()));
+        said.to_string()
+    }
+
+    fn kept(file: &Path) -> PathBuf {
+        let mut kept = file.as_os_str().to_os_string();
+        kept.push(".kept");
+        kept.into()
     }
 
     /// Puts other data in the place of those before.
@@ -66,6 +93,10 @@ impl Cache {
 
     /// Sends a signal, and answers the status.
     fn end(mut self, signal: &str) -> Option<i32> {
+        self.ends(signal)
+    }
+
+    fn ends(&mut self, signal: &str) -> Option<i32> {
         let id = self.child.id().to_string();
         let sent = Command::new("kill").args(["-s", signal, &id]).status();
         assert!(sent.unwrap().success());
@@ -78,7 +109,106 @@ impl Drop for Cache {
         let _ = self.child.kill();
         let _ = self.child.wait();
         let _ = std::fs::remove_file(&self.file);
+        let _ = std::fs::remove_file(Cache::kept(&self.file));
     }
+}
+
+/// The cache has no place for the newest of many clients, and still takes new data, of which the
+/// size and the time may be those of the data before.
+#[test]
+fn few_descriptors() {
+    let file = std::env::temp_dir().join(format!("rtr-cache-3-{}", std::process::id()));
+    std::fs::write(&file, data(1).as_bytes()).unwrap();
+    let mut limited = Command::new("sh");
+    limited.args(["-c", "ulimit -n 40; exec \"$0\" \"$@\""]);
+    limited.arg(program("cache").get_program());
+    let cache = Cache::run(limited, file);
+    let listening = cache.line();
+    let address = listening.strip_prefix("listening on ").unwrap();
+    let address = address.parse().unwrap();
+    cache.line();
+    let mut clients: Vec<Peer> = (0..60).map(|_| Peer::connect(address)).collect();
+    let full = Some((ErrorCode::INTERNAL_ERROR, 2));
+    assert_eq!(clients[59].report(), full);
+    // Of the same size and time.
+    let told = |serial| format!("serial {serial}: {} payloads", data(1).len());
+    let old = cache.file.with_extension("old");
+    std::fs::copy(&cache.file, &old).unwrap();
+    for serial in [6, 11] {
+        assert_eq!(data(serial).as_bytes().len(), data(1).as_bytes().len());
+        std::fs::write(&cache.file, data(serial).as_bytes()).unwrap();
+        let touched = Command::new("touch")
+            .arg("-r")
+            .args([&old, &cache.file])
+            .status();
+        assert!(touched.unwrap().success());
+        let mut line = cache.line();
+        while !line.ends_with(&told(serial)) {
+            line = cache.line();
+        }
+    }
+    std::fs::remove_file(old).unwrap();
+    clients[0].send(&reset_query(2));
+    assert_eq!(clients[0].response(), data(11).as_bytes());
+    assert_eq!(cache.end("TERM"), Some(0));
+}
+
+/// A cache that is started again answers clients that have data of before by changes, unless what it
+/// kept isn't as it was written.
+#[test]
+fn restarts() {
+    let file = std::env::temp_dir().join(format!("rtr-cache-4-{}", std::process::id()));
+    std::fs::write(&file, data(1).as_bytes()).unwrap();
+    let mut first = Cache::start(file.clone());
+    (0..2).for_each(|_| drop(first.line()));
+    first.replace(data(2).as_bytes());
+    assert!(first.line().contains("serial 2: "));
+    assert_eq!(first.ends("TERM"), Some(0));
+    let keep = |to: &str| std::fs::copy(Cache::kept(&file), file.with_extension(to)).unwrap();
+    keep("whole");
+    drop(first);
+    for torn in [false, true] {
+        std::fs::write(&file, data(3).as_bytes()).unwrap();
+        let mut kept = std::fs::read(file.with_extension("whole")).unwrap();
+        let last = kept.len() - 1;
+        kept[last] ^= u8::from(torn);
+        std::fs::write(Cache::kept(&file), kept).unwrap();
+        let cache = Cache::start(file.clone());
+        let name = Cache::kept(&file);
+        let said = match torn {
+            true => "the file of editions is torn".to_string(),
+            false => format!("session {SESSION} serial 2: {} payloads", data(2).len()),
+        };
+        assert_eq!(cache.line(), format!("{}: {said}", name.display()));
+        let listening = cache.line();
+        let address = listening.strip_prefix("listening on ").unwrap();
+        assert!(cache.line().contains("serial 3: "));
+        let mut client = Peer::connect(address.parse().unwrap());
+        client.send(&serial_query(2, SESSION, 1));
+        if torn {
+            assert!(matches!(client.unit(), Some(Unit::CacheReset(_))));
+        } else {
+            let changes = data(1).delta_to(&data(3)).unwrap();
+            assert_eq!(client.response(), changes.as_bytes());
+        }
+    }
+    std::fs::remove_file(file.with_extension("whole")).unwrap();
+}
+
+/// With `--refuse` a report comes in place of a cache reset.
+#[test]
+fn refuses() {
+    let file = std::env::temp_dir().join(format!("rtr-cache-5-{}", std::process::id()));
+    std::fs::write(&file, data(1).as_bytes()).unwrap();
+    let mut command = program("cache");
+    command.arg("--refuse");
+    let cache = Cache::run(command, file);
+    let listening = cache.line();
+    let address = listening.strip_prefix("listening on ").unwrap();
+    cache.line();
+    let mut client = Peer::connect(address.parse().unwrap());
+    client.send(&serial_query(1, 1, 1));
+    assert_eq!(client.report(), Some((ErrorCode::CORRUPT_DATA, 1)));
 }
 
 fn client(words: &[&str]) -> Output {
@@ -191,7 +321,13 @@ fn arguments() {
         assert_eq!(got.status.code(), Some(2), "{words:?}");
         assert!(got.stderr.starts_with(b"usage: client HOST:PORT"));
     }
-    for words in [&[][..], &["a", "b"], &["a", "--listen"], &["--help"]] {
+    for words in [
+        &[][..],
+        &["a", "b"],
+        &["a", "--listen"],
+        &["--help"],
+        &["-a"],
+    ] {
         let got = program("cache").args(words).output().unwrap();
         assert_eq!(got.status.code(), Some(2), "{words:?}");
         assert!(got.stderr.starts_with(b"usage: cache FILE"));

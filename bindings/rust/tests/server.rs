@@ -6,10 +6,11 @@ mod peers;
 
 use peers::*;
 use rtr_wire::*;
-use std::io::Read;
+use std::io::{ErrorKind, Read};
 use std::net::SocketAddr;
+use std::sync::mpsc::{channel, Receiver};
 use std::sync::Mutex;
-use std::time::Instant;
+use std::time::{Duration, Instant};
 
 /// A server on a port of the loopback interface, whose threads are gone after it.
 struct Cache {
@@ -25,7 +26,6 @@ fn options() -> ServerOptions {
         write: milliseconds(600),
         response: milliseconds(2000),
         notify: milliseconds(300),
-        serials: 3,
         ..ServerOptions::default()
     }
 }
@@ -82,28 +82,197 @@ fn reset_queries() {
     }
 }
 
-/// A serial query is answered by what leads to the present data, for as many serial numbers as are
-/// kept.
+/// A client that has data of these serial numbers is told what leads to the present data, in the
+/// order of payloads (RFC 8210 section 8.2), and at any other serial number it gets a cache reset
+/// (section 8.3).
+fn knows(cache: &Cache, version: u8, known: std::ops::RangeInclusive<u32>) {
+    let mut client = cache.client();
+    let present = *known.end();
+    let new = data(present).for_version(version).unwrap();
+    for serial in known.clone() {
+        client.send(&serial_query(version, SESSION, serial));
+        let old = data(serial).for_version(version).unwrap();
+        let changes = old.delta_to(&new).unwrap();
+        assert_eq!(client.response(), changes.as_bytes());
+        assert!(changes.is_empty() || serial != present);
+    }
+    for (session, serial) in [
+        (SESSION, known.start() - 1),
+        (SESSION, present + 1),
+        (1, present),
+    ] {
+        client.send(&serial_query(version, session, serial));
+        let reset = Unit::CacheReset(CacheReset { version });
+        assert_eq!(client.unit(), Some(reset));
+    }
+}
+
 #[test]
 fn serial_queries() {
     let _alone = alone();
-    let cache = Cache::with_data(6);
+    let cache = Cache::with_data(12);
+    (0..=2).for_each(|version| knows(&cache, version, 1..=12));
+}
+
+/// What leads back is kept for a time, and within a limit of bytes.
+#[test]
+fn what_is_kept() {
+    let _alone = alone();
+    let back = data(6).delta_to(&data(5)).unwrap();
+    let cache = Cache::new(ServerOptions {
+        keep_bytes: 3 * back.as_bytes().len(),
+        ..options()
+    });
+    for serial in 1..=6 {
+        assert_eq!(cache.server.update(data(serial)), Ok(true));
+    }
+    knows(&cache, 2, 3..=6);
+    knows(&cache, 0, 3..=6);
+    drop(cache);
+    let cache = Cache::new(ServerOptions {
+        keep: milliseconds(300),
+        ..options()
+    });
+    for serial in 1..=3 {
+        assert_eq!(cache.server.update(data(serial)), Ok(true));
+    }
+    knows(&cache, 1, 1..=3);
+    std::thread::sleep(milliseconds(400));
+    assert_eq!(cache.server.update(data(4)), Ok(true));
+    knows(&cache, 1, 3..=4);
+}
+
+/// The serial number goes on from the highest to the lowest (RFC 1982), and the data of one half of
+/// all serial numbers before it are known.
+#[test]
+fn serial_numbers_wrap() {
+    let _alone = alone();
+    let cache = Cache::new(options());
+    let of = |(number, serial): (usize, u32)| data(number as u32).numbered(SESSION, serial);
+    let rows = [0x8000_000a, u32::MAX, 0, 5].into_iter().enumerate();
+    for row in rows.clone() {
+        assert_eq!(cache.server.update(of(row)), Ok(true));
+    }
+    let mut client = cache.client();
+    for row in rows {
+        client.send(&serial_query(2, SESSION, row.1));
+        let changes = order(&client.response()).unwrap();
+        assert_eq!(of(row).apply(&changes), Ok(of((3, 5))));
+    }
+    // The first no longer comes before these, of which the client is notified.
+    assert_eq!(cache.server.update(of((4, 0x6000_0000))), Ok(true));
+    assert!(matches!(client.unit(), Some(Unit::SerialNotify(_))));
+    client.send(&serial_query(2, SESSION, 0x8000_000a));
+    assert!(matches!(client.unit(), Some(Unit::CacheReset(_))));
+}
+
+/// An ASPA that is there, gone and there again, and payloads that come and go: what leads from each
+/// of the data is what leads there at once.
+#[test]
+fn many_steps() {
+    let _alone = alone();
+    let cache = Cache::new(options());
+    let of = |serial: u32| {
+        let count = [0, 20, 3, 40, 0, 7][serial as usize % 6];
+        let with_aspa = data_of(SESSION, serial, count);
+        match serial % 2 {
+            0 => with_aspa,
+            _ => {
+                let of_1 = with_aspa.for_version(1).unwrap();
+                of_1.for_version(2).unwrap()
+            }
+        }
+    };
+    for serial in 1..=9 {
+        assert_eq!(cache.server.update(of(serial)), Ok(true));
+    }
+    let mut client = cache.client();
+    for serial in 1..=9 {
+        client.send(&serial_query(2, SESSION, serial));
+        let changes = of(serial).delta_to(&of(9)).unwrap();
+        assert_eq!(client.response(), changes.as_bytes());
+    }
+}
+
+/// What was saved is taken by a server without data, and nothing else: not where a byte is another,
+/// or the end is missing.
+#[test]
+fn restarts() {
+    let _alone = alone();
+    let path = std::env::temp_dir().join(format!("rtr-kept-{}", std::process::id()));
+    let first = Server::new(options());
+    first.save(&path).unwrap();
+    let restored = |cache: &Cache| cache.server.restore(&path).map_err(|error| error.kind());
+    let cache = Cache::new(options());
+    assert_eq!(restored(&cache), Err(ErrorKind::NotFound));
+    for serial in 1..=4 {
+        first.update(data(serial)).unwrap();
+    }
+    first.save(&path).unwrap();
+    let whole = std::fs::read(&path).unwrap();
+    for at in 0..whole.len() {
+        let mut torn = whole.clone();
+        torn[at] ^= 1;
+        std::fs::write(&path, &torn).unwrap();
+        assert_eq!(restored(&cache), Err(ErrorKind::InvalidData), "at {at}");
+        std::fs::write(&path, &whole[..at]).unwrap();
+        assert_eq!(restored(&cache), Err(ErrorKind::InvalidData), "up to {at}");
+    }
+    std::fs::write(&path, &whole).unwrap();
+    assert_eq!(restored(&cache), Ok(data(4)));
+    knows(&cache, 2, 1..=4);
+    assert_eq!(cache.server.update(data(5)), Ok(true));
+    knows(&cache, 1, 1..=5);
+    // It has data now.
+    assert_eq!(restored(&cache), Ok(data(5)));
+    cache.serves(5);
+    std::fs::remove_file(&path).unwrap();
+}
+
+/// Data of a lower version and of a higher one may follow one another.
+#[test]
+fn versions_of_data() {
+    let _alone = alone();
+    let cache = Cache::new(options());
+    let versions = [1, 2, 0, 1];
+    let of = |serial: u32| {
+        data(serial)
+            .for_version(versions[serial as usize - 1])
+            .unwrap()
+    };
+    for serial in 1..=4 {
+        assert_eq!(cache.server.update(of(serial)), Ok(true));
+    }
     for version in 0..=2 {
         let mut client = cache.client();
-        let new = data(6).for_version(version).unwrap();
-        for serial in 3..=6 {
+        client.send(&reset_query(version));
+        let new = Data::from_sequence(&client.response()).unwrap();
+        assert_eq!(new, of(4).for_version(version).unwrap());
+        for serial in 1..=4 {
             client.send(&serial_query(version, SESSION, serial));
-            let changes = order(&client.response()).expect("it is canonical");
-            let old = data(serial).for_version(version).unwrap();
-            assert_eq!(old.apply(&changes), Ok(new.clone()));
-            assert_eq!(changes.is_empty(), serial == 6);
-        }
-        for (session, serial) in [(SESSION, 2), (SESSION, 7), (1, 6)] {
-            client.send(&serial_query(version, session, serial));
-            let reset = Unit::CacheReset(CacheReset { version });
-            assert_eq!(client.unit(), Some(reset));
+            let old = of(serial).for_version(version).unwrap();
+            let changes = order(&client.response()).unwrap();
+            assert_eq!(old.apply(&changes).unwrap(), new);
         }
     }
+}
+
+/// Where that is chosen, a report of code 0 comes in place of a cache reset, and the end (RFC 8210
+/// section 5.1).
+#[test]
+fn refusals() {
+    let _alone = alone();
+    let cache = Cache::new(ServerOptions {
+        refuse: true,
+        ..options()
+    });
+    assert_eq!(cache.server.update(data(1)), Ok(true));
+    for (session, serial) in [(SESSION, 2), (1, 1)] {
+        let mut client = cache.client();
+        client.send(&serial_query(1, session, serial));
+        assert_eq!(client.report(), Some((ErrorCode::CORRUPT_DATA, 1)));
+    }
+    cache.serves(1);
 }
 
 /// Before there are data, a report says so, and the connection stays. Then the client is notified,
@@ -159,7 +328,18 @@ fn updates() {
     let other = data(1).numbered(SESSION, 3);
     assert!(cache.server.update(other).is_err());
     assert_eq!(cache.server.update(data(3)), Ok(false));
-    assert_eq!(cache.server.update(data(3).numbered(SESSION, 1)), Ok(false));
+    let again = data(3).numbered(SESSION, 1);
+    let refused = UpdateError::SerialNotAfter { present: 3, new: 1 };
+    assert_eq!(cache.server.update(again), Err(refused));
+    // Other times under the same serial number: the last four bytes are the expire time (RFC 8210
+    // section 5.8).
+    let mut bytes = data(3).into_bytes();
+    let length = bytes.len();
+    bytes[length - 1] += 1;
+    let timed = Data::parse(&bytes).unwrap();
+    let refused = UpdateError::NewTimings;
+    assert_eq!(cache.server.update(timed), Err(refused));
+    assert_eq!(refused.to_string(), "new timings want a new serial number");
     cache.serves(3);
     // Those who have data of another session are disconnected.
     let mut client = cache.client();
@@ -408,7 +588,12 @@ fn too_many_clients() {
     assert_eq!(cache.server.update(data(1)), Ok(true));
     let (mut one, two) = (cache.client(), cache.client());
     assert!(holds(|| cache.server.clients() == 2));
-    assert!(cache.client().is_closed());
+    // A silent close would have routers fall to a lower version.
+    let full = Some((ErrorCode::INTERNAL_ERROR, 2));
+    assert_eq!(cache.client().report(), full);
+    let mut asking = cache.client();
+    asking.try_send(&reset_query(1));
+    assert_eq!(asking.report(), full);
     drop(two);
     assert!(holds(|| cache.server.clients() == 1));
     cache.serves(1);
@@ -481,18 +666,99 @@ fn stops() {
     drop(cache);
 }
 
+/// A server, and the texts of why it ended connections.
+fn telling(options: ServerOptions) -> (Server, Receiver<String>) {
+    let (sender, told) = channel();
+    let sender = Mutex::new(sender);
+    let server = Server::telling(options, move |_, error| {
+        let _ = sender.lock().unwrap().send(error.to_string());
+    });
+    (server, told)
+}
+
+/// In the middle of answers, a new session ends connections at once, and so do editions of which a
+/// client is more than two behind.
+#[test]
+fn answers_that_are_cut() {
+    let _alone = alone();
+    let patient = ServerOptions {
+        write: PATIENCE,
+        response: PATIENCE,
+        ..options()
+    };
+    for (session, texts) in [
+        (SESSION, "the router is too far behind"),
+        (7, "the data are of a new session"),
+    ] {
+        let (server, told) = telling(patient.clone());
+        let address = server.listen("127.0.0.1:0").unwrap();
+        server.update(data_of(SESSION, 1, u16::MAX)).unwrap();
+        let mut slow = Peer::connect(address);
+        (0..40).for_each(|_| slow.send(&reset_query(2)));
+        slow.is_sent_to();
+        std::thread::sleep(milliseconds(200));
+        for serial in 2..=3 {
+            server.update(data(serial)).unwrap();
+        }
+        assert!(told.recv_timeout(milliseconds(300)).is_err());
+        let began = Instant::now();
+        server.update(data_of(session, 4, 20)).unwrap();
+        assert_eq!(told.recv_timeout(PATIENCE).as_deref(), Ok(texts));
+        assert!(began.elapsed() < milliseconds(2000), "it ended late");
+        assert!(holds(|| server.clients() == 0));
+    }
+}
+
+/// How often threads of this name began to wait.
+fn waits(name: &str) -> u64 {
+    let tasks = std::fs::read_dir("/proc/self/task").unwrap();
+    let statuses =
+        tasks.filter_map(|task| std::fs::read_to_string(task.ok()?.path().join("status")).ok());
+    let named = statuses.filter(|status| {
+        status
+            .lines()
+            .next()
+            .map_or(false, |line| line.contains(name))
+    });
+    let count = |status: String| -> Option<u64> {
+        let line = status.lines().find(|line| line.starts_with("voluntary"))?;
+        line.split_whitespace().last()?.parse().ok()
+    };
+    named.filter_map(count).sum()
+}
+
+/// While nothing comes no thread wakes: neither for clients that ask nothing, nor for those that
+/// don't read what they are sent.
+#[test]
+fn no_thread_wakes() {
+    let _alone = alone();
+    let cache = Cache::new(ServerOptions::default());
+    assert_eq!(cache.server.update(data_of(SESSION, 1, u16::MAX)), Ok(true));
+    let mut clients: Vec<Peer> = (0..20).map(|_| cache.client()).collect();
+    let (slow, idle) = clients.split_at_mut(2);
+    for client in slow {
+        (0..40).for_each(|_| client.send(&reset_query(2)));
+        client.is_sent_to();
+    }
+    for client in idle.iter_mut().skip(5) {
+        client.send(&reset_query(1));
+        client.response();
+        client.send(&[1, 1]);
+    }
+    std::thread::sleep(Duration::from_secs(1));
+    let before = waits("rtr cache");
+    std::thread::sleep(Duration::from_secs(2));
+    let woken = waits("rtr cache") - before;
+    assert!(woken <= 2, "woken {woken} times");
+}
+
 /// The server says why it ended a connection, but of clients that just go.
 #[test]
 fn reasons() {
     let _alone = alone();
-    let (sender, told) = std::sync::mpsc::channel();
-    let options = ServerOptions {
+    let (server, told) = telling(ServerOptions {
         connections: 1,
         ..options()
-    };
-    let sender = Mutex::new(sender);
-    let server = Server::telling(options, move |_, error| {
-        sender.lock().unwrap().send(error.to_string()).unwrap();
     });
     let address = server.listen("127.0.0.1:0").unwrap();
     server.update(data(1)).unwrap();
@@ -503,13 +769,13 @@ fn reasons() {
     assert!(holds(|| server.clients() == 0));
     let long = [2, 9, 1, 0, 0xff, 0xff, 0xff, 0xff];
     let rows: [(&[u8], &str); 7] = [
-        (&[], "the client is too slow"),
+        (&[], "the router is too slow"),
         (&long, "unit is longer than 65535 bytes"),
-        (&reset_query(3), "Unsupported Protocol Version: version 3"),
-        (common::IPV4, "IPv4 prefix is not a query"),
-        (common::REPORT, "the client reports: No Data Available"),
+        (&reset_query(3), "version is not supported"),
+        (common::IPV4, "unit is not a query"),
+        (common::REPORT, "the router reports: No Data Available"),
         (&[2, 10, 0, 0, 0, 0, 0, 0], "invalid unit length"),
-        (&[2, 2], "the client is too slow"),
+        (&[2, 2], "the router is too slow"),
     ];
     for (bytes, text) in rows {
         let mut client = Peer::connect(address);
@@ -521,10 +787,10 @@ fn reasons() {
     let mut one = Peer::connect(address);
     one.send(&reset_query(2));
     one.response();
-    assert!(Peer::connect(address).is_closed());
+    assert!(Peer::connect(address).report().is_some());
     assert_eq!(
         told.recv_timeout(PATIENCE).as_deref(),
-        Ok("too many clients")
+        Ok("too many connections")
     );
     server.update(data_of(7, 1, 20)).unwrap();
     assert!(one.is_closed());

@@ -1,0 +1,191 @@
+//! What a cache has now, and what leads back to what it had before.
+
+use crate::data::DataError;
+use crate::machine::Present;
+use crate::owned_data::{Changes, Data};
+use crate::server::{locked, ServerOptions};
+use crate::server_error::UpdateError;
+use crate::unit::compare_serials;
+use std::cmp::Ordering;
+use std::collections::BTreeMap;
+use std::sync::Mutex;
+use std::time::SystemTime;
+use std::vec::Vec;
+
+/// The versions of the protocol that there are.
+const VERSIONS: usize = 3;
+
+/// Data, and what leads back to those of the same session before them.
+#[derive(Debug)]
+pub(crate) struct Edition {
+    /// How many editions the server had before.
+    pub(crate) number: u64,
+    /// What names the data for the machine.
+    pub(crate) present: Present,
+    data: Data,
+    /// What leads to the data before these, from there to those before them, and so on.
+    back: Vec<Back>,
+    /// The serial numbers that these lead to.
+    pub(crate) known: Vec<u32>,
+    made: Mutex<Made>,
+}
+
+/// What clients are sent, made when the first of them asks for it.
+#[derive(Debug, Default)]
+struct Made {
+    all: [Option<Data>; VERSIONS],
+    /// By the version, and the serial number that they begin at.
+    changes: BTreeMap<(u8, u32), Changes>,
+    /// How many bytes these have.
+    size: usize,
+}
+
+/// What leads back from data to those before them, which were the newest until then.
+#[derive(Clone, Debug)]
+pub(crate) struct Back {
+    pub(crate) until: SystemTime,
+    pub(crate) changes: Changes,
+}
+
+impl Edition {
+    /// These data, and none before.
+    pub(crate) fn first(data: Data, number: u64) -> Edition {
+        let end = data.end();
+        let present = Present {
+            serial: end.serial,
+            session: end.session,
+            has: true,
+        };
+        Edition {
+            number,
+            present,
+            data,
+            back: Vec::new(),
+            known: Vec::new(),
+            made: Mutex::default(),
+        }
+    }
+
+    /// These data after the present ones; none where nothing has changed.
+    pub(crate) fn next(
+        &self,
+        data: &Data,
+        options: &ServerOptions,
+    ) -> Result<Option<Edition>, UpdateError> {
+        let version = self.data.end().version.max(data.end().version);
+        let (old, new) = (self.data.in_version(version), data.in_version(version));
+        let (before, after) = (old.end(), new.end());
+        if before.session != after.session {
+            return Ok(Some(Edition::first(new, self.number + 1)));
+        }
+        if compare_serials(before.serial, after.serial) != Some(Ordering::Less) {
+            return match before.serial == after.serial && old.units().eq(new.units()) {
+                true if before == after => Ok(None),
+                true => Err(UpdateError::NewTimings),
+                false => Err(UpdateError::SerialNotAfter {
+                    present: before.serial,
+                    new: after.serial,
+                }),
+            };
+        }
+        let changes = new
+            .delta_to(&old)
+            .expect("both are of one session and version");
+        let until = SystemTime::now();
+        let newest = [Back { until, changes }].into_iter();
+        let next = Edition::first(new, self.number + 1);
+        Ok(Some(
+            next.keeping(newest.chain(self.back.iter().cloned()), options),
+        ))
+    }
+
+    /// The same, which keeps what leads back to serial numbers before its own, as far as the
+    /// options allow.
+    fn keeping(mut self, back: impl IntoIterator<Item = Back>, options: &ServerOptions) -> Edition {
+        let end = self.data.end();
+        let mut room = options.keep_bytes;
+        for Back { until, changes } in back {
+            let changes = changes.in_version(end.version);
+            let (serial, size) = (changes.end().serial, changes.as_bytes().len());
+            let comes_before = compare_serials(serial, end.serial) == Some(Ordering::Less);
+            let is_old = until.elapsed().map_or(false, |age| age > options.keep);
+            if !comes_before || is_old || size > room {
+                break;
+            }
+            room -= size;
+            self.known.push(serial);
+            self.back.push(Back { until, changes });
+        }
+        self
+    }
+
+    /// What was written of an edition, if it fits together.
+    pub(crate) fn restored(
+        data: Data,
+        back: Vec<Back>,
+        options: &ServerOptions,
+    ) -> Option<Edition> {
+        let edition = Edition::first(data, 0).keeping(back, options);
+        let oldest = edition.known.last();
+        oldest
+            .map_or(true, |serial| edition.at(*serial).is_ok())
+            .then_some(edition)
+    }
+
+    /// What is written of it: the data, and what leads back, each with when newer data came.
+    pub(crate) fn sequences(&self) -> impl Iterator<Item = (SystemTime, &[u8])> {
+        let back = self
+            .back
+            .iter()
+            .map(|back| (back.until, back.changes.as_bytes()));
+        [(SystemTime::now(), self.data.as_bytes())]
+            .into_iter()
+            .chain(back)
+    }
+
+    /// The data of a serial number that is known, else the present ones.
+    fn at(&self, serial: u32) -> Result<Data, DataError> {
+        let steps = self.known.iter().position(|known| *known == serial);
+        let (last, others) = match steps.and_then(|at| self.back[..=at].split_last()) {
+            Some(steps) => steps,
+            None => return Ok(self.data.clone()),
+        };
+        let mut changes: Vec<&[u8]> = others
+            .iter()
+            .map(|back| back.changes.unit_bytes())
+            .collect();
+        changes.push(last.changes.as_bytes());
+        self.data.apply_in_order(&changes.concat())
+    }
+
+    /// The data.
+    pub(crate) fn data(&self) -> Data {
+        self.data.clone()
+    }
+
+    /// All data, for clients of a version that there is.
+    pub(crate) fn all(&self, version: u8) -> Data {
+        let all = &mut locked(&self.made).all[usize::from(version)];
+        all.get_or_insert_with(|| self.data.in_version(version))
+            .clone()
+    }
+
+    /// What leads clients of a version from a serial number that is known, or the present one.
+    pub(crate) fn since(&self, version: u8, serial: u32, options: &ServerOptions) -> Changes {
+        if let Some(changes) = locked(&self.made).changes.get(&(version, serial)) {
+            return changes.clone();
+        }
+        let old = self
+            .at(serial)
+            .expect("each step leads back to where the next begins");
+        let changes = old.in_version(version).delta_to(&self.all(version));
+        let changes = changes.expect("both are of one session and version");
+        let mut made = locked(&self.made);
+        let size = made.size + changes.as_bytes().len();
+        if size <= options.keep_bytes {
+            made.size = size;
+            made.changes.insert((version, serial), changes.clone());
+        }
+        changes
+    }
+}

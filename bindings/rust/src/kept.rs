@@ -1,0 +1,86 @@
+//! The file in which a cache keeps its edition over a restart.
+//!
+//! It begins with eight bytes that name its form, and the FNV-1a hash in 64 bits of what follows:
+//! the present data, and then each step back. Before each stand when newer data came, in
+//! milliseconds since 1970, and its length. Numbers have 64 bits, the highest first.
+
+use crate::editions::{Back, Edition};
+use crate::owned_data::{order, Data};
+use crate::server::ServerOptions;
+use std::fs::{read, rename, File};
+use std::io::{self, ErrorKind, Seek, Write};
+use std::path::Path;
+use std::time::{Duration, SystemTime, UNIX_EPOCH};
+use std::vec::Vec;
+
+const FORM: &[u8; 8] = b"rtrkept1";
+
+/// How long the beginning is, and what stands before a sequence.
+const HEAD: usize = 16;
+
+/// The FNV-1a hash of no bytes.
+const NOTHING: u64 = 0xcbf2_9ce4_8422_2325;
+
+/// The hash of bytes after those that have this one.
+fn hashed(hash: u64, bytes: &[u8]) -> u64 {
+    const PRIME: u64 = 0x0100_0000_01b3;
+    bytes.iter().fold(hash, |hash, byte| {
+        (hash ^ u64::from(*byte)).wrapping_mul(PRIME)
+    })
+}
+
+/// Two numbers, one behind the other.
+fn head(numbers: [u64; 2]) -> [u8; HEAD] {
+    u128::to_be_bytes(u128::from(numbers[0]) << 64 | u128::from(numbers[1]))
+}
+
+/// Writes an edition to a file: by another one beside it, which then gets its name.
+pub(crate) fn save(edition: &Edition, path: &Path) -> io::Result<()> {
+    let mut new = path.as_os_str().to_os_string();
+    new.push(".new");
+    let mut file = File::create(&new)?;
+    file.write_all(&[0; HEAD])?;
+    let mut hash = NOTHING;
+    for (until, sequence) in edition.sequences() {
+        let since = until.duration_since(UNIX_EPOCH).unwrap_or_default();
+        let head = head([since.as_millis() as u64, sequence.len() as u64]);
+        for part in [&head[..], sequence] {
+            hash = hashed(hash, part);
+            file.write_all(part)?;
+        }
+    }
+    file.rewind()?;
+    file.write_all(&head([u64::from_be_bytes(*FORM), hash]))?;
+    rename(new, path)
+}
+
+/// The edition that was written to a file.
+pub(crate) fn restore(path: &Path, options: &ServerOptions) -> io::Result<Edition> {
+    let torn = || io::Error::new(ErrorKind::InvalidData, "the file of editions is torn");
+    parse(&read(path)?, options).ok_or_else(torn)
+}
+
+/// The edition of a file, if it is as it was written.
+fn parse(input: &[u8], options: &ServerOptions) -> Option<Edition> {
+    let mut rest = input.get(HEAD..)?;
+    if input[..HEAD] != head([u64::from_be_bytes(*FORM), hashed(NOTHING, rest)]) {
+        return None;
+    }
+    let (mut data, mut back) = (None, Vec::new());
+    while !rest.is_empty() {
+        let numbers = u128::from_be_bytes(rest.get(..HEAD)?.try_into().ok()?);
+        let until = Duration::from_millis((numbers >> 64) as u64);
+        let until = SystemTime::checked_add(&UNIX_EPOCH, until)?;
+        let size = usize::try_from(numbers as u64).ok()?;
+        let sequence = rest[HEAD..].get(..size)?;
+        match data {
+            None => data = Some(Data::parse(sequence).ok()?),
+            Some(_) => back.push(Back {
+                until,
+                changes: order(sequence).ok()?,
+            }),
+        }
+        rest = &rest[HEAD + size..];
+    }
+    Edition::restored(data?, back, options)
+}

@@ -1,0 +1,104 @@
+//! Why a cache ends a connection, or doesn't take data.
+
+use crate::fault::{ErrorCode, Fault};
+use crate::machine::{reason, reason_text, Serving};
+use crate::unit::{ErrorReport, Unit};
+use std::fmt;
+use std::io;
+use std::string::{String, ToString};
+use std::vec::Vec;
+
+/// Why a [`Server`](crate::Server) ended a connection.
+#[derive(Debug)]
+#[non_exhaustive]
+pub enum ServerError {
+    /// The connection failed.
+    Io(io::Error),
+    /// The client let a limit of time pass.
+    TooSlow,
+    /// More than two editions came while the client was sent one.
+    TooFarBehind,
+    /// There are as many clients as are allowed, or as the system has room for.
+    TooManyClients,
+    /// The client has data of a session before the present one.
+    OtherSession,
+    /// A unit of the client is refused.
+    Refused {
+        /// The code that it is reported with, if a report is owed.
+        code: Option<ErrorCode>,
+        /// What is wrong.
+        text: String,
+    },
+    /// The client sent an error report.
+    Reported(ErrorReport<Vec<u8>>),
+}
+
+impl fmt::Display for ServerError {
+    fn fmt(&self, f: &mut fmt::Formatter<'_>) -> fmt::Result {
+        match self {
+            ServerError::Io(error) => error.fmt(f),
+            ServerError::TooSlow => f.write_str(&reason_text(reason::SLOW)),
+            ServerError::TooFarBehind => f.write_str("the router is too far behind"),
+            ServerError::TooManyClients => f.write_str(&reason_text(reason::FULL)),
+            ServerError::OtherSession => f.write_str(&reason_text(reason::NEW_SESSION)),
+            ServerError::Refused { text, .. } => f.write_str(text),
+            ServerError::Reported(report) => write!(f, "the router reports: {}", report.code),
+        }
+    }
+}
+
+impl std::error::Error for ServerError {
+    fn source(&self) -> Option<&(dyn std::error::Error + 'static)> {
+        match self {
+            ServerError::Io(error) => Some(error),
+            _ => None,
+        }
+    }
+}
+
+impl ServerError {
+    /// Why the machine ends a connection, for the unit that the input begins with.
+    pub(crate) fn of(serving: &Serving, input: &[u8]) -> ServerError {
+        let text = match (serving.reason, Unit::first(input)) {
+            (reason::SLOW, _) => return ServerError::TooSlow,
+            (reason::FULL, _) => return ServerError::TooManyClients,
+            (reason::NEW_SESSION, _) => return ServerError::OtherSession,
+            (reason::REPORTED, Ok((Unit::ErrorReport(report), _))) => {
+                return ServerError::Reported(report.into_owned());
+            }
+            (reason::FAULTY, _) => Fault::of(serving.status, serving.detail).to_string(),
+            (other, _) => reason_text(other),
+        };
+        let code = serving.reports.then_some(ErrorCode(serving.code));
+        ServerError::Refused { code, text }
+    }
+}
+
+/// Why a [`Server`](crate::Server) doesn't take new data. It goes on with the data that it has.
+#[derive(Clone, Copy, Debug, PartialEq, Eq)]
+#[non_exhaustive]
+pub enum UpdateError {
+    /// The new data are of the session of those that the server has, but their serial number isn't
+    /// after those's (RFC 1982).
+    SerialNotAfter {
+        /// The serial number of the data that the server has.
+        present: u32,
+        /// The serial number of the new data.
+        new: u32,
+    },
+    /// The new data differ from those that the server has in the times of their end of data alone.
+    NewTimings,
+}
+
+impl fmt::Display for UpdateError {
+    fn fmt(&self, f: &mut fmt::Formatter<'_>) -> fmt::Result {
+        match self {
+            UpdateError::SerialNotAfter { present, new } => {
+                write!(f, "serial {new} of other data isn't after serial {present}")
+            }
+            UpdateError::NewTimings => f.write_str("new timings want a new serial number"),
+        }
+    }
+}
+
+impl std::error::Error for UpdateError {}
