@@ -8,7 +8,7 @@ use crate::server_error::UpdateError;
 use crate::unit::compare_serials;
 use std::cmp::Ordering;
 use std::collections::BTreeMap;
-use std::sync::Mutex;
+use std::sync::{Arc, Mutex};
 use std::time::SystemTime;
 use std::vec::Vec;
 
@@ -33,9 +33,9 @@ pub(crate) struct Edition {
 /// What clients are sent, made when the first of them asks for it.
 #[derive(Debug, Default)]
 struct Made {
-    all: [Option<Data>; VERSIONS],
+    forms: [Option<Data>; VERSIONS],
     /// By the version, and the serial number that they begin at.
-    changes: BTreeMap<(u8, u32), Changes>,
+    changes: BTreeMap<(u8, u32), Arc<Vec<u8>>>,
     /// How many bytes these have.
     size: usize,
 }
@@ -150,12 +150,9 @@ impl Edition {
             Some(steps) => steps,
             None => return Ok(self.data.clone()),
         };
-        let mut changes: Vec<&[u8]> = others
-            .iter()
-            .map(|back| back.changes.unit_bytes())
-            .collect();
-        changes.push(last.changes.as_bytes());
-        self.data.apply_in_order(&changes.concat())
+        let units = others.iter().map(|back| back.changes.unit_bytes());
+        let sequence: Vec<&[u8]> = units.chain([last.changes.as_bytes()]).collect();
+        self.data.apply_in_order(&sequence.concat())
     }
 
     /// The data.
@@ -163,29 +160,43 @@ impl Edition {
         self.data.clone()
     }
 
-    /// All data, for clients of a version that there is.
-    pub(crate) fn all(&self, version: u8) -> Data {
-        let all = &mut locked(&self.made).all[usize::from(version)];
-        all.get_or_insert_with(|| self.data.in_version(version))
+    /// The bytes of all data, for clients of a version that there is.
+    pub(crate) fn all(&self, version: u8) -> Arc<Vec<u8>> {
+        self.form(version).shared()
+    }
+
+    /// The data for clients of a version that there is.
+    fn form(&self, version: u8) -> Data {
+        let form = &mut locked(&self.made).forms[usize::from(version)];
+        form.get_or_insert_with(|| self.data.in_version(version))
             .clone()
     }
 
-    /// What leads clients of a version from a serial number that is known, or the present one.
-    pub(crate) fn since(&self, version: u8, serial: u32, options: &ServerOptions) -> Changes {
+    /// The bytes of what leads clients of a version from a serial number that is known, or from the
+    /// present one.
+    pub(crate) fn since(&self, version: u8, serial: u32, options: &ServerOptions) -> Arc<Vec<u8>> {
+        if serial == self.present.serial {
+            return self.form(version).without_payloads().shared();
+        }
         if let Some(changes) = locked(&self.made).changes.get(&(version, serial)) {
-            return changes.clone();
+            return Arc::clone(changes);
         }
         let old = self
             .at(serial)
             .expect("each step leads back to where the next begins");
-        let changes = old.in_version(version).delta_to(&self.all(version));
-        let changes = changes.expect("both are of one session and version");
+        let changes = old.in_version(version).delta_to(&self.form(version));
+        let changes = Arc::new(
+            changes
+                .expect("both are of one session and version")
+                .into_bytes(),
+        );
         let mut made = locked(&self.made);
-        let size = made.size + changes.as_bytes().len();
-        if size <= options.keep_bytes {
-            made.size = size;
-            made.changes.insert((version, serial), changes.clone());
+        made.size += changes.len();
+        if made.size > options.keep_bytes {
+            made.changes.clear();
+            made.size = changes.len();
         }
+        made.changes.insert((version, serial), Arc::clone(&changes));
         changes
     }
 }

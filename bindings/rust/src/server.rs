@@ -117,6 +117,8 @@ pub(crate) struct Shared {
 /// ```
 pub struct Server {
     shared: Arc<Shared>,
+    /// Held while new data are compared with the newest, for which the thread doesn't wait.
+    updating: Mutex<()>,
     thread: Mutex<Option<(JoinHandle<()>, Waker)>>,
 }
 
@@ -141,6 +143,7 @@ impl Server {
                 newest: Mutex::default(),
                 clients: AtomicUsize::new(0),
             }),
+            updating: Mutex::default(),
             thread: Mutex::default(),
         }
     }
@@ -152,14 +155,15 @@ impl Server {
     ///
     /// `NewTimings`; `SerialNotAfter`, also for the same payloads under an earlier serial number.
     pub fn update(&self, data: Data) -> Result<bool, UpdateError> {
-        let mut newest = locked(&self.shared.newest);
-        let next = match &*newest {
+        let _alone = locked(&self.updating);
+        let newest = locked(&self.shared.newest).clone();
+        let next = match newest {
             None => Some(Edition::first(data, 0)),
-            Some(present) => present.next(&data, &self.shared.options)?,
+            Some(newest) => newest.next(&data, &self.shared.options)?,
         };
         let is_new = next.is_some();
         if let Some(next) = next {
-            *newest = Some(Arc::new(next));
+            *locked(&self.shared.newest) = Some(Arc::new(next));
             self.wake();
         }
         Ok(is_new)
@@ -184,6 +188,7 @@ impl Server {
     /// Those of reading, of which `InvalidData` is for a file that isn't as it was written.
     pub fn restore(&self, path: impl AsRef<Path>) -> io::Result<Data> {
         let edition = restore(path.as_ref(), &self.shared.options)?;
+        let _alone = locked(&self.updating);
         let mut newest = locked(&self.shared.newest);
         let data = newest.get_or_insert_with(|| Arc::new(edition)).data();
         self.wake();
@@ -278,10 +283,10 @@ impl Host {
     fn run(mut self) {
         loop {
             let awaited = self.wait();
+            self.look();
             if self.moment.shared.stop.is_set() {
                 return self.moment.shared.clients.store(0, Ordering::Relaxed);
             }
-            self.look();
             self.go_on(&awaited);
         }
     }

@@ -209,8 +209,8 @@ impl Connection {
         let (version, serial, options) = (serving.version, serving.serial, &moment.shared.options);
         let body = match (serving.kind, &moment.newest) {
             (serving::WAIT, _) => return,
-            (serving::ALL, Some(newest)) => newest.all(version).shared(),
-            (serving::CHANGES, Some(newest)) => newest.since(version, serial, options).shared(),
+            (serving::ALL, Some(newest)) => newest.all(version),
+            (serving::CHANGES, Some(newest)) => newest.since(version, serial, options),
             _ => Arc::default(),
         };
         let newest = moment.newest.as_ref();
