@@ -22,7 +22,7 @@ SECONDS = 180
 ARCHIVE = os.environ.get("RTR_ARCHIVE", "prebuilt/x86_64/librtr_wire.a")
 BUILDS = {
     "C": (["cc"], "bindings/c/{name}.c", "bindings/c",
-          ["cc", "-O2", "-o", "{out}", "{name}.c", "rtr_client.c",
+          ["cc", "-O2", "-o", "{out}", "{name}.c", "rtr_{name}.c",
            os.path.join("{top}", ARCHIVE)]),
     "Go": (["go", "cc"], "bindings/go/examples/{name}/main.go", "bindings/go",
            ["go", "build", "-buildvcs=false", "-o", "{out}", "./examples/{name}"]),
