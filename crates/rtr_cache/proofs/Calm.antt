@@ -3,7 +3,6 @@
 use Rattle.std.proofs.Common.{◌≡◌, ◌≢◌, ◌⊎◌, ℕ, Bool, true, false, ◌≤◌, map}
 use Rattle.std.proofs.Common.{Option, Some, None, List, [], ◌∷◌, ◌++◌, refl, sym, ap, ◌∙◌, subst}
 use Rattle.std.proofs.Common.{inl, inr}
-use Rattle.std.proofs.Common.{arith, ◌+◌, ◌-◌, ◌^◌, min, max}
 use Rattle.std.specs.declared.cmp.Ordering.TheVariants.{Less}
 use Rattle.rtr_base.specs.Serial.{serial_cmp}
 use Rattle.rtr_router.specs.declared.head.Head.{Head}
@@ -17,17 +16,16 @@ use Rattle.rtr_router.specs.declared.event.Action.TheVariants as actions
 use Rattle.rtr_router.specs.declared.event.Event.{Event}
 use Rattle.rtr_router.specs.declared.event.Event.TheVariants as events
 use Rattle.rtr_router.specs.Recovery.{AnswersWell, GoesOnWell, IsServed, IsServedBy}
-use Rattle.rtr_router.specs.Recovery.{served_until, time_needed}
+use Rattle.rtr_router.specs.Recovery.{served_until}
 use Rattle.rtr_router.specs.Recovery.AnswersWell.{not_yet, notifies as notifies_well, resets_well}
 use Rattle.rtr_router.specs.Recovery.AnswersWell.{responds}
 use Rattle.rtr_router.specs.Recovery.GoesOnWell.{ends_data, not_more_yet, sends_payload}
 use Rattle.rtr_router.specs.Recovery.IsMadeWell.{are_made, not_made_yet}
 use Rattle.rtr_router.specs.Recovery.LeavesWell.{not_asked_yet, notifies_then}
 use Rattle.rtr_router.specs.Recovery.IsServed.{served_from, served_on}
-use Rattle.rtr_router.specs.Heeding.{HeedsWaiting}
-use Rattle.rtr_router.specs.Pace.{Paces, due_in}
-use Rattle.rtr_router.specs.Rules.{Fresh, Drops, IsPayloadOf, Rule, query}
-use Rattle.rtr_router.specs.Step.{IsInTime, IsStep}
+use Rattle.rtr_router.specs.Pace.{Paces}
+use Rattle.rtr_router.specs.Rules.{Drops, IsPayloadOf, Rule, query}
+use Rattle.rtr_router.specs.Step.{IsStep}
 use Rattle.rtr_router.proofs.Connections.{Holds}
 use Rattle.rtr_router.proofs.Serving.{recovers}
 use Rattle.rtr_cache.specs.declared.cache.Cache.{Cache}
@@ -36,7 +34,7 @@ use Rattle.rtr_cache.specs.declared.event.Answer.TheVariants as answers
 use Rattle.rtr_cache.specs.declared.event.CacheEvent.TheVariants as told
 use Rattle.rtr_cache.specs.declared.event.Present.{Present}
 use Rattle.rtr_cache.specs.CacheRules.{CacheRule}
-use Rattle.rtr_cache.specs.Calm.{HasRoomFor, IsAtRest, IsCalm, IsNotified, ShowsPresent}
+use Rattle.rtr_cache.specs.Calm.{HasRoomFor, IsAtRest, IsCalm, ShowsPresent}
 use Rattle.rtr_cache.specs.Calm.{StaysOpen, TellsCalmly, WaitsIdly}
 use Rattle.rtr_cache.specs.Calm.IsCalm.{calm_cache_hears, calm_cache_told, calm_connected}
 use Rattle.rtr_cache.specs.Calm.IsCalm.{calm_from, calm_hears, calm_told}
@@ -745,28 +743,3 @@ module _ (D C : Type 0) (S : Source D C) (I : IsSource D C S) (before : World D 
         serial = serial;
         data_are = agrees.same ∙ (λ i. Some (S.data_at r.known.version (session i) (serial i)));
       }
-
--- ---- a router that waits hears a notify
-
-notice : (n d p t asked : ℕ) → d ≡ min p n
-    → max n (max d (min asked (2 ^ 64 - 1))) + t ≤ max n asked + t
-notice n d p t asked e = omega (arith, e)
-
-pub notified : (r : Router) (p : Present) (u : Head) (n : ℕ) (a : Action) (r' : Router)
-    → IsNotified r p u → Fresh r n → IsInTime r n → IsStep r n (events.Came u) a r'
-    → served_until r' n ≤ max n (r'.asked + r'.settings.pause) + time_needed phases.Waiting r'
-notified r p u n a r' is fresh timely step =
-    let h : HeedsWaiting r n u a r' = (step.heeds fresh timely).waiting is.waiting in
-    let rule : Rule r n (events.Came u) actions.Wait r' =
-    subst (λ (a : Action). Rule r n (events.Came u) a r') (h.notified is.news) step.rule in
-    let phase : r'.phase ≡ phases.Waiting = rule.talk.phase ∙ is.waiting in
-    subst
-    (λ f. max n (due_in f r') + time_needed f r'
-    ≤ max n (r'.asked + r'.settings.pause) + time_needed phases.Waiting r') (sym phase)
-    (notice n r'.due r.due (time_needed phases.Waiting r') (r'.asked + r'.settings.pause)
-    (h.asks is.news (other is.other)))
-  where
-    other : (r.has_data ≡ false) ⊎ (p.serial ≢ r.known.serial)
-        → (r.has_data ≡ false) ⊎ (u.serial ≢ r.known.serial)
-    other (inl e) = inl e
-    other (inr differs) = inr (λ e. differs (sym is.present ∙ e))

@@ -1,7 +1,7 @@
 -- A router and a cache of ours after the last disturbance, a cut or new data: from then on no
 -- connection is cut, no new data come, and all that is sent comes in time.
-use Rattle.std.specs.Prelude.{◌≡◌, ◌≢◌, ◌⊎◌, ◌≤◌, ℕ, Bool, true, false, max, Option, Some, List, []}
-use Rattle.std.specs.Prelude.{◌∷◌, ◌++◌}
+use Rattle.std.specs.Prelude.{◌≡◌, ◌≢◌, ◌⊎◌, ◌≤◌, ◌+◌, ℕ, true, false, Bool, max, Option, Some}
+use Rattle.std.specs.Prelude.{List, [], ◌∷◌, ◌++◌}
 use Rattle.std.specs.declared.cmp.Ordering.TheVariants.{Less}
 use Rattle.rtr_base.specs.Serial.{serial_cmp}
 use Rattle.rtr_router.specs.declared.event.Action.{Action}
@@ -13,14 +13,15 @@ use Rattle.rtr_router.specs.declared.router.Phase.TheVariants as phases
 use Rattle.rtr_router.specs.declared.router.Router.{Router}
 use Rattle.rtr_router.specs.Heeding.{HasRoom, IsNews}
 use Rattle.rtr_router.specs.Pace.{wakes_at}
-use Rattle.rtr_router.specs.Rules.{IsPayloadOf}
+use Rattle.rtr_router.specs.Rules.{Fresh, IsPayloadOf}
 use Rattle.rtr_router.specs.Step.{IsInTime, IsStep}
 use Rattle.rtr_cache.specs.declared.cache.Cache.{Cache}
 use Rattle.rtr_cache.specs.declared.event.Answer.{Answer}
 use Rattle.rtr_cache.specs.declared.event.Answer.TheVariants as answers
 use Rattle.rtr_cache.specs.declared.event.CacheEvent.TheVariants as told
 use Rattle.rtr_cache.specs.declared.event.Present.{Present}
-use Rattle.rtr_cache.specs.CacheSteps.{IsCacheStep}
+use Rattle.rtr_cache.specs.CacheSteps.{IsCacheStep, cache_wakes_at}
+use Rattle.rtr_cache.specs.Serving.{HasNews}
 use Rattle.rtr_cache.specs.Worlds.{Holding, IsListening, Sent, Source, World, cache_writes}
 use Rattle.rtr_cache.specs.Worlds.{holding_after, router_writes}
 
@@ -123,6 +124,23 @@ pub record IsNotified (r : Router) (p : Present) (u : Head) : Type 0 where
   pub news : IsNews r u
   pub present : u.serial ≡ p.serial
   pub other : (r.has_data ≡ false) ⊎ (p.serial ≢ r.known.serial)
+
+-- From `start` a cache, as it is then, has news for a router that waits (section 8.2). It sends the
+-- notify when it wakes, at the latest; this takes the pipe no longer than d; and so the router,
+-- which was r, hears it at the time `heard`. It is then the one of this world.
+pub record IsToldOfNews (D C : Type 0) (start d : ℕ) (c : Cache) (r : Router) (heard : ℕ)
+    (w : World D C) : Type 0 where
+  pub live : c.live ≡ true
+  pub news : HasNews c w.present
+  pub sent : ℕ
+  pub awake : sent ≤ max start (cache_wakes_at c w.present)
+  pub delay : heard ≤ sent + d
+  pub notify : Head
+  pub is_notify : IsNotified r w.present notify
+  pub fresh : Fresh r heard
+  pub in_time : IsInTime r heard
+  pub action : Action
+  pub step : IsStep r heard (events.Came notify) action w.router
 
 -- what is shown then: the present data of the cache, as the router's version has them
 pub record ShowsPresent (D C : Type 0) (S : Source D C) (p : Present) (r : Router)

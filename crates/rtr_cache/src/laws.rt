@@ -2,7 +2,7 @@
 
 ghost use Rattle.std.specs.Prelude.{◌≡◌, ◌≤◌, ◌+◌, ◌∷◌, ℕ, Bool, List, Some, max, true};
 ghost use Rattle.rtr_cache.specs.CacheSteps.{IsCacheStep};
-ghost use Rattle.rtr_cache.specs.Calm.{IsAtRest, IsCalm, IsNotified, ShowsPresent};
+ghost use Rattle.rtr_cache.specs.Calm.{IsAtRest, IsCalm, IsNotified, IsToldOfNews, ShowsPresent};
 ghost use Rattle.rtr_cache.specs.Connections.{CacheMoment, IsConnection, IsOrderly};
 ghost use Rattle.rtr_cache.specs.Worlds.{AnswersIt, IsAnswering};
 ghost use Rattle.rtr_cache.specs.Worlds.{Agrees, GoesOn, IsListening, IsPeaceful, IsReached, Sent};
@@ -65,7 +65,8 @@ pub fn orderly()
 /// and is within the limits: the router shows data by `served_until`, a formula of its pause and
 /// its limits, and those are the present data of the cache, as the router's version has them. Where
 /// it waited, and is then told of the present data by a notify, that time counts from the notify,
-/// or from a pause after its last query if that is later.
+/// or from a pause after its last query if that is later; and the notify comes when the cache may
+/// send it, which is a pause after the one before, and then in the time that the pipe takes.
 pub fn current_again<D, C>()
     ensures soon { (S : Source D C) (before w : World D C) (start n : ℕ) → IsSource D C S
         → IsReached D C S before → IsAtRest D C before → IsCalm D C S before start w n
@@ -79,4 +80,9 @@ pub fn current_again<D, C>()
         → IsNotified r p u → Fresh r n → IsInTime r n → IsStep r n (events.Came u) a after
         → served_until after n
         ≤ max n (after.asked + after.settings.pause) + time_needed phases.Waiting after }
+    ensures news { (S : Source D C) (before w : World D C) (start d heard n : ℕ) (c : Cache)
+        (r : Router) → IsSource D C S → IsReached D C S before → IsAtRest D C before
+        → IsToldOfNews D C start d c r heard before → IsCalm D C S before heard w n
+        → n ≤ max (max start c.notify_from + d) (r.asked + r.settings.pause)
+        + time_needed phases.Waiting before.router }
 {}
