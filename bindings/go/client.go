@@ -97,7 +97,7 @@ func (c *Client) follower(ctx context.Context, changed func(Update) error) *foll
 		client: &limited, changed: changed, last: c.connection != nil,
 		machine: newMachine(&limited, binary.LittleEndian.Uint16(chance[:])),
 		peer: &network{
-			clock: clock{time.Now()},
+			clock: newClock(),
 			ctx:   ctx, dial: c.dialer(), address: c.Address, patience: limited.Limits.Report,
 		},
 	}

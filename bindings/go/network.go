@@ -27,10 +27,15 @@ type peer interface {
 }
 
 // clock has times in milliseconds since it began.
-type clock struct{ begun time.Time }
+type clock struct {
+	begun time.Time
+	time  func() time.Time
+}
+
+func newClock() clock { return clock{time.Now(), time.Now} }
 
 func (c clock) now() uint64 {
-	return uint64(time.Since(c.begun).Milliseconds())
+	return uint64(c.time().Sub(c.begun).Milliseconds())
 }
 
 // at is a time of the clock.

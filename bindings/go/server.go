@@ -67,7 +67,7 @@ func NewServer() *Server {
 			Keep:        2 * time.Hour,
 			KeepBytes:   1 << 26,
 		},
-		clock:     clock{time.Now()},
+		clock:     newClock(),
 		listeners: map[net.Listener]bool{},
 		clients:   map[*served]bool{},
 	}

@@ -224,18 +224,24 @@ func (p *played) set(name, value string) error {
 	return err
 }
 
+// A transcript is a scene that is played.
+type transcript interface {
+	take(line string) error // a line without its comment
+	play() error            // what is done otherwise than the scene says
+}
+
 // scenesOf are the scenes of a file.
-func scenesOf(t *testing.T, path string) []*played {
+func scenesOf(t *testing.T, path string, begin func(name string) transcript) []transcript {
 	file, err := os.Open(path)
 	if err != nil {
 		t.Fatal(err)
 	}
 	defer file.Close()
-	var all []*played
+	var all []transcript
 	for lines := bufio.NewScanner(file); lines.Scan(); {
 		line, _, _ := strings.Cut(lines.Text(), "#")
 		if words := strings.Fields(line); len(words) == 2 && words[0] == "scene" {
-			all = append(all, &played{name: words[1]})
+			all = append(all, begin(words[1]))
 		} else if len(words) > 0 {
 			if err := all[len(all)-1].take(line); err != nil {
 				t.Fatalf("%s: %s: %v", path, line, err)
@@ -245,24 +251,24 @@ func scenesOf(t *testing.T, path string) []*played {
 	return all
 }
 
-// A client does in each scene what the scene says.
-func TestTranscripts(t *testing.T) {
-	const transcripts = "../../tests/transcripts"
+// playAll plays the scenes that are kept in a folder, and those that are made by these options.
+func playAll(t *testing.T, folder string, begin func(name string) transcript, options ...string) {
+	const transcripts = "../../tests/transcripts/"
 	made := t.TempDir()
-	if out, err := exec.Command(transcripts+"/make", made).CombinedOutput(); err != nil {
-		if errors.Is(err, exec.ErrNotFound) {
-			t.Skip("there is no python3 to make scenes")
-		}
+	out, err := exec.Command(transcripts+"make", append(options, made)...).CombinedOutput()
+	if errors.Is(err, exec.ErrNotFound) {
+		t.Skip("there is no python3 to make scenes")
+	} else if err != nil {
 		t.Fatalf("%v: %s", err, out)
 	}
 	count := 0
-	for _, folder := range []string{transcripts + "/scenes", made} {
+	for _, folder := range []string{transcripts + folder, made} {
 		paths, err := filepath.Glob(folder + "/*.scene")
 		if err != nil {
 			t.Fatal(err)
 		}
 		for _, path := range paths {
-			for _, one := range scenesOf(t, path) {
+			for _, one := range scenesOf(t, path, begin) {
 				count++
 				if err := one.play(); err != nil {
 					t.Error(err)
@@ -270,7 +276,12 @@ func TestTranscripts(t *testing.T) {
 			}
 		}
 	}
-	if count < 300 {
+	if count < 3000 {
 		t.Errorf("only %d scenes", count)
 	}
+}
+
+// A client does in each scene what the scene says.
+func TestTranscripts(t *testing.T) {
+	playAll(t, "scenes", func(name string) transcript { return &played{name: name} })
 }
