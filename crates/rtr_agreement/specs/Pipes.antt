@@ -20,7 +20,6 @@ use Rattle.rtr_router.specs.Step.{IsStep}
 use Rattle.rtr_cache.specs.declared.cache.Cache.{Cache}
 use Rattle.rtr_cache.specs.declared.event.Answer.{Answer}
 use Rattle.rtr_cache.specs.declared.event.CacheEvent.{CacheEvent}
-use Rattle.rtr_cache.specs.declared.event.CacheEvent.TheVariants as asked
 use Rattle.rtr_cache.specs.declared.event.Present.{Present}
 use Rattle.rtr_cache.specs.CacheSteps.{IsCacheStep}
 use Rattle.rtr_cache.specs.Worlds.{Holding, IsReached, Sent, TellsCache, WasPresent, World}
@@ -39,10 +38,12 @@ use Rattle.rtr_agreement.specs.Written.{CacheWrites, FitsAction, FitsPresent, ro
 abbrev pub Bytes : Type 0
 Bytes = List ℕ
 
+-- these bytes of payload units are kept; they may be none
 abbrev pub keeping : Host Bytes Bytes → List ℕ → Host Bytes Bytes
 keeping h b = record { kept = h.kept ++ b ∷ []; made = h.made; shown = h.shown }
 
--- what it has after `tell` answered so of this input
+-- What it has after `tell` answered so of this input: units that were kept before the one that makes
+-- the machine act are kept first.
 abbrev pub host_told : Caller Bytes Bytes → Host Bytes Bytes → List ℕ → Told → Host Bytes Bytes
 host_told c h input told.Awaits = h
 host_told c h input (told.Kept k) = keeping h (take k input)
@@ -90,10 +91,10 @@ pub record Joined : Type 0 where
   pub to_cache : List ℕ
   pub to_router : List ℕ
 
--- What may happen next, in any order and at any time. Each side reads a front of what is on its
--- way, as long as it happens to be there: `input`. The connection may be cut anywhere, for the
--- router, the cache, or both: what is on its way is lost with it, and `ended` says that the router
--- was told so.
+-- What may happen next, in any order and at any time. Each side has in its buffer a front of what is
+-- on its way, as long as it happens to be there: `input`. The connection may be cut anywhere, for
+-- the router, the cache, or both: what is on its way is lost with the next one, and `ended` says
+-- that nothing more comes. A cut in the middle of an answer leaves a front of it.
 pub data NextBytes (c : Caller Bytes Bytes) (E : Editions) : Joined → Joined → Type 0 where
   told_router :
       (w : Joined) (n : ℕ) (e : Event) (a : Action) (r : Router)
@@ -212,11 +213,13 @@ as_units w h tc tr = record {
 -- A run in bytes is where a run of units is, and what is on its way are the bytes of the units that
 -- are, one after the other.
 pub record IsRunOfUnits (E : Editions) (w : Joined) : Type 0 where
+  -- what the router's caller has, in payloads; the queries and the units on their way
   pub holding : Holding (List Payload) Change
   pub heads : List Head
   pub sent : List (Sent Change)
   pub run :
       IsReached (List Payload) Change (source_of E) (as_units w holding heads sent)
+  -- and their bytes
   pub queries : List (List ℕ)
   pub to_cache : concat queries ≡ w.to_cache
   pub are_queries : AreQueries queries heads

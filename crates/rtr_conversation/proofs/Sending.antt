@@ -1,6 +1,6 @@
 -- Units that were sent one after the other are heard as they were sent.
 use native.Mathlib.Omega.{arith}
-use Rattle.std.proofs.Common.{◌≡◌, ◌⊎◌, inl, inr, ℕ, ◌+◌, ◌≤◌, ◌<◌, Bool, true, false, cond, List}
+use Rattle.std.proofs.Common.{◌≡◌, ◌⊎◌, inl, inr, ℕ, ◌≤◌, ◌<◌, Bool, true, false, cond, List}
 use Rattle.std.proofs.Common.{[], ◌∷◌, ◌++◌, length, take, drop, get_or, Option, Some, None, ltb}
 use Rattle.std.proofs.Common.{refl, sym, ap, subst, ◌∙◌, append_assoc}
 use Rattle.std.specs.List.{concat}
@@ -41,7 +41,7 @@ use Rattle.rtr_cache.specs.declared.cache.Cache.{Cache}
 use Rattle.rtr_cache.specs.declared.event.Answer.{Answer}
 use Rattle.rtr_cache.specs.declared.event.Present.{Present}
 use Rattle.rtr_conversation.specs.Heads.{HasHead, IsInOrder, head_of}
-use Rattle.rtr_conversation.specs.Reading.{Acts, Awaits, Hears, KeepsAll, kept_none}
+use Rattle.rtr_conversation.specs.Reading.{Acts, Hears, KeepsAll, kept_none}
 use Rattle.rtr_conversation.specs.Reading.{kept_more}
 use Rattle.rtr_conversation.specs.Sending.{ActsOnSent, AnswersSent, AreWhole, CacheHearsSent}
 use Rattle.rtr_conversation.specs.Sending.{HearsSent, IsLessThanFirst}
