@@ -34,7 +34,7 @@ use Rattle.rtr_cache.specs.declared.event.Answer.TheVariants as answers
 use Rattle.rtr_cache.specs.declared.event.CacheEvent.TheVariants as told
 use Rattle.rtr_cache.specs.declared.event.Present.{Present}
 use Rattle.rtr_cache.specs.CacheRules.{CacheRule}
-use Rattle.rtr_cache.specs.Calm.{HasRoomFor, IsAtRest, IsCalm, ShowsPresent}
+use Rattle.rtr_cache.specs.Calm.{AreNotifies, HasRoomFor, IsAtRest, IsCalm, ShowsPresent}
 use Rattle.rtr_cache.specs.Calm.{StaysOpen, TellsCalmly, WaitsIdly}
 use Rattle.rtr_cache.specs.Calm.IsCalm.{calm_cache_hears, calm_cache_told, calm_connected}
 use Rattle.rtr_cache.specs.Calm.IsCalm.{calm_from, calm_hears, calm_told}
@@ -72,18 +72,12 @@ ComingOf C p (x ∷ xs) =
     ⊎ (((x.head.kind ≡ kinds.CacheReset) × Quiet C xs)
     ⊎ ((x.head.kind ≡ kinds.CacheResponse) × (x.head.session ≡ p.session) × LeftOf C p xs))
 
--- notifies of the session of the present data
-abbrev QuietOf : (C : Type 0) → Present → List (Sent C) → Type 0
-QuietOf C p [] = Unit {0}
-QuietOf C p (x ∷ xs) =
-    (x.head.kind ≡ kinds.SerialNotify) × (x.head.session ≡ p.session) × QuietOf C p xs
-
-as_quiet : (C : Type 0) (p : Present) (xs : List (Sent C)) → QuietOf C p xs → Quiet C xs
+as_quiet : (C : Type 0) (p : Present) (xs : List (Sent C)) → AreNotifies C p xs → Quiet C xs
 as_quiet C p [] q = tt
 as_quiet C p (x ∷ xs) q = (q.0, as_quiet C p xs q.2)
 
-quiet_of_more : (C : Type 0) (p : Present) (xs ys : List (Sent C)) → QuietOf C p xs
-    → QuietOf C p ys → QuietOf C p (xs ++ ys)
+quiet_of_more : (C : Type 0) (p : Present) (xs ys : List (Sent C)) → AreNotifies C p xs
+    → AreNotifies C p ys → AreNotifies C p (xs ++ ys)
 quiet_of_more C p [] ys w q = q
 quiet_of_more C p (x ∷ xs) ys w q = (w.0, w.1, quiet_of_more C p xs ys w.2 q)
 
@@ -137,7 +131,7 @@ written D C S I c c' k v m p u kept (answers.End x) has w stays = absurd stays
 
 -- by itself it writes notifies of the present data
 told_more : (D C : Type 0) (S : Source D C) (c c' : Cache) (k v m : ℕ) (p : Present) (a : Answer)
-    → CacheRule c k p told.Tick a c' → StaysOpen a → QuietOf C p (cache_writes D C S v m p a)
+    → CacheRule c k p told.Tick a c' → StaysOpen a → AreNotifies C p (cache_writes D C S v m p a)
 told_more D C S c c' k v m p answers.Wait w stays = tt
 told_more D C S c c' k v m p answers.Notify w stays = (refl, refl, tt)
 told_more D C S c c' k v m p answers.All w stays = absurd w
@@ -157,7 +151,7 @@ record CalmApplying (C : Type 0) (p : Present) (r : Router) : Type 0 where
   serial : r.answer.serial ≡ p.serial
 
 record CalmWaiting (C : Type 0) (p : Present) (r : Router) (tr : List (Sent C)) : Type 0 where
-  quiet : QuietOf C p tr
+  quiet : AreNotifies C p tr
   own : r.has_data ≡ true → r.known.session ≡ p.session
 
 abbrev CalmIn : (C : Type 0) → Present → Router → List (Sent C) → Phase → Type 0
@@ -501,7 +495,7 @@ asked_more C p r c tc tr ys u us phases.Applying is t w y = let e = t.none in ab
 asked_more C p r c tc tr ys u us phases.Waiting is t w y = let e = t.none in absurd cc
 
 quiet_then : (C : Type 0) (p : Present) (r : Router) (tr ys : List (Sent C)) (f : Phase)
-    → QuietOf C p ys → CalmIn C p r tr f → CalmIn C p r (tr ++ ys) f
+    → AreNotifies C p ys → CalmIn C p r tr f → CalmIn C p r (tr ++ ys) f
 quiet_then C p r tr ys phases.Offline q y = tt
 quiet_then C p r tr ys phases.Connecting q y = tt
 quiet_then C p r tr ys phases.Asked q y = coming_more C p tr ys y (as_quiet C p ys q)
@@ -593,7 +587,7 @@ begins_calm D C w rest = go rest.rests
         → CalmIn C w.present w.router w.to_router w.router.phase
     go (inl e) = to_phase C w.present w.router w.to_router phases.Offline e tt
     go (inr x) = to_phase C w.present w.router w.to_router phases.Waiting x.waiting (record {
-      quiet = subst (λ tr. QuietOf C w.present tr) (sym x.none) tt;
+      quiet = x.notifies;
       own = x.session;
     })
 

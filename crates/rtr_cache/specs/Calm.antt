@@ -9,6 +9,7 @@ use Rattle.rtr_router.specs.declared.event.Action.TheVariants as actions
 use Rattle.rtr_router.specs.declared.event.Event.{Event}
 use Rattle.rtr_router.specs.declared.event.Event.TheVariants as events
 use Rattle.rtr_router.specs.declared.head.Head.{Head}
+use Rattle.rtr_router.specs.declared.head.Kind.TheVariants as kinds
 use Rattle.rtr_router.specs.declared.router.Phase.TheVariants as phases
 use Rattle.rtr_router.specs.declared.router.Router.{Router}
 use Rattle.rtr_router.specs.Heeding.{HasRoom, IsNews}
@@ -25,11 +26,17 @@ use Rattle.rtr_cache.specs.Serving.{HasNews}
 use Rattle.rtr_cache.specs.Worlds.{Holding, IsListening, Sent, Source, World, cache_writes}
 use Rattle.rtr_cache.specs.Worlds.{holding_after, router_writes}
 
--- The router waits on a connection, and nothing is on its way to it; its data are of the session of
--- the present ones.
+-- notifies of data of the present session
+abbrev pub AreNotifies : (C : Type 0) → Present → List (Sent C) → Type 0
+AreNotifies C p [] = Unit {0}
+AreNotifies C p (x ∷ xs) =
+    (x.head.kind ≡ kinds.SerialNotify) × (x.head.session ≡ p.session) × AreNotifies C p xs
+
+-- The router waits on a connection, and nothing but such notifies is on its way to it; its data are
+-- of that session too.
 pub record WaitsIdly (D C : Type 0) (w : World D C) : Type 0 where
   pub waiting : w.router.phase ≡ phases.Waiting
-  pub none : w.to_router ≡ []
+  pub notifies : AreNotifies C w.present w.to_router
   pub session : w.router.has_data ≡ true → w.router.known.session ≡ w.present.session
 
 -- The router has no connection, whatever is on its way; or it waits. The cache has data; where the
