@@ -18,6 +18,10 @@ use std::thread::{self, JoinHandle};
 use std::time::{Duration, Instant};
 use std::vec::Vec;
 
+#[cfg(test)]
+#[path = "scenes.rs"]
+mod scenes;
+
 /// How many connections may be closing beside those that are served.
 const MOST_CLOSING: usize = 64;
 /// How long no client is taken in, in milliseconds, after the system had no place for one.
