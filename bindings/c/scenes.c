@@ -2,64 +2,19 @@
  * made clock, and prints what it does otherwise than they say.
  *
  * usage: scenes < SCENES */
-#include "testing.h"
-#include <inttypes.h>
-#include <stdarg.h>
+#include "scenes.h"
 #include "rtr_client.h"
 
-enum { LONGEST_LINE = 1 << 18 };
-
-/* Steps, a line each. */
-struct steps {
-    char text[1 << 20];
-    size_t length;
-};
-
 static struct rtr_client c;
-static int64_t now;
 static bool connected;
-static struct steps wanted, seen;
-static char name[256];
-static unsigned played, differ;
-
-static void add(struct steps *to, const char *format, ...)
-{
-    va_list values;
-    va_start(values, format);
-    size_t left = sizeof to->text - to->length;
-    int count = vsnprintf(to->text + to->length, left, format, values);
-    va_end(values);
-    CHECK(count >= 0 && (size_t)count < left);
-    to->length += (size_t)count;
-}
-
-static void add_hex(struct steps *to, const uint8_t *bytes, size_t length)
-{
-    for (size_t i = 0; i < length; i++)
-        add(to, "%02x", bytes[i]);
-}
 
 /* Notes what the client sends: queries, and reports. */
 static void sends(void)
 {
     size_t length;
-    struct rtr_unit unit;
-    for (;;) {
-        const uint8_t *output = rtr_client_output(&c, &length);
-        if (length == 0)
-            return;
-        CHECK(rtr_next(output, length, &unit) == RTR_OK);
-        add(&seen, "%" PRId64 " router> ", now);
-        if (unit.kind == RTR_ERROR_REPORT) {
-            add(&seen, "report %u %u %s", unit.version, unit.code, unit.part_length ? "" : "-");
-            add_hex(&seen, output + unit.part_start, unit.part_length);
-            add(&seen, " %.*s", (int)unit.text_length, (const char *)output + unit.text_start);
-        } else {
-            add_hex(&seen, output, unit.size);
-        }
-        add(&seen, "\n");
-        rtr_client_sent(&c, unit.size);
-    }
+    const uint8_t *output = rtr_client_output(&c, &length);
+    sees_units("router", output, length);
+    rtr_client_sent(&c, length);
 }
 
 static void shows(void)
@@ -105,29 +60,14 @@ static void pass(int64_t time)
     now = time;
 }
 
-static void compare(void)
-{
-    if (strcmp(wanted.text, seen.text) != 0 && name[0]) {
-        printf("%s: wanted\n%sseen\n%s", name, wanted.text, seen.text);
-        name[0] = 0;
-        differ++;
-    }
-    wanted.length = seen.length = 0;
-    wanted.text[0] = seen.text[0] = 0;
-}
-
-/* The bytes of a word in hexadecimal come. */
+/* The bytes of words in hexadecimal come. */
 static void comes(const char *hex)
 {
-    size_t length, count = 0;
+    size_t length;
     uint8_t *to = rtr_client_room(&c, &length);
-    for (unsigned value; sscanf(hex, " %2x", &value) == 1; count++) {
-        CHECK(count < length);
-        to[count] = (uint8_t)value;
-        hex += strspn(hex, " ") + 2;
-    }
+    length = from_hex(to, length, hex);
     if (connected)
-        rtr_client_received(&c, count);
+        rtr_client_received(&c, length);
 }
 
 static void set(const char *key, uint64_t value)
@@ -165,27 +105,13 @@ static void given(int64_t time, const char *step)
         settle();
 }
 
-/* A step that the client has to take, with one space between words and none in a query. */
-static void wants(char *step)
-{
-    unsigned place = 0;
-    bool query = false;
-    for (char *word = strtok(step, " "); word; word = strtok(NULL, " "), place++) {
-        query = place == 2 ? query && strcmp(word, "report") : query || !strcmp(word, "router>");
-        add(&wanted, "%s%s", place == 0 || (query && place > 2) ? "" : " ", word);
-    }
-    add(&wanted, "\n");
-}
-
 static void line(char *text)
 {
     int at = 0;
     int64_t time;
     char key[64];
     uint64_t value;
-    text[strcspn(text, "#\n")] = 0;
-    for (size_t length = strlen(text); length > 0 && text[length - 1] == ' ';)
-        text[--length] = 0;
+    trim(text);
     if (!strncmp(text, "scene ", 6)) {
         compare();
         rtr_client_free(&c);
@@ -201,7 +127,7 @@ static void line(char *text)
     } else if (sscanf(text, "%" SCNd64 " cache%n", &time, &at) == 1 && at) {
         given(time, text + at);
     } else if (text[0]) {
-        wants(text);
+        wants("router", text);
     }
 }
 

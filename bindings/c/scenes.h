@@ -1,0 +1,103 @@
+/* What the programs share that play scenes (tests/transcripts): steps that are wanted and seen. */
+#ifndef SCENES_H
+#define SCENES_H
+
+#include "testing.h"
+#include <inttypes.h>
+#include <stdarg.h>
+
+enum { LONGEST_LINE = 1 << 18 };
+
+/* Steps, a line each. */
+struct steps {
+    char text[1 << 20];
+    size_t length;
+};
+
+static int64_t now;
+static struct steps wanted, seen;
+static char name[256]; /* of the scene, until it differs */
+static unsigned played, differ;
+
+static inline void add(struct steps *to, const char *format, ...)
+{
+    va_list values;
+    va_start(values, format);
+    size_t left = sizeof to->text - to->length;
+    int count = vsnprintf(to->text + to->length, left, format, values);
+    va_end(values);
+    CHECK(count >= 0 && (size_t)count < left);
+    to->length += (size_t)count;
+}
+
+static inline void add_hex(struct steps *to, const uint8_t *bytes, size_t length)
+{
+    for (size_t i = 0; i < length; i++)
+        add(to, "%02x", bytes[i]);
+}
+
+/* Notes units that this end sends. */
+static inline void sees_units(const char *end, const uint8_t *units, size_t length)
+{
+    struct rtr_unit unit;
+    for (size_t at = 0; at < length; at += unit.size) {
+        const uint8_t *one = units + at;
+        CHECK(rtr_next(one, length - at, &unit) == RTR_OK);
+        add(&seen, "%" PRId64 " %s> ", now, end);
+        if (unit.kind == RTR_ERROR_REPORT) {
+            add(&seen, "report %u %u %s", unit.version, unit.code, unit.part_length ? "" : "-");
+            add_hex(&seen, one + unit.part_start, unit.part_length);
+            add(&seen, " %.*s", (int)unit.text_length, (const char *)one + unit.text_start);
+        } else {
+            add_hex(&seen, one, unit.size);
+        }
+        add(&seen, "\n");
+    }
+}
+
+/* A step that this end has to take, with one space between words and none in a unit. */
+static inline void wants(const char *end, char *step)
+{
+    unsigned place = 0;
+    bool unit = false;
+    for (char *word = strtok(step, " "); word; word = strtok(NULL, " "), place++) {
+        if (place == 1)
+            unit = !strncmp(word, end, strlen(end)) && !strcmp(word + strlen(end), ">");
+        unit = unit && (place != 2 || strcmp(word, "report") != 0);
+        add(&wanted, "%s%s", place == 0 || (unit && place > 2) ? "" : " ", word);
+    }
+    add(&wanted, "\n");
+}
+
+static inline void compare(void)
+{
+    if (strcmp(wanted.text, seen.text) != 0 && name[0]) {
+        printf("%s: wanted\n%sseen\n%s", name, wanted.text, seen.text);
+        name[0] = 0;
+        differ++;
+    }
+    wanted.length = seen.length = 0;
+    wanted.text[0] = seen.text[0] = 0;
+}
+
+/* Puts the bytes of words in hexadecimal into this room, and answers how many there are. */
+static inline size_t from_hex(uint8_t *to, size_t room, const char *hex)
+{
+    size_t count = 0;
+    for (unsigned value; sscanf(hex, " %2x", &value) == 1; count++) {
+        CHECK(count < room);
+        to[count] = (uint8_t)value;
+        hex += strspn(hex, " ") + 2;
+    }
+    return count;
+}
+
+/* Cuts a line before its comment, and the spaces at its end. */
+static inline void trim(char *text)
+{
+    text[strcspn(text, "#\n")] = 0;
+    for (size_t length = strlen(text); length > 0 && text[length - 1] == ' ';)
+        text[--length] = 0;
+}
+
+#endif
