@@ -34,8 +34,8 @@ pub(crate) struct Edition {
 #[derive(Debug, Default)]
 struct Made {
     forms: [Option<Data>; VERSIONS],
-    /// By the version, and the serial number that they begin at.
-    changes: BTreeMap<(u8, u32), Arc<Vec<u8>>>,
+    /// What leads to the data, by the serial number that it begins at: whole, and for each version.
+    changes: BTreeMap<u32, (Changes, [Option<Changes>; VERSIONS])>,
     /// How many bytes these have.
     size: usize,
 }
@@ -93,10 +93,11 @@ impl Edition {
             .expect("both are of one session and version");
         let until = SystemTime::now();
         let newest = [Back { until, changes }].into_iter();
-        let next = Edition::first(new, self.number + 1);
-        Ok(Some(
-            next.keeping(newest.chain(self.back.iter().cloned()), options),
-        ))
+        let back = newest.chain(self.back.iter().cloned());
+        let next = Edition::first(new, self.number + 1).keeping(back, options);
+        // Most clients ask for this, and don't wait yet.
+        next.lead_from(&old, options);
+        Ok(Some(next))
     }
 
     /// The same, which keeps what leads back to serial numbers before its own, as far as the
@@ -162,41 +163,44 @@ impl Edition {
 
     /// The bytes of all data, for clients of a version that there is.
     pub(crate) fn all(&self, version: u8) -> Arc<Vec<u8>> {
-        self.form(version).shared()
-    }
-
-    /// The data for clients of a version that there is.
-    fn form(&self, version: u8) -> Data {
         let form = &mut locked(&self.made).forms[usize::from(version)];
         form.get_or_insert_with(|| self.data.in_version(version))
-            .clone()
+            .shared()
     }
 
     /// The bytes of what leads clients of a version from a serial number that is known, or from the
     /// present one.
     pub(crate) fn since(&self, version: u8, serial: u32, options: &ServerOptions) -> Arc<Vec<u8>> {
         if serial == self.present.serial {
-            return self.form(version).without_payloads().shared();
+            return self.data.without_payloads().in_version(version).shared();
         }
-        if let Some(changes) = locked(&self.made).changes.get(&(version, serial)) {
-            return Arc::clone(changes);
+        let is_made = locked(&self.made).changes.contains_key(&serial);
+        if !is_made {
+            let old = self
+                .at(serial)
+                .expect("each step leads back to where the next begins");
+            self.lead_from(&old, options);
         }
-        let old = self
-            .at(serial)
-            .expect("each step leads back to where the next begins");
-        let changes = old.in_version(version).delta_to(&self.form(version));
-        let changes = Arc::new(
-            changes
-                .expect("both are of one session and version")
-                .into_bytes(),
-        );
         let mut made = locked(&self.made);
-        made.size += changes.len();
+        let (whole, forms) = made.changes.get_mut(&serial).expect("it was just made");
+        // A version has of changes what it has of the data.
+        let form = forms[usize::from(version)].get_or_insert_with(|| whole.in_version(version));
+        form.shared()
+    }
+
+    /// Makes what leads from these data, and keeps it.
+    fn lead_from(&self, old: &Data, options: &ServerOptions) {
+        let changes = old
+            .delta_to(&self.data)
+            .expect("both are of one session and version");
+        let size = changes.as_bytes().len();
+        let mut made = locked(&self.made);
+        made.size += size;
         if made.size > options.keep_bytes {
             made.changes.clear();
-            made.size = changes.len();
+            made.size = size;
         }
-        made.changes.insert((version, serial), Arc::clone(&changes));
-        changes
+        made.changes
+            .insert(old.end().serial, (changes, Default::default()));
     }
 }

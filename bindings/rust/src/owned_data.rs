@@ -352,6 +352,11 @@ impl Changes {
         self.0.into_bytes()
     }
 
+    /// The bytes, shared.
+    pub(crate) fn shared(&self) -> Arc<Vec<u8>> {
+        Arc::clone(&self.0.bytes)
+    }
+
     /// The bytes of the payload units.
     pub(crate) fn unit_bytes(&self) -> &[u8] {
         self.0.unit_bytes()
