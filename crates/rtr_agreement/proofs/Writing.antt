@@ -307,7 +307,8 @@ written_units E c c' n p e (answers.Changes since) b sendable fits rule small is
     let new : List Payload = E.edition p.session p.serial in
     let most : v ≤ 2 = changes_version c c' n since p e rule in
     let s = delta_sequence v small old new (end_of_edition E v p)
-    (sendable.payloads p.session since) (sendable.payloads p.session p.serial) (end_fits E v p sendable fits most) in
+    (sendable.payloads p.session since) (sendable.payloads p.session p.serial)
+    (end_fits E v p sendable fits most) in
     responded E v p (answers.Changes since)
     (Some ((source_of E).data_at v p.session since)) (changes_for v old new) b sendable fits most
     (formed v (changes_for v old new) s.front s.units) is refl refl

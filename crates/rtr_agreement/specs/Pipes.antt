@@ -42,8 +42,8 @@ Bytes = List ℕ
 abbrev pub keeping : Host Bytes Bytes → List ℕ → Host Bytes Bytes
 keeping h b = record { kept = h.kept ++ b ∷ []; made = h.made; shown = h.shown }
 
--- What it has after `tell` answered so of this input: units that were kept before the one that makes
--- the machine act are kept first.
+-- What it has after `tell` answered so of this input: units that were kept before the one that
+-- makes the machine act are kept first.
 abbrev pub host_told : Caller Bytes Bytes → Host Bytes Bytes → List ℕ → Told → Host Bytes Bytes
 host_told c h input told.Awaits = h
 host_told c h input (told.Kept k) = keeping h (take k input)
@@ -91,10 +91,10 @@ pub record Joined : Type 0 where
   pub to_cache : List ℕ
   pub to_router : List ℕ
 
--- What may happen next, in any order and at any time. Each side has in its buffer a front of what is
--- on its way, as long as it happens to be there: `input`. The connection may be cut anywhere, for
--- the router, the cache, or both: what is on its way is lost with the next one, and `ended` says
--- that nothing more comes. A cut in the middle of an answer leaves a front of it.
+-- What may happen next, in any order and at any time. Each side has in its buffer a front of what
+-- is on its way, as long as it happens to be there: `input`. The connection may be cut anywhere,
+-- for the router, the cache, or both: what is on its way is lost with the next one, and `ended`
+-- says that nothing more comes. A cut in the middle of an answer leaves a front of it.
 pub data NextBytes (c : Caller Bytes Bytes) (E : Editions) : Joined → Joined → Type 0 where
   told_router :
       (w : Joined) (n : ℕ) (e : Event) (a : Action) (r : Router)

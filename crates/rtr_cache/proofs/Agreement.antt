@@ -664,3 +664,13 @@ pub agreement : (D C : Type 0) (S : Source D C) (I : IsSource D C S)
 agreement D C S I w run has =
     let x : HasSame D C S w.had w.router w.holding = (in_world D C S I w run).holds.has has in
     record { was = x.was; same = x.same }
+
+-- a serial query that is out is about the data that are there
+pub asks_own_then : (D C : Type 0) (S : Source D C) (I : IsSource D C S) (w : World D C)
+    → IsReached D C S w → w.router.phase ≡ phases.Asked → w.router.changes ≡ true
+    → AsksOwn w.router
+asks_own_then D C S I w run e =
+    let t : TalkAsked D C S w.had w.router w.to_cache w.to_router =
+    at_phase D C S w.had w.router w.holding w.to_cache w.to_router phases.Asked e
+    (in_world D C S I w run).holds.talk in
+    t.own

@@ -24,7 +24,7 @@ use Rattle.rtr_router.specs.Recovery.IsMadeWell.{are_made, not_made_yet}
 use Rattle.rtr_router.specs.Recovery.LeavesWell.{not_asked_yet, notifies_then}
 use Rattle.rtr_router.specs.Recovery.IsServed.{served_from, served_on}
 use Rattle.rtr_router.specs.Pace.{Paces}
-use Rattle.rtr_router.specs.Rules.{Drops, IsPayloadOf, Rule, query}
+use Rattle.rtr_router.specs.Rules.{AsksOwn, Drops, IsPayloadOf, Rule, query}
 use Rattle.rtr_router.specs.Step.{IsStep}
 use Rattle.rtr_router.proofs.Connections.{Holds}
 use Rattle.rtr_router.proofs.Serving.{recovers}
@@ -35,7 +35,9 @@ use Rattle.rtr_cache.specs.declared.event.CacheEvent.TheVariants as told
 use Rattle.rtr_cache.specs.declared.event.Present.{Present}
 use Rattle.rtr_cache.specs.CacheRules.{CacheRule}
 use Rattle.rtr_cache.specs.Calm.{AreNotifies, HasRoomFor, IsAtRest, IsCalm, ShowsPresent}
-use Rattle.rtr_cache.specs.Calm.{StaysOpen, TellsCalmly, WaitsIdly}
+use Rattle.rtr_cache.specs.Calm.{MayBeginCalm, StaysOpen, TellsCalmly}
+use Rattle.rtr_cache.specs.Calm.MayBeginCalm.{asked_then, connecting_then, offline_then}
+use Rattle.rtr_cache.specs.Calm.MayBeginCalm.{waiting_then}
 use Rattle.rtr_cache.specs.Calm.IsCalm.{calm_cache_hears, calm_cache_told, calm_connected}
 use Rattle.rtr_cache.specs.Calm.IsCalm.{calm_from, calm_hears, calm_told}
 use Rattle.rtr_cache.specs.Worlds.{Agrees, Holding, IsListening, IsReached, IsSource, Next, Sent}
@@ -44,7 +46,7 @@ use Rattle.rtr_cache.specs.Worlds.{data_end, response}
 use Rattle.rtr_cache.specs.Worlds.Next.{cache_hears, cache_told, connected, renewed, router_hears}
 use Rattle.rtr_cache.specs.Worlds.Next.{router_told}
 use Rattle.rtr_cache.specs.Worlds.IsReached.{world_begins, world_goes_on}
-use Rattle.rtr_cache.proofs.Agreement.{agreement}
+use Rattle.rtr_cache.proofs.Agreement.{agreement, asks_own_then}
 use Rattle.rtr_cache.proofs.Answering.{Quiet, quiet_more}
 use Rattle.rtr_cache.proofs.Peace.{Talk, in_peace}
 use Rattle.rtr_cache.proofs.Speaking.{Left, UnderWay, query_changes, query_serial}
@@ -579,26 +581,33 @@ stands D C S w (world_goes_on w₀ w₁ run on) = go w₀ w₁ on (stands D C S 
 
 -- ---- where a calm begins
 
-begins_calm : (D C : Type 0) (w : World D C) → IsAtRest D C w
+begins_calm : (D C : Type 0) (w : World D C) → MayBeginCalm D C w
     → CalmIn C w.present w.router w.to_router w.router.phase
-begins_calm D C w rest = go rest.rests
-  where
-    go : (w.router.phase ≡ phases.Offline) ⊎ WaitsIdly D C w
-        → CalmIn C w.present w.router w.to_router w.router.phase
-    go (inl e) = to_phase C w.present w.router w.to_router phases.Offline e tt
-    go (inr x) = to_phase C w.present w.router w.to_router phases.Waiting x.waiting (record {
-      quiet = x.notifies;
-      own = x.session;
-    })
+begins_calm D C w (offline_then e) = to_phase C w.present w.router w.to_router phases.Offline e tt
+begins_calm D C w (connecting_then e) =
+    to_phase C w.present w.router w.to_router phases.Connecting e tt
+begins_calm D C w (asked_then e q) =
+    to_phase C w.present w.router w.to_router phases.Asked e
+    (from_quiet C w.present w.to_router (as_quiet C w.present w.to_router q))
+begins_calm D C w (waiting_then e q own) =
+    to_phase C w.present w.router w.to_router phases.Waiting e (record { quiet = q; own = own })
 
-begins_held : (D C : Type 0) (S : Source D C) (w : World D C) → IsReached D C S w
-    → IsAtRest D C w → Holds w.router.phase w.router
-begins_held D C S w run rest = go rest.rests
-  where
-    go : (w.router.phase ≡ phases.Offline) ⊎ WaitsIdly D C w → Holds w.router.phase w.router
-    go (inl e) = subst (λ f. Holds f w.router) (sym e) tt
-    go (inr x) = subst (λ f. Holds f w.router) (sym x.waiting)
-        (stands_from phases.Waiting w.router x.waiting (stands D C S w run))
+begins_held : (D C : Type 0) (S : Source D C) → IsSource D C S → (w : World D C)
+    → IsReached D C S w → MayBeginCalm D C w → Holds w.router.phase w.router
+begins_held D C S I w run (offline_then e) = subst (λ f. Holds f w.router) (sym e) tt
+begins_held D C S I w run (connecting_then e) =
+    subst (λ f. Holds f w.router) (sym e)
+    (stands_from phases.Connecting w.router e (stands D C S w run))
+begins_held D C S I w run (asked_then e q) =
+    let own : w.router.changes ≡ true → AsksOwn w.router = asks_own_then D C S I w run e in
+    subst (λ f. Holds f w.router) (sym e) (record {
+      fell = stands_from phases.Asked w.router e (stands D C S w run);
+      has_data = λ c. (own c).has_data;
+      resync = λ c. (own c).resync;
+    })
+begins_held D C S I w run (waiting_then e q own) =
+    subst (λ f. Holds f w.router) (sym e)
+    (stands_from phases.Waiting w.router e (stands D C S w run))
 
 module _ (D C : Type 0) (S : Source D C) (I : IsSource D C S) (before : World D C) (start : ℕ)
     (old : IsReached D C S before) (rest : IsAtRest D C before) where
@@ -607,7 +616,7 @@ module _ (D C : Type 0) (S : Source D C) (I : IsSource D C S) (before : World D 
     reached = old;
     present = refl;
     known = refl;
-    calm = begins_calm D C before rest;
+    calm = begins_calm D C before rest.rests;
     served = served_from;
   }
   in_calm w n' (calm_told w₀ n n₁ e a r run on t step other) =
@@ -708,7 +717,7 @@ module _ (D C : Type 0) (S : Source D C) (I : IsSource D C S) (before : World D 
   pub soon : (w : World D C) (n : ℕ) → IsCalm D C S before start w n
       → n ≤ served_until before.router start
   soon w n run =
-      recovers 2 before.router start w.router n (begins_held D C S before old rest)
+      recovers 2 before.router start w.router n (begins_held D C S I before old rest.rests)
       (in_calm w n run).served
 
   pub shown : (w : World D C) (n n' : ℕ) (d : D) (r : Router) → IsCalm D C S before start w n

@@ -32,17 +32,23 @@ AreNotifies C p [] = Unit {0}
 AreNotifies C p (x ∷ xs) =
     (x.head.kind ≡ kinds.SerialNotify) × (x.head.session ≡ p.session) × AreNotifies C p xs
 
--- The router waits on a connection, and nothing but such notifies is on its way to it; its data are
--- of that session too.
-pub record WaitsIdly (D C : Type 0) (w : World D C) : Type 0 where
-  pub waiting : w.router.phase ≡ phases.Waiting
-  pub notifies : AreNotifies C w.present w.to_router
-  pub session : w.router.has_data ≡ true → w.router.known.session ≡ w.present.session
+-- Where a router may be: it has no connection, whatever is on its way; it makes one; it has asked,
+-- and nothing but notifies is on its way to it; or it waits, and nothing but notifies is, of the
+-- session of its data, if it has any.
+pub data MayBeginCalm (D C : Type 0) (w : World D C) : Type 0 where
+  offline_then : w.router.phase ≡ phases.Offline → MayBeginCalm D C w
+  connecting_then : w.router.phase ≡ phases.Connecting → MayBeginCalm D C w
+  asked_then :
+      w.router.phase ≡ phases.Asked → AreNotifies C w.present w.to_router → MayBeginCalm D C w
+  waiting_then :
+      w.router.phase ≡ phases.Waiting → AreNotifies C w.present w.to_router
+      → (w.router.has_data ≡ true → w.router.known.session ≡ w.present.session)
+      → MayBeginCalm D C w
 
--- The router has no connection, whatever is on its way; or it waits. The cache has data; where the
--- router knows of some of their session, theirs isn't an earlier serial number (RFC 1982).
+-- Where a router knows of some data of the session of the present ones, theirs isn't an earlier
+-- serial number (RFC 1982). The cache has data.
 pub record IsAtRest (D C : Type 0) (w : World D C) : Type 0 where
-  pub rests : (w.router.phase ≡ phases.Offline) ⊎ WaitsIdly D C w
+  pub rests : MayBeginCalm D C w
   pub has : w.present.has ≡ true
   pub order :
       w.router.known.session ≡ w.present.session

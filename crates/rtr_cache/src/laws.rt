@@ -60,14 +60,14 @@ pub fn orderly()
         → IsConnection s moments c → IsOrderly s.pause moments }
 {}
 
-/// After a cut, or from when a router waits and nothing but notifies is on its way to it, while from
-/// then on no connection is cut, no new data come, the cache ends no connection, and each answer
-/// comes in time and is within the limits: the router shows data by `served_until`, a formula of
-/// its pause and its limits, and those are the present data of the cache, as the router's version
-/// has them. Where it waited, and is then told of the present data by a notify, that time counts
-/// from the notify, or from a pause after its last query if that is later; and the notify comes
-/// when the cache may send it, which is a pause after the one before, and then in the time that the
-/// pipe takes.
+/// After a cut, or from when a router has asked or waits and nothing but notifies is on its way to
+/// it, while from then on no connection is cut, no new data come, the cache ends no connection, and
+/// each answer comes in time and is within the limits: the router shows data by `served_until`, a
+/// formula of its pause and its limits, and those are the present data of the cache, as the
+/// router's version has them. Where it waited, and is then told of the present data by a notify,
+/// that time counts from the notify, or from a pause after its last query if that is later; and the
+/// notify comes when the cache may send it, which is a pause after the one before, and then in the
+/// time that the pipe takes.
 pub fn current_again<D, C>()
     ensures soon { (S : Source D C) (before w : World D C) (start n : ℕ) → IsSource D C S
         → IsReached D C S before → IsAtRest D C before → IsCalm D C S before start w n
