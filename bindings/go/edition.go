@@ -23,15 +23,22 @@ const mostBehind = 2
 // the data before these, of the same session, it has what leads back to them. It never changes, but
 // for what it makes for clients.
 type edition struct {
-	number int // of all that the cache had
-	data   Data
-	back   []stepBack   // from these data, one after the other
-	known  []C.uint32_t // the serial numbers that they lead to
+	mark
+	data  Data
+	back  []stepBack   // from these data, one after the other
+	known []C.uint32_t // the serial numbers that they lead to
 
 	lock   sync.Mutex
 	forms  [versions]Data
 	deltas map[question][]byte
 	room   int // for more deltas
+}
+
+// mark says which edition one is.
+type mark struct {
+	full    bool // it has data
+	number  int  // of all that the cache had
+	session uint16
 }
 
 // stepBack leads back from the data after it.
@@ -49,8 +56,11 @@ type question struct {
 // newEdition is one of data, and of these steps back those that the limits allow, to serial numbers
 // that come before theirs.
 func newEdition(number int, data Data, back []stepBack, limits ServerLimits) *edition {
-	e := &edition{number: number, data: data, deltas: map[question][]byte{}, room: limits.KeepBytes}
 	room := limits.KeepBytes
+	e := &edition{
+		mark: mark{true, number, data.Session()}, data: data,
+		deltas: map[question][]byte{}, room: room,
+	}
 	for i, one := range back {
 		_, end := parts(one.changes)
 		serial := binary.BigEndian.Uint32(end[8:])
@@ -66,7 +76,7 @@ func newEdition(number int, data Data, back []stepBack, limits ServerLimits) *ed
 
 // next is the edition of new data after this one. Where they are the same it is this one.
 func (e *edition) next(data Data, limits ServerLimits) (*edition, error) {
-	if e.data.IsZero() {
+	if !e.full {
 		return newEdition(0, data, nil, limits), nil
 	}
 	version := e.data.Version()
@@ -120,13 +130,13 @@ func (e *edition) in(version uint8) (Data, []stepBack, error) {
 }
 
 // behind says why no more of the edition is to be sent, if that is so.
-func (e *edition) behind(present *edition) error {
+func (m mark) behind(present mark) error {
 	switch {
-	case e.data.IsZero():
+	case !m.full:
 		return nil
-	case e.data.Session() != present.data.Session():
+	case m.session != present.session:
 		return ErrSessionEnded
-	case present.number-e.number > mostBehind:
+	case present.number-m.number > mostBehind:
 		return ErrBehind
 	}
 	return nil
@@ -170,11 +180,31 @@ func (e *edition) since(version uint8, serial uint32) ([]byte, error) {
 	if err != nil {
 		return nil, err
 	}
+	return e.change(asked, old, new)
+}
+
+// change is the delta that answers a question, from old data to new ones of its version.
+func (e *edition) change(asked question, old, new Data) ([]byte, error) {
 	changes, err := Delta(old, new)
 	if e.room -= len(changes); e.room >= 0 && err == nil {
 		e.deltas[asked] = changes
 	}
 	return changes, err
+}
+
+// prepare makes what clients of the edition before will ask for. What fails is tried again then.
+func (e *edition) prepare(old *edition) {
+	old.lock.Lock()
+	forms := old.forms
+	old.lock.Unlock()
+	for version, before := range forms {
+		if before.IsZero() || len(e.known) == 0 {
+			continue
+		}
+		if now, err := e.form(uint8(version)); err == nil {
+			e.change(question{uint8(version), old.data.Serial()}, before, now)
+		}
+	}
 }
 
 // before are the data that steps back make of data, one after the other.

@@ -28,7 +28,7 @@ var ErrTorn = errors.New("rtr: the file of editions is torn")
 // beside it, which then gets its name. Without data it writes nothing.
 func (s *Server) Save(path string) error {
 	present := s.present.Load()
-	if present.data.IsZero() {
+	if !present.full {
 		return nil
 	}
 	file, err := os.Create(path + ".new")
@@ -80,7 +80,7 @@ func (s *Server) Restore(path string) (Data, error) {
 	}
 	s.updating.Lock()
 	defer s.updating.Unlock()
-	if s.present.Load().data.IsZero() {
+	if !s.present.Load().full {
 		s.present.Store(newEdition(0, data, back, s.Limits))
 		s.wake()
 	}

@@ -91,7 +91,7 @@ func TestServerTorn(t *testing.T) {
 			t.Fatalf("%x: %v", input, err)
 		}
 	}
-	if !server.present.Load().data.IsZero() {
+	if server.present.Load().full {
 		t.Fatal("data of a torn file")
 	}
 }

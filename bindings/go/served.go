@@ -33,15 +33,15 @@ type served struct {
 	closed     error  // why nothing more comes
 
 	lock  sync.Mutex
-	place *edition // of which it is served
-	woken bool     // there may be a newer one
-	long  bool     // more than a chunk of it is being written
-	cut   error    // why no more of the place is written
-	last  bool     // nothing more is written but a report
+	place mark  // of the edition of which it is served
+	woken bool  // there may be a newer one
+	long  bool  // more than a chunk of it is being written
+	cut   error // why no more of the place is written
+	last  bool  // nothing more is written but a report
 }
 
 func newServed(server *Server, connection net.Conn) *served {
-	c := &served{server: server, connection: connection, place: server.present.Load()}
+	c := &served{server: server, connection: connection}
 	c.input = c.buffer[:0]
 	var wanted C.struct_rtr_cache_settings
 	wanted.first_limit = milliseconds(server.Limits.First)
@@ -53,7 +53,7 @@ func newServed(server *Server, connection net.Conn) *served {
 }
 
 // wake says that there is a newer edition, or that the server ends. It never waits.
-func (c *served) wake(present *edition) {
+func (c *served) wake(present mark) {
 	c.lock.Lock()
 	defer c.lock.Unlock()
 	if c.last {
@@ -67,28 +67,30 @@ func (c *served) wake(present *edition) {
 	}
 }
 
-// look goes to the present edition.
-func (c *served) look() {
+// look goes to the present edition, and answers it.
+func (c *served) look() *edition {
 	c.lock.Lock()
 	defer c.lock.Unlock()
-	c.place, c.woken, c.long, c.cut = c.server.present.Load(), false, false, nil
-	data := c.place.data
-	c.present.has = C.bool(!data.IsZero())
-	c.present.session, c.present.serial = C.uint16_t(data.Session()), C.uint32_t(data.Serial())
+	e := c.server.present.Load()
+	c.place, c.woken, c.long, c.cut = e.mark, false, false, nil
+	c.present.has, c.present.session = C.bool(e.full), C.uint16_t(e.session)
+	c.present.serial = C.uint32_t(e.data.Serial())
+	return e
 }
 
 // serve answers queries until the connection ends, and says why it did.
 func (c *served) serve() error {
 	for c.serving.kind != C.RTR_SERVE_END {
-		if c.look(); c.server.closed.Load() {
+		e := c.look()
+		if c.server.closed.Load() {
 			return ErrServerClosed
 		}
-		switch c.tell(); c.serving.kind {
+		switch c.tell(e.known); c.serving.kind {
 		case C.RTR_SERVE_END:
 		case C.RTR_SERVE_WAIT:
 			c.receive()
 		default:
-			if err := c.answer(); err != nil {
+			if err := c.answer(e); err != nil {
 				c.input, c.closed = nil, err
 			}
 		}
@@ -105,13 +107,14 @@ func (c *served) refuse() {
 	C.rtr_cache_full(&c.cache, C.uint64_t(c.server.clock.now()), &c.present, &c.serving)
 }
 
-// tell tells the machine of a unit that came, or that the connection is gone, or of the time.
-func (c *served) tell() {
+// tell tells the machine of a unit that came, or that the connection is gone, or of the time; and
+// the serial numbers that are known.
+func (c *served) tell(known []C.uint32_t) {
 	now := C.uint64_t(c.server.clock.now())
 	if len(c.input) > 0 {
 		in, n := place(c.input)
-		C.rtr_cache_read(&c.cache, now, &c.present, address(c.place.known),
-			C.size_t(len(c.place.known)), in, n, C.bool(c.closed != nil), &c.serving)
+		C.rtr_cache_read(&c.cache, now, &c.present, address(known), C.size_t(len(known)), in, n,
+			C.bool(c.closed != nil), &c.serving)
 		if c.serving.kind != C.RTR_SERVE_WAIT {
 			return
 		}
@@ -123,15 +126,15 @@ func (c *served) tell() {
 }
 
 // answer sends what the machine says, and is done with the unit that it is about.
-func (c *served) answer() (err error) {
+func (c *served) answer(e *edition) (err error) {
 	var body []byte
 	switch version := uint8(c.serving.version); c.serving.kind {
 	case C.RTR_SERVE_ALL:
 		var data Data
-		data, err = c.place.form(version)
+		data, err = e.form(version)
 		body = data.Bytes()
 	case C.RTR_SERVE_CHANGES:
-		body, err = c.place.since(version, uint32(c.serving.serial))
+		body, err = e.since(version, uint32(c.serving.serial))
 	}
 	if err == nil {
 		err = c.write(c.opening(), body)

@@ -88,6 +88,7 @@ func (s *Server) Update(data Data) error {
 	present := s.present.Load()
 	next, err := present.next(data, s.Limits)
 	if err == nil && next != present {
+		next.prepare(present)
 		s.present.Store(next)
 		s.wake()
 	}
@@ -99,7 +100,7 @@ func (s *Server) wake() {
 	s.lock.Lock()
 	defer s.lock.Unlock()
 	for client := range s.clients {
-		client.wake(s.present.Load())
+		client.wake(s.present.Load().mark)
 	}
 }
 

@@ -139,7 +139,7 @@ func (w *watcher) look() {
 		failed = w.server.Save(w.path + KeptSuffix)
 	}
 	w.spare, _ = os.Open(os.DevNull)
-	debug.FreeOSMemory() // the file, as it was read
+	debug.FreeOSMemory() // the data before
 	before := w.failed
 	w.failed = ""
 	if failed == nil {
@@ -163,6 +163,7 @@ func (w *watcher) load() error {
 	case err != nil:
 		return err
 	}
+	debug.FreeOSMemory() // the file, as it was read
 	if err := w.server.Update(data); err != nil {
 		return fmt.Errorf("%s: %w", w.path, err)
 	}
