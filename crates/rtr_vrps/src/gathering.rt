@@ -20,11 +20,11 @@ use std::alloc::Global;
 pub struct Gathered {
     /// All of them, each once.
     pub payloads: Data,
-    /// How many of them the version hasn't.
+    /// How many of them the version lacks.
     pub left_out: usize,
 }
 
-/// Gathers the payloads of the items. One that this version hasn't is refused, unless such payloads
+/// Gathers the payloads of the items. One that this version lacks is refused, unless such payloads
 /// are to be left out: then they are counted. A payload that comes again is the same payload.
 ///
 /// The first item that is refused decides, with the reason `Version`, `OtherProviders`, or `Change`
@@ -51,7 +51,7 @@ pub fn gather<'a>(
     Ok(Gathered { payloads, left_out })
 }
 
-/// How many of the payloads the version hasn't, or 2^64 - 1 where there are more.
+/// How many of the payloads the version lacks, or 2^64 - 1 where there are more.
 fn count_lacking(version: u8, payloads: &Data) -> usize
     ensures count { result ≡ min (length (lacked version payloads.now)) (2 ^ 64 - 1) }
     ensures fit { AreFit payloads.now }

@@ -200,7 +200,7 @@ fn write<W: Sink, F: Write>(
         Ok(left_out) if flushed => {
             if left_out > 0 {
                 let version = asked.version.number();
-                let _ = writeln!(faults, "left out {left_out} that version {version} hasn't");
+                let _ = writeln!(faults, "left out {left_out} that version {version} lacks");
             }
             0
         }

@@ -65,9 +65,9 @@ pub struct Request {
     pub version: Version,
     /// The session and the serial number of the end of data.
     pub state: State,
-    /// Its timings, which version 0 hasn't.
+    /// Its timings, which version 0 lacks.
     pub timing: Timing,
-    /// Whether payloads that the version hasn't are left out. Otherwise they are refused.
+    /// Whether payloads that the version lacks are left out. Otherwise they are refused.
     pub leaves_out: bool,
     /// Whether a sequence without payloads is written. Otherwise it is refused.
     pub takes_empty: bool,
