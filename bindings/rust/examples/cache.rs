@@ -5,10 +5,10 @@
 //! The file holds a sequence that only announces, in whatever order, with or without a cache
 //! response before it. It is looked at four times a second, and read again when it has changed: put
 //! another in its place by renaming that one. A file that can't be taken is named, and the data
-//! before it stay; one that can't be read is tried again. With `--refuse` a report of code 0 answers
-//! a client whose data aren't known any more, in place of a cache reset. What has to be known after
-//! a restart is in a file beside it, with `.kept` behind its name. SIGINT and SIGTERM end the
-//! program.
+//! before it stay; one that can't be read is tried again. With `--refuse` a report of code 0
+//! answers a client whose data aren't known any more, in place of a cache reset. What has to be
+//! known after a restart is in a file beside it, with `.kept` behind its name. SIGINT and SIGTERM
+//! end the program.
 //!
 //! Ends with status 0 after a signal, 1 where it can't serve, 2 for other arguments.
 

@@ -103,9 +103,10 @@ pub(crate) struct Shared {
 /// these are, or a report; and when it is notified of new data. Where these are of another session,
 /// clients that have data are disconnected at once.
 ///
-/// No client waits for another's connection, but all do while data are made for the first that asks
-/// for them, in a version and from a serial number. A client holds its place in data that all share: of one edition
-/// more than two behind it gets no more. A slow one is ended by the limits of [`ServerOptions`].
+/// No client waits for what another takes or sends. All wait while data get their form for a
+/// version, or while it is worked out what leads from earlier data, for the first that asks. A
+/// client holds its place in bytes that all share; one that is three data behind in the middle of
+/// an answer is ended, and a slow one by the limits of [`ServerOptions`].
 ///
 /// Neither is anything encrypted nor is a client authenticated (RFC 8210 section 9).
 ///
@@ -184,8 +185,8 @@ impl Server {
         newest.map_or(Ok(()), |edition| save(&edition, path.as_ref()))
     }
 
-    /// Takes what [`Server::save`] wrote, if the server has no data yet, and answers the data that it
-    /// then has. So clients go on where they are; call it before [`Server::listen`].
+    /// Takes what [`Server::save`] wrote, if the server has no data yet, and answers the data that
+    /// it then has. So clients go on where they are; call it before [`Server::listen`].
     ///
     /// # Errors
     ///

@@ -1,4 +1,4 @@
-//! Connections that never wait for ever.
+//! A client's connections, which never wait for ever.
 
 use std::io::{self, ErrorKind, Read, Write};
 use std::net::{Shutdown, TcpStream};
@@ -6,8 +6,7 @@ use std::sync::atomic::{AtomicBool, Ordering};
 use std::sync::Arc;
 use std::time::{Duration, Instant};
 
-/// How long a call of the system waits, at most: as late as that a thread sees that it has to stop,
-/// or that there is new data.
+/// How long a call of the system waits, at most: as late as that a thread sees that it has to stop.
 pub(crate) const TICK: Duration = Duration::from_millis(100);
 
 /// Whether a thread has to stop.

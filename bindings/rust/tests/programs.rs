@@ -153,8 +153,8 @@ fn few_descriptors() {
     assert_eq!(cache.end("TERM"), Some(0));
 }
 
-/// A cache that is started again answers clients that have data of before by changes, unless what it
-/// kept isn't as it was written.
+/// A cache that is started again answers clients that have data of before by changes, unless what
+/// it kept isn't as it was written.
 #[test]
 fn restarts() {
     let file = std::env::temp_dir().join(format!("rtr-cache-4-{}", std::process::id()));
