@@ -87,13 +87,6 @@ static void says_reset(uint8_t version)
     says(&wanted);
 }
 
-static void says_notify(uint8_t version, uint16_t session, uint32_t serial)
-{
-    struct text wanted = {.length = 0};
-    add_serial(&wanted, version, 0, session, serial);
-    says(&wanted);
-}
-
 /* A response without changes. */
 static void says_same(uint8_t version, uint32_t serial)
 {
@@ -211,47 +204,6 @@ static void test_pieces(void)
         leaves();
     }
     piece = SIZE_MAX;
-    ends();
-}
-
-static void test_no_data(void)
-{
-    rtr_server_init(&s);
-    begins();
-    asks_all(1);
-    says_report(1, 2, 8);
-    asks_changes(1, SESSION, 5);
-    says_report(1, 2, 12);
-    CHECK(takes(whole(1, 5, 1, 3)) == RTR_UPDATE_TAKEN);
-    CHECK(runs() == RTR_SERVED_WAIT);
-    says_notify(1, SESSION, 5);
-    asks_all(1);
-    says(whole(1, 5, 1, 3));
-    leaves();
-    ends();
-}
-
-/* A notify comes at new data: none before the first query, and one a minute at most. */
-static void test_notifies(void)
-{
-    has_data(1);
-    begins();
-    CHECK(takes(whole(1, 6, 1, 4)) == RTR_UPDATE_TAKEN);
-    says_nothing();
-    asks_all(1);
-    says(whole(1, 6, 1, 4));
-    for (uint32_t serial = 7; serial < 12; serial++) {
-        int64_t before = now;
-        CHECK(takes(whole(1, serial, 1, serial)) == RTR_UPDATE_TAKEN);
-        if (serial > 7) {
-            says_nothing();
-            CHECK(v.wakes == before + 60000);
-            now = v.wakes;
-        }
-        CHECK(runs() == RTR_SERVED_WAIT);
-        says_notify(1, SESSION, serial);
-    }
-    leaves();
     ends();
 }
 
@@ -751,8 +703,6 @@ int main(int count, char **words)
     test_answers();
     test_versions();
     test_pieces();
-    test_no_data();
-    test_notifies();
     test_changes();
     test_kept();
     test_wrap();

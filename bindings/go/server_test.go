@@ -7,7 +7,6 @@ import (
 	"context"
 	"encoding/binary"
 	"errors"
-	"io"
 	"math/rand"
 	"net"
 	"os"
@@ -82,29 +81,6 @@ func TestServerAnswers(t *testing.T) {
 			expect(t, connection, []byte{version, 8, 0, 0, 0, 0, 0, 8})
 		}
 	}
-}
-
-// A cache without data says so, and keeps the connection (RFC 8210 section 8.4). When it has
-// some, it tells the clients that asked.
-func TestServerWithoutData(t *testing.T) {
-	noLeaks(t)
-	server, address := started(t, nil)
-	connection, silent := dial(t, address), dial(t, address)
-	for _, query := range [][]byte{asked(1, 0), asked(1, 7, 8)} {
-		send(t, connection, query)
-		expect(t, connection, reportBytes(1, 2, query, "the cache has no data yet"))
-	}
-	for serial := uint32(1); serial < 3; serial++ {
-		if err := server.Update(parsed(t, ending(1, 7, serial))); err != nil {
-			t.Fatal(err)
-		}
-		expect(t, connection, numbered(1, 0, 7, serial))
-	}
-	send(t, connection, asked(1, 0))
-	expect(t, connection, join(response(1, 7), ending(1, 7, 2)))
-	// The other one has said no version yet, so that it gets no notify.
-	send(t, silent, asked(0, 0))
-	expect(t, silent, join(response(0, 7), ending(0, 7, 2)))
 }
 
 // sequences are the data of serial numbers 1, 2, .., each with another prefix, in these versions.
@@ -209,98 +185,6 @@ func TestServerRefuse(t *testing.T) {
 		if err := <-errs; err != ErrUnknownData {
 			t.Fatal(err)
 		}
-	}
-}
-
-// What a client may not send to a cache that has one prefix, and what comes before the end.
-var serverRefusals = map[string]struct{ input, expected []byte }{
-	"version 3": {
-		[]byte{3, 2, 0, 0, 0, 0, 0, 8},
-		reportBytes(2, 4, []byte{3, 2, 0, 0, 0, 0, 0, 8}, "version is not supported"),
-	},
-	"version 255, and no type": {
-		[]byte{255, 255, 0, 0, 0, 0, 0, 0},
-		reportBytes(2, 4, []byte{255, 255, 0, 0, 0, 0, 0, 0}, "version is not supported"),
-	},
-	"another version": {
-		join(asked(1, 0), asked(0, 0)), join(response(1, 0x1234), ipv4, end,
-			reportBytes(1, 8, asked(0, 0), "unit of another version than the session")),
-	},
-	"version 3 later": {
-		join(asked(1, 0), asked(3, 0)), join(response(1, 0x1234), ipv4, end,
-			reportBytes(1, 8, asked(3, 0), "unit of another version than the session")),
-	},
-	"a prefix": {ipv4, reportBytes(1, 3, ipv4, "unit is not a query")},
-	"a notify": {serialNotify, reportBytes(1, 3, serialNotify, "unit is not a query")},
-	"no type": {
-		[]byte{0, 5, 0, 0, 0, 0, 0, 8},
-		reportBytes(0, 5, []byte{0, 5, 0, 0, 0, 0, 0, 8}, "unit type is not allowed here"),
-	},
-	"a long reset query": {
-		[]byte{1, 2, 0, 0, 0, 0, 0, 9, 0},
-		reportBytes(1, 0, []byte{1, 2, 0, 0, 0, 0, 0, 9}, "invalid unit length"),
-	},
-	"four gigabytes": {
-		[]byte{1, 9, 0, 0, 255, 255, 255, 255},
-		reportBytes(1, 0, []byte{1, 9, 0, 0, 255, 255, 255, 255},
-			"unit is longer than 65535 bytes"),
-	},
-	"four gigabytes of a report": {[]byte{1, 10, 0, 0, 255, 255, 255, 255}, nil},
-	"a report":                   {errorReport, nil},
-	"a report of version 9":      {changed(errorReport, 0, 9), nil},
-	"a cut header": {
-		[]byte{1, 2, 0}, reportBytes(1, 0, []byte{1, 2, 0}, "unexpected end of input"),
-	},
-	"a cut query": {
-		asked(1, 7, 8)[:11],
-		reportBytes(1, 0, asked(1, 7, 8)[:11], "unexpected end of input"),
-	},
-	"nothing": {nil, nil},
-}
-
-func TestServerRefusals(t *testing.T) {
-	noLeaks(t)
-	_, address := started(t, nil, parsed(t, join(ipv4, end)))
-	for name, one := range serverRefusals {
-		connection := dial(t, address)
-		send(t, connection, one.input)
-		if err := connection.CloseWrite(); err != nil {
-			t.Fatal(err)
-		}
-		got, err := io.ReadAll(connection)
-		if err != nil || !bytes.Equal(got, one.expected) {
-			t.Fatalf("%s: %x, but expected is %x: %v", name, got, one.expected, err)
-		}
-	}
-}
-
-// Notifies aren't more frequent than the limit says, and name the newest data.
-func TestServerNotifies(t *testing.T) {
-	noLeaks(t)
-	const least = 50 * time.Millisecond
-	server, address := started(t, func(limits *ServerLimits) { limits.Notify = least },
-		parsed(t, ending(1, 7, 0)))
-	connection := dial(t, address)
-	send(t, connection, asked(1, 0))
-	expect(t, connection, join(response(1, 7), ending(1, 7, 0)))
-	for serial := uint32(1); serial <= 20; serial++ {
-		if err := server.Update(parsed(t, ending(1, 7, serial))); err != nil {
-			t.Fatal(err)
-		}
-	}
-	begun, notifies := time.Now(), 0
-	for serial := uint32(0); serial < 20; notifies++ {
-		unit := make([]byte, 12)
-		if _, err := connection.Read(unit); err != nil {
-			t.Fatal(err)
-		}
-		if !bytes.Equal(unit[:8], numbered(1, 0, 7, 0)[:8]) {
-			t.Fatalf("%x", unit)
-		}
-		serial = binary.BigEndian.Uint32(unit[8:])
-	}
-	if longest := time.Since(begun)/least + 2; time.Duration(notifies) > longest {
-		t.Fatalf("%d notifies in %v", notifies, time.Since(begun))
 	}
 }
 

@@ -257,66 +257,6 @@ fn versions_of_data() {
     }
 }
 
-/// Where that is chosen, a report of code 0 comes in place of a cache reset, and the end (RFC 8210
-/// section 5.1).
-#[test]
-fn refusals() {
-    let _alone = alone();
-    let cache = Cache::new(ServerOptions {
-        refuse: true,
-        ..options()
-    });
-    assert_eq!(cache.server.update(data(1)), Ok(true));
-    for (session, serial) in [(SESSION, 2), (1, 1)] {
-        let mut client = cache.client();
-        client.send(&serial_query(1, session, serial));
-        assert_eq!(client.report(), Some((ErrorCode::CORRUPT_DATA, 1)));
-    }
-    cache.serves(1);
-}
-
-/// Before there are data, a report says so, and the connection stays. Then the client is notified,
-/// not more often than is allowed, and never before its first query.
-#[test]
-fn no_data_and_notifies() {
-    let _alone = alone();
-    let cache = Cache::new(options());
-    let (mut client, mut silent) = (cache.client(), cache.client());
-    for query in [reset_query(1), serial_query(1, SESSION, 1)] {
-        client.send(&query);
-        match client.unit() {
-            Some(Unit::ErrorReport(report)) => {
-                assert_eq!(report.code, ErrorCode::NO_DATA_AVAILABLE);
-                assert_eq!(report.parts.map(|parts| parts.unit), Some(query));
-            }
-            other => panic!("{other:?}"),
-        }
-    }
-    let notify = |serial| {
-        Some(Unit::SerialNotify(SerialNotify {
-            version: 1,
-            session: SESSION,
-            serial,
-        }))
-    };
-    assert_eq!(cache.server.update(data(1)), Ok(true));
-    assert_eq!(client.unit(), notify(1));
-    let began = Instant::now();
-    for serial in 2..=3 {
-        assert_eq!(cache.server.update(data(serial)), Ok(true));
-    }
-    assert_eq!(client.unit(), notify(3));
-    assert!(began.elapsed() > milliseconds(150), "too many notifies");
-    client.send(&serial_query(1, SESSION, 1));
-    let changes = order(&client.response()).unwrap();
-    let old = data(1).for_version(1).unwrap();
-    assert_eq!(
-        old.apply(&changes),
-        data(3).for_version(1).map_err(|_| unreachable!())
-    );
-    assert!(silent.is_closed(), "a client that doesn't ask is closed");
-}
-
 #[test]
 fn updates() {
     let _alone = alone();
