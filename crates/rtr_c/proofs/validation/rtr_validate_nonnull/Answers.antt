@@ -1,6 +1,4 @@
-use Rattle.std.proofs.Common.{Option, subst, sym}
-use Rattle.rtr_base.specs.Addresses.{PrefixParts}
-use Rattle.rtr_c.specs.Routes.{TellsValidity, route_prefix}
+use Rattle.rtr_c.specs.Routes.{route_prefix}
 use Rattle.rtr_c.proofs.Routes.{is_said, tells_validity}
 use Rattle.rtr_c.proofs.validation.rtr_validate_nonnull.Goals as goal
 
