@@ -80,6 +80,11 @@ func NewServer() *Server {
 //
 // Errors: ErrSameSerial or ErrNewTiming; a Fault with Short for the zero Data.
 func (s *Server) Update(data Data) error {
+	return s.update(data, func() {})
+}
+
+// update is Update, which does something once the data before are gone, and then tells clients.
+func (s *Server) update(data Data, before func()) error {
 	if data.IsZero() {
 		return &Fault{Status: Short, Offset: -1}
 	}
@@ -87,12 +92,14 @@ func (s *Server) Update(data Data) error {
 	defer s.updating.Unlock()
 	present := s.present.Load()
 	next, err := present.next(data, s.Limits)
-	if err == nil && next != present {
-		next.prepare(present)
-		s.present.Store(next)
-		s.wake()
+	if err != nil || next == present {
+		return err
 	}
-	return err
+	next.prepare(present)
+	s.present.Store(next)
+	before()
+	s.wake()
+	return nil
 }
 
 // wake has all clients look at the present edition, and whether the server is closed.

@@ -132,14 +132,14 @@ func (w *watcher) look() {
 	}
 	w.seen = now
 	w.spare.Close()
-	old := w.server.present.Load()
+	old := w.server.present.Load().mark
 	failed := w.load()
-	if present := w.server.present.Load(); present != old {
+	if present := w.server.present.Load(); present.mark != old {
 		w.told(present.data, nil)
 		failed = w.server.Save(w.path + KeptSuffix)
+		debug.FreeOSMemory() // what slow clients had that are ended now
 	}
 	w.spare, _ = os.Open(os.DevNull)
-	debug.FreeOSMemory() // the data before
 	before := w.failed
 	w.failed = ""
 	if failed == nil {
@@ -164,7 +164,7 @@ func (w *watcher) load() error {
 		return err
 	}
 	debug.FreeOSMemory() // the file, as it was read
-	if err := w.server.Update(data); err != nil {
+	if err := w.server.update(data, debug.FreeOSMemory); err != nil {
 		return fmt.Errorf("%s: %w", w.path, err)
 	}
 	return nil
