@@ -43,7 +43,10 @@ pub extern "C" fn rtr_cache_init(cache: &mut RtrCache, now: u64, settings: &RtrC
     ensures settings { cache_settings_of cache.new.settings ≡ cache_settings_of settings.now }
     ensures live { cache.new.live ≡ true }
     ensures asked { cache.new.asked ≡ false }
+    ensures version { cache.new.version ≡ 0 }
     ensures told { cache.new.told ≡ false }
+    ensures session { cache.new.session ≡ 0 }
+    ensures serial { cache.new.serial ≡ 0 }
     ensures notify_from { cache.new.notify_from ≡ 0 }
     ensures due { cache.new.due ≡ clock now + settings.now.first_limit }
 {

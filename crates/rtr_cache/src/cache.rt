@@ -41,7 +41,10 @@ impl Cache {
         ensures settings { result.settings ≡ settings }
         ensures live { result.live ≡ true }
         ensures asked { result.asked ≡ false }
+        ensures version { result.version ≡ 0 }
         ensures told { result.told ≡ false }
+        ensures session { result.session ≡ 0 }
+        ensures serial { result.serial ≡ 0 }
         ensures notify_from { result.notify_from ≡ 0 }
         ensures due { result.due ≡ now + settings.first_limit }
     {
