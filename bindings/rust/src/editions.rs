@@ -95,8 +95,10 @@ impl Edition {
         let newest = [Back { until, changes }].into_iter();
         let back = newest.chain(self.back.iter().cloned());
         let next = Edition::first(new, self.number + 1).keeping(back, options);
-        // Most clients ask for this, and don't wait yet.
-        next.lead_from(&old, options);
+        // Most clients are going to ask for this, and none waits yet.
+        if !next.known.is_empty() {
+            next.lead_from(&old, options);
+        }
         Ok(Some(next))
     }
 
@@ -121,11 +123,7 @@ impl Edition {
     }
 
     /// What was written of an edition, if it fits together.
-    pub(crate) fn restored(
-        data: Data,
-        back: Vec<Back>,
-        options: &ServerOptions,
-    ) -> Option<Edition> {
+    pub(crate) fn restored(data: Data, back: Vec<Back>, options: &ServerOptions) -> Option<Self> {
         let edition = Edition::first(data, 0).keeping(back, options);
         let oldest = edition.known.last();
         oldest

@@ -75,7 +75,8 @@ impl Canonical {
     }
 }
 
-/// Data in canonical form: what a cache has, or a router has of it. It owns its bytes.
+/// Data in canonical form: what a cache has, or a router has of it. It owns its bytes; clones share
+/// them.
 ///
 /// These are units that announce payloads, all of one version, each payload once, and of each
 /// customer one ASPA, and then an end of data of that version. Their order is that of payloads:
@@ -107,7 +108,8 @@ impl Canonical {
 #[derive(Clone, Debug, PartialEq, Eq, Hash)]
 pub struct Data(Canonical, Box<Tables>);
 
-/// Changes in canonical form, made by [`order`] or [`Data::delta_to`]. They own their bytes.
+/// Changes in canonical form, made by [`order`] or [`Data::delta_to`]. They own their bytes; clones
+/// share them.
 ///
 /// These are units that announce payloads, then units that withdraw some, each in the order that
 /// [`Data`] has, all of one version, no payload and no customer of an ASPA named twice, and then an

@@ -72,11 +72,7 @@ pub(crate) struct Connection {
 
 impl Connection {
     /// A connection from there that was just made.
-    pub(crate) fn new(
-        stream: TcpStream,
-        from: SocketAddr,
-        moment: &Moment,
-    ) -> io::Result<Connection> {
+    pub(crate) fn new(stream: TcpStream, from: SocketAddr, moment: &Moment) -> io::Result<Self> {
         stream.set_nonblocking(true)?;
         stream.set_nodelay(true)?;
         Ok(Connection {

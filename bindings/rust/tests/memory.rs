@@ -95,7 +95,7 @@ fn memory() {
         std::thread::sleep(Duration::from_millis(200));
     });
     assert!(held < count * (8 << 10), "{held} bytes");
-    // Routers that are slow hold three editions at most, of fifteen, beside what leads to the last.
+    // Routers that are slow hold three editions at most, of fifteen.
     let before = HELD.load(Ordering::Relaxed);
     let mut slow = Vec::new();
     for serial in 2..=16 {
@@ -107,7 +107,7 @@ fn memory() {
         }
         assert_eq!(server.update(data_of(SESSION, serial, u16::MAX)), Ok(true));
     }
-    let few = || HELD.load(Ordering::Relaxed) < before + 3 * length + 15 * 3 * (8 << 10);
+    let few = || HELD.load(Ordering::Relaxed) < before + 2 * length + 15 * 3 * (8 << 10);
     assert!(
         holds(few),
         "{} bytes",
