@@ -47,6 +47,13 @@ AT(rtr_comparison, side, 17);
 AT(rtr_comparison, detail, 18);
 AT(rtr_comparison, same, 19);
 
+_Static_assert(sizeof(struct rtr_line) == 32, "rtr_line");
+AT(rtr_line, size, 0);
+AT(rtr_line, length, 8);
+AT(rtr_line, wanted, 16);
+AT(rtr_line, status, 24);
+AT(rtr_line, detail, 25);
+
 _Static_assert(sizeof(struct rtr_data_answer) == 24, "rtr_data_answer");
 AT(rtr_data_answer, written, 0);
 AT(rtr_data_answer, offset, 8);

@@ -141,6 +141,16 @@ struct rtr_comparison {
     bool same;      /* whether both inputs mean the same; false unless the status is RTR_OK */
 };
 
+/* The answer of rtr_line and rtr_change_line. */
+struct rtr_line {
+    size_t size;    /* bytes of the unit in the input */
+    size_t length;  /* bytes of the line, also where the output is shorter */
+    size_t wanted;  /* after RTR_SHORT, how many bytes of input are needed at least, as in an
+                       rtr_unit; else 0 */
+    uint8_t status; /* an rtr_status, as the call returns it */
+    uint8_t detail; /* as in an rtr_answer */
+};
+
 /* A unit of any kind. Fields that its kind doesn't have are 0. */
 struct rtr_unit {
     size_t size;        /* bytes of the unit in the input, header included; of a unit that
@@ -230,6 +240,10 @@ uint8_t rtr_normalise_for_slice_nonnull(const uint8_t *input, size_t input_lengt
 uint8_t rtr_unit_size_nonnull(const uint8_t *input, size_t input_length, size_t *size,
                               uint8_t *detail);
 uint8_t rtr_next_nonnull(const uint8_t *input, size_t input_length, struct rtr_unit *unit);
+uint8_t rtr_line_nonnull(const uint8_t *input, size_t input_length, uint64_t offset,
+                         uint8_t *output, size_t output_length, struct rtr_line *answer);
+uint8_t rtr_change_line_nonnull(const uint8_t *input, size_t input_length,
+                                uint8_t *output, size_t output_length, struct rtr_line *answer);
 bool rtr_provider_nonnull(const struct rtr_unit *unit, const uint8_t *input, size_t input_length,
                           size_t index, uint32_t *provider);
 bool rtr_error_code_nonnull(uint8_t status, const uint8_t *input, size_t input_length,
@@ -345,6 +359,31 @@ static inline uint8_t rtr_unit_size(const uint8_t *input, size_t input_length, s
 static inline uint8_t rtr_next(const uint8_t *input, size_t input_length, struct rtr_unit *unit)
 {
     return rtr_next_nonnull(rtr_readable(input), input_length, unit);
+}
+
+/* The line of the unit that the input begins with, in ASCII, without its end or a 0 behind it: what
+ * the program rtr_list prints of a unit that stands after `offset` bytes (docs/LISTING.md). Like
+ * that program it shows a prefix whose lengths break their rule, which rtr_next refuses. The next
+ * unit begins `size` bytes later.
+ *
+ * RTR_OK; or RTR_NO_ROOM, where the output holds the front of the line, and `length` says how many
+ * bytes are wanted. Before that RTR_SHORT to RTR_EMPTY_PROVIDERS, with nothing written. */
+static inline uint8_t rtr_line(const uint8_t *input, size_t input_length, uint64_t offset,
+                               uint8_t *output, size_t output_length, struct rtr_line *answer)
+{
+    return rtr_line_nonnull(rtr_readable(input), input_length, offset, rtr_writable(output),
+                            output_length, answer);
+}
+
+/* The line of the change that a payload unit makes, as the program rtr_diff prints it, such as
+ * "+ IPv4 prefix 192.0.2.0/23-26 AS65551"; of any other unit nothing, with length 0. Else as
+ * rtr_line. */
+static inline uint8_t rtr_change_line(const uint8_t *input, size_t input_length,
+                                      uint8_t *output, size_t output_length,
+                                      struct rtr_line *answer)
+{
+    return rtr_change_line_nonnull(rtr_readable(input), input_length, rtr_writable(output),
+                                   output_length, answer);
 }
 
 /* Whether the unit is an ASPA with a provider of this index, counted from 0. The provider is then

@@ -6,38 +6,48 @@ import (
 	"encoding/base64"
 	"encoding/json"
 	"fmt"
-	"strconv"
-	"strings"
 )
 
-// ChangeLine is a payload unit as a line of text, without its end, worded as rtr_diff words it;
-// "" for any other unit. Key info is in base64 (RFC 4648 section 5), unpadded.
-func ChangeLine(unit *Unit) string {
-	sign := "-"
-	if unit.Announce {
-		sign = "+"
-	}
-	switch unit.Kind {
-	case IPv4Prefix, IPv6Prefix:
-		// A table has many of these, and fmt takes several times as long.
-		line := append(make([]byte, 0, 96), sign+" "+unit.Kind.String()+" "...)
-		line = append(unit.Prefix.AppendTo(line), '-')
-		line = strconv.AppendUint(line, uint64(unit.MaxLength), 10)
-		line = append(line, " AS"...)
-		return string(strconv.AppendUint(line, uint64(unit.ASN), 10))
-	case RouterKey:
-		return fmt.Sprintf("%s %v %x AS%d %s",
-			sign, unit.Kind, unit.KeyIdentifier, unit.ASN, base64Of(unit.KeyInfo))
-	case ASPA:
-		var line strings.Builder
-		fmt.Fprintf(&line, "%s %v AS%d providers", sign, unit.Kind, unit.Customer)
-		for i := 0; i < unit.Providers.Len(); i++ {
-			fmt.Fprintf(&line, " AS%d", unit.Providers.At(i))
+// UnitLine appends to b the line that rtr_list prints of the unit that input begins with, of one that
+// stands after so many bytes, without its end, and answers the size of the unit. Like rtr_list it
+// shows a prefix whose lengths break their rule, which Next refuses. The errors are those of
+// UnitSize, and Short if not all of the unit is there; then nothing is appended.
+func UnitLine(b, input []byte, offset uint64) ([]byte, int, error) {
+	room := lineRoom
+	for {
+		b = grown(b, room)
+		length, size, status, detail := line(input, offset, b[len(b):len(b)+room])
+		switch status {
+		case OK:
+			return b[:len(b)+length], size, nil
+		case NoRoom:
+			room = length
+		default:
+			return b, 0, refusal(status, detail, input, 0)
 		}
-		return line.String()
 	}
-	return ""
 }
+
+// ChangeLine is a payload unit as a line of text, without its end, as rtr_diff prints it; "" for any
+// other unit, and for one that has no form. Key info is in base64 (RFC 4648 section 5), unpadded.
+func ChangeLine(unit *Unit) string {
+	// A table has many prefixes, whose forms and lines fit these.
+	var inForm, inLine [lineRoom]byte
+	form, err := unit.AppendBinary(inForm[:0])
+	if err != nil {
+		return ""
+	}
+	output := inLine[:]
+	length, status := changeLine(form, output)
+	if status == NoRoom {
+		output = make([]byte, length)
+		changeLine(form, output)
+	}
+	return string(output[:length])
+}
+
+// lineRoom is room for the lines of all units but some router keys, ASPAs and error reports.
+const lineRoom = 160
 
 // The objects of rtr_diff --json.
 type (

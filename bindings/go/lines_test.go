@@ -2,7 +2,11 @@
 
 package rtr
 
-import "testing"
+import (
+	"errors"
+	"strings"
+	"testing"
+)
 
 // Each payload unit as a line and as an object, by docs/PROGRAMS.md.
 func TestChangeLines(t *testing.T) {
@@ -44,5 +48,41 @@ func TestChangeLines(t *testing.T) {
 		if json := ChangeJSON(&unit); json != one.json {
 			t.Errorf("%s, but expected is %s", json, one.json)
 		}
+	}
+}
+
+// The lines of units, by docs/LISTING.md, where there is room at once and where there isn't.
+func TestUnitLines(t *testing.T) {
+	broken := changed(ipv4, 9, 33)
+	const identifier = "0102030405060708090a0b0c0d0e0f1011121314"
+	for _, one := range []struct {
+		unit []byte
+		line string
+	}{
+		{ipv4, "24 v1 IPv4 prefix announce 192.0.2.0/23-26 AS65551"},
+		{broken, "24 v1 IPv4 prefix announce 192.0.2.0/33-26 AS65551"},
+		{ipv6, "24 v1 IPv6 prefix withdraw 2001:db8::/32-48 AS65551"},
+		{append(changed(key, 7, 36), 0xfb, 0xff),
+			"24 v1 router key announce " + identifier + " AS65551 yv77_w"},
+		{withdrawn, "24 v2 ASPA withdraw AS65000 providers"},
+	} {
+		line, size, err := UnitLine([]byte("> "), append(one.unit, 1, 2), 24)
+		if err != nil || size != len(one.unit) || string(line) != "> "+one.line {
+			t.Errorf("%s, %d, %v, but expected is %s", line, size, err, one.line)
+		}
+	}
+	long := append([]byte{1, 10, 0, 0, 0, 0, 4, 16, 0, 0, 0, 0, 0, 0, 4, 0}, make([]byte, 1024)...)
+	line, _, err := UnitLine(nil, long, 0)
+	want := `0 v1 error report code 0 (Corrupt Data) pdu "" text "` + strings.Repeat(`\x00`, 1024) + `"`
+	if err != nil || string(line) != want {
+		t.Errorf("%v, a line of %d bytes, but expected are %d", err, len(line), len(want))
+	}
+	for length := range long {
+		if line, _, err := UnitLine(nil, long[:length], 0); !errors.Is(err, Short) || len(line) > 0 {
+			t.Fatalf("%v with %d bytes", err, length)
+		}
+	}
+	if _, _, err := UnitLine(nil, []byte{1, 5, 0, 0, 0, 0, 0, 8}, 0); !errors.Is(err, UnitType) {
+		t.Error(err)
 	}
 }

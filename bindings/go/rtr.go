@@ -95,6 +95,22 @@ static struct sized unit_size(const uint8_t *input, size_t length)
 	return sized;
 }
 
+static struct rtr_line line(const uint8_t *input, size_t length, uint64_t offset,
+                            uint8_t *output, size_t output_length)
+{
+	struct rtr_line answer;
+	rtr_line(input, length, offset, output, output_length, &answer);
+	return answer;
+}
+
+static struct rtr_line change_line(const uint8_t *input, size_t length,
+                                   uint8_t *output, size_t output_length)
+{
+	struct rtr_line answer;
+	rtr_change_line(input, length, output, output_length, &answer);
+	return answer;
+}
+
 static struct sized write_unit(struct rtr_unit unit, const uint8_t *part, size_t part_length,
                                uint8_t *output, size_t output_length)
 {
@@ -164,6 +180,23 @@ func unitSize(input []byte) (size int, status Status, detail uint8) {
 	in, n := place(input)
 	sized := C.unit_size(in, n)
 	return int(sized.size), Status(sized.status), uint8(sized.detail)
+}
+
+// line writes the front of the line of the unit that input begins with, and answers how long all of
+// it is, and the unit's size.
+func line(input []byte, offset uint64, output []byte) (length, size int, status Status, detail uint8) {
+	in, n := place(input)
+	out, room := place(output)
+	a := C.line(in, n, C.uint64_t(offset), out, room)
+	return int(a.length), int(a.size), Status(a.status), uint8(a.detail)
+}
+
+// changeLine is line of the change that the unit makes.
+func changeLine(input, output []byte) (length int, status Status) {
+	in, n := place(input)
+	out, room := place(output)
+	a := C.change_line(in, n, out, room)
+	return int(a.length), Status(a.status)
 }
 
 // parse makes the unit the one that input begins with, and answers its size. If it is refused, the

@@ -148,6 +148,13 @@ export const STRUCTS = Object.freeze({
         ["detail", 18, "uint8"],
         ["same", 19, "bool"],
     ] },
+    line: { size: 32, fields: [
+        ["size", 0, "size"],
+        ["length", 8, "size"],
+        ["wanted", 16, "size"],
+        ["status", 24, "uint8"],
+        ["detail", 25, "uint8"],
+    ] },
     unit: { size: 120, fields: [
         ["size", 0, "size"],
         ["wanted", 8, "size"],
@@ -295,6 +302,8 @@ export const FUNCTIONS = Object.freeze({
     rtr_normalise_for_slice_nonnull: ["uint8", "*", "size", "*", "size", "uint64", "uint8", "*"],
     rtr_unit_size_nonnull: ["uint8", "*", "size", "*", "*"],
     rtr_next_nonnull: ["uint8", "*", "size", "*"],
+    rtr_line_nonnull: ["uint8", "*", "size", "uint64", "*", "size", "*"],
+    rtr_change_line_nonnull: ["uint8", "*", "size", "*", "size", "*"],
     rtr_provider_nonnull: ["bool", "*", "*", "size", "size", "*"],
     rtr_error_code_nonnull: ["bool", "uint8", "*", "size", "*"],
     rtr_write_unit_nonnull: ["uint8", "*", "*", "size", "*", "size", "*"],

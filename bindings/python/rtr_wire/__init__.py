@@ -48,6 +48,7 @@ from .faults import (DuplicateError, EmptyProvidersError, Fault, NoFormError, No
                      NoRoomError, NotCanonicalError, OtherSessionError, PrefixError, ShortError,
                      TooLongError, TooManyError, UndecidedError, UnitLengthError, UnitTypeError,
                      UnitVersionError, UnknownError)
+from .lines import unit_lines
 from .reading import Normalised, Units, normalise, same_meaning, units
 from .router import Close, Connect, Failed, NoData, Router, SessionError, Settings, Update
 from .units import (AnyUnit, Aspa, CacheReset, CacheResponse, EndOfData, ErrorReport, IPv4Prefix,
@@ -63,6 +64,6 @@ __all__ = [
     "RouterKey", "SerialNotify", "SerialOrder", "SerialQuery", "SessionError", "Settings",
     "ShortError", "Side", "Status", "TooLongError", "TooManyError", "UndecidedError", "Unit",
     "UnitLengthError", "UnitTypeError", "UnitVersionError", "Units", "UnknownError", "Update",
-    "Validity", "Vrp", "__version__", "normalise", "same_meaning", "serial_order", "units",
-    "version_has",
+    "Validity", "Vrp", "__version__", "normalise", "same_meaning", "serial_order", "unit_lines",
+    "units", "version_has",
 ]

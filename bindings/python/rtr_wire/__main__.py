@@ -1,14 +1,17 @@
 """What the package does from a command line.
 
 usage: python -m rtr_wire fetch HOST:PORT [--version 0|1|2] [--tls] [--ca FILE] [--output FILE]
+       python -m rtr_wire list FILE
        python -m rtr_wire validate FILE PREFIX ASN
 
 fetch asks a cache for all of its data, and writes them as a sequence, in canonical form, on
 standard output or to a file. --tls speaks TLS, and --ca names a file of certificates that are
-trusted in the place of the system's. validate says whether a route is valid by such a file (RFC
+trusted in the place of the system's. list prints a line of each unit of a recording, as rtr_list
+does, or of standard input where it is -. validate says whether a route is valid by such a file (RFC
 6811), or standard input where it is -, and which VRPs cover it, each with why it doesn't match.
 
-Statuses: 0 if all went well, 1 if the data didn't come or aren't data, 2 for other arguments.
+Statuses: 0 if all went well, 1 if the data didn't come or aren't data, or a unit is refused, 2 for
+other arguments.
 """
 from __future__ import annotations
 
@@ -18,7 +21,7 @@ import ssl
 import sys
 from typing import List, Optional, Tuple
 
-from . import Client, Data, Fault, SessionError, Settings
+from . import Client, Data, Fault, SessionError, Settings, unit_lines
 from ._rtr import VERSION
 
 
@@ -50,6 +53,8 @@ def _arguments(words: Optional[List[str]]) -> argparse.Namespace:
     fetch.add_argument("--tls", action="store_true")
     fetch.add_argument("--ca", metavar="FILE")
     fetch.add_argument("--output", metavar="FILE", type=pathlib.Path)
+    listed = commands.add_parser("list", allow_abbrev=False)
+    listed.add_argument("file", metavar="FILE")
     validate = commands.add_parser("validate", allow_abbrev=False)
     validate.add_argument("file", metavar="FILE")
     validate.add_argument("prefix", metavar="PREFIX")
@@ -76,12 +81,20 @@ def _fetch(asked: argparse.Namespace) -> None:
           f"{len(data)} payloads", file=sys.stderr)
 
 
+def _input(name: str) -> bytes:
+    """What a file holds, or standard input."""
+    return sys.stdin.buffer.read() if name == "-" else pathlib.Path(name).read_bytes()
+
+
+def _list(asked: argparse.Namespace) -> None:
+    """Prints the line of each unit."""
+    for line in unit_lines(_input(asked.file)):
+        print(line)
+
+
 def _validate(asked: argparse.Namespace) -> None:
     """Prints the validity of a route, and what covers it."""
-    if asked.file == "-":
-        data = Data.from_bytes(sys.stdin.buffer.read())
-    else:
-        data = Data.from_bytes(pathlib.Path(asked.file).read_bytes())
+    data = Data.from_bytes(_input(asked.file))
     said = _words(data.validate(asked.prefix, asked.asn).name)
     print(f"{asked.prefix} AS{asked.asn} {said}")
     for vrp, mismatch in data.covering(asked.prefix, asked.asn):
@@ -99,6 +112,8 @@ def main(words: Optional[List[str]] = None) -> int:
     try:
         if asked.command == "fetch":
             _fetch(asked)
+        elif asked.command == "list":
+            _list(asked)
         else:
             _validate(asked)
     except (OSError, Fault, SessionError, ValueError) as error:

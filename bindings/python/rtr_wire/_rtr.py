@@ -256,6 +256,22 @@ class rtr_comparison(Structure):
     ]
 
 
+class rtr_line(Structure):
+    size: int
+    length: int
+    wanted: int
+    status: int
+    detail: int
+
+    _fields_ = [
+        ("size", c_size_t),
+        ("length", c_size_t),
+        ("wanted", c_size_t),
+        ("status", c_uint8),
+        ("detail", c_uint8),
+    ]
+
+
 class rtr_unit(Structure):
     size: int
     wanted: int
@@ -637,6 +653,10 @@ PROTOTYPES: dict[str, tuple[Any, list[Any]]] = {
         c_uint8, POINTER(rtr_answer)]),
     "rtr_unit_size_nonnull": (c_uint8, [c_void_p, c_size_t, c_void_p, c_void_p]),
     "rtr_next_nonnull": (c_uint8, [c_void_p, c_size_t, POINTER(rtr_unit)]),
+    "rtr_line_nonnull": (c_uint8, [c_void_p, c_size_t, c_uint64, c_void_p, c_size_t,
+        POINTER(rtr_line)]),
+    "rtr_change_line_nonnull": (c_uint8, [c_void_p, c_size_t, c_void_p, c_size_t,
+        POINTER(rtr_line)]),
     "rtr_provider_nonnull": (c_bool, [POINTER(rtr_unit), c_void_p, c_size_t, c_size_t, c_void_p]),
     "rtr_error_code_nonnull": (c_bool, [c_uint8, c_void_p, c_size_t, c_void_p]),
     "rtr_write_unit_nonnull": (c_uint8, [POINTER(rtr_unit), c_void_p, c_size_t, c_void_p, c_size_t,

@@ -55,6 +55,24 @@ class Commands(unittest.TestCase):
             file.flush()
             self.assertEqual(runs("validate", file.name, "0.0.0.0/0", "1")[0], 0)
 
+    def test_list(self):
+        """As docs/LISTING.md says."""
+        units = (bytes([1, 3, 0, 7, 0, 0, 0, 8])
+                 + bytes([1, 4, 0, 0, 0, 0, 0, 20, 1, 33, 26, 0, 192, 0, 2, 10, 0, 1, 0, 15])
+                 + bytes([1, 10, 0, 2, 0, 0, 4, 16, 0, 0, 0, 0, 0, 0, 4, 0]) + b"\n" * 1024)
+        lines = ("0 v1 cache response session 7\n"
+                 "8 v1 IPv4 prefix announce 192.0.2.10/33-26 AS65551\n"
+                 "28 v1 error report code 2 (No Data Available) pdu \"\" text \""
+                 + "\\n" * 1024 + "\"\n")
+        self.assertEqual(runs("list", "-", given=units), (0, lines.encode(), ""))
+        self.assertEqual(runs("list", "-"), (0, b"", ""))
+        status, printed, said = runs("list", "-", given=units[:29])
+        self.assertEqual((status, printed.count(b"\n"), said[:10]), (1, 2, "rtr_wire: "))
+        with tempfile.NamedTemporaryFile() as file:
+            file.write(units)
+            file.flush()
+            self.assertEqual(runs("list", file.name)[:2], (0, lines.encode()))
+
     def test_no_data(self):
         for given, prefix, asn in ((b"", "192.0.2.0/24", "1"), (b"text", "192.0.2.0/24", "1"),
                                    (bytes(DATA), "192.0.2.0/33", "1"),
@@ -65,7 +83,7 @@ class Commands(unittest.TestCase):
 
     def test_arguments(self):
         for words in ((), ("fetch",), ("fetch", "host"), ("fetch", ":1"), ("fetch", "h:p"),
-                      ("fetch", "h:1", "--version", "3"), ("validate", "-", "::/0"), ("list",),
+                      ("fetch", "h:1", "--version", "3"), ("validate", "-", "::/0"), ("list",), ("list", "-", "-"),
                       ("validate", "-", "::/0", "x")):
             self.assertEqual(runs(*words)[:2], (2, b""), words)
         self.assertEqual(runs("--version")[:2], (0, f"rtr_wire {__version__}\n".encode()))

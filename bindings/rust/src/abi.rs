@@ -217,6 +217,16 @@ pub(crate) struct Comparison {
 
 #[repr(C)]
 #[derive(Clone, Copy, Debug, Default, PartialEq, Eq, Hash)]
+pub(crate) struct Line {
+    pub(crate) size: usize,
+    pub(crate) length: usize,
+    pub(crate) wanted: usize,
+    pub(crate) status: u8,
+    pub(crate) detail: u8,
+}
+
+#[repr(C)]
+#[derive(Clone, Copy, Debug, Default, PartialEq, Eq, Hash)]
 pub(crate) struct Unit {
     pub(crate) size: usize,
     pub(crate) wanted: usize,
@@ -432,6 +442,21 @@ extern "C" {
         input: *const u8,
         input_length: usize,
         unit: *mut Unit,
+    ) -> u8;
+    pub(crate) fn rtr_line_nonnull(
+        input: *const u8,
+        input_length: usize,
+        offset: u64,
+        output: *mut u8,
+        output_length: usize,
+        answer: *mut Line,
+    ) -> u8;
+    pub(crate) fn rtr_change_line_nonnull(
+        input: *const u8,
+        input_length: usize,
+        output: *mut u8,
+        output_length: usize,
+        answer: *mut Line,
     ) -> u8;
     pub(crate) fn rtr_provider_nonnull(
         unit: *const Unit,
@@ -681,6 +706,13 @@ mod tests {
         assert_eq!(place!(value.side), 17);
         assert_eq!(place!(value.detail), 18);
         assert_eq!(place!(value.same), 19);
+        let value = super::Line::default();
+        assert_eq!(size_of::<super::Line>(), 32);
+        assert_eq!(place!(value.size), 0);
+        assert_eq!(place!(value.length), 8);
+        assert_eq!(place!(value.wanted), 16);
+        assert_eq!(place!(value.status), 24);
+        assert_eq!(place!(value.detail), 25);
         let value = super::Unit::default();
         assert_eq!(size_of::<super::Unit>(), 120);
         assert_eq!(place!(value.size), 0);

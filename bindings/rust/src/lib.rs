@@ -123,7 +123,7 @@ pub use data::{apply_in_order, apply_into, delta_into, order_into, DataError, Pl
 pub use fault::{ErrorCode, Fault, PrefixRule};
 pub use kind::{Kind, UnknownKind};
 #[cfg(feature = "std")]
-pub use lines::{change_json, change_line};
+pub use lines::{change_json, change_line, unit_line};
 #[cfg(feature = "std")]
 pub use owned_data::{order, Changes, Data};
 #[cfg(feature = "std")]

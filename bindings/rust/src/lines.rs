@@ -1,14 +1,40 @@
-//! Changes as lines of text, as the program `rtr_diff` prints them.
+//! Units as lines of text, as the program `rtr_list` prints them, and changes as `rtr_diff` does.
 
+use crate::fault::Fault;
 use crate::kind::Kind;
+use crate::sys;
 use crate::unit::{Unit, UnitRef};
-use std::fmt::{self, Display, Write};
+use std::fmt::{self, Display};
 use std::format;
 use std::string::{String, ToString};
+use std::vec;
 use std::vec::Vec;
 
-/// A change as a line of text, worded as `rtr_diff` words it; none for a unit that has no payload.
-/// Key info is in base64 (RFC 4648 section 5), unpadded.
+/// Room for the lines of all units but some router keys, ASPAs and error reports.
+const ROOM: usize = 160;
+
+/// The line that `rtr_list` prints of the unit that the input begins with, of one that stands after
+/// so many bytes, without its end; and the size of the unit. Like `rtr_list` it shows a prefix whose
+/// lengths break their rule, which [`Unit::first`] refuses.
+///
+/// ```
+/// // A prefix that is announced (RFC 8210 section 5.6).
+/// let bytes = [1, 4, 0, 0, 0, 0, 0, 20, 1, 24, 26, 0, 198, 51, 100, 0, 0, 1, 0, 15];
+/// let (line, size) = rtr_wire::unit_line(&bytes, 0)?;
+/// assert_eq!(line, "0 v1 IPv4 prefix announce 198.51.100.0/24-26 AS65551");
+/// assert_eq!(size, 20);
+/// # Ok::<(), rtr_wire::Fault>(())
+/// ```
+///
+/// # Errors
+///
+/// Those of [`unit_size`](crate::unit_size), and `Short` if not all of the unit is there.
+pub fn unit_line(input: &[u8], offset: u64) -> Result<(String, usize), Fault> {
+    line_by(|output| sys::line(input, offset, output))
+}
+
+/// A change as a line of text, as `rtr_diff` prints it, without its end; none for a unit that has no
+/// payload, and for one that has no form. Key info is in base64 (RFC 4648 section 5), unpadded.
 ///
 /// ```
 /// use rtr_wire::{change_line, Unit};
@@ -21,28 +47,27 @@ use std::vec::Vec;
 /// # Ok::<(), rtr_wire::Fault>(())
 /// ```
 pub fn change_line(unit: &UnitRef) -> Option<String> {
-    let sign = if unit.announces()? { '+' } else { '-' };
-    // Room for the line of a prefix, of which a table has many.
-    let mut line = String::with_capacity(96);
-    write!(line, "{sign} {} ", unit.kind()).ok()?;
-    let mut prefix = |address: &dyn Display, length, max_length, asn| {
-        write!(line, "{address}/{length}-{max_length} AS{asn}")
-    };
-    match unit {
-        Unit::Ipv4Prefix(p) => prefix(&p.address, p.length, p.max_length, p.asn),
-        Unit::Ipv6Prefix(p) => prefix(&p.address, p.length, p.max_length, p.asn),
-        Unit::RouterKey(key) => {
-            let (identifier, info) = (Hex(&key.identifier), Base64(key.key_info));
-            write!(line, "{identifier} AS{} {info}", key.asn)
-        }
-        Unit::Aspa(aspa) => write!(line, "AS{} providers", aspa.customer).and_then(|()| {
-            let mut providers = aspa.providers.iter();
-            providers.try_for_each(|asn| write!(line, " AS{asn}"))
-        }),
-        _ => return None,
-    }
-    .ok()?;
+    unit.announces()?;
+    let mut form = Vec::new();
+    unit.append(&mut form).ok()?;
+    let (line, _) = line_by(|output| sys::change_line(&form, output)).ok()?;
     Some(line)
+}
+
+/// The line that the call writes to the front of the output, of which it answers the length, and
+/// the size of the unit.
+fn line_by(
+    mut call: impl FnMut(&mut [u8]) -> Result<(usize, usize), Fault>,
+) -> Result<(String, usize), Fault> {
+    let mut line = vec![0; ROOM];
+    let (mut length, size) = call(&mut line)?;
+    if length > line.len() {
+        line.resize(length, 0);
+        length = call(&mut line)?.0;
+    }
+    line.truncate(length);
+    // A line is ASCII.
+    Ok((String::from_utf8_lossy(&line).into_owned(), size))
 }
 
 /// A change as an object in JSON, with the fields that `rtr_diff --json` gives it; none for a unit

@@ -87,6 +87,50 @@ pub(crate) fn unit_size(input: &[u8]) -> Result<usize, Fault> {
     }
 }
 
+/// The length of the line of the unit that the input begins with, of which the output holds the
+/// front, and the size of the unit.
+#[cfg(feature = "std")]
+pub(crate) fn line(input: &[u8], offset: u64, output: &mut [u8]) -> Result<(usize, usize), Fault> {
+    let mut answer = abi::Line::default();
+    // SAFETY: as in `normalise`.
+    unsafe {
+        abi::rtr_line_nonnull(
+            input.as_ptr(),
+            input.len(),
+            offset,
+            output.as_mut_ptr(),
+            output.len(),
+            &mut answer,
+        )
+    };
+    lined(answer)
+}
+
+/// As `line`, of the change that the unit makes.
+#[cfg(feature = "std")]
+pub(crate) fn change_line(input: &[u8], output: &mut [u8]) -> Result<(usize, usize), Fault> {
+    let mut answer = abi::Line::default();
+    // SAFETY: as in `normalise`.
+    unsafe {
+        abi::rtr_change_line_nonnull(
+            input.as_ptr(),
+            input.len(),
+            output.as_mut_ptr(),
+            output.len(),
+            &mut answer,
+        )
+    };
+    lined(answer)
+}
+
+#[cfg(feature = "std")]
+fn lined(answer: abi::Line) -> Result<(usize, usize), Fault> {
+    match answer.status {
+        status::OK | status::NO_ROOM => Ok((answer.length, answer.size)),
+        status => Err(Fault::of(status, answer.detail)),
+    }
+}
+
 /// `part` is the key info, the providers, or the unit that a report is about. The fault comes
 /// without a version and without the broken rule.
 pub(crate) fn write(unit: &Unit, part: &[u8], output: &mut [u8]) -> Result<usize, Fault> {

@@ -56,3 +56,28 @@ fn lines() {
     let (unit, _) = Unit::first(common::END).unwrap();
     assert_eq!((change_line(&unit), change_json(&unit)), (None, None));
 }
+
+/// As `docs/LISTING.md` says, where there is room at once and where there isn't.
+#[test]
+fn units() {
+    let (line, size) = unit_line(common::IPV6, 24).unwrap();
+    assert_eq!(line, "24 v1 IPv6 prefix withdraw 2001:db8::/32-48 AS65551");
+    assert_eq!(size, 32);
+    let (line, _) = unit_line(common::WITHDRAWN, u64::MAX).unwrap();
+    assert_eq!(
+        line,
+        "18446744073709551615 v2 ASPA withdraw AS65000 providers"
+    );
+    let mut report = vec![1, 10, 0, 0, 0, 0, 4, 16, 0, 0, 0, 0, 0, 0, 4, 0];
+    report.resize(16 + 1024, 0);
+    let (line, size) = unit_line(&report, 0).unwrap();
+    let text = "\\x00".repeat(1024);
+    let front = "0 v1 error report code 0 (Corrupt Data)";
+    assert_eq!(line, format!("{front} pdu \"\" text \"{text}\""));
+    assert_eq!(size, report.len());
+    for length in 0..report.len() {
+        assert!(matches!(unit_line(&report[..length], 0), Err(Fault::Short)));
+    }
+    let unknown = [1, 5, 0, 0, 0, 0, 0, 8];
+    assert!(matches!(unit_line(&unknown, 0), Err(Fault::UnitType(5))));
+}

@@ -1,4 +1,5 @@
 mod Forms
+mod LinesTold
 mod Accepted
 mod Shown
 mod Joined

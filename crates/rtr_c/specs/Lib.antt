@@ -3,6 +3,8 @@ pub mod Shown
 pub mod PrivateShown
 pub mod Said
 pub mod Compared
+pub mod LineAnswers
+pub mod PrivateLines
 pub mod Sizes
 pub mod Numbers
 pub mod DataAnswers

@@ -13,6 +13,7 @@ mod data_answer;
 mod delta;
 mod in_order;
 mod laws;
+mod lines;
 mod next;
 mod numbers;
 mod order;

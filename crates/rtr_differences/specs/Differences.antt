@@ -12,17 +12,14 @@ use Rattle.rtr_payload.specs.Units.{form_of}
 use Rattle.rtr_data.specs.Changes.{changes}
 use Rattle.rtr_data.specs.Data.{Change}
 use Rattle.rtr_data.specs.Deltas.{unit_of}
-use Rattle.rtr_listing.specs.PayloadLines.{payload_said, payload_json}
+use Rattle.rtr_listing.specs.PayloadLines.{payload_json}
+use Rattle.rtr_texts.specs.TextLines.{payload_said, sign_of}
 use Rattle.rtr_differences.specs.declared.words.Form.{Form}
 use Rattle.rtr_differences.specs.declared.words.Form.TheVariants.{Text, Json, Units}
 
 -- the fields of a unit that makes the change
 abbrev pub change_fields : Change → Fields
 change_fields c = written_fields 0 (flags_of c.action) c.payload
-
-abbrev pub sign_of : Action → List ℕ
-sign_of Announce = codes "+"
-sign_of Withdraw = codes "-"
 
 -- What is printed of a change, where units have version v: a line with its sign and the payload in
 -- the words of a listing, a line of JSON, or the unit that makes it, where the version has one.

@@ -22,7 +22,8 @@ use Rattle.rtr_listing.specs.PrivateFollowing.{Knows, FindsIn, Names, payload_in
 use Rattle.rtr_listing.specs.Rules.{told, other_version, payload_reserved}
 use Rattle.rtr_listing.specs.Rules.{payload_rules, repeated, announced_twice}
 use Rattle.rtr_listing.specs.SequenceSoFar.{earlier, payload_named, is_same, is_about, is_announce}
-use Rattle.rtr_listing.specs.SequenceSoFar.{action_of, payload_version, says_announced, announced}
+use Rattle.rtr_listing.specs.SequenceSoFar.{action_of, says_announced, announced}
+use Rattle.rtr_texts.specs.TextLines.{payload_version}
 use Rattle.rtr_listing.specs.SequenceSoFar.{sequence_version, sequence_session}
 use Rattle.rtr_listing.specs.declared.check.Checker.{Checker}
 use Rattle.rtr_listing.specs.declared.check.Stage.TheVariants as stages

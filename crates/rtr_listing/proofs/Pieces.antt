@@ -7,7 +7,7 @@ use Rattle.std.proofs.lemmas.List.Edits.{map_over_more}
 use Rattle.std.proofs.lemmas.List.{get_or_default}
 use Rattle.rtr_base.specs.PlainTexts.{error_code_text}
 use Rattle.rtr_base.specs.declared.timing.Timing.{Timing}
-use Rattle.rtr_listing.specs.TextLines.{report_words, timing_words}
+use Rattle.rtr_texts.specs.TextLines.{report_words, timing_words}
 use Rattle.rtr_base.specs.Bytes.{words}
 use Rattle.rtr_base.proofs.Numbers.{length-words}
 use Rattle.std.proofs.lemmas.List.{flat_map_more, take_more}

@@ -12,7 +12,7 @@ use Rattle.rtr_units.specs.Reading.{least_length}
 use Rattle.rtr_units.specs.StopCauses.{unit_type}
 use Rattle.rtr_units.proofs.Headers.{header_read}
 use Rattle.rtr_session.specs.Reports.{IsReport, HasParts}
-use Rattle.rtr_listing.specs.ReportParts.{pdu_size, text_part, text_size, parts_fill, report_parts}
+use Rattle.rtr_texts.specs.ReportParts.{pdu_size, text_part, text_size, parts_fill, report_parts}
 
 fields_in_order : (t n : ℕ) → (if t == 10 then least_length 16 n else Some (unit_type t)) ≡ None →
     (t ≡ 10) × (16 ≤ n) × (n ≤ 65535)

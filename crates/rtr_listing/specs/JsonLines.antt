@@ -19,8 +19,8 @@ use Rattle.rtr_payload.specs.UnitFields.{Fields, prefix_unit, key_unit, aspa_uni
 use Rattle.rtr_session.specs.AnyFields.{AnyFields, serial_notify, serial_query, reset_query}
 use Rattle.rtr_session.specs.AnyFields.{cache_response, payload, end_of_data, cache_reset}
 use Rattle.rtr_session.specs.AnyFields.{error_report, any_list, any_session}
-use Rattle.rtr_listing.specs.ReportParts.{report_parts}
-use Rattle.rtr_listing.specs.TextLines.{payload_flags, fields_version}
+use Rattle.rtr_texts.specs.ReportParts.{report_parts}
+use Rattle.rtr_texts.specs.TextLines.{payload_flags, fields_version}
 use Rattle.rtr_listing.specs.ControlEscapes.{escaped}
 
 -- ---- a field by its name

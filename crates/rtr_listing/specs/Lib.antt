@@ -9,7 +9,5 @@ pub mod ListWords
 pub mod Listing
 pub mod PrivateLines
 pub mod PrivateJson
-pub mod ReportParts
 pub mod Rules
 pub mod SequenceSoFar
-pub mod TextLines

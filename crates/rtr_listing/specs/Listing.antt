@@ -19,7 +19,7 @@ use Rattle.rtr_listing.specs.FindingTexts.{finding_of}
 use Rattle.rtr_listing.specs.JsonLines.{unit_json}
 use Rattle.rtr_listing.specs.Lines.{written_line}
 use Rattle.rtr_listing.specs.Rules.{end_findings, findings}
-use Rattle.rtr_listing.specs.TextLines.{unit_text}
+use Rattle.rtr_texts.specs.TextLines.{unit_text}
 use Rattle.rtr_listing.specs.declared.finding.Finding.{Finding}
 use Rattle.rtr_listing.specs.declared.run.Wanted.{Wanted}
 use Rattle.rtr_listing.specs.declared.run.Wanted.TheVariants.{Text, Json, Findings}

@@ -7,11 +7,7 @@ use Rattle.rtr_base.specs.Actions.{act}
 use Rattle.rtr_base.specs.PlainTexts.{action_text}
 use Rattle.rtr_payload.specs.UnitFields.{Fields}
 use Rattle.rtr_listing.specs.JsonLines.{text_field, payload_kind, parts_tokens}
-use Rattle.rtr_listing.specs.TextLines.{kind_words, parts_words, payload_flags}
-
--- the kind and the parts, after a space: IPv4 prefix 192.0.2.0/23-26 AS65551
-abbrev pub payload_said : Fields → List ℕ
-payload_said fields = kind_words fields ++ parts_words fields
+use Rattle.rtr_texts.specs.TextLines.{kind_words, parts_words, payload_flags}
 
 -- its object: the kind, what is done, and the parts, by their names in the unit's object
 unfoldable pub payload_object : Fields → List Token

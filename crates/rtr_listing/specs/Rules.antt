@@ -19,10 +19,10 @@ use Rattle.rtr_payload.specs.declared.pdu.prefix_rule.PrefixRule.TheVariants.{Ma
 use Rattle.rtr_payload.specs.declared.pdu.prefix_rule.PrefixRule.TheVariants.{MaxUnderflow}
 use Rattle.rtr_session.specs.AnyFields.{AnyFields, reset_query, payload, end_of_data, cache_reset}
 use Rattle.rtr_session.specs.AnyFields.{cache_response, error_report}
-use Rattle.rtr_listing.specs.ReportParts.{report_parts}
+use Rattle.rtr_texts.specs.ReportParts.{report_parts}
 use Rattle.rtr_listing.specs.SequenceSoFar.{sequence, sequence_version, sequence_session}
 use Rattle.rtr_listing.specs.SequenceSoFar.{stage_of}
-use Rattle.rtr_listing.specs.SequenceSoFar.{payload_version}
+use Rattle.rtr_texts.specs.TextLines.{payload_version}
 use Rattle.rtr_listing.specs.SequenceSoFar.{named_by, announces, announced, action_of}
 use Rattle.rtr_listing.specs.declared.check.Stage.{Stage}
 use Rattle.rtr_listing.specs.declared.check.Stage.TheVariants.{Before, Asked, Open, Whole}

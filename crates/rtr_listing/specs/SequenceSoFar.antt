@@ -15,6 +15,7 @@ use Rattle.rtr_payload.specs.RouteOrigins.{meant_origin}
 use Rattle.rtr_payload.specs.UnitFields.{Fields, prefix_unit, key_unit, aspa_unit}
 use Rattle.rtr_payload.specs.declared.pdu.prefix_rule.PrefixRule.{PrefixRule}
 use Rattle.rtr_session.specs.AnyFields.{AnyFields}
+use Rattle.rtr_texts.specs.TextLines.{payload_version}
 use Rattle.rtr_session.specs.AnyFields.{cache_response, payload, end_of_data, serial_query}
 use Rattle.rtr_session.specs.AnyFields.{reset_query}
 use Rattle.rtr_listing.specs.declared.check.Stage.{Stage}
@@ -42,11 +43,6 @@ oldest field [] = None
 oldest field (newest ∷ before) = earlier (oldest field before) (field newest)
 
 -- ---- version and session
-
-abbrev pub payload_version : Fields → ℕ
-payload_version (prefix_unit u) = u.version
-payload_version (key_unit u) = u.version
-payload_version (aspa_unit u) = u.version
 
 -- the version that a unit gives its sequence: cache responses and payload units do
 abbrev pub given_version : AnyFields → Option ℕ

@@ -5,8 +5,8 @@ ghost use Rattle.rtr_payload.specs.UnitBytes.{unit_fields};
 ghost use Rattle.rtr_payload.specs.UnitFields.{unit_list};
 ghost use Rattle.rtr_session.specs.AnyFields.{any_list};
 ghost use Rattle.rtr_session.specs.AnyUnits.{any_fields};
-ghost use Rattle.rtr_listing.specs.ReportParts.{report_parts};
-ghost use Rattle.rtr_listing.specs.TextLines.{fields_version};
+ghost use Rattle.rtr_texts.specs.ReportParts.{report_parts};
+ghost use Rattle.rtr_texts.specs.TextLines.{fields_version};
 
 use rtr_payload::pdu::{Aspa, Payload};
 use rtr_session::{AnyUnit, Report};

@@ -18,9 +18,9 @@ ghost use Rattle.rtr_session.specs.declared.any_unit.AnyUnit.TheVariants.{
   CacheResponse as Response,
 };
 ghost use Rattle.rtr_session.specs.AnyUnits.{any_fields};
-ghost use Rattle.rtr_listing.specs.TextLines.{aspa_words, key_words, kind_words, origin_words};
-ghost use Rattle.rtr_listing.specs.TextLines.{parts_words, payload_words, report_words, unit_words};
-ghost use Rattle.rtr_listing.specs.TextLines.{unit_text, timing_words};
+ghost use Rattle.rtr_texts.specs.TextLines.{aspa_words, key_words, kind_words, origin_words};
+ghost use Rattle.rtr_texts.specs.TextLines.{parts_words, payload_words, report_words, unit_words};
+ghost use Rattle.rtr_texts.specs.TextLines.{unit_text, timing_words};
 
 use crate::fields;
 use crate::fields::parts;

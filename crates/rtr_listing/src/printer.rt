@@ -12,7 +12,7 @@ ghost use Rattle.rtr_listing.specs.Lines.{PutsLine, written_line};
 ghost use Rattle.rtr_listing.specs.Listing.{end_lines, finding_lines, offset_of};
 ghost use Rattle.rtr_listing.specs.PrivateLines.{HasChecked, Prints, PrintsUnit};
 ghost use Rattle.rtr_listing.specs.PrivateLines.{offset_after};
-ghost use Rattle.rtr_listing.specs.TextLines.{unit_text};
+ghost use Rattle.rtr_texts.specs.TextLines.{unit_text};
 ghost use Rattle.rtr_listing.specs.declared.run.Wanted.TheVariants.{Text, Json, Findings};
 
 use crate::check::Checker;

@@ -12,7 +12,7 @@ ghost use Rattle.rtr_payload.specs.Meanings.{origin_of, payload_of};
 ghost use Rattle.rtr_payload.specs.Payloads.{aspa as aspa_meant, key as key_meant};
 ghost use Rattle.rtr_payload.specs.UnitBytes.{unit_fields};
 ghost use Rattle.rtr_payload.specs.UnitFields.{aspa_unit as aspa_fields, key_unit as key_fields};
-ghost use Rattle.rtr_listing.specs.ReportParts.{report_parts};
+ghost use Rattle.rtr_texts.specs.ReportParts.{report_parts};
 ghost use Rattle.rtr_listing.specs.Rules as rules;
 ghost use Rattle.rtr_listing.specs.PrivateFollowing.{payload_in};
 ghost use Rattle.rtr_listing.specs.declared.finding.Finding.TheVariants as broken;

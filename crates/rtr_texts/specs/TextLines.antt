@@ -8,6 +8,8 @@ use Rattle.base64.specs.GeneralPurpose.{encode_of}
 use Rattle.hex.specs.Hex.{encode_lower}
 use Rattle.rtr_base.specs.declared.timing.Timing.{Timing}
 use Rattle.rtr_base.specs.Actions.{act}
+use Rattle.rtr_base.specs.declared.action.Action.{Action}
+use Rattle.rtr_base.specs.declared.action.Action.TheVariants.{Announce, Withdraw}
 use Rattle.rtr_base.specs.Addresses.{Family, v4, v6}
 use Rattle.rtr_base.specs.PlainTexts.{action_text, address_text, asn_text, error_code_text}
 use Rattle.rtr_units.specs.PrefixUnits.{OriginParts}
@@ -17,10 +19,14 @@ use Rattle.rtr_payload.specs.UnitFields.{Fields, prefix_unit, key_unit, aspa_uni
 use Rattle.rtr_session.specs.AnyFields.{AnyFields, serial_notify, serial_query, reset_query}
 use Rattle.rtr_session.specs.AnyFields.{cache_response, payload, end_of_data, cache_reset}
 use Rattle.rtr_session.specs.AnyFields.{error_report}
-use Rattle.rtr_listing.specs.ReportParts.{report_parts}
-use Rattle.rtr_listing.specs.SequenceSoFar.{payload_version}
+use Rattle.rtr_texts.specs.ReportParts.{report_parts}
 
 -- ---- the version of the protocol (RFC 8210 section 5.1)
+
+abbrev pub payload_version : Fields → ℕ
+payload_version (prefix_unit u) = u.version
+payload_version (key_unit u) = u.version
+payload_version (aspa_unit u) = u.version
 
 abbrev pub fields_version : AnyFields → ℕ
 fields_version (serial_notify version session serial) = version
@@ -73,6 +79,24 @@ parts_words (aspa_unit u) = aspa_words u.aspa
 abbrev pub payload_words : Fields → List ℕ
 payload_words fields =
     kind_words fields ++ codes " " ++ action_text (act (payload_flags fields)) ++ parts_words fields
+
+-- what a payload unit announces or withdraws, as a line of its own: the kind and the parts, after a
+-- space: IPv4 prefix 192.0.2.0/23-26 AS65551
+abbrev pub payload_said : Fields → List ℕ
+payload_said fields = kind_words fields ++ parts_words fields
+
+abbrev pub sign_of : Action → List ℕ
+sign_of Announce = codes "+"
+sign_of Withdraw = codes "-"
+
+-- the line of the change that a payload unit makes: + IPv4 prefix 192.0.2.0/23-26 AS65551
+abbrev pub change_said : Fields → List ℕ
+change_said fields = sign_of (act (payload_flags fields)) ++ payload_said fields
+
+-- the same of any unit; the others make no change
+abbrev pub change_text : AnyFields → List ℕ
+change_text (payload fields) = change_said fields
+change_text unit = []
 
 -- ---- the other units
 

@@ -1,0 +1,33 @@
+"""Units as lines of text, as the program rtr_list prints them."""
+from __future__ import annotations
+
+import ctypes
+from typing import Iterator
+
+from . import _rtr
+from ._library import CALLS, Buffer, address_of
+from ._rtr import Status
+from .faults import refusal
+
+# Room for the lines of most units.
+_ROOM = 160
+
+
+def unit_lines(data: Buffer) -> Iterator[str]:
+    """The line of each unit in these bytes, without its end. Like rtr_list it has a line for a
+    prefix whose lengths break their rule, too.
+
+    Raises, at the unit that is next, what Units raises, but no PrefixError.
+    """
+    data, at = bytes(data), 0
+    output, told = ctypes.create_string_buffer(_ROOM), _rtr.rtr_line()
+    while at < len(data):
+        status = CALLS.rtr_line_nonnull(address_of(data) + at, len(data) - at, at, output,
+                                        len(output), ctypes.byref(told))
+        if status == Status.NO_ROOM:
+            output = ctypes.create_string_buffer(told.length)
+        elif status != Status.OK:
+            raise refusal(status, told.detail, data, at)
+        else:
+            yield ctypes.string_at(output, told.length).decode("ascii")
+            at += told.size

@@ -1,0 +1,139 @@
+//! Lines of units, as the programs print them.
+
+ghost use Rattle.std.specs.Prelude.{◌≡◌, ◌≤◌, ℕ, List, Option, Some, Ok, Result, IfOk, IfErr};
+ghost use Rattle.std.specs.Prelude.{length, take};
+ghost use Rattle.rtr_views.specs.declared.fault.ViewFault.{ViewFault};
+ghost use Rattle.rtr_session.specs.Lengths.{SaysLength};
+ghost use Rattle.rtr_texts.specs.TextLines.{change_text, unit_text};
+ghost use Rattle.rtr_c.specs.LineAnswers.{TellsLine, line_status, no_line};
+ghost use Rattle.rtr_c.specs.PrivateLines.{IsUnitOf, TellsRefusal};
+
+use crate::answer::{ACCEPTED, NO_ROOM, SHORT, fault_detail, fault_status};
+use rtr_session::length::unit_length;
+use rtr_texts::{describe, describe_change, listed_unit};
+
+/// The bytes of a header.
+const HEADER: usize = 8;
+
+/// How a call that writes a line ended.
+#[repr(C)]
+#[derive(Drop)]
+pub struct RtrLine {
+    /// Bytes of the unit in the input.
+    pub size: usize,
+    /// Bytes of the line, also of one that the output is too short for.
+    pub length: usize,
+    /// With `SHORT`, how many bytes of the input are wanted for certain: 8 without a whole header,
+    /// and then the length of the unit. Otherwise 0.
+    pub wanted: usize,
+    /// How the call ended.
+    pub status: u8,
+    /// With `UNIT_TYPE` the refused type, with `UNIT_VERSION` the refused version. Otherwise 0.
+    pub detail: u8,
+}
+
+// The fields stand one after the other, and six bytes are left at the end.
+const _: () = prove!(size_of::<RtrLine>() == 32);
+
+/// The line of the unit that the input begins with, as `rtr_list` prints it of one that stands
+/// after so many bytes, without its end. It is laid over the front of the output as far as that has
+/// room, and if it has not, the status is `NO_ROOM` and `length` says how many bytes are wanted.
+///
+/// Statuses before it, with nothing written: those of `rtr_unit_size`, and `SHORT` if not all of
+/// the unit is there.
+#[unsafe(no_mangle)]
+pub extern "C" fn rtr_line_nonnull(
+    input: &[u8],
+    offset: u64,
+    output: &mut [u8],
+    answer: &mut RtrLine,
+) -> u8
+    ensures { (r : Result (Option ℕ) ViewFault) × SaysLength input.now r
+        × TellsLine (unit_text offset) r input.now output.old output.new answer.new result }
+{
+    let unit = match first_unit(input) {
+        Ok(unit) => unit,
+        Err(refusal) => {
+            *answer = refusal;
+            return answer.status;
+        }
+    };
+    let room = output.len();
+    let length = describe(output, 0, offset, &listed_unit(unit));
+    *answer = written(unit.len(), length, room);
+    answer.status
+}
+
+/// The line of the change that the unit makes that the input begins with, as `rtr_diff` prints it,
+/// without its end; of a unit without a payload nothing. Otherwise as `rtr_line_nonnull`.
+#[unsafe(no_mangle)]
+pub extern "C" fn rtr_change_line_nonnull(
+    input: &[u8],
+    output: &mut [u8],
+    answer: &mut RtrLine,
+) -> u8
+    ensures { (r : Result (Option ℕ) ViewFault) × SaysLength input.now r
+        × TellsLine change_text r input.now output.old output.new answer.new result }
+{
+    let unit = match first_unit(input) {
+        Ok(unit) => unit,
+        Err(refusal) => {
+            *answer = refusal;
+            return answer.status;
+        }
+    };
+    let room = output.len();
+    let length = describe_change(output, 0, &listed_unit(unit));
+    *answer = written(unit.len(), length, room);
+    answer.status
+}
+
+/// The unit that the input begins with, or the answer if there is none.
+fn first_unit(input: &[u8]) -> Result<&[u8], RtrLine>
+    ensures unit { IfOk result (λ u. IsUnitOf input.now u.now) }
+    ensures refusal { IfErr result (TellsRefusal input.now) }
+{
+    match unit_length(input) {
+        Ok(Some(size)) => {
+            if size > input.len() {
+                return Err(refused(SHORT, 0, size));
+            }
+            Ok(&input[..size])
+        }
+        Ok(None) => Err(refused(SHORT, 0, HEADER)),
+        Err(fault) => Err(refused(fault_status(&fault), fault_detail(&fault), 0)),
+    }
+}
+
+/// The answer if there is no line.
+fn refused(status: u8, detail: u8, wanted: usize) -> RtrLine
+    ensures { result ≡ no_line status detail wanted }
+{
+    RtrLine {
+        size: 0,
+        length: 0,
+        wanted,
+        status,
+        detail,
+    }
+}
+
+/// The answer of a line of this length, of a unit of this size, in an output with so much room.
+fn written(size: usize, length: usize, room: usize) -> RtrLine
+    ensures { result ≡ record {
+      size = size;
+      length = length;
+      wanted = 0;
+      status = line_status length room;
+      detail = 0;
+    } }
+{
+    let status = if length <= room { ACCEPTED } else { NO_ROOM };
+    RtrLine {
+        size,
+        length,
+        wanted: 0,
+        status,
+        detail: 0,
+    }
+}

@@ -1,0 +1,4 @@
+pub mod Laid
+pub mod AddressTexts
+pub mod OneMore
+pub mod ReadBack

@@ -1,0 +1,4 @@
+pub mod Laying
+pub mod ListedUnits
+pub mod ReportParts
+pub mod TextLines

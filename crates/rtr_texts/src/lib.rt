@@ -1,0 +1,14 @@
+//! Lines and texts, written into slices: what the programs print. Nothing allocates.
+#![tactic(auto, using(crate::proofs::Laid::lays_both))]
+
+mod addresses;
+mod laws;
+mod laying;
+mod listed;
+mod pieces;
+mod reading;
+mod text;
+
+pub use listed::{Listed, ListedAspa, ListedKey, ListedPayload, ListedReport};
+pub use reading::listed_unit;
+pub use text::{describe, describe_change, describe_payload};
