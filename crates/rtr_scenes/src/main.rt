@@ -57,8 +57,13 @@ fn main(rt: HostRuntime) -> Result<ExitCode, Fail> {
 fn simulate(rt: &HostRuntime, words: &str) -> Result<bool, Fail> {
     let (seed, steps) = words.trim().split_once(" ").unwrap_or((words, "0"));
     let mut simulation = Simulation::new(rt.alloc(), seed.parse::<u64>()?);
-    let Some(wrong) = simulation.run(steps.parse::<u64>()?)? else {
-        return Ok(false);
+    let wrong = match simulation.run(steps.parse::<u64>()?) {
+        Ok(None) => return Ok(false),
+        Ok(Some(wrong)) => wrong,
+        Err(fail) => {
+            let _ = println!(rt; "simulation of seed {seed} breaks off");
+            return Err(fail);
+        }
     };
     println!(rt; "simulation of seed {seed}, {wrong}")?;
     Ok(true)

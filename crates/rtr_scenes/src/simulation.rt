@@ -83,17 +83,17 @@ impl Simulation {
 
     /// Something happens.
     fn step(&mut self) -> Result<(), Fail> {
-        match self.random.below(100) {
-            0..=29 => self.deliver(true)?,
-            30..=59 => self.deliver(false)?,
-            60..=74 => self.pass()?,
-            75..=84 => self.answer_connection(true)?,
-            85..=93 => self.renew()?,
-            94 => self.forget()?,
-            95 => self.cut()?,
-            96 => self.close()?,
-            97 => self.restart_router()?,
-            98 => self.restart_cache()?,
+        match self.random.below(1000) {
+            0..=349 => self.deliver(true)?,
+            350..=699 => self.deliver(false)?,
+            700..=829 => self.pass()?,
+            830..=889 => self.answer_connection(true)?,
+            890..=975 => self.renew()?,
+            976..=981 => self.forget()?,
+            982..=987 => self.cut()?,
+            988..=992 => self.close()?,
+            993..=994 => self.restart_router()?,
+            995..=997 => self.restart_cache()?,
             _ => self.change_session()?,
         }
         self.settle()
