@@ -1,6 +1,8 @@
 -- Texts that are laid over a slice one after the other.
-use Rattle.std.proofs.Common.{◌≡◌, ℕ, zero, suc, ◌+◌, ◌-◌, ◌^◌, ◌<◌, ◌≤◌, List, [], ◌∷◌, ◌++◌, length, take}
-use Rattle.std.proofs.Common.{drop, min, rules, refl, sym, ap, ◌∙◌, arith, ◌⊎◌, inl, inr, subst, append-nil, append_assoc}
+use Rattle.std.proofs.Common.{◌≡◌, ℕ, zero, suc, ◌+◌, ◌-◌, ◌^◌, ◌≤◌, List, [], ◌∷◌, ◌++◌, length}
+use Rattle.std.proofs.Common.{take}
+use Rattle.std.proofs.Common.{drop, refl, sym, ap, ◌∙◌, arith, inl, inr, subst, append-nil}
+use Rattle.std.proofs.Common.{append_assoc}
 use Rattle.std.proofs.lemmas.List.{length-append, drop-drop}
 use Rattle.std.proofs.lemmas.Bool.{cases_lt}
 use Rattle.std.proofs.Math.ListN.{drop_of_length-le}
@@ -141,7 +143,8 @@ lays_cut at k x a ys e h over is made stops = (
 )
 
 -- a text that begins past the end of the slice
-pub lays_past : (at : ℕ) (x a : List ℕ) (e : ℕ) → length a ≤ at → e ≡ text_end at x → Lays x at a e a
+pub lays_past : (at : ℕ) (x a : List ℕ) (e : ℕ) → length a ≤ at → e ≡ text_end at x → Lays x at a e
+    a
 unfolding Lays
 lays_past at x a e h stops = (stops, λ fits. sym (laid_past at x a h))
 

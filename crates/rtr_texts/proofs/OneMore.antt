@@ -1,14 +1,14 @@
 -- Lists of pieces, one more piece at a time.
-use Rattle.std.proofs.Common.{◌≡◌, ℕ, ◌<◌, ◌≤◌, ◌-◌, ◌^◌, ◌%◌, arith, List, [], ◌∷◌, ◌++◌, length, take, drop, refl, sym}
+use Rattle.std.proofs.Common.{◌≡◌, ℕ, ◌<◌, ◌≤◌, ◌-◌, ◌^◌, ◌%◌, arith, List, [], ◌∷◌, ◌++◌, length}
+use Rattle.std.proofs.Common.{take, drop, refl, sym}
 use Rattle.std.specs.Net.Text.{hex}
 use Rattle.rtr_base.specs.Bytes.{value}
 use Rattle.std.proofs.Common.{codes, decimal, flat_map, ap, ◌∙◌}
-use Rattle.std.specs.Char.Escape.{escape_ascii}
 use Rattle.std.proofs.lemmas.List.{take-append-drop}
 use Rattle.base64.specs.Engines.{url_safe_no_pad}
 use Rattle.base64.specs.GeneralPurpose.{encode_of}
 use Rattle.base64.proofs.EngineFacts.{encode_of-append}
-use Rattle.hex.specs.Hex.{encode_lower, encode_with, lower_digits}
+use Rattle.hex.specs.Hex.{encode_lower, encode_with}
 use Rattle.rtr_payload.specs.PayloadTexts.{each_text}
 use Rattle.rtr_payload.specs.Providers.{words_of}
 use Rattle.rtr_texts.specs.Laying.{Lays}

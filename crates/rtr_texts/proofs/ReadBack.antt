@@ -1,19 +1,19 @@
 -- The fields of a unit, read off its bytes.
-use Rattle.std.proofs.Common.{◌≡◌, ℕ, ◌^◌, ◌<◌, ◌⊎◌, List, ◌++◌, refl, sym, ap, ◌∙◌, inl, inr}
+use Rattle.std.proofs.Common.{◌≡◌, ℕ, ◌^◌, ◌<◌, List, refl, ap, ◌∙◌, inl, inr}
 use Rattle.std.proofs.Common.{Option, Some, None, drop, take}
 use Rattle.std.specs.Prelude.{◌==◌, false, slice_index}
 use Rattle.rtr_base.specs.Addresses.{Family, v4, v6}
-use Rattle.rtr_base.specs.Bytes.{be, value}
+use Rattle.rtr_base.specs.Bytes.{value}
 use Rattle.rtr_base.specs.declared.timing.Timing.{Timing}
 use Rattle.rtr_base.proofs.Numbers.{value-be}
-use Rattle.rtr_units.specs.End.{EndMeaning, HasTimingOf, IsEndMeaning, end_list, timed_list}
-use Rattle.rtr_units.specs.Header.{header, type_field, version_field}
+use Rattle.rtr_units.specs.End.{EndMeaning, HasTimingOf, timed_list}
+use Rattle.rtr_units.specs.Header.{type_field, version_field}
 use Rattle.rtr_units.specs.PrefixUnits.{prefix_at, prefix_type}
 use Rattle.rtr_payload.specs.AspaUnits.{aspa_at}
 use Rattle.rtr_payload.specs.KeyUnits.{key_at}
 use Rattle.rtr_payload.specs.UnitFields.{Fields, prefix_unit, key_unit, aspa_unit, fields_like}
 use Rattle.rtr_payload.proofs.FieldsRead.{fields_read}
-use Rattle.rtr_session.specs.AnyFields.{AnyFields, HasAnyFields, any_list, serial_notify}
+use Rattle.rtr_session.specs.AnyFields.{AnyFields, HasAnyFields, serial_notify}
 use Rattle.rtr_session.specs.AnyFields.{serial_query, reset_query, cache_response, payload}
 use Rattle.rtr_session.specs.AnyFields.{end_of_data, cache_reset, error_report}
 use Rattle.rtr_session.specs.AnyUnits.{serial_of, bare_of}

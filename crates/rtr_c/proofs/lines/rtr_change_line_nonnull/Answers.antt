@@ -10,6 +10,7 @@ returns-in-Err c =
 
 pub returns : goal.returns
 returns c =
-    line_told change_text c.args.input.now c.in-Ok.unit.now c.args.output.now _ c.describe_change-length.result _
+    line_told change_text c.args.input.now c.in-Ok.unit.now c.args.output.now _
+    c.describe_change-length.result _
     c.written.ensures (search rules)
     (lays_said _ _ _ _ _ _ (ap change_text c.listed_unit.ensures) c.describe_change-length.ensures)

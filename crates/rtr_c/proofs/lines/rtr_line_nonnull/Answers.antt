@@ -10,6 +10,8 @@ returns-in-Err c =
 
 pub returns : goal.returns
 returns c =
-    line_told (unit_text c.args.offset) c.args.input.now c.in-Ok.unit.now c.args.output.now _ c.describe-length.result _
+    line_told (unit_text c.args.offset) c.args.input.now c.in-Ok.unit.now c.args.output.now _
+    c.describe-length.result _
     c.written.ensures (search rules)
-    (lays_said _ _ _ _ _ _ (ap (unit_text c.args.offset) c.listed_unit.ensures) c.describe-length.ensures)
+    (lays_said _ _ _ _ _ _ (ap (unit_text c.args.offset) c.listed_unit.ensures)
+    c.describe-length.ensures)

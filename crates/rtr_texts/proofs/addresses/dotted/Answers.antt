@@ -3,7 +3,8 @@ use Rattle.rtr_texts.proofs.addresses.dotted.Goals as goal
 
 pub returns : goal.returns
 returns c =
-    lays_next _ _ _ _ _ _ _ _ _ (lays_next _ _ _ _ _ _ _ _ _ (lays_next _ _ _ _ _ _ _ _ _ c.number-at.ensures
+    lays_next _ _ _ _ _ _ _ _ _ (lays_next _ _ _ _ _ _ _ _ _ (lays_next _ _ _ _ _ _ _ _ _
+    c.number-at.ensures
     c.labelled-at.ensures)
     c.labelled-at-2.ensures)
     c.labelled.ensures

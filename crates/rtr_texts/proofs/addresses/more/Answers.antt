@@ -10,7 +10,8 @@ each-preserved c = (
   lays_end _ _ _ _ _ c.segment-end.ensures,
   piece_then segments_said c.each.left.now (codes ":" ++ hex c.in-Some.segment_left.now)
       c.in-Some.rest.now c.args.segments.now c.args.at c.each.end c.args.output.now c.each.output
-      _ _ (flat_then (λ t. codes ":" ++ hex t) c.in-Some.segment_left.now c.in-Some.rest.now c.each.left.now (search rules))
+      _ _ (flat_then (λ t. codes ":" ++ hex t) c.in-Some.segment_left.now c.in-Some.rest.now
+      c.each.left.now (search rules))
       c.each.invariant.1 (lays_both _ _ _ _ _ _ _ _ c.text-end.ensures c.segment-end.ensures),
 )
 
@@ -18,5 +19,6 @@ pub returns : goal.returns
 returns c =
     none_then segments_said c.each.left.now c.args.segments.now c.args.at c.each.end
     c.args.output.now c.each.output
-    (no_flat (λ t. codes ":" ++ hex t) c.each.left.now (nil_from_length _ (search rules))) c.each.invariant.0
+    (no_flat (λ t. codes ":" ++ hex t) c.each.left.now (nil_from_length _ (search rules)))
+    c.each.invariant.0
     c.each.invariant.1

@@ -1,4 +1,4 @@
-use Rattle.std.proofs.Common.{ℕ, ◌-◌, ◌^◌, ◌≤◌, List, length, flat_map}
+use Rattle.std.proofs.Common.{ℕ, ◌-◌, ◌^◌, ◌≤◌, List, length}
 use Rattle.rtr_texts.proofs.OneMore.{each_said}
 use Rattle.rtr_texts.specs.Laying.{Lays}
 use Rattle.rtr_texts.proofs.pieces.providers.Given as goal

@@ -30,11 +30,13 @@ returns-in-3 c =
 
 pub returns-in-4 : goal.returns-in-4
 returns-in-4 c =
-    ap (λ l. payload (prefix_unit (prefix_at v4 l))) c.unit_of-in-4.ensures ∙ by_v4 c.args.unit.now (search rules)
+    ap (λ l. payload (prefix_unit (prefix_at v4 l))) c.unit_of-in-4.ensures ∙ by_v4 c.args.unit.now
+    (search rules)
 
 pub returns-in-6 : goal.returns-in-6
 returns-in-6 c =
-    ap (λ l. payload (prefix_unit (prefix_at v6 l))) c.unit_of-in-6.ensures ∙ by_v6 c.args.unit.now (search rules)
+    ap (λ l. payload (prefix_unit (prefix_at v6 l))) c.unit_of-in-6.ensures ∙ by_v6 c.args.unit.now
+    (search rules)
 
 pub returns-in-7 : goal.returns-in-7
 returns-in-7 c =
@@ -56,7 +58,9 @@ pub returns-in_default : goal.returns-in_default
 returns-in_default c =
     let b = c.args.unit.now in
     (λ i. error_report (version_field b) (c.u16_at.ensures i) (take_rest b 8 i))
-    ∙ by_others b (grind (arith, nat_tests, c.in_default)) (grind (arith, nat_tests, c.in_default)) (grind (arith, nat_tests, c.in_default))
-    (grind (arith, nat_tests, c.in_default)) (grind (arith, nat_tests, c.in_default)) (grind (arith, nat_tests, c.in_default))
+    ∙ by_others b (grind (arith, nat_tests, c.in_default)) (grind (arith, nat_tests, c.in_default))
+    (grind (arith, nat_tests, c.in_default))
+    (grind (arith, nat_tests, c.in_default)) (grind (arith, nat_tests, c.in_default)) (grind
+    (arith, nat_tests, c.in_default))
     (grind (arith, nat_tests, c.in_default)) (grind (arith, nat_tests, c.in_default))
     (grind (arith, nat_tests, c.in_default)) (grind (arith, nat_tests, c.in_default))
