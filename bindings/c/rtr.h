@@ -362,9 +362,9 @@ static inline uint8_t rtr_next(const uint8_t *input, size_t input_length, struct
 }
 
 /* The line of the unit that the input begins with, in ASCII, without its end or a 0 behind it: what
- * the program rtr_list prints of a unit that stands after `offset` bytes. Like that program it shows
- * a prefix whose lengths break their rule, which rtr_next refuses. The next unit begins `size` bytes
- * later.
+ * the program rtr_list prints of a unit that stands after `offset` bytes. Like that program it
+ * shows a prefix whose lengths break their rule, which rtr_next refuses. The next unit begins
+ * `size` bytes later.
  *
  * RTR_OK; or RTR_NO_ROOM, where the output holds the front of the line, and `length` says how many
  * bytes are wanted. Before that RTR_SHORT to RTR_EMPTY_PROVIDERS, with nothing written. */
