@@ -9,7 +9,7 @@ use itoa::Buffer;
 /// Lays bytes over the output from this place on, as far as there is room, and answers where they
 /// end.
 #[inline(always)]
-pub(crate) fn bytes(output: &mut [u8], at: usize, bytes: &[u8]) -> usize
+pub fn bytes(output: &mut [u8], at: usize, bytes: &[u8]) -> usize
     ensures { Lays bytes.now at output.old result output.new }
 {
     if at <= output.len() && bytes.len() <= output.len() - at {
@@ -36,7 +36,7 @@ fn cut(output: &mut [u8], at: usize, bytes: &[u8]) -> usize
 
 /// Lays a text.
 #[inline(always)]
-pub(crate) fn text(output: &mut [u8], at: usize, text: &str) -> usize
+pub fn text(output: &mut [u8], at: usize, text: &str) -> usize
     ensures { Lays text.now at output.old result output.new }
 {
     bytes(output, at, text.as_bytes())
@@ -44,14 +44,14 @@ pub(crate) fn text(output: &mut [u8], at: usize, text: &str) -> usize
 
 /// Lays a number.
 #[inline(always)]
-pub(crate) fn number(output: &mut [u8], at: usize, number: u64) -> usize
+pub fn number(output: &mut [u8], at: usize, number: u64) -> usize
     ensures { Lays (decimal number) at output.old result output.new }
 {
     text(output, at, Buffer::new().format(number))
 }
 
 /// Lays a label and a number after it.
-pub(crate) fn labelled(output: &mut [u8], at: usize, label: &str, value: u64) -> usize
+pub fn labelled(output: &mut [u8], at: usize, label: &str, value: u64) -> usize
     ensures { Lays (label.now ++ decimal value) at output.old result output.new }
 {
     let at = text(output, at, label);

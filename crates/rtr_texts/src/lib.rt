@@ -3,12 +3,14 @@
 
 mod addresses;
 mod laws;
-mod laying;
+pub mod laying;
 mod listed;
+mod object;
 mod pieces;
 mod reading;
 mod text;
 
 pub use listed::{Listed, ListedAspa, ListedKey, ListedPayload, ListedReport};
+pub use object::{describe_change_json, describe_payload_json};
 pub use reading::listed_unit;
-pub use text::{describe, describe_change, describe_payload};
+pub use text::{describe, describe_change, describe_payload, parts_of};

@@ -153,7 +153,7 @@ fn kind(unit: &ListedPayload<'_>) -> &'static str
     }
 }
 
-fn flags(unit: &ListedPayload<'_>) -> u8
+pub(crate) fn flags(unit: &ListedPayload<'_>) -> u8
     ensures { result ≡ payload_flags (payload_listed unit.now) }
 {
     match unit {
@@ -286,7 +286,7 @@ fn bracketed(output: &mut [u8], at: usize, name: &str) -> usize
 }
 
 /// The unit that a report is about and its text, where they make up the report.
-fn parts_of(body: &[u8]) -> Option<(&[u8], &[u8])>
+pub fn parts_of(body: &[u8]) -> Option<(&[u8], &[u8])>
     ensures { option_map (λ r. (r.0.now, r.1.now)) result ≡ report_parts body.now }
 {
     if body.len() < 8 {

@@ -1,0 +1,7 @@
+use Rattle.std.proofs.Common.{arith, rules}
+use Rattle.rtr_texts.proofs.Laid.{lays_none, lays_said}
+use Rattle.rtr_texts.proofs.object.describe_change_json.Goals as goal
+
+pub returns-in_default : goal.returns-in_default
+returns-in_default c =
+    lays_said _ _ _ _ _ _ (search rules) (lays_none _ _ (omega (arith, c.ranges.at.fits)))
