@@ -1,7 +1,7 @@
 -- Data up to a name, written.
 use Rattle.std.proofs.Common.{◌≡◌, ℕ, ◌+◌, ◌-◌, ◌≤◌, List, [], ◌∷◌, ◌++◌, length, map, Option, Some}
 use Rattle.std.proofs.Common.{None, refl, sym, ap, subst, ◌∙◌, append_assoc, append-nil, arith}
-use Rattle.std.proofs.Common.{drop, take, ◌⊎◌, inl, inr}
+use Rattle.std.proofs.Common.{drop, take, inl, inr}
 use Rattle.std.proofs.lemmas.List.{length-append, length-drop, map-append, take-append-drop}
 use Rattle.std.specs.List.{AllByRecursion}
 use Rattle.std.specs.declared.cmp.Ordering.TheVariants.{Less}

@@ -19,7 +19,7 @@ use Rattle.rtr_payload.specs.Units.{form}
 use Rattle.rtr_payload.specs.declared.pdu.payload.Payload.{Payload as PayloadUnit}
 use Rattle.rtr_payload.specs.declared.payload.PayloadRef.{PayloadRef}
 use Rattle.rtr_payload.specs.declared.payload.PayloadRef.TheVariants as lent
-use Rattle.rtr_listing.specs.PayloadLines.{payload_json}
+use Rattle.rtr_texts.specs.PayloadLines.{payload_json}
 use Rattle.rtr_texts.specs.TextLines.{payload_said, sign_of}
 use Rattle.rtr_differences.specs.Differences.{change_piece}
 use Rattle.rtr_differences.specs.Printing.{Puts, StopsPrinting}

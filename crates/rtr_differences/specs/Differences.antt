@@ -4,15 +4,13 @@ use Rattle.std.specs.Prelude.{ℕ, Bool, true, false, List, [], ◌∷◌, ◌++
 use Rattle.std.specs.Prelude.{if◌then◌else◌}
 use Rattle.std.specs.List.{flat_map}
 use Rattle.rtr_base.specs.Actions.{flags_of}
-use Rattle.rtr_base.specs.declared.action.Action.{Action}
-use Rattle.rtr_base.specs.declared.action.Action.TheVariants.{Announce, Withdraw}
 use Rattle.rtr_payload.specs.Payloads.{Payload, smallest_version}
 use Rattle.rtr_payload.specs.UnitFields.{Fields, written_fields}
 use Rattle.rtr_payload.specs.Units.{form_of}
 use Rattle.rtr_data.specs.Changes.{changes}
 use Rattle.rtr_data.specs.Data.{Change}
 use Rattle.rtr_data.specs.Deltas.{unit_of}
-use Rattle.rtr_listing.specs.PayloadLines.{payload_json}
+use Rattle.rtr_texts.specs.PayloadLines.{payload_json}
 use Rattle.rtr_texts.specs.TextLines.{payload_said, sign_of}
 use Rattle.rtr_differences.specs.declared.words.Form.{Form}
 use Rattle.rtr_differences.specs.declared.words.Form.TheVariants.{Text, Json, Units}

@@ -5,7 +5,7 @@ ghost use Rattle.rtr_base.specs.Actions.{flags_of};
 ghost use Rattle.rtr_payload.specs.Meanings.{payload_of};
 ghost use Rattle.rtr_payload.specs.UnitBytes.{unit_fields};
 ghost use Rattle.rtr_payload.specs.UnitFields.{written_fields};
-ghost use Rattle.rtr_listing.specs.PayloadLines.{payload_json};
+ghost use Rattle.rtr_texts.specs.PayloadLines.{payload_json};
 ghost use Rattle.rtr_texts.specs.TextLines.{payload_said, sign_of};
 ghost use Rattle.rtr_data.specs.Data.{Change};
 ghost use Rattle.rtr_differences.specs.Differences.{change_piece};

@@ -3,7 +3,7 @@ use Rattle.std.proofs.Common.{◌≡◌, ℕ, suc, ◌<◌, ◌==◌, true, fals
 use Rattle.std.proofs.Common.{refl, sym, ap, ◌∙◌, arith, append_assoc, append-nil}
 use Rattle.std.specs.List.{All}
 use Rattle.std.proofs.lemmas.Bool.Decides.{nat_tests}
-use Rattle.rtr_listing.specs.ControlEscapes.{escaped, byte_form, is_control_pair, unicode_escape}
+use Rattle.rtr_texts.specs.ControlEscapes.{escaped, byte_form, is_control_pair, unicode_escape}
 
 -- one of U+0080 to U+009F at the front
 pub control_first : (b next : ℕ) (rest : List ℕ) → true ≡ is_control_pair b next →

@@ -5,9 +5,7 @@ pub mod Knowing
 pub mod NamedPayloads
 mod Pieces
 mod Printing
-pub mod ProviderOrder
 pub mod ReportFields
 mod Runs
 mod Shown
 mod Tokens
-pub mod TextTests

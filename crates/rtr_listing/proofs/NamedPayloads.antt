@@ -16,7 +16,7 @@ use Rattle.rtr_payload.specs.declared.pdu.prefix_rule.PrefixRule.{PrefixRule}
 use Rattle.rtr_data.specs.Contents.{IsFit}
 use Rattle.rtr_data.specs.Data.{name_of}
 use Rattle.rtr_listing.specs.PrivateFollowing.{payload_in}
-use Rattle.rtr_listing.specs.SequenceSoFar.{action_of, origin_under, payload_named}
+use Rattle.rtr_findings.specs.SequenceSoFar.{action_of, origin_under, payload_named}
 
 origin_named : (rule : Option PrefixRule) (o : OriginParts) →
     option_map name_of (origin_under rule (origin o)) ≡ origin_under rule (origin o)

@@ -13,11 +13,11 @@ use Rattle.rtr_units.specs.declared.fault.Fault.TheVariants.{Memory}
 use Rattle.rtr_units.specs.StopCauses.{Cause, by_reader, by_writer, too_many, no_memory, wrong}
 use Rattle.rtr_units.specs.StopCauses.{cause_of}
 use Rattle.rtr_units.specs.StopCauses.{WriterState}
-use Rattle.rtr_listing.specs.FindingTexts.{finding_of}
+use Rattle.rtr_findings.specs.FindingTexts.{finding_of}
 use Rattle.rtr_listing.specs.Lines.{PutsLine, PutsLineBytes, StopsLine, written_line}
 use Rattle.rtr_listing.specs.Listing.{BreaksOff, finding_lines}
 use Rattle.rtr_listing.specs.PrivateLines.{Prints, PrintsBytes}
-use Rattle.rtr_listing.specs.declared.finding.Finding.{Finding}
+use Rattle.rtr_findings.specs.declared.finding.Finding.{Finding}
 use Rattle.rtr_listing.specs.declared.run.Wanted.{Wanted}
 use Rattle.rtr_listing.specs.declared.run.Wanted.TheVariants.{Findings}
 

@@ -4,10 +4,10 @@ use Rattle.std.proofs.Common.{Result, Ok, Err, Option}
 use Rattle.std.specs.Str.{IsUtf8}
 use Rattle.json.specs.Token.{Token, string, null}
 use Rattle.json.specs.Written.{Written, Writes}
-use Rattle.rtr_listing.specs.JsonLines.{number_field, number_tokens, text_field, text_token}
-use Rattle.rtr_listing.specs.JsonLines.{numbers_field, session_tokens}
+use Rattle.rtr_texts.specs.JsonLines.{number_field, number_tokens, text_field, text_token}
+use Rattle.rtr_texts.specs.JsonLines.{numbers_field, session_tokens}
 use Rattle.rtr_listing.specs.PrivateJson.{HasAdded, Adds}
-use Rattle.rtr_listing.proofs.TextTests.{text_passes, text_fails}
+use Rattle.rtr_findings.proofs.TextTests.{text_passes, text_fails}
 
 pub both_added : (old mid new : Written) (a b : List Token) → HasAdded old mid a →
     HasAdded mid new b → HasAdded old new (a ++ b)

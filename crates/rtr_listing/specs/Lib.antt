@@ -1,13 +1,7 @@
-pub mod ControlEscapes
-pub mod FindingTexts
-pub mod PayloadLines
 pub mod PrivateFollowing
-pub mod JsonLines
 pub mod Lines
 pub mod ListStatus
 pub mod ListWords
 pub mod Listing
 pub mod PrivateLines
 pub mod PrivateJson
-pub mod Rules
-pub mod SequenceSoFar

@@ -15,12 +15,12 @@ use Rattle.rtr_units.specs.StopCauses.{by_cause}
 use Rattle.rtr_units.specs.StopCauses.{ReaderState, WriterState, reader_count, writer_count}
 use Rattle.rtr_session.specs.AnyFields.{AnyFields, HasAnyFields, any_list}
 use Rattle.rtr_session.specs.AnyReading.{StopsInAny}
-use Rattle.rtr_listing.specs.FindingTexts.{finding_of}
-use Rattle.rtr_listing.specs.JsonLines.{unit_json}
+use Rattle.rtr_findings.specs.FindingTexts.{finding_of}
+use Rattle.rtr_texts.specs.JsonLines.{unit_json}
 use Rattle.rtr_listing.specs.Lines.{written_line}
-use Rattle.rtr_listing.specs.Rules.{end_findings, findings}
+use Rattle.rtr_findings.specs.Rules.{end_findings, findings}
 use Rattle.rtr_texts.specs.TextLines.{unit_text}
-use Rattle.rtr_listing.specs.declared.finding.Finding.{Finding}
+use Rattle.rtr_findings.specs.declared.finding.Finding.{Finding}
 use Rattle.rtr_listing.specs.declared.run.Wanted.{Wanted}
 use Rattle.rtr_listing.specs.declared.run.Wanted.TheVariants.{Text, Json, Findings}
 

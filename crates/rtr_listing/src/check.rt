@@ -1,48 +1,36 @@
 //! What breaks the protocol's rules, unit by unit.
 
-ghost use Rattle.std.specs.Prelude.{◌≡◌, ◌++◌, ◌&&◌, List, [], IfOk, OnOk, Some, None, false, true};
+ghost use Rattle.std.specs.Prelude.{◌≡◌, ◌++◌, ◌&&◌, List, [], IfOk, OnOk, Some, None, true, false};
+ghost use Rattle.std.specs.Prelude.{MatchResult};
+ghost use Rattle.std.specs.Option.{option_map};
 ghost use Rattle.rtr_base.specs.declared.action.Action.TheVariants.{Announce};
-ghost use Rattle.rtr_units.specs.AnyEnd.{end_meaning};
-ghost use Rattle.rtr_units.specs.Header.{version_field, session_field};
-ghost use Rattle.rtr_units.specs.FixedUnits.{fixed_bytes};
-ghost use Rattle.rtr_payload.specs.Meanings.{payload_of, payload_of_ref};
+ghost use Rattle.rtr_payload.specs.KeyUnits.{key_at};
+ghost use Rattle.rtr_payload.specs.AspaUnits.{aspa_at};
+ghost use Rattle.rtr_payload.specs.Meanings.{origin_of, payload_of, payload_of_ref};
+ghost use Rattle.rtr_payload.specs.Payloads.{aspa as aspa_meant, key as key_meant};
 ghost use Rattle.rtr_payload.specs.UnitBytes.{unit_bytes, unit_fields};
 ghost use Rattle.rtr_payload.specs.UnitFields.{HasFields};
 ghost use Rattle.rtr_session.specs.AnyFields.{AnyFields, HasAnyFields, payload as payload_fields};
 ghost use Rattle.rtr_session.specs.AnyUnits.{any_bytes, any_fields};
 ghost use Rattle.rtr_data.specs.Contents.{IsFit};
 ghost use Rattle.rtr_data.specs.Data.{has_name, takes_place};
-ghost use Rattle.rtr_listing.specs.PrivateFollowing.{Finds, FindsIn, HasSeen, Names};
-ghost use Rattle.rtr_listing.specs.Rules.{told, other_version, other_session, cut_answer};
-ghost use Rattle.rtr_listing.specs.Rules.{end_findings};
-ghost use Rattle.rtr_listing.specs.SequenceSoFar.{asked_at, is_announce};
-ghost use Rattle.rtr_listing.specs.declared.check.Stage.TheVariants as stages;
-ghost use Rattle.rtr_listing.specs.declared.finding.Finding.TheVariants as broken;
+ghost use Rattle.rtr_findings.specs.CheckedUnits.{found_in, found_list};
+ghost use Rattle.rtr_findings.specs.Rules.{end_findings};
+ghost use Rattle.rtr_findings.specs.SequenceSoFar.{is_announce};
+ghost use Rattle.rtr_listing.specs.PrivateFollowing.{Finds, HasSeen, KeepsNames, Names};
+ghost use Rattle.rtr_listing.specs.PrivateFollowing.{payload_in};
 
-use crate::finding::Finding;
-use crate::unit_rules;
+use crate::listed::listed;
 use rtr_base::action::Action;
+use rtr_base::addr::MaxLenPrefix;
+use rtr_base::asn::Asn;
 use rtr_data::{ChangeError, Data};
+use rtr_findings::{Finding, SequenceState};
 use rtr_payload::payload::{self, PayloadRef};
-use rtr_payload::pdu::Payload;
+use rtr_payload::pdu::prefix_rule::{PrefixRule, ipv4_prefix, ipv6_prefix};
+use rtr_payload::pdu::{Aspa, Payload, RouterKey};
 use rtr_session::AnyUnit;
-use rtr_units::end::EndOfData;
-use rtr_units::queries::CacheResponse;
-use rtr_units::unit::Unit;
 use std::alloc::{AllocError, Global};
-
-/// Where the units leave the answers.
-#[derive(Clone, Copy)]
-pub enum Stage {
-    /// Before the first one, with no query.
-    Before,
-    /// Before the first one, after a query, as in what a router sends.
-    Asked,
-    /// Inside one.
-    Open,
-    /// After the end of data of one.
-    Whole,
-}
 
 /// What is known of the sequence that is read.
 ///
@@ -51,12 +39,8 @@ pub enum Stage {
 #[derive(Drop)]
 pub struct Checker {
     alloc: Global,
-    /// The version of the sequence, once a unit of it was read.
-    version: Option<u8>,
-    /// The session of the cache response that began the sequence, or of the end of data before it.
-    session: Option<u16>,
-    /// Where the units leave the answers.
-    stage: Stage,
+    /// All but what is announced.
+    state: SequenceState,
     /// What is announced in the sequence and not withdrawn after that.
     announced: Data,
 }
@@ -68,16 +52,13 @@ impl Checker {
     {
         Checker {
             alloc,
-            version: None,
-            session: None,
-            stage: Stage::Before,
+            state: SequenceState::new(),
             announced: Data::new(alloc),
         }
     }
 
-    /// Puts what the next unit breaks in the place of what was found before: first the version of
-    /// the sequence, then bytes and flags that are to be zero, then what its fields say, then the
-    /// session or the payloads of the sequence.
+    /// Puts what the next unit breaks in the place of what was found before, as
+    /// `rtr_findings::SequenceState::check`.
     ///
     /// If memory runs out the checker may have seen a part of the unit.
     pub fn check(&mut self, unit: &AnyUnit, found: &mut Vec<Finding>) -> Result<(), AllocError>
@@ -86,22 +67,11 @@ impl Checker {
         ensures { OnOk result (Finds self.old (any_fields unit.now) self.new found.new.items) }
     {
         found.clear();
-        match unit {
-            AnyUnit::SerialNotify(_) => Ok(()),
-            AnyUnit::SerialQuery(_) => {
-                self.ask();
-                Ok(())
-            }
-            AnyUnit::ResetQuery(unit) => {
-                self.ask();
-                unit_rules::reserved_session(unit.session(), found)
-            }
-            AnyUnit::CacheResponse(unit) => self.begin(unit, found),
-            AnyUnit::Payload(unit) => self.payload(unit, found),
-            AnyUnit::EndOfData(unit) => self.end(unit, found),
-            AnyUnit::CacheReset(unit) => unit_rules::reserved_session(unit.session(), found),
-            AnyUnit::Error(report) => unit_rules::error_report(report, found),
-        }
+        let was_there = self.keep(unit)?;
+        let listed = listed(unit);
+        let broken = self.state.check(&listed, was_there);
+        self.state = self.state.after(&listed);
+        put_each(&broken.slots, found)
     }
 
     /// Puts what is missing where the input ends in the place of what was found before.
@@ -110,113 +80,126 @@ impl Checker {
             found.new.items ≡ end_findings history) }
     {
         found.clear();
-        match self.stage {
-            Stage::Before => unit_rules::tell(true, Finding::NoAnswer, found),
-            Stage::Open => unit_rules::tell(true, Finding::CutOff, found),
-            Stage::Asked | Stage::Whole => Ok(()),
+        put(self.state.missing(), found)
+    }
+
+    /// Keeps what the unit announces, forgets what it withdraws, and all if a sequence begins with
+    /// it; and answers whether the payload that it names was there.
+    fn keep(&mut self, unit: &AnyUnit) -> Result<bool, AllocError>
+        requires { HasAnyFields (any_bytes unit.now) (any_fields unit.now) }
+        ensures state { self.new.state ≡ self.old.state }
+        ensures keeps { IfOk result (λ there.
+            KeepsNames self.old.announced (any_fields unit.now) there self.new.announced) }
+    {
+        match unit {
+            AnyUnit::CacheResponse(_) | AnyUnit::EndOfData(_) => {
+                self.announced = Data::new(self.alloc);
+                Ok(false)
+            }
+            AnyUnit::Payload(unit) => self.keep_payload(unit),
+            AnyUnit::SerialNotify(_)
+            | AnyUnit::SerialQuery(_)
+            | AnyUnit::ResetQuery(_)
+            | AnyUnit::CacheReset(_)
+            | AnyUnit::Error(_) => Ok(false),
         }
     }
 
-    /// A query came.
-    fn ask(&mut self)
-        ensures version { self.new.version ≡ self.old.version }
-        ensures session { self.new.session ≡ self.old.session }
-        ensures stage { self.new.stage ≡ asked_at self.old.stage }
-        ensures announced { self.new.announced ≡ self.old.announced }
-    {
-        match self.stage {
-            Stage::Before => self.stage = Stage::Asked,
-            Stage::Asked | Stage::Open | Stage::Whole => {}
-        }
-    }
-
-    /// A sequence begins, before which an answer may be open.
-    fn begin(&mut self, unit: &CacheResponse, found: &mut Vec<Finding>) -> Result<(), AllocError>
-        ensures found { OnOk result (found.new.items ≡
-            found.old.items ++ cut_answer self.old.stage) }
-        ensures version { OnOk result
-            (self.new.version ≡ Some (version_field (fixed_bytes unit.now))) }
-        ensures session { OnOk result
-            (self.new.session ≡ Some (session_field (fixed_bytes unit.now))) }
-        ensures stage { OnOk result (self.new.stage ≡ stages.Open) }
-        ensures none { OnOk result (self.new.announced ≡ []) }
-    {
-        match self.stage {
-            Stage::Open => unit_rules::tell(true, Finding::CutOff, found)?,
-            Stage::Before | Stage::Asked | Stage::Whole => {}
-        }
-        self.version = Some(unit.version());
-        self.session = Some(unit.session());
-        self.stage = Stage::Open;
-        self.announced = Data::new(self.alloc);
-        Ok(())
-    }
-
-    /// What an end of data breaks, with which the sequence ends.
-    fn end(&mut self, unit: &EndOfData, found: &mut Vec<Finding>) -> Result<(), AllocError>
-        ensures found { OnOk result (found.new.items ≡ found.old.items ++
-            other_version self.old.version (end_meaning unit.now).version ++
-            other_session self.old.session (end_meaning unit.now).session) }
-        ensures version { OnOk result (self.new.version ≡ None) }
-        ensures session { OnOk result
-            (self.new.session ≡ Some ((end_meaning unit.now).session)) }
-        ensures stage { OnOk result (self.new.stage ≡ stages.Whole) }
-        ensures none { OnOk result (self.new.announced ≡ []) }
-    {
-        unit_rules::sequence_version(self.version, unit.version(), found)?;
-        unit_rules::sequence_session(self.session, unit.session(), found)?;
-        self.version = None;
-        self.session = Some(unit.session());
-        self.stage = Stage::Whole;
-        self.announced = Data::new(self.alloc);
-        Ok(())
-    }
-
-    /// What a payload unit breaks, which may give the sequence its version.
-    fn payload(&mut self, unit: &Payload, found: &mut Vec<Finding>) -> Result<(), AllocError>
+    fn keep_payload(&mut self, unit: &Payload) -> Result<bool, AllocError>
         requires { HasFields (unit_bytes unit.now) (unit_fields unit.now) }
-        ensures { OnOk result (FindsIn self.old (payload_fields (unit_fields unit.now)) self.new
-            found.old.items found.new.items) }
+        ensures state { self.new.state ≡ self.old.state }
+        ensures keeps { IfOk result (λ there. KeepsNames self.old.announced
+            (payload_fields (unit_fields unit.now)) there self.new.announced) }
     {
-        let version = unit.version();
-        unit_rules::sequence_version(self.version, version, found)?;
-        self.version = Some(self.version.unwrap_or(version));
-        self.stage = Stage::Open;
-        unit_rules::payload_reserved(unit, found)?;
-        match unit_rules::payload_unit(unit, found)? {
-            Some(payload) => self.count(unit.action(), payload, found),
-            None => Ok(()),
+        match named(unit)? {
+            Some(payload) => self.count(unit.action(), payload),
+            None => Ok(false),
         }
     }
 
-    /// Keeps what is announced, and forgets what is withdrawn.
-    fn count(
-        &mut self,
-        action: Action,
-        payload: payload::Payload,
-        found: &mut Vec<Finding>,
-    ) -> Result<(), AllocError>
+    /// Keeps what is announced, and forgets what is withdrawn; and answers whether one of its name
+    /// was there.
+    fn count(&mut self, action: Action, payload: payload::Payload) -> Result<bool, AllocError>
         requires { action ≡ Announce → IsFit (payload_of payload) }
-        ensures found { OnOk result (found.new.items ≡ found.old.items ++
-            told (is_announce action && has_name self.old.announced (payload_of payload))
-            broken.Twice) }
-        ensures version { self.new.version ≡ self.old.version }
-        ensures session { self.new.session ≡ self.old.session }
-        ensures stage { self.new.stage ≡ self.old.stage }
+        ensures state { self.new.state ≡ self.old.state }
+        ensures there { IfOk result (λ there.
+            there ≡ has_name self.old.announced (payload_of payload)) }
         ensures announced { OnOk result (Names self.old.announced self.new.announced
             (payload_of payload) (is_announce action)) }
     {
         match action {
-            Action::Announce => {
-                let was_there = announce(&mut self.announced, payload)?;
-                unit_rules::tell(was_there, Finding::Twice, found)
-            }
-            Action::Withdraw => {
-                withdraw(&mut self.announced, &payload.as_ref());
-                Ok(())
-            }
+            Action::Announce => announce(&mut self.announced, payload),
+            Action::Withdraw => Ok(withdraw(&mut self.announced, &payload.as_ref())),
         }
     }
+}
+
+/// Adds the finding, if there is one.
+fn put(finding: Option<Finding>, found: &mut Vec<Finding>) -> Result<(), AllocError>
+    ensures { OnOk result (found.new.items ≡ found.old.items ++ found_in finding) }
+{
+    match finding {
+        Some(finding) => {
+            found.push(finding)?;
+            Ok(())
+        }
+        None => Ok(()),
+    }
+}
+
+/// Adds the findings.
+fn put_each(slots: &[Option<Finding>], found: &mut Vec<Finding>) -> Result<(), AllocError>
+    ensures { OnOk result (found.new.items ≡ found.old.items ++ found_list slots.now) }
+{
+    let mut left = slots;
+    'each: while let Some((slot, rest)) = left.split_first() {
+        put(*slot, found)?;
+        left = rest;
+    }
+    Ok(())
+}
+
+/// The payload that the unit is about, if it names one.
+fn named(unit: &Payload) -> Result<Option<payload::Payload>, AllocError>
+    ensures { IfOk result (λ o. option_map payload_of o ≡ payload_in (unit_fields unit.now)) }
+{
+    match unit {
+        Payload::V4(unit) => {
+            let made = ipv4_prefix(unit.prefix_bits(), unit.prefix_len(), unit.max_len());
+            Ok(origin(made, unit.asn()))
+        }
+        Payload::V6(unit) => {
+            let made = ipv6_prefix(unit.prefix_bits(), unit.prefix_len(), unit.max_len());
+            Ok(origin(made, unit.asn()))
+        }
+        Payload::RouterKey(key) => Ok(Some(router_key(key)?)),
+        Payload::Aspa(aspa) => Ok(Some(aspa_of(aspa)?)),
+    }
+}
+
+/// The origin of the prefix, if the lengths of its unit make one.
+fn origin(made: Result<MaxLenPrefix, PrefixRule>, asn: Asn) -> Option<payload::Payload>
+    ensures { MatchResult made
+        (λ p. option_map payload_of result ≡ Some (origin_of (record { prefix = p; asn = asn })))
+        (λ _. result ≡ None) }
+{
+    match made {
+        Ok(prefix) => Some(payload::Payload::origin(prefix, asn)),
+        Err(_) => None,
+    }
+}
+
+fn router_key(unit: &RouterKey) -> Result<payload::Payload, AllocError>
+    ensures { IfOk result (λ p. payload_of p ≡ key_meant (key_at unit.now).key) }
+{
+    let info = unit.key_info().clone()?;
+    Ok(payload::Payload::router_key(unit.key_identifier().into(), unit.asn(), info))
+}
+
+fn aspa_of(unit: &Aspa) -> Result<payload::Payload, AllocError>
+    ensures { IfOk result (λ p. payload_of p ≡ aspa_meant (aspa_at unit.now).aspa) }
+{
+    Ok(payload::Payload::aspa(unit.customer(), unit.providers().clone()?))
 }
 
 /// Announces a payload that a reader accepts, and answers whether one of its name was there: of an
@@ -249,15 +232,18 @@ fn will_replace(announced: &Data, payload: &PayloadRef<'_>) -> bool
     }
 }
 
-/// Withdraws a payload, if one of its name is there.
-fn withdraw(announced: &mut Data, payload: &PayloadRef<'_>)
-    ensures { Names announced.old announced.new (payload_of_ref payload.now) false }
+/// Withdraws a payload, if one of its name is there, and answers whether one was.
+fn withdraw(announced: &mut Data, payload: &PayloadRef<'_>) -> bool
+    ensures there { result ≡ has_name announced.old (payload_of_ref payload.now) }
+    ensures names { Names announced.old announced.new (payload_of_ref payload.now) false }
 {
     // Called for its clause: the payloads are in order.
     let _parts = announced.parts();
+    let was_there = announced.contains_name(payload);
     match announced.withdraw(payload) {
         Ok(()) => {}
         // It was not announced, which breaks no rule that is looked for.
         Err(_) => {}
     }
+    was_there
 }

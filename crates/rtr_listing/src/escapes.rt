@@ -2,8 +2,8 @@
 
 ghost use Rattle.std.specs.Prelude.{◌≡◌, ◌<◌, ◌++◌, ◌∷◌, [], IfOk, IsTrue, OnOk};
 ghost use Rattle.std.specs.List.{All};
-ghost use Rattle.rtr_listing.specs.ControlEscapes.{byte_form, escaped, is_control_pair};
-ghost use Rattle.rtr_listing.specs.ControlEscapes.{unicode_escape};
+ghost use Rattle.rtr_texts.specs.ControlEscapes.{byte_form, escaped, is_control_pair};
+ghost use Rattle.rtr_texts.specs.ControlEscapes.{unicode_escape};
 
 use crate::line::Line;
 use hex::encode;

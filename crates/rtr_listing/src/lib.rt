@@ -5,14 +5,13 @@
 mod check;
 mod escapes;
 mod fields;
-mod finding;
 mod human;
 mod json_line;
 mod line;
+mod listed;
 mod payload_line;
 mod printer;
 mod run;
-mod unit_rules;
 
 pub use line::Line;
 pub use payload_line::{describe_payload, describe_payload_json};

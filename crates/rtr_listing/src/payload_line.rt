@@ -3,7 +3,7 @@
 
 ghost use Rattle.std.specs.Prelude.{◌≡◌, ◌++◌, IfOk, OnOk};
 ghost use Rattle.rtr_payload.specs.UnitBytes.{unit_fields};
-ghost use Rattle.rtr_listing.specs.PayloadLines.{payload_json, payload_object};
+ghost use Rattle.rtr_texts.specs.PayloadLines.{payload_json, payload_object};
 ghost use Rattle.rtr_listing.specs.PrivateJson.{Adds};
 ghost use Rattle.rtr_texts.specs.TextLines.{payload_said};
 

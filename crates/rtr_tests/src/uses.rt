@@ -1,6 +1,6 @@
 //! Uses of `rtr_wire` as a caller would write them, with no proofs, and with no other library than
 //! std, but for `rtr_data` where data is kept, and `rtr_session` where a fault is answered.
-//! `docs/CALLING.md` shows them.
+//! `docs/RATTLE.md` shows some of them.
 
 use rtr_data::Data;
 use rtr_session::answering::{Reply, reply_to_fault};

@@ -1,5 +1,5 @@
 use Rattle.std.proofs.Common.{◌≡◌, ◌++◌, length}
-use Rattle.rtr_listing.specs.ControlEscapes.{escaped}
+use Rattle.rtr_texts.specs.ControlEscapes.{escaped}
 use Rattle.rtr_listing.proofs.escapes.escape.Given as goal
 
 -- with the form of what is left it is the form of all

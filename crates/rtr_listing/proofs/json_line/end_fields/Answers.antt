@@ -1,5 +1,5 @@
 use Rattle.std.proofs.Common.{rules, codes, ap}
-use Rattle.rtr_listing.specs.JsonLines.{timing_tokens}
+use Rattle.rtr_texts.specs.JsonLines.{timing_tokens}
 use Rattle.rtr_listing.proofs.Tokens.{rest_added, number_is, same_added}
 use Rattle.rtr_listing.proofs.json_line.end_fields.Goals as goal
 

@@ -1,6 +1,6 @@
 use Rattle.std.proofs.Common.{codes, ap, sym, ◌∙◌}
 use Rattle.rtr_session.specs.AnyUnits.{any_fields}
-use Rattle.rtr_listing.specs.JsonLines.{own_tokens}
+use Rattle.rtr_texts.specs.JsonLines.{own_tokens}
 use Rattle.rtr_listing.proofs.Tokens.{number_named, same_added}
 use Rattle.rtr_listing.proofs.json_line.own_fields.Goals as goal
 

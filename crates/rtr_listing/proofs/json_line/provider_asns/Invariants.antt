@@ -1,5 +1,5 @@
 use Rattle.std.proofs.Common.{◌≡◌, ◌++◌}
-use Rattle.rtr_listing.specs.JsonLines.{number_tokens}
+use Rattle.rtr_texts.specs.JsonLines.{number_tokens}
 use Rattle.rtr_listing.specs.PrivateJson.{HasAdded}
 use Rattle.rtr_listing.proofs.json_line.provider_asns.Given as goal
 

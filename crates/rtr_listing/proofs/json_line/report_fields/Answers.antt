@@ -1,5 +1,5 @@
 use Rattle.std.proofs.Common.{codes, ap, ◌∙◌}
-use Rattle.rtr_listing.specs.JsonLines.{report_tokens}
+use Rattle.rtr_texts.specs.JsonLines.{report_tokens}
 use Rattle.rtr_listing.proofs.Tokens.{rest_added, number_is, same_added}
 use Rattle.rtr_listing.proofs.json_line.report_fields.Goals as goal
 

@@ -1,5 +1,5 @@
 use Rattle.std.proofs.Common.{codes, ap, sym}
-use Rattle.rtr_listing.specs.JsonLines.{timing_tokens}
+use Rattle.rtr_texts.specs.JsonLines.{timing_tokens}
 use Rattle.rtr_listing.proofs.Tokens.{both_added, rest_added, number_is, number_named, same_added}
 use Rattle.rtr_listing.proofs.json_line.timing_fields.Goals as goal
 

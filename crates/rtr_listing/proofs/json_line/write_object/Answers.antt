@@ -1,4 +1,4 @@
-use Rattle.rtr_listing.specs.JsonLines.{tokens_of}
+use Rattle.rtr_texts.specs.JsonLines.{tokens_of}
 use Rattle.rtr_listing.proofs.Tokens.{both_added, rest_added, one_added, session_is}
 use Rattle.rtr_listing.proofs.json_line.write_object.Goals as goal
 

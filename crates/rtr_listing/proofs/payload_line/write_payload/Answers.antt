@@ -1,5 +1,5 @@
 use Rattle.std.proofs.Common.{rules, codes}
-use Rattle.rtr_listing.specs.PayloadLines.{payload_object}
+use Rattle.rtr_texts.specs.PayloadLines.{payload_object}
 use Rattle.rtr_listing.proofs.Tokens.{both_added, rest_added, one_added, text_is}
 use Rattle.rtr_listing.proofs.payload_line.write_payload.Goals as goal
 

@@ -1,6 +1,6 @@
 use Rattle.std.proofs.Common.{rules, Ok, Err}
 use Rattle.rtr_units.specs.declared.fault.Fault.TheVariants.{Memory}
-use Rattle.rtr_listing.specs.declared.finding.Finding.TheVariants.{Reserved}
+use Rattle.rtr_findings.specs.declared.finding.Finding.TheVariants.{Reserved}
 use Rattle.rtr_listing.proofs.Printing.{goes_on, stops_putting, same_line, puts_none}
 use Rattle.rtr_listing.proofs.printer.put_findings.Goals as goal
 

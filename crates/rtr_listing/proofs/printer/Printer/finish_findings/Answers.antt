@@ -1,7 +1,7 @@
 use Rattle.std.proofs.Common.{◌∙◌, ap, subst}
 use Rattle.rtr_listing.specs.Listing.{finding_lines}
 use Rattle.rtr_listing.specs.PrivateLines.{Prints}
-use Rattle.rtr_listing.specs.Rules.{end_findings}
+use Rattle.rtr_findings.specs.Rules.{end_findings}
 use Rattle.rtr_listing.specs.declared.run.Wanted.TheVariants.{Findings}
 use Rattle.rtr_listing.proofs.printer.Printer.finish_findings.Goals as goal
 

@@ -1,0 +1,6 @@
+pub mod KeptNames
+pub mod NamesApart
+pub mod ProviderOrder
+pub mod NamesLaid
+pub mod Steps
+pub mod TextTests

@@ -1,0 +1,15 @@
+//! What breaks the protocol's rules, unit by unit, as `rtr_list --check` says it. Nothing
+//! allocates: whoever calls keeps the names of the payloads that are announced.
+#![tactic(auto)]
+
+mod finding;
+mod laws;
+mod naming;
+mod rules;
+mod sequence;
+mod text;
+
+pub use finding::{Finding, Layout};
+pub use naming::{announces, begins, lay_name};
+pub use sequence::{Found, SequenceState, Stage};
+pub use text::describe_finding;
