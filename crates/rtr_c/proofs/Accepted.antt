@@ -28,7 +28,7 @@ use Rattle.rtr_c.specs.Answers.{fault_status, stop_status, run_status}
 use Rattle.rtr_c.specs.declared.answer.RtrAnswer.{RtrAnswer}
 
 -- no fault has status 0
-fault_some : (e : ViewFault) → fault_status e ≢ 0
+pub fault_some : (e : ViewFault) → fault_status e ≢ 0
 fault_some (faults.Writer e) = λ i. omega (arith, i)
 fault_some faults.Short = λ i. omega (arith, i)
 fault_some (faults.UnitType t) = λ i. omega (arith, i)

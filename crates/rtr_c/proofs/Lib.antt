@@ -1,7 +1,9 @@
 mod Forms
+mod Filling
 mod LinesTold
 mod Accepted
 mod Shown
+mod ChecksTold
 mod Joined
 mod Again
 mod AgainPayload

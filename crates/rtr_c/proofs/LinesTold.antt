@@ -1,12 +1,12 @@
 -- The line of a unit, told to C.
-use Rattle.std.proofs.Common.{◌≡◌, ℕ, ◌<◌, ◌≤◌, List, length, take, refl, sym, ap, ◌∙◌, subst}
+use Rattle.std.proofs.Common.{◌≡◌, ℕ, ◌<◌, ◌≤◌, List, length, take, refl, sym, ap, subst}
 use Rattle.std.proofs.Common.{arith, Option, Some, None, Result, Ok, Err}
 use Rattle.std.specs.Prelude.{true, false, nat_le}
 use Rattle.std.proofs.lemmas.Bool.Decides.{nat_tests}
 use Rattle.std.proofs.lemmas.List.{get_or-take, length-take-le}
 use Rattle.rtr_units.specs.Header.{type_field, version_field}
 use Rattle.rtr_views.specs.declared.fault.ViewFault.{ViewFault}
-use Rattle.rtr_session.specs.AnyFields.{AnyFields, HasAnyFields}
+use Rattle.rtr_session.specs.AnyFields.{AnyFields}
 use Rattle.rtr_session.specs.Lengths.{IsBounded, SaysLength}
 use Rattle.rtr_session.proofs.Lengths.{said_bounded}
 use Rattle.rtr_texts.specs.Laying.{Lays}

@@ -1,5 +1,6 @@
 pub mod Answers
 pub mod Shown
+pub mod ManyShown
 pub mod PrivateShown
 pub mod Said
 pub mod Compared
@@ -14,4 +15,6 @@ pub mod Routes
 pub mod Routers
 pub mod RouterActions
 pub mod Caches
+pub mod Checks
 pub mod Servings
+pub mod Texts

@@ -1,6 +1,6 @@
 -- What functions leave that look for the unit of a line: this library's own. Only contracts of
 -- private functions cite these.
-use Rattle.std.specs.Prelude.{◌≡◌, ℕ, ◌≤◌, ◌<◌, ◌⊎◌, List, length, take}
+use Rattle.std.specs.Prelude.{◌≡◌, ℕ, ◌≤◌, ◌<◌, List, length, take}
 use Rattle.std.specs.Prelude.{Option, Some, None, Result, Ok, Err}
 use Rattle.rtr_units.specs.Header.{type_field, version_field}
 use Rattle.rtr_views.specs.declared.fault.ViewFault.{ViewFault}

@@ -4,24 +4,25 @@ ghost use Rattle.std.specs.Prelude.{◌≡◌, ◌≤◌, ℕ, List, Option, Som
 ghost use Rattle.std.specs.Prelude.{length, take};
 ghost use Rattle.rtr_views.specs.declared.fault.ViewFault.{ViewFault};
 ghost use Rattle.rtr_session.specs.Lengths.{SaysLength};
+ghost use Rattle.rtr_texts.specs.PayloadLines.{change_json};
 ghost use Rattle.rtr_texts.specs.TextLines.{change_text, unit_text};
 ghost use Rattle.rtr_c.specs.LineAnswers.{TellsLine, line_status, no_line};
 ghost use Rattle.rtr_c.specs.PrivateLines.{IsUnitOf, TellsRefusal};
 
 use crate::answer::{ACCEPTED, NO_ROOM, SHORT, fault_detail, fault_status};
 use rtr_session::length::unit_length;
-use rtr_texts::{describe, describe_change, listed_unit};
+use rtr_texts::{describe, describe_change, describe_change_json, listed_unit};
 
 /// The bytes of a header.
 const HEADER: usize = 8;
 
-/// How a call that writes a line ended.
+/// How a call that writes a line or an object ended.
 #[repr(C)]
 #[derive(Drop)]
 pub struct RtrLine {
     /// Bytes of the unit in the input.
     pub size: usize,
-    /// Bytes of the line, also of one that the output is too short for.
+    /// Bytes of the line or the object, also of one that the output is too short for.
     pub length: usize,
     /// With `SHORT`, how many bytes of the input are wanted for certain: 8 without a whole header,
     /// and then the length of the unit. Otherwise 0.
@@ -88,8 +89,33 @@ pub extern "C" fn rtr_change_line_nonnull(
     answer.status
 }
 
+/// The JSON object of the change that the unit makes that the input begins with, as
+/// `rtr_diff --json` prints it; of a unit without a payload nothing. Otherwise as
+/// `rtr_line_nonnull`.
+#[unsafe(no_mangle)]
+pub extern "C" fn rtr_change_json_nonnull(
+    input: &[u8],
+    output: &mut [u8],
+    answer: &mut RtrLine,
+) -> u8
+    ensures { (r : Result (Option ℕ) ViewFault) × SaysLength input.now r
+        × TellsLine change_json r input.now output.old output.new answer.new result }
+{
+    let unit = match first_unit(input) {
+        Ok(unit) => unit,
+        Err(refusal) => {
+            *answer = refusal;
+            return answer.status;
+        }
+    };
+    let room = output.len();
+    let length = describe_change_json(output, 0, &listed_unit(unit));
+    *answer = written(unit.len(), length, room);
+    answer.status
+}
+
 /// The unit that the input begins with, or the answer if there is none.
-fn first_unit(input: &[u8]) -> Result<&[u8], RtrLine>
+pub(crate) fn first_unit(input: &[u8]) -> Result<&[u8], RtrLine>
     ensures unit { IfOk result (λ u. IsUnitOf input.now u.now) }
     ensures refusal { IfErr result (TellsRefusal input.now) }
 {
@@ -106,7 +132,7 @@ fn first_unit(input: &[u8]) -> Result<&[u8], RtrLine>
 }
 
 /// The answer if there is no line.
-fn refused(status: u8, detail: u8, wanted: usize) -> RtrLine
+pub(crate) fn refused(status: u8, detail: u8, wanted: usize) -> RtrLine
     ensures { result ≡ no_line status detail wanted }
 {
     RtrLine {
@@ -128,12 +154,18 @@ fn written(size: usize, length: usize, room: usize) -> RtrLine
       detail = 0;
     } }
 {
-    let status = if length <= room { ACCEPTED } else { NO_ROOM };
     RtrLine {
         size,
         length,
         wanted: 0,
-        status,
+        status: room_status(length, room),
         detail: 0,
     }
+}
+
+/// Whether so many bytes fit an output with so much room.
+pub(crate) fn room_status(length: usize, room: usize) -> u8
+    ensures { result ≡ line_status length room }
+{
+    if length <= room { ACCEPTED } else { NO_ROOM }
 }

@@ -150,7 +150,7 @@ fn reason_to(reason: Reason) -> u8
 }
 
 /// The reason of a number; of a number that is none, that the connection is gone.
-fn reason_from(reason: u8) -> Reason
+pub(crate) fn reason_from(reason: u8) -> Reason
     ensures { result ≡ numbered_reason reason }
 {
     match reason {

@@ -1,0 +1,143 @@
+//! The rules that units break, for callers that keep the names of the payloads that are announced.
+
+ghost use Rattle.std.specs.Prelude.{◌≡◌, ℕ, ◌≤◌, List, Result, IfOk, IfErr, length, Ok, Err};
+ghost use Rattle.rtr_units.specs.Header.{type_field, version_field};
+ghost use Rattle.rtr_session.specs.AnyFields.{AnyFields};
+ghost use Rattle.rtr_session.specs.Lengths.{IsBounded};
+ghost use Rattle.rtr_texts.specs.Laying.{Lays};
+ghost use Rattle.rtr_findings.specs.CheckedUnits.{found_in, known_after};
+ghost use Rattle.rtr_findings.specs.Rules.{end_findings};
+ghost use Rattle.rtr_c.specs.Checks.{Checks, LooksAt, NamesTold, is_bare_aspa};
+ghost use Rattle.rtr_c.specs.Checks.{numbered_finding};
+ghost use Rattle.rtr_c.specs.Checks.{check_state, told_line};
+ghost use Rattle.rtr_c.specs.declared.lines.RtrLine.{RtrLine};
+
+use crate::answer::{ACCEPTED, EMPTY_PROVIDERS};
+use crate::check::{
+    RtrCheck, RtrChecked, RtrFinding, RtrNaming, check_from, check_to, finding_from, finding_to,
+    findings_to, none_checked, none_named,
+};
+use crate::lines::{RtrLine, first_unit, refused, room_status};
+use rtr_findings::{announces, begins, describe_finding, lay_name};
+use rtr_payload::pdu::Aspa;
+use rtr_texts::listed_unit;
+
+/// Which payload the unit announces or withdraws that the input begins with, as
+/// `rtr_findings::lay_name`, and what the caller does with its name.
+///
+/// Statuses: those of `rtr_unit_size`, `SHORT` if not all of the unit is there, `EMPTY_PROVIDERS`
+/// for an ASPA that is announced without providers, and `NO_ROOM` if the output is too short.
+#[unsafe(no_mangle)]
+pub extern "C" fn rtr_check_name_nonnull(
+    input: &[u8],
+    output: &mut [u8],
+    answer: &mut RtrNaming,
+) -> u8
+    ensures { (u : Result (List ℕ) RtrLine) × LooksAt input.now u
+        × NamesTold u output.old output.new answer.new result }
+{
+    let unit = match taken_unit(input) {
+        Ok(unit) => unit,
+        Err(none) => {
+            *answer = none_named(none.status, none.detail, none.wanted);
+            return none.status;
+        }
+    };
+    let listed = listed_unit(unit);
+    let room = output.len();
+    let length = lay_name(output, &listed);
+    let status = room_status(length, room);
+    *answer = RtrNaming {
+        size: unit.len(),
+        length,
+        wanted: 0,
+        status,
+        detail: 0,
+        begins: begins(&listed),
+        announces: announces(&listed),
+    };
+    status
+}
+
+/// What the unit breaks that the input begins with, as `rtr_findings::SequenceState::check`, where
+/// the caller says whether the name of its payload was in its set. Statuses: as
+/// `rtr_check_name_nonnull`, but `NO_ROOM`; with one the state stays.
+#[unsafe(no_mangle)]
+pub extern "C" fn rtr_check_unit_nonnull(
+    check: &mut RtrCheck,
+    input: &[u8],
+    was_there: bool,
+    answer: &mut RtrChecked,
+) -> u8
+    ensures { (u : Result (List ℕ) RtrLine) × LooksAt input.now u
+        × Checks u was_there check.old check.new answer.new result }
+{
+    let unit = match taken_unit(input) {
+        Ok(unit) => unit,
+        Err(none) => {
+            *answer = none_checked(none.status, none.detail, none.wanted);
+            return none.status;
+        }
+    };
+    let listed = listed_unit(unit);
+    let state = check_from(check);
+    let found = state.check(&listed, was_there);
+    *answer = RtrChecked {
+        size: unit.len(),
+        wanted: 0,
+        findings: findings_to(found.slots),
+        status: ACCEPTED,
+        detail: 0,
+    };
+    *check = check_to(&state.after(&listed));
+    ACCEPTED
+}
+
+/// What is missing where the input ends, as `rtr_findings::SequenceState::missing`.
+#[unsafe(no_mangle)]
+pub extern "C" fn rtr_check_end(check: &RtrCheck, finding: &mut RtrFinding)
+    ensures { (history : List AnyFields) → check_state check.now ≡ known_after history →
+        found_in (numbered_finding finding.new) ≡ end_findings history }
+{
+    *finding = finding_to(check_from(check).missing());
+}
+
+/// Lays the line of a finding over the front of the output, as far as there is room, and answers
+/// its length: as `rtr_list --check` prints it of a unit that stands after so many bytes, without
+/// its end; of none nothing.
+#[unsafe(no_mangle)]
+pub extern "C" fn rtr_finding_line_nonnull(
+    finding: &RtrFinding,
+    offset: u64,
+    output: &mut [u8],
+) -> usize
+    ensures { Lays (told_line offset (numbered_finding finding.now)) 0
+        output.old result output.new }
+{
+    match finding_from(finding) {
+        Some(finding) => describe_finding(output, 0, offset, &finding),
+        None => 0,
+    }
+}
+
+/// The unit that the input begins with, or the answer if it is not looked at.
+fn taken_unit(input: &[u8]) -> Result<&[u8], RtrLine>
+    ensures unit { IfOk result (λ u. LooksAt input.now (Ok u.now)) }
+    ensures bounded { IfOk result (λ u.
+        IsBounded (version_field u.now) (type_field u.now) (length u.now)) }
+    ensures refusal { IfErr result (λ none. LooksAt input.now (Err none)) }
+{
+    let unit = first_unit(input)?;
+    if is_bare(unit) {
+        return Err(refused(EMPTY_PROVIDERS, 0, 0));
+    }
+    Ok(unit)
+}
+
+/// Whether the unit announces an ASPA without providers.
+fn is_bare(unit: &[u8]) -> bool
+    requires { 8 ≤ length unit.now }
+    ensures { result ≡ is_bare_aspa unit.now }
+{
+    unit[1] == Aspa::PDU && unit[2] % 2 == 1 && unit.len() == Aspa::FIXED
+}

@@ -1,0 +1,220 @@
+//! The texts of statuses, and the names of kinds, causes, reasons and error codes.
+
+ghost use Rattle.std.specs.Prelude.{◌≡◌, ◌++◌, codes, decimal};
+ghost use Rattle.std.specs.Option.{option_copied};
+ghost use Rattle.rtr_base.specs.PlainTexts.{code_name};
+ghost use Rattle.rtr_texts.specs.Laying.{Lays};
+ghost use Rattle.rtr_c.specs.LineAnswers.{line_status};
+ghost use Rattle.rtr_c.specs.Texts.{AnswersText, cause_name, name_or, name_said, type_name};
+ghost use Rattle.rtr_c.specs.Texts.{reason_name, rule_said, status_name, status_said};
+
+use crate::answer::{
+    ACCEPTED, DUPLICATE, EMPTY_PROVIDERS, NO_FORM, NO_INDEX, NO_ROOM, NOT_CANONICAL, OTHER_SESSION,
+    PREFIX, SHORT, TOO_LONG, TOO_MANY, UNDECIDED, UNIT_LENGTH, UNIT_TYPE, UNIT_VERSION, UNKNOWN,
+};
+use crate::router_action::cause_from;
+use crate::serving::reason_from;
+use rtr_base::error_code::ErrorCode;
+use rtr_conversation::Refusal;
+use rtr_texts::laying;
+use rtr_wire::pdu::PrefixRule;
+
+/// How a call ended.
+const STATUS: u8 = 0;
+/// A kind of unit.
+const KIND: u8 = 1;
+/// Why a router's connection ends.
+const CAUSE: u8 = 2;
+/// Why a cache's connection ends.
+const REASON: u8 = 3;
+/// The code of an error report.
+const CODE: u8 = 4;
+
+/// How many causes there are.
+const CAUSES: u16 = 15;
+
+/// How many reasons there are.
+const REASONS: u16 = 10;
+
+/// The text of a status with its detail. It is laid over the front of the output as far as that has
+/// room, and if it has not, the answer is `NO_ROOM` and the length says how many bytes are wanted.
+#[unsafe(no_mangle)]
+pub extern "C" fn rtr_text_nonnull(
+    status: u8,
+    detail: u8,
+    output: &mut [u8],
+    text_length: &mut usize,
+) -> u8
+    ensures { AnswersText (status_said status detail) output.old output.new text_length.new result }
+{
+    let room = output.len();
+    let end = lay_status(output, status, detail);
+    *text_length = end;
+    fitting(end, room)
+}
+
+/// The name of a status (`named` is 0), a kind (1), a cause (2), a reason (3) or an error code (4);
+/// of another `named` nothing. It is laid as by `rtr_text_nonnull`.
+#[unsafe(no_mangle)]
+pub extern "C" fn rtr_name_nonnull(
+    named: u8,
+    number: u16,
+    output: &mut [u8],
+    text_length: &mut usize,
+) -> u8
+    ensures { AnswersText (name_said named number) output.old output.new text_length.new result }
+{
+    let room = output.len();
+    let end = lay_name(output, named, number);
+    *text_length = end;
+    fitting(end, room)
+}
+
+/// Whether a text of this length fits an output with so much room.
+pub(crate) fn fitting(length: usize, room: usize) -> u8
+    ensures { result ≡ line_status length room }
+{
+    if length <= room { ACCEPTED } else { NO_ROOM }
+}
+
+/// Lays the text of a status with its detail.
+fn lay_status(output: &mut [u8], status: u8, detail: u8) -> usize
+    ensures { Lays (status_said status detail) 0 output.old result output.new }
+{
+    match status {
+        UNIT_TYPE => around(output, "unit type ", detail, " is not allowed here"),
+        UNIT_VERSION => around(output, "version ", detail, " is not supported here"),
+        PREFIX => laying::bytes(output, 0, rule_text(detail)),
+        _ => lay_or(
+            output,
+            status_text(status as u16),
+            "unknown status ",
+            status as u16,
+        ),
+    }
+}
+
+/// Lays a number between two texts.
+fn around(output: &mut [u8], before: &str, number: u8, after: &str) -> usize
+    ensures { Lays (before.now ++ decimal number ++ after.now) 0 output.old result output.new }
+{
+    let at = laying::labelled(output, 0, before, number as u64);
+    laying::text(output, at, after)
+}
+
+/// Lays a name where there is one, and else a label and the number.
+fn lay_or(output: &mut [u8], name: Option<&str>, label: &str, number: u16) -> usize
+    ensures { Lays (name_or (option_copied name.entry) label.now number) 0
+        output.old result output.new }
+{
+    match name {
+        Some(name) => laying::text(output, 0, name),
+        None => laying::labelled(output, 0, label, number as u64),
+    }
+}
+
+/// The text of the rule that a prefix breaks.
+fn rule_text(rule: u8) -> &'static [u8]
+    ensures { result.now ≡ rule_said rule }
+{
+    match rule {
+        1 => PrefixRule::LenOverflow.text(),
+        2 => PrefixRule::MaxOverflow.text(),
+        3 => PrefixRule::MaxUnderflow.text(),
+        _ => Refusal::Prefix.text().as_bytes(),
+    }
+}
+
+/// The text of a status without its detail.
+fn status_text(number: u16) -> Option<&'static str>
+    ensures { option_copied result ≡ status_name number }
+{
+    if number < 256 {
+        text_of_status(number as u8)
+    } else {
+        None
+    }
+}
+
+#[tactic(auto, unfolding(crate::specs::Texts::status_name))]
+fn text_of_status(status: u8) -> Option<&'static str>
+    ensures { option_copied result ≡ status_name status }
+{
+    match status {
+        ACCEPTED => Some("accepted"),
+        SHORT => Some(Refusal::Short.text()),
+        UNIT_TYPE => Some(Refusal::UnitType.text()),
+        UNIT_VERSION => Some(Refusal::UnitVersion.text()),
+        TOO_LONG => Some(Refusal::TooLong.text()),
+        UNIT_LENGTH => Some(Refusal::UnitLength.text()),
+        EMPTY_PROVIDERS => Some(Refusal::EmptyProviders.text()),
+        PREFIX => Some(Refusal::Prefix.text()),
+        TOO_MANY => Some("too many units"),
+        NO_ROOM => Some("no room in the output"),
+        NO_FORM => Some("no unit has these fields"),
+        NOT_CANONICAL => Some("not in canonical form"),
+        OTHER_SESSION => Some("of another session"),
+        DUPLICATE => Some(Refusal::Duplicate.text()),
+        UNKNOWN => Some(Refusal::Unknown.text()),
+        UNDECIDED => Some("an ASPA is announced and then withdrawn"),
+        NO_INDEX => Some("no room in the index"),
+        _ => None,
+    }
+}
+
+/// Lays the name of a number.
+fn lay_name(output: &mut [u8], named: u8, number: u16) -> usize
+    ensures { Lays (name_said named number) 0 output.old result output.new }
+{
+    match named {
+        STATUS => lay_or(output, status_text(number), "unknown status ", number),
+        KIND => lay_or(output, kind(number), "type ", number),
+        CAUSE => lay_or(output, cause(number), "unknown cause ", number),
+        REASON => lay_or(output, reason(number), "unknown reason ", number),
+        CODE => lay_or(output, ErrorCode(number).name(), "error code ", number),
+        _ => laying::text(output, 0, ""),
+    }
+}
+
+/// The name of a kind of unit.
+#[tactic(auto, unfolding(crate::specs::Texts::type_name))]
+fn kind(number: u16) -> Option<&'static str>
+    ensures { option_copied result ≡ type_name number }
+{
+    match number {
+        0 => Some("serial notify"),
+        1 => Some("serial query"),
+        2 => Some("reset query"),
+        3 => Some("cache response"),
+        4 => Some("IPv4 prefix"),
+        6 => Some("IPv6 prefix"),
+        7 => Some("end of data"),
+        8 => Some("cache reset"),
+        9 => Some("router key"),
+        10 => Some("error report"),
+        11 => Some("ASPA"),
+        _ => None,
+    }
+}
+
+/// The text of a cause.
+fn cause(number: u16) -> Option<&'static str>
+    ensures { option_copied result ≡ cause_name number }
+{
+    if number < CAUSES {
+        Some(cause_from(number as u8).text())
+    } else {
+        None
+    }
+}
+
+/// The text of a reason.
+fn reason(number: u16) -> Option<&'static str>
+    ensures { option_copied result ≡ reason_name number }
+{
+    if number < REASONS {
+        Some(reason_from(number as u8).text())
+    } else {
+        None
+    }
+}
