@@ -23,6 +23,12 @@ def version(text):
     return said, int(re.search(r"#define RTR_WIRE_VERSION_NUMBER (\d+)", text)[1])
 
 
+def constants(text):
+    """The other numbers that the header defines: name and number."""
+    return [(name, int(number)) for name, number in re.findall(
+        r"^#define (RTR_\w+) (\d+)$", text, re.MULTILINE) if name != "RTR_WIRE_VERSION_NUMBER"]
+
+
 def plain(comment):
     """The words of a comment, on one line."""
     return " ".join(re.sub(r"^\s*/?\*+/?", "", line).replace("*/", "").strip()

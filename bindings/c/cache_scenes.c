@@ -1,17 +1,23 @@
 /* Plays scenes of a cache and its router (tests/transcripts) by the cache without sockets, with a
  * made clock, and prints what it does otherwise than they say.
  *
- * usage: cache_scenes < SCENES */
+ * usage: cache_scenes < SCENES
+ *        cache_scenes --joined     as an end that a router is joined with (tests/joined) */
 #include "scenes.h"
 #include "rtr_cache.h"
 
 static struct rtr_server server;
 static struct rtr_served served;
-static bool connected, broken;
+static bool connected, broken, closing;
+static uint64_t room;     /* how many bytes the router takes, until it is to take others */
+static uint8_t came[1 << 17];
+static size_t came_length, read_length; /* of what came, and of that what was read */
+static bool came_last;                  /* nothing comes any more */
 static size_t back_count; /* that of the server, where it forgets some */
+static int64_t date;      /* when the scene began, in milliseconds since 1970 */
 
-/* Has what the connection has to send be sent, which gets nowhere where it broke. Whether there was
- * something. */
+/* Has what the connection has to send be sent, as far as the router takes it; it gets nowhere where
+ * the connection broke. Whether there was something. */
 static bool sends(void)
 {
     static uint8_t bytes[1 << 17];
@@ -23,20 +29,44 @@ static bool sends(void)
         memcpy(bytes + length, parts[i].at, parts[i].length);
         length += parts[i].length;
     }
-    if (!broken)
+    if (!broken) {
+        length = length < room ? length : (size_t)room;
+        room -= length;
         sees_units("cache", bytes, length);
+    }
     rtr_served_sent(&served, now, length);
     return length > 0;
+}
+
+/* Has the connection read some of what came, in as many reads as there is room for. Whether it did
+ * so. */
+static bool reads(void)
+{
+    size_t most, left = came_length - read_length;
+    uint8_t *to = rtr_served_room(&served, &most);
+    if (most == 0 || closing || (left == 0 && !came_last))
+        return false;
+    most = left < most ? left : most;
+    memcpy(to, came + read_length, most);
+    read_length += most;
+    if (most > 0) {
+        rtr_served_received(&served, now, most);
+    } else {
+        came_last = false;
+        rtr_served_lost(&served, NULL);
+    }
+    return true;
 }
 
 /* Has the connection go on until it waits. */
 static void settle(void)
 {
+    struct rtr_part parts[2];
     while (connected) {
-        enum rtr_served_event event = rtr_served_next(&served, now);
-        if (sends())
+        closing = closing || rtr_served_next(&served, now) == RTR_SERVED_CLOSE;
+        if (sends() || reads())
             continue;
-        if (event == RTR_SERVED_WAIT)
+        if (!closing || (rtr_served_output(&served, parts) && now < served.wakes))
             return;
         add(&seen, "%" PRId64 " closes\n", now);
         rtr_served_free(&served);
@@ -44,10 +74,16 @@ static void settle(void)
     }
 }
 
+/* When the connection acts by itself, if there is one. */
+static int64_t wakes(void)
+{
+    return connected ? served.wakes : INT64_MAX;
+}
+
 /* The clock comes to this time. */
 static void pass(int64_t time)
 {
-    while (connected && served.wakes <= time) {
+    while (wakes() <= time) {
         now = served.wakes > now ? served.wakes : now;
         settle();
     }
@@ -61,22 +97,17 @@ static void connects(bool beyond)
     rtr_served_init(&served, &server, now);
     server.most_connections = most;
     connected = true;
-    broken = false;
+    broken = closing = came_last = false;
+    came_length = read_length = 0;
+    room = UINT64_MAX;
 }
 
-/* These bytes come, in as many reads as there is room for. */
+/* These bytes come. */
 static void comes(const char *hex)
 {
-    static uint8_t bytes[1 << 17];
-    size_t length = from_hex(bytes, sizeof bytes, hex);
-    for (size_t at = 0, most; connected && at < length; at += most) {
-        uint8_t *room = rtr_served_room(&served, &most);
-        most = length - at < most ? length - at : most;
-        CHECK(most > 0);
-        memcpy(room, bytes + at, most);
-        rtr_served_received(&served, now, most);
-        settle();
-    }
+    if (came_length == read_length)
+        came_length = read_length = 0;
+    came_length += from_hex(came + came_length, sizeof came - came_length, hex);
 }
 
 /* These are the newest data. */
@@ -85,7 +116,30 @@ static void has(const char *hex)
     static uint8_t bytes[1 << 17];
     size_t length = from_hex(bytes, sizeof bytes, hex);
     CHECK(back_count == 0);
-    CHECK(rtr_server_update(&server, now, bytes, length) == RTR_UPDATE_TAKEN);
+    enum rtr_update update = rtr_server_update(&server, now, bytes, length);
+    CHECK(update == RTR_UPDATE_TAKEN || (joined && update == RTR_UPDATE_SAME));
+}
+
+static bool write_to(void *file, const void *bytes, size_t length)
+{
+    return fwrite(bytes, 1, length, file) == length;
+}
+
+static void saves(const char *path)
+{
+    if (!server.present.has)
+        return;
+    FILE *file = fopen(path, "wb");
+    CHECK(file && rtr_server_save(&server, now, date + now, write_to, file));
+    CHECK(fclose(file) == 0);
+}
+
+static void restores(const char *path)
+{
+    struct cases kept = read_file(path);
+    CHECK(rtr_server_restore(&server, now, date + now, kept.bytes, kept.length)
+          == RTR_UPDATE_TAKEN);
+    free((void *)kept.bytes);
 }
 
 /* The server can't tell the changes since this serial number any more, nor since those before. */
@@ -103,8 +157,9 @@ static void forgets(uint32_t serial)
 static bool given(int64_t time, const char *step)
 {
     static const char *const starts[] = {"router> ", "data {", "forgets ", "router connects",
-                                         "router closes", "router breaks"};
-    enum { SENDS, DATA, FORGETS, CONNECTS, CLOSES, BREAKS, STARTS };
+                                         "router closes", "router breaks", "saves ", "restores ",
+                                         "router takes "};
+    enum { SENDS, DATA, FORGETS, CONNECTS, CLOSES, BREAKS, SAVES, RESTORES, TAKES, STARTS };
     unsigned which = 0;
     while (which < STARTS && strncmp(step, starts[which], strlen(starts[which])) != 0)
         which++;
@@ -121,16 +176,25 @@ static bool given(int64_t time, const char *step)
         forgets((uint32_t)strtoul(rest, NULL, 10));
     else if (which == CONNECTS)
         connects(rest[0] != 0);
+    else if (which == SAVES)
+        saves(rest);
+    else if (which == RESTORES)
+        restores(rest);
+    else if (which == TAKES)
+        room = strtoull(rest, NULL, 10);
+    else if (which == CLOSES)
+        came_last = true;
     else if (connected) {
-        broken = which == BREAKS;
-        rtr_served_lost(&served, broken ? "it broke" : NULL);
+        broken = true;
+        rtr_served_lost(&served, "it broke");
     }
     settle();
     return true;
 }
 
-static void set(const char *key, uint32_t value)
+static void set(const char *key, uint64_t number)
 {
+    uint32_t value = (uint32_t)number;
     if (!strcmp(key, "refuses"))
         server.settings.refuses = true;
     else if (!strcmp(key, "first-limit"))
@@ -139,6 +203,10 @@ static void set(const char *key, uint32_t value)
         server.settings.idle_limit = value;
     else if (!strcmp(key, "pause"))
         server.settings.pause = value;
+    else if (!strcmp(key, "keep-bytes"))
+        server.keep_bytes = value;
+    else if (!strcmp(key, "date"))
+        date = (int64_t)number;
     else
         CHECK(!strcmp(key, "usual"));
 }
@@ -169,23 +237,25 @@ static void line(char *text)
 {
     int at = 0;
     int64_t time;
-    uint32_t value = 0;
+    uint64_t value = 0;
     char key[64];
     trim(text);
     if (!strncmp(text, "scene ", 6))
         begins(text + 6);
-    else if (sscanf(text, "cache %63s %" SCNu32, key, &value) >= 1)
+    else if (sscanf(text, "cache %63s %" SCNu64, key, &value) >= 1)
         set(key, value);
     else if (sscanf(text, "at %" SCNd64, &time) == 1)
-        pass(time);
-    else if (text[0] && !(sscanf(text, "%" SCNd64 " %n", &time, &at) == 1 && at
-                          && given(time, text + at)))
+        pass(time), answers(wakes());
+    else if (sscanf(text, "%" SCNd64 " %n", &time, &at) == 1 && at && given(time, text + at))
+        answers(wakes());
+    else if (text[0])
         wants("cache", text);
 }
 
-int main(void)
+int main(int count, char **arguments)
 {
     static char text[LONGEST_LINE];
+    joined = count == 2 && !strcmp(arguments[1], "--joined");
     rtr_server_init(&server);
     while (fgets(text, sizeof text, stdin))
         line(text);

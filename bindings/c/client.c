@@ -26,107 +26,27 @@ static int64_t now(void)
     return (int64_t)time.tv_sec * 1000 + time.tv_nsec / 1000000;
 }
 
-static void print_ipv6(const uint8_t *a) /* RFC 5952 */
+/* Prints the change that these bytes begin with; how many of them it has. */
+static size_t print_change(const uint8_t *bytes, size_t length, bool json)
 {
-    unsigned best = 8, longest = 1, words[8];
-    for (unsigned i = 0; i < 8; i++)
-        words[i] = a[2 * i] * 256u + a[2 * i + 1];
-    for (unsigned i = 0, run; i < 8; i += run + 1) {
-        for (run = 0; i + run < 8 && !words[i + run]; run++) {}
-        if (run > longest) {
-            best = i;
-            longest = run;
-        }
-    }
-    if (best == 0 && longest == 5 && words[5] == 0xffff) {
-        printf("::ffff:%u.%u.%u.%u", a[12], a[13], a[14], a[15]);
-        return;
-    }
-    for (unsigned i = 0; i < 8; i++) {
-        if (i == best)
-            fputs("::", stdout);
-        if (i < best || i >= best + longest)
-            printf("%s%x", i && i != best + longest ? ":" : "", words[i]);
-    }
-}
-
-static void print_prefix(const struct rtr_unit *unit, bool json)
-{
-    const uint8_t *a = unit->address;
-    fputs(json ? "\"prefix\":\"" : "", stdout);
-    if (unit->family == 4)
-        printf("%u.%u.%u.%u", a[0], a[1], a[2], a[3]);
-    else
-        print_ipv6(a);
-    printf(json ? "\",\"prefix_length\":%u,\"max_length\":%u,\"asn\":%" PRIu32 "}\n"
-                : "/%u-%u AS%" PRIu32 "\n",
-           unit->prefix_length, unit->max_length, unit->asn);
-}
-
-static void print_base64(const uint8_t *bytes, size_t length) /* RFC 4648 section 5 */
-{
-    static const char digits[] = "ABCDEFGHIJKLMNOPQRSTUVWXYZabcdefghijklmnopqrstuvwxyz0123456789-_";
-    for (size_t i = 0; i < length; i += 3) {
-        uint32_t three = (uint32_t)bytes[i] << 16;
-        three |= i + 1 < length ? (uint32_t)bytes[i + 1] << 8 : 0;
-        three |= i + 2 < length ? bytes[i + 2] : 0;
-        for (size_t place = 0; place <= 3 && place <= length - i; place++)
-            putchar(digits[three >> (18 - 6 * place) & 63]);
-    }
-}
-
-static void print_key(const struct rtr_unit *unit, const uint8_t *bytes, bool json)
-{
-    fputs(json ? "\"subject_key_identifier\":\"" : "", stdout);
-    for (size_t i = 0; i < sizeof unit->key_identifier; i++)
-        printf("%02x", unit->key_identifier[i]);
-    printf(json ? "\",\"asn\":%" PRIu32 ",\"subject_public_key_info\":\"" : " AS%" PRIu32 " ",
-           unit->asn);
-    print_base64(bytes + unit->part_start, unit->part_length);
-    puts(json ? "\"}" : "");
-}
-
-static void print_aspa(const struct rtr_unit *unit, const uint8_t *bytes, bool json)
-{
-    uint32_t provider;
-    printf(json ? "\"customer_asn\":%" PRIu32 ",\"provider_asns\":[" : "AS%" PRIu32 " providers",
-           unit->customer);
-    for (size_t i = 0; rtr_provider(unit, bytes, unit->size, i, &provider); i++)
-        printf("%s%" PRIu32, !json ? " AS" : i ? "," : "", provider);
-    puts(json ? "]}" : "");
-}
-
-static void print_change(const struct rtr_unit *unit, const uint8_t *bytes, bool json)
-{
-    static const char *const kinds[] = {
-        [RTR_IPV4_PREFIX] = "ipv4_prefix",
-        [RTR_IPV6_PREFIX] = "ipv6_prefix",
-        [RTR_ROUTER_KEY] = "router_key",
-        [RTR_ASPA] = "aspa",
-    };
+    static uint8_t text[1 << 18]; /* more than any change has */
+    struct rtr_line told;
     if (json)
-        printf("{\"kind\":\"%s\",\"action\":\"%s\",", kinds[unit->kind],
-               unit->action ? "announce" : "withdraw");
+        rtr_change_json(bytes, length, text, sizeof text, &told);
     else
-        printf("%c %s ", unit->action ? '+' : '-', rtr_kind_text(unit->kind));
-    if (unit->kind == RTR_ROUTER_KEY)
-        print_key(unit, bytes, json);
-    else if (unit->kind == RTR_ASPA)
-        print_aspa(unit, bytes, json);
-    else
-        print_prefix(unit, json);
+        rtr_change_line(bytes, length, text, sizeof text, &told);
+    if (told.length > 0) {
+        fwrite(text, 1, told.length, stdout);
+        putchar('\n');
+    }
+    return told.size;
 }
 
 /* Prints the changes that the client has. The program ends where that fails. */
 static void print_changes(const struct rtr_client *c, bool json)
 {
-    struct rtr_unit unit;
-    for (size_t at = 0; at < c->changes_length; at += unit.size) {
-        const uint8_t *bytes = c->changes + at;
-        if (rtr_next(bytes, c->changes_length - at, &unit) || unit.kind == RTR_END_OF_DATA)
-            break;
-        print_change(&unit, bytes, json);
-    }
+    for (size_t at = 0, size = 1; size > 0; at += size)
+        size = print_change(c->changes + at, c->changes_length - at, json);
     if (fflush(stdout) || ferror(stdout)) {
         perror("standard output");
         _exit(1);

@@ -274,14 +274,14 @@ def refusals():
         one, end(1), unit(2, 8, 0), reset_query(2), response() + response(),
         response() + unit(2, 8, 0))]
     at_8 = [
-        ("unit type is not allowed here", NO_TYPE, unit(2, 5, 0)),
-        ("unit type is not allowed here", NO_TYPE, unit(2, 255, 0)),
+        ("unit type 5 is not allowed here", NO_TYPE, unit(2, 5, 0)),
+        ("unit type 255 is not allowed here", NO_TYPE, unit(2, 255, 0)),
         ("unit is longer than 65535 bytes", CORRUPT, b"\2\x09\1\0\xff\xff\xff\xff"),
         ("unit is longer than 65535 bytes", None, b"\2\x0a\0\0\xff\xff\xff\xff"),
         ("invalid unit length", CORRUPT, b"\2\4\0\0\0\0\0\x15"),
         ("invalid unit length", CORRUPT, b"\2\7\0\0\0\0\0\0"),
         ("ASPA unit has no providers", 9, b"\2\x0b\1\0\0\0\0\x0c"),
-        ("prefix fields are not allowed", CORRUPT, one[:9] + b"\x21" + one[10:]),
+        ("prefix length too large", CORRUPT, one[:9] + b"\x21" + one[10:]),
     ]
     rows += [(response() + sent, text + ", at byte 8", code) for text, code, sent in at_8]
     rows += [(report(2, code), f"the cache reports code {code}: no", None) for code in (0, 2, 9)]

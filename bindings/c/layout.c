@@ -54,6 +54,34 @@ AT(rtr_line, wanted, 16);
 AT(rtr_line, status, 24);
 AT(rtr_line, detail, 25);
 
+_Static_assert(sizeof(struct rtr_check) == 6, "rtr_check");
+AT(rtr_check, session, 0);
+AT(rtr_check, version, 2);
+AT(rtr_check, has_session, 3);
+AT(rtr_check, has_version, 4);
+AT(rtr_check, stage, 5);
+
+_Static_assert(sizeof(struct rtr_finding) == 6, "rtr_finding");
+AT(rtr_finding, value, 0);
+AT(rtr_finding, begun, 2);
+AT(rtr_finding, rule, 4);
+
+_Static_assert(sizeof(struct rtr_checked) == 64, "rtr_checked");
+AT(rtr_checked, size, 0);
+AT(rtr_checked, wanted, 8);
+AT(rtr_checked, findings, 16);
+AT(rtr_checked, status, 58);
+AT(rtr_checked, detail, 59);
+
+_Static_assert(sizeof(struct rtr_naming) == 32, "rtr_naming");
+AT(rtr_naming, size, 0);
+AT(rtr_naming, length, 8);
+AT(rtr_naming, wanted, 16);
+AT(rtr_naming, status, 24);
+AT(rtr_naming, detail, 25);
+AT(rtr_naming, begins, 26);
+AT(rtr_naming, announces, 27);
+
 _Static_assert(sizeof(struct rtr_data_answer) == 24, "rtr_data_answer");
 AT(rtr_data_answer, written, 0);
 AT(rtr_data_answer, offset, 8);

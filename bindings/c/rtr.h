@@ -98,6 +98,15 @@ enum rtr_order {
     RTR_SERIAL_NO_ORDER = 3 /* they are 2^31 apart */
 };
 
+/* What rtr_name has names of. */
+enum rtr_named {
+    RTR_NAMED_STATUS = 0, /* an rtr_status, without its detail: "unit type is not allowed here" */
+    RTR_NAMED_KIND = 1,   /* an rtr_kind: "IPv4 prefix" */
+    RTR_NAMED_CAUSE = 2,  /* an rtr_cause: "the cache is too slow" */
+    RTR_NAMED_REASON = 3, /* an rtr_reason: "the router is too slow" */
+    RTR_NAMED_CODE = 4    /* an error code (RFC 8210 section 12): "Corrupt Data" */
+};
+
 /* The two inputs of a comparison. */
 enum rtr_side {
     RTR_LEFT = 1,
@@ -141,10 +150,10 @@ struct rtr_comparison {
     bool same;      /* whether both inputs mean the same; false unless the status is RTR_OK */
 };
 
-/* The answer of rtr_line and rtr_change_line. */
+/* The answer of rtr_line, rtr_change_line and rtr_change_json. */
 struct rtr_line {
     size_t size;    /* bytes of the unit in the input */
-    size_t length;  /* bytes of the line, also where the output is shorter */
+    size_t length;  /* bytes of what is written, also where the output is shorter */
     size_t wanted;  /* after RTR_SHORT, how many bytes of input are needed at least, as in an
                        rtr_unit; else 0 */
     uint8_t status; /* an rtr_status, as the call returns it */
@@ -240,10 +249,19 @@ uint8_t rtr_normalise_for_slice_nonnull(const uint8_t *input, size_t input_lengt
 uint8_t rtr_unit_size_nonnull(const uint8_t *input, size_t input_length, size_t *size,
                               uint8_t *detail);
 uint8_t rtr_next_nonnull(const uint8_t *input, size_t input_length, struct rtr_unit *unit);
+uint8_t rtr_next_many_nonnull(const uint8_t *input, size_t input_length,
+                              struct rtr_unit *units, size_t units_length,
+                              size_t *count, size_t *taken);
 uint8_t rtr_line_nonnull(const uint8_t *input, size_t input_length, uint64_t offset,
                          uint8_t *output, size_t output_length, struct rtr_line *answer);
 uint8_t rtr_change_line_nonnull(const uint8_t *input, size_t input_length,
                                 uint8_t *output, size_t output_length, struct rtr_line *answer);
+uint8_t rtr_change_json_nonnull(const uint8_t *input, size_t input_length,
+                                uint8_t *output, size_t output_length, struct rtr_line *answer);
+uint8_t rtr_text_nonnull(uint8_t status, uint8_t detail, uint8_t *output, size_t output_length,
+                         size_t *length);
+uint8_t rtr_name_nonnull(uint8_t named, uint16_t number, uint8_t *output, size_t output_length,
+                         size_t *length);
 bool rtr_provider_nonnull(const struct rtr_unit *unit, const uint8_t *input, size_t input_length,
                           size_t index, uint32_t *provider);
 bool rtr_error_code_nonnull(uint8_t status, const uint8_t *input, size_t input_length,
@@ -361,6 +379,22 @@ static inline uint8_t rtr_next(const uint8_t *input, size_t input_length, struct
     return rtr_next_nonnull(rtr_readable(input), input_length, unit);
 }
 
+/* Decodes the units that the input begins with, each as rtr_next: the first into units[0], the
+ * next into units[1] and so on, until all places are filled or a unit is refused. `count` units are
+ * decoded, which have `taken` bytes. Where their parts begin is said from the front of each unit.
+ *
+ * RTR_OK if all places are filled; or the status of the next unit, RTR_SHORT to RTR_PREFIX, and
+ * units[count] is as rtr_next leaves it. So the status of an input whose last unit is whole is
+ * RTR_SHORT, with all of the input taken. Places behind that are left as they were. */
+static inline uint8_t rtr_next_many(const uint8_t *input, size_t input_length,
+                                    struct rtr_unit *units, size_t units_length,
+                                    size_t *count, size_t *taken)
+{
+    static struct rtr_unit nowhere;
+    return rtr_next_many_nonnull(rtr_readable(input), input_length, units ? units : &nowhere,
+                                 units_length, count, taken);
+}
+
 /* The line of the unit that the input begins with, in ASCII, without its end or a 0 behind it: what
  * the program rtr_list prints of a unit that stands after `offset` bytes. Like that program it
  * shows a prefix whose lengths break their rule, which rtr_next refuses. The next unit begins
@@ -384,6 +418,38 @@ static inline uint8_t rtr_change_line(const uint8_t *input, size_t input_length,
 {
     return rtr_change_line_nonnull(rtr_readable(input), input_length, rtr_writable(output),
                                    output_length, answer);
+}
+
+/* The JSON object of the same change, as rtr_diff --json prints it. Else as rtr_line. */
+static inline uint8_t rtr_change_json(const uint8_t *input, size_t input_length,
+                                      uint8_t *output, size_t output_length,
+                                      struct rtr_line *answer)
+{
+    return rtr_change_json_nonnull(rtr_readable(input), input_length, rtr_writable(output),
+                                   output_length, answer);
+}
+
+/* Room for every text of rtr_text and rtr_name, and a 0 behind it. */
+#define RTR_TEXT_ROOM 64
+
+/* The text of a status with its detail, such as "unit type 5 is not allowed here", in ASCII without
+ * a 0 behind it; any numbers may be passed.
+ *
+ * RTR_OK; or RTR_NO_ROOM, where the output holds the front of the text. `length` says how many
+ * bytes all of it has. */
+static inline uint8_t rtr_text(uint8_t status, uint8_t detail, uint8_t *output,
+                               size_t output_length, size_t *length)
+{
+    return rtr_text_nonnull(status, detail, rtr_writable(output), output_length, length);
+}
+
+/* The name of a number, by an rtr_named: of a status, a kind, a cause, a reason or an error code.
+ * For a number without a name a text says so, such as "type 5" or "error code 12"; for another
+ * `named` the text is empty. Else as rtr_text. */
+static inline uint8_t rtr_name(uint8_t named, uint16_t number, uint8_t *output,
+                               size_t output_length, size_t *length)
+{
+    return rtr_name_nonnull(named, number, rtr_writable(output), output_length, length);
 }
 
 /* Whether the unit is an ASPA with a provider of this index, counted from 0. The provider is then
@@ -628,6 +694,125 @@ static inline bool rtr_covering(const uint8_t *data, size_t data_length,
                                 size_t from, struct rtr_covering *covering)
 {
     return rtr_covering_nonnull(rtr_readable(data), data_length, tables, route, from, covering);
+}
+
+/* The rules that the program rtr_list looks for with --check, unit by unit, in the units that
+ * rtr_line takes. The struct rtr_check has what is known of the sequence that is read; all of it is
+ * 0 before the first unit. Whether a payload is announced twice hangs on all that an answer
+ * announced before, which the caller keeps, as a set of names:
+ *
+ *   struct rtr_check check = {0};
+ *   for each unit:
+ *       rtr_check_name(unit.., name.., &named);
+ *       rtr_check_unit(&check, unit.., whether the set has the name, &checked);
+ *       say what is in checked.findings
+ *       if named.begins, empty the set
+ *       put the name into the set if named.announces, and else take it out
+ *   rtr_check_end(&check, &finding);
+ *
+ * Then what is found is exactly what the program says. A name is of at most 65528 bytes, which mean
+ * nothing but which payload it is. */
+
+/* A rule that a unit breaks. */
+enum rtr_rule {
+    RTR_RULE_NONE = 0,
+    RTR_RULE_RESERVED = 1,             /* the byte at `value` has to be zero */
+    RTR_RULE_FLAGS = 2,                /* all bits of the flags but the lowest have to be zero */
+    RTR_RULE_PREFIX_LENGTH = 3,        /* the prefix length is at most 32 or 128 */
+    RTR_RULE_MAX_LENGTH = 4,           /* the max length is at most 32 or 128 */
+    RTR_RULE_MAX_BELOW = 5,            /* the max length is no less than the prefix length */
+    RTR_RULE_HOST_BITS = 6,            /* a prefix has no bits after its length */
+    RTR_RULE_VERSION = 7,              /* the version, `value`, is that of the sequence, `begun` */
+    RTR_RULE_SESSION = 8,              /* the session, `value`, is that of the answer, `begun` */
+    RTR_RULE_CUT_OFF = 9,              /* an answer ends with an end of data */
+    RTR_RULE_NO_ANSWER = 10,           /* a recording has an end of data */
+    RTR_RULE_LACKS = 11,               /* the version, `value`, has such units */
+    RTR_RULE_WITHDRAWN_PROVIDERS = 12, /* a withdrawn ASPA has no providers; with `value` 1 the
+                                          unit reads as one of an older draft */
+    RTR_RULE_TWICE = 13,               /* a payload is announced once */
+    RTR_RULE_PROVIDER_ORDER = 14,      /* providers ascend */
+    RTR_RULE_REPORT_PARTS = 15,        /* the lengths inside an error report make it up */
+    RTR_RULE_REPORT_TEXT = 16,         /* the text of an error report is UTF-8 */
+    RTR_RULE_REPORT_OF_REPORT = 17     /* no error report is about an error report */
+};
+
+struct rtr_check {
+    uint16_t session;
+    uint8_t version;
+    bool has_session, has_version;
+    uint8_t stage;
+};
+
+struct rtr_finding {
+    uint16_t value; /* as enum rtr_rule says; else 0 */
+    uint16_t begun;
+    uint8_t rule;   /* an rtr_rule */
+};
+
+/* The answer of rtr_check_unit. */
+struct rtr_checked {
+    size_t size;    /* bytes of the unit in the input */
+    size_t wanted;  /* as in an rtr_line */
+    struct rtr_finding findings[7]; /* in the order in which they are said; RTR_RULE_NONE may stand
+                                       between them */
+    uint8_t status; /* an rtr_status, as the call returns it */
+    uint8_t detail; /* as in an rtr_answer */
+};
+
+/* The answer of rtr_check_name. */
+struct rtr_naming {
+    size_t size;    /* bytes of the unit in the input */
+    size_t length;  /* bytes of the name, also where the output is shorter; 0 where the unit names
+                       no payload */
+    size_t wanted;  /* as in an rtr_line */
+    uint8_t status; /* an rtr_status, as the call returns it */
+    uint8_t detail; /* as in an rtr_answer */
+    bool begins;    /* whether a sequence begins with the unit */
+    bool announces; /* whether the payload is announced */
+};
+
+/* The archive's calls for the three below that take slices, without null pointers. */
+uint8_t rtr_check_name_nonnull(const uint8_t *input, size_t input_length,
+                               uint8_t *output, size_t output_length, struct rtr_naming *answer);
+uint8_t rtr_check_unit_nonnull(struct rtr_check *check,
+                               const uint8_t *input, size_t input_length, bool was_there,
+                               struct rtr_checked *answer);
+size_t rtr_finding_line_nonnull(const struct rtr_finding *finding, uint64_t offset,
+                                uint8_t *output, size_t output_length);
+
+/* The name of the payload that the unit announces or withdraws that the input begins with. The next
+ * unit begins `size` bytes later.
+ *
+ * RTR_OK; or RTR_NO_ROOM, where `length` says how many bytes are wanted. Before that RTR_SHORT to
+ * RTR_EMPTY_PROVIDERS, with nothing written. */
+static inline uint8_t rtr_check_name(const uint8_t *input, size_t input_length,
+                                     uint8_t *output, size_t output_length,
+                                     struct rtr_naming *answer)
+{
+    return rtr_check_name_nonnull(rtr_readable(input), input_length, rtr_writable(output),
+                                  output_length, answer);
+}
+
+/* What the unit breaks that the input begins with, where the caller says whether its set had the
+ * name before it. RTR_OK; or RTR_SHORT to RTR_EMPTY_PROVIDERS, with no findings, and `check` as it
+ * was. */
+static inline uint8_t rtr_check_unit(struct rtr_check *check,
+                                     const uint8_t *input, size_t input_length, bool was_there,
+                                     struct rtr_checked *answer)
+{
+    return rtr_check_unit_nonnull(check, rtr_readable(input), input_length, was_there, answer);
+}
+
+/* What is missing where the input ends, or RTR_RULE_NONE. */
+void rtr_check_end(const struct rtr_check *check, struct rtr_finding *finding);
+
+/* Writes the line of a finding at a unit that stands after `offset` bytes, as rtr_list prints it,
+ * in ASCII, without its end or a 0 behind it, as far as there is room, and answers its length: at
+ * most 128 bytes. Of what is missing where the input ends the offset is the input's length. */
+static inline size_t rtr_finding_line(const struct rtr_finding *finding, uint64_t offset,
+                                      uint8_t *output, size_t output_length)
+{
+    return rtr_finding_line_nonnull(finding, offset, rtr_writable(output), output_length);
 }
 
 /* A router's end of the protocol: what to do when, without sockets, clock and memory (RFC 8210;

@@ -581,13 +581,16 @@ static void say_report(struct rtr_served *c)
 /* Why the connection ends. */
 static void say_end(struct rtr_served *c, const struct rtr_serving *serving)
 {
-    if (serving->reason == RTR_REASON_REPORTED)
+    size_t count;
+    if (serving->reason == RTR_REASON_REPORTED) {
         say_report(c);
-    else if (serving->reason == RTR_REASON_FAULTY)
-        snprintf(c->text, sizeof c->text, "%s, at byte %llu", rtr_status_text(serving->status),
+    } else if (serving->reason == RTR_REASON_FAULTY) {
+        rtr_text(serving->status, serving->detail, (uint8_t *)c->text, RTR_TEXT_ROOM, &count);
+        snprintf(c->text + count, sizeof c->text - count, ", at byte %llu",
                  (unsigned long long)c->offset);
-    else if (serving->reason != RTR_REASON_LOST)
+    } else if (serving->reason != RTR_REASON_LOST) {
         snprintf(c->text, sizeof c->text, "%s", rtr_reason_text(serving->reason));
+    }
 }
 
 /* Has a report be sent, if it is owed and there is memory for it. */

@@ -135,6 +135,14 @@ static void say_report(struct rtr_client *c, struct bytes report)
     c->code = unit.code;
 }
 
+/* What is refused, at this offset. */
+static void say_refused(struct rtr_client *c, const struct rtr_action *a, uint64_t at)
+{
+    size_t count;
+    rtr_text(a->status, a->detail, (uint8_t *)c->text, RTR_TEXT_ROOM, &count);
+    snprintf(c->text + count, sizeof c->text - count, ", at byte %llu", (unsigned long long)at);
+}
+
 /* Why there is no connection, because of what these bytes begin with, at this offset. */
 static void fail(struct rtr_client *c, const struct rtr_action *a, struct bytes about, uint64_t at)
 {
@@ -145,8 +153,7 @@ static void fail(struct rtr_client *c, const struct rtr_action *a, struct bytes 
     if (c->failure == RTR_CLIENT_REPORTED)
         say_report(c, about);
     else if (c->failure == RTR_CLIENT_REFUSED)
-        snprintf(c->text, sizeof c->text, "%s, at byte %llu", rtr_status_text(a->status),
-                 (unsigned long long)at);
+        say_refused(c, a, at);
     else
         snprintf(c->text, sizeof c->text, "%s", starved ? "no memory" : text);
     happens(c, RTR_CLIENT_FAILED);

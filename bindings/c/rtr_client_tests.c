@@ -45,7 +45,7 @@ struct failing {
  * cache gets, tests/transcripts has. */
 static const struct failing all_failing[] = {
     {BYTES("\2\5\0\0\0\0\0\x08"), RTR_CLIENT_REFUSED, RTR_UNIT_TYPE,
-     "unit type is not allowed here, at byte 100"},
+     "unit type 5 is not allowed here, at byte 100"},
     {BYTES(PREFIX("\2", "\x09") "\2\x0b\1\0\0\0\0\x0c"), RTR_CLIENT_REFUSED, RTR_EMPTY_PROVIDERS,
      "ASPA unit has no providers, at byte 120"},
     {BYTES(PREFIX("\2", "\x09") PREFIX("\2", "\1") END_OF("\x12\x34", "\6")), RTR_CLIENT_REFUSED,

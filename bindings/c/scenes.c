@@ -1,7 +1,8 @@
 /* Plays scenes of a router and its cache (tests/transcripts) by the client without sockets, with a
  * made clock, and prints what it does otherwise than they say.
  *
- * usage: scenes < SCENES */
+ * usage: scenes < SCENES
+ *        scenes --joined     as an end that a cache is joined with (tests/joined) */
 #include "scenes.h"
 #include "rtr_client.h"
 
@@ -103,6 +104,7 @@ static void given(int64_t time, const char *step)
         rtr_client_lost(&c, strcmp(step, " closes") ? "it broke" : NULL);
     if (step)
         settle();
+    answers(c.wakes);
 }
 
 static void line(char *text)
@@ -131,9 +133,10 @@ static void line(char *text)
     }
 }
 
-int main(void)
+int main(int count, char **arguments)
 {
     static char text[LONGEST_LINE];
+    joined = count == 2 && !strcmp(arguments[1], "--joined");
     while (fgets(text, sizeof text, stdin))
         line(text);
     compare();

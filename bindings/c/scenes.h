@@ -18,6 +18,7 @@ static int64_t now;
 static struct steps wanted, seen;
 static char name[256]; /* of the scene, until it differs */
 static unsigned played, differ;
+static bool joined; /* it plays with another end, which gets the bytes as they are */
 
 static inline void add(struct steps *to, const char *format, ...)
 {
@@ -32,14 +33,25 @@ static inline void add(struct steps *to, const char *format, ...)
 
 static inline void add_hex(struct steps *to, const uint8_t *bytes, size_t length)
 {
-    for (size_t i = 0; i < length; i++)
-        add(to, "%02x", bytes[i]);
+    static const char digits[] = "0123456789abcdef";
+    CHECK(2 * length < sizeof to->text - to->length);
+    for (size_t i = 0; i < length; i++) {
+        to->text[to->length++] = digits[bytes[i] >> 4];
+        to->text[to->length++] = digits[bytes[i] & 15];
+    }
+    to->text[to->length] = 0;
 }
 
-/* Notes units that this end sends. */
+/* Notes units that this end sends, or bytes for another end. */
 static inline void sees_units(const char *end, const uint8_t *units, size_t length)
 {
     struct rtr_unit unit;
+    if (joined && length) {
+        add(&seen, "%" PRId64 " %s> ", now, end);
+        add_hex(&seen, units, length);
+        add(&seen, "\n");
+        return;
+    }
     for (size_t at = 0; at < length; at += unit.size) {
         const uint8_t *one = units + at;
         CHECK(rtr_next(one, length - at, &unit) == RTR_OK);
@@ -71,6 +83,8 @@ static inline void wants(const char *end, char *step)
 
 static inline void compare(void)
 {
+    if (joined)
+        return;
     if (strcmp(wanted.text, seen.text) != 0 && name[0]) {
         printf("%s: wanted\n%sseen\n%s", name, wanted.text, seen.text);
         name[0] = 0;
@@ -78,6 +92,17 @@ static inline void compare(void)
     }
     wanted.length = seen.length = 0;
     wanted.text[0] = seen.text[0] = 0;
+}
+
+/* Tells what was seen since a step of another end came, and when this end acts by itself. */
+static inline void answers(int64_t wakes)
+{
+    if (!joined)
+        return;
+    printf("%swakes %" PRId64 "\n", seen.text, wakes);
+    fflush(stdout);
+    seen.length = 0;
+    seen.text[0] = 0;
 }
 
 /* Puts the bytes of words in hexadecimal into this room, and answers how many there are. */

@@ -170,6 +170,30 @@ static void check_units(const struct place *place, const struct test_case *one,
     }
 }
 
+#define FIELDS (offsetof(struct rtr_unit, detail) + 1)
+
+/* Many units in one call: in each place what rtr_next shows, and in those behind what was there. */
+static void check_many(const uint8_t *input, size_t length)
+{
+    struct rtr_unit units[5], untouched, unit;
+    memset(&untouched, 0xa5, sizeof untouched);
+    for (size_t places = 0; places < 5; places++) {
+        size_t count, taken, at = 0, shown = 0;
+        uint8_t expected = RTR_OK;
+        memset(units, 0xa5, sizeof units);
+        uint8_t status = rtr_next_many(input, length, units, places, &count, &taken);
+        while (shown < places && expected == RTR_OK) {
+            expected = rtr_next(input + at, length - at, &unit);
+            CHECK(memcmp(&units[shown], &unit, FIELDS) == 0);
+            if (expected == RTR_OK)
+                at += units[shown++].size;
+        }
+        CHECK(status == expected && count == shown && taken == at);
+        for (size_t i = shown + (status != RTR_OK); i < 5; i++)
+            CHECK(memcmp(&units[i], &untouched, sizeof untouched) == 0);
+    }
+}
+
 /* The input of the case is compared as the left input or the right one, with a sequence that is
  * accepted: its fault is told, or whether they mean the same. */
 static void check_comparison(const struct place *place, const struct test_case *one,
@@ -243,6 +267,7 @@ static void check_case(const struct place *place, const struct test_case *one)
         check_in_turns(place, one, input, 16);
     if (one->version == 255) {
         check_units(place, one, input);
+        check_many(input, one->input_length);
         check_same(place, one, input);
     }
     CHECK(memcmp(input, one->input, one->input_length) == 0);
@@ -379,20 +404,6 @@ static void check_bounds(const struct place *place)
     struct rtr_comparison *both = FILLED(place->told, struct rtr_comparison);
     CHECK(rtr_same_meaning(none, 0, none, 0, 1, both) == RTR_SHORT && both->side == RTR_LEFT);
     CHECK(rtr_same_meaning(none, 0, none, 0, 0, both) == RTR_TOO_MANY && both->wanted == 0);
-    for (int status = 0; status < 256; status++)
-        CHECK(rtr_status_text((uint8_t)status)[0] != '\0');
-}
-
-/* The names of the kinds, by their types (RFC 8210 section 5; ASPA as in rtr.h). */
-static void check_names(void)
-{
-    static const char *const names[] = {
-        "serial notify", "serial query", "reset query", "cache response", "IPv4 prefix",
-        "unknown kind",  "IPv6 prefix",  "end of data", "cache reset",    "router key",
-        "error report",  "ASPA",
-    };
-    for (int kind = 0; kind < 256; kind++)
-        CHECK(strcmp(rtr_kind_text((uint8_t)kind), kind < 12 ? names[kind] : "unknown kind") == 0);
 }
 
 /* The unit that an answer of a session says, with its status in *status. */
@@ -428,7 +439,6 @@ static struct rtr_unit next_answer(const uint8_t **at, uint64_t *status)
     return unit;
 }
 
-#define FIELDS (offsetof(struct rtr_unit, detail) + 1)
 
 /* The length by the header alone agrees with the answer for the whole unit. */
 static void check_size(const struct place *place, const uint8_t *input, size_t length,
@@ -655,105 +665,6 @@ static void check_providers(const struct place *place)
     CHECK(!rtr_provider(unit, input, sizeof aspa, 0, provider) && *provider == 0);
 }
 
-/* The lines of units and of changes, by docs/LISTING.md and docs/PROGRAMS.md. */
-static const struct {
-    size_t length;
-    uint8_t bytes[36];
-    const char *line, *change;
-} lines[] = {
-    {12, {1, 0, 0, 7, 0, 0, 0, 12, 0, 0, 0, 9}, "24 v1 serial notify session 7 serial 9", ""},
-    {12, {1, 1, 0, 7, 0, 0, 0, 12, 0, 0, 0, 9}, "24 v1 serial query session 7 serial 9", ""},
-    {8, {2, 2, 0, 0, 0, 0, 0, 8}, "24 v2 reset query", ""},
-    {8, {0, 3, 255, 255, 0, 0, 0, 8}, "24 v0 cache response session 65535", ""},
-    {20, {1, 4, 0, 0, 0, 0, 0, 20, 1, 23, 26, 0, 192, 0, 2, 10, 0, 1, 0, 15},
-     "24 v1 IPv4 prefix announce 192.0.2.10/23-26 AS65551",
-     "+ IPv4 prefix 192.0.2.10/23-26 AS65551"},
-    {20, {1, 4, 0, 0, 0, 0, 0, 20, 0, 33, 8, 0, 0, 0, 0, 255, 255, 255, 255, 255},
-     "24 v1 IPv4 prefix withdraw 0.0.0.255/33-8 AS4294967295",
-     "- IPv4 prefix 0.0.0.255/33-8 AS4294967295"},
-    {32, {1, 6, 0, 0, 0, 0, 0, 32, 0, 32, 48, 0, 0x20, 1, 0xd, 0xb8, 0, 0, 0, 0, 0, 1, 0, 0, 0, 0,
-          0, 1, 0, 1, 0, 15},
-     "24 v1 IPv6 prefix withdraw 2001:db8::1:0:0:1/32-48 AS65551",
-     "- IPv6 prefix 2001:db8::1:0:0:1/32-48 AS65551"},
-    {32, {1, 6, 0, 0, 0, 0, 0, 32, 1, 128, 128, 0, 0, 0, 0, 0, 0, 0, 0, 0, 0, 0, 255, 255, 1, 2, 3,
-          4, 0, 1, 0, 15},
-     "24 v1 IPv6 prefix announce ::ffff:1.2.3.4/128-128 AS65551",
-     "+ IPv6 prefix ::ffff:1.2.3.4/128-128 AS65551"},
-    {32, {1, 6, 0, 0, 0, 0, 0, 32, 1, 0, 0, 0, 0, 1, 0, 0, 0, 2, 0, 0x0a, 0, 3, 0, 0x10, 0xab, 0xcd,
-          0, 0, 0, 1, 0, 15},
-     "24 v1 IPv6 prefix announce 1:0:2:a:3:10:abcd:0/0-0 AS65551",
-     "+ IPv6 prefix 1:0:2:a:3:10:abcd:0/0-0 AS65551"},
-    {24, {1, 7, 0, 7, 0, 0, 0, 24, 0, 0, 0, 9, 0, 0, 14, 16, 0, 0, 2, 88, 0, 0, 28, 32},
-     "24 v1 end of data session 7 serial 9 refresh 3600 retry 600 expire 7200", ""},
-    {12, {0, 7, 0, 7, 0, 0, 0, 12, 0, 0, 0, 9}, "24 v0 end of data session 7 serial 9", ""},
-    {8, {1, 8, 0, 0, 0, 0, 0, 8}, "24 v1 cache reset", ""},
-    {36, {1, 9, 1, 0, 0, 0, 0, 36, 1, 2, 3, 4, 5, 6, 7, 8, 9, 10, 11, 12, 13, 14, 15, 16, 17, 18, 19,
-          20, 0, 1, 0, 15, 0x15, 0x16, 0xfb, 0xff},
-     "24 v1 router key announce 0102030405060708090a0b0c0d0e0f1011121314 AS65551 FRb7_w",
-     "+ router key 0102030405060708090a0b0c0d0e0f1011121314 AS65551 FRb7_w"},
-    {20, {2, 11, 1, 0, 0, 0, 0, 20, 0, 0, 253, 232, 0, 0, 253, 233, 0, 1, 0, 15},
-     "24 v2 ASPA announce AS65000 providers AS65001 AS65551",
-     "+ ASPA AS65000 providers AS65001 AS65551"},
-    {12, {2, 11, 0, 0, 0, 0, 0, 12, 0, 0, 253, 232}, "24 v2 ASPA withdraw AS65000 providers",
-     "- ASPA AS65000 providers"},
-    {20, {1, 10, 0, 2, 0, 0, 0, 20, 0, 0, 0, 1, 0xab, 0, 0, 0, 3, '"', '\n', 200},
-     "24 v1 error report code 2 (No Data Available) pdu \"ab\" text \"\\\"\\n\\xc8\"", ""},
-    {16, {1, 10, 1, 0, 0, 0, 0, 16, 0, 0, 0, 1, 0, 0, 0, 0},
-     "24 v1 error report code 256 with lengths that do not fit", ""},
-};
-
-/* Calls one of the two with this room. */
-static struct rtr_line line_of(const struct place *place, bool change, const uint8_t *input,
-                               size_t length, size_t room)
-{
-    uint8_t *output = lie(place, place->output, room);
-    struct rtr_line *answer = FILLED(place->told, struct rtr_line);
-    memset(output, 0xa5, room);
-    uint8_t status = change ? rtr_change_line(input, length, output, room, answer)
-                            : rtr_line(input, length, 24, output, room, answer);
-    CHECK(status == answer->status);
-    return *answer;
-}
-
-/* A line is written where there is room for it, and else its front; `length` is that of all. */
-static void check_line(const struct place *place, bool change, const uint8_t *input, size_t size,
-                       const char *line)
-{
-    size_t length = strlen(line);
-    for (size_t room = length ? length - 1 : 0; room <= length + 1; room++) {
-        struct rtr_line told = line_of(place, change, input, size, room);
-        const uint8_t *output = lie(place, place->output, room);
-        CHECK(told.status == (room < length ? RTR_NO_ROOM : RTR_OK));
-        CHECK(told.size == size && told.length == length && told.wanted == 0 && told.detail == 0);
-        CHECK(memcmp(output, line, room < length ? room : length) == 0);
-        CHECK(room <= length || output[length] == 0xa5);
-    }
-}
-
-static void check_lines(const struct place *place)
-{
-    for (size_t i = 0; i < sizeof lines / sizeof *lines; i++) {
-        size_t size = lines[i].length;
-        const uint8_t *input = copied(place, place->input, lines[i].bytes, size);
-        check_line(place, false, input, size, lines[i].line);
-        check_line(place, true, input, size, lines[i].change);
-        for (size_t there = 0; there < size; there++) {
-            input = copied(place, place->input, lines[i].bytes, there);
-            struct rtr_line told = line_of(place, there % 2, input, there, 9);
-            CHECK(told.status == RTR_SHORT && told.wanted == (there < 8 ? 8 : size));
-            CHECK(told.size == 0 && told.length == 0 && told.detail == 0);
-        }
-    }
-    static const uint8_t refused[][8] = {{1, 5, 0, 0, 0, 0, 0, 8}, {3, 7, 0, 0, 0, 0, 0, 24}};
-    for (uint8_t i = 0; i < 2; i++) {
-        const uint8_t *input = copied(place, place->input, refused[i], 8);
-        struct rtr_line told = line_of(place, i, input, 8, 9);
-        CHECK(told.status == (i ? RTR_UNIT_VERSION : RTR_UNIT_TYPE));
-        CHECK(told.detail == (i ? 3 : 5) && told.size == 0 && told.length == 0);
-        CHECK(*(uint8_t *)lie(place, place->output, 9) == 0xa5);
-    }
-}
-
 int main(int count, char **words)
 {
     CHECK(count == 3);
@@ -770,13 +681,11 @@ int main(int count, char **words)
         check_codes(&place);
         check_providers(&place);
         check_reports(&place);
-        check_lines(&place);
         check_sessions(&place, sessions.bytes, sessions.bytes + sessions.length);
     }
     check_serials();
     check_causes();
     check_versions();
-    check_names();
     pthread_t threads[THREADS];
     for (int i = 0; i < THREADS; i++)
         CHECK(pthread_create(&threads[i], NULL, check_cases, &cases) == 0);

@@ -1,0 +1,73 @@
+/* Prints what the units on standard input break of the protocol's rules, as rtr_list --check. */
+#include <stdio.h>
+#include <string.h>
+#include "rtr.h"
+
+/* The names that are announced, each after its length. With many of them a hash set finds one
+ * sooner. */
+static uint8_t set[1 << 20];
+static size_t used;
+
+/* Where the name stands, or where the set ends. */
+static size_t place_of(const uint8_t *name, size_t length)
+{
+    for (size_t at = 0, size; at < used; at += sizeof size + size) {
+        memcpy(&size, set + at, sizeof size);
+        if (size == length && memcmp(set + at + sizeof size, name, length) == 0)
+            return at;
+    }
+    return used;
+}
+
+static void put(const uint8_t *name, size_t length)
+{
+    if (length <= sizeof set - sizeof length - used) {
+        memcpy(set + used, &length, sizeof length);
+        memcpy(set + used + sizeof length, name, length);
+        used += sizeof length + length;
+    }
+}
+
+static void take_out(size_t at, size_t length)
+{
+    used -= sizeof length + length;
+    memmove(set + at, set + at + sizeof length + length, used - at);
+}
+
+static void say(const struct rtr_finding *finding, size_t offset)
+{
+    uint8_t line[128];
+    size_t length = rtr_finding_line(finding, offset, line, sizeof line);
+    if (length > 0)
+        printf("%.*s\n", (int)length, (const char *)line);
+}
+
+int main(void)
+{
+    static uint8_t input[1 << 20], name[65536];
+    size_t length = fread(input, 1, sizeof input, stdin), at = 0;
+    struct rtr_check check = {0};
+    struct rtr_naming named;
+    struct rtr_checked checked;
+    struct rtr_finding missing;
+    for (; at < length; at += named.size) {
+        uint8_t status = rtr_check_name(input + at, length - at, name, sizeof name, &named);
+        if (status != RTR_OK) {
+            fprintf(stderr, "offset %zu: %s\n", at, rtr_status_text(status));
+            return 1;
+        }
+        size_t place = place_of(name, named.length);
+        rtr_check_unit(&check, input + at, length - at, place < used, &checked);
+        for (size_t i = 0; i < sizeof checked.findings / sizeof checked.findings[0]; i++)
+            say(&checked.findings[i], at);
+        if (named.begins)
+            used = 0;
+        if (named.announces && place == used)
+            put(name, named.length);
+        else if (!named.announces && place < used)
+            take_out(place, named.length);
+    }
+    rtr_check_end(&check, &missing);
+    say(&missing, at);
+    return 0;
+}

@@ -1,0 +1,46 @@
+"""Programs that are a client or a cache, joined by lines (README.md)."""
+import os
+import subprocess
+
+NEVER = 2**63
+
+
+class End:
+    """An end that runs, with a clock of its own, which begins with each scene."""
+
+    def __init__(self, command, folder):
+        read, write = os.pipe()
+        # The tests of Rust have lines of their own on standard output.
+        output = subprocess.DEVNULL if "--exact" in command else write
+        self.process = subprocess.Popen(
+            command, stdin=subprocess.PIPE, stdout=output, cwd=folder, pass_fds=[write],
+            env={**os.environ, "RTR_JOINED": f"/dev/fd/{write}"})
+        os.close(write)
+        self.input, self.output = self.process.stdin.fileno(), os.fdopen(read, "rb")
+        self.begun, self.wakes, self.settings = 0, NEVER, ""
+
+    def begin(self, now, settings):
+        """A new scene of these lines, at this time."""
+        self.begun, self.wakes = now, NEVER
+        self.settings = "".join(["scene joined\n", *(f"{line}\n" for line in settings)])
+
+    def tell(self, now, what):
+        """What happens to the end at this time. Gives what it did then, or before by itself: each
+        time, and words."""
+        at = now - self.begun
+        line = f"{at} {what}\n" if what else f"at {at}\n"
+        os.write(self.input, (self.settings + line).encode())
+        self.settings = ""
+        did = []
+        for answer in self.output:
+            words = answer.decode().split()
+            if words[0] == "wakes":
+                self.wakes = min(self.begun + int(words[1]), NEVER)
+                return did
+            did.append((self.begun + int(words[0]), words[1:]))
+        raise EOFError(f"it ended, with status {self.process.wait()}")
+
+    def end(self):
+        self.process.stdin.close()
+        self.output.close()
+        self.process.wait()

@@ -1,0 +1,51 @@
+"""The connection between two ends, if there is one, and what is on its way."""
+import struct
+
+import units
+
+
+class Link:
+    def __init__(self):
+        self.is_wanted = False  # by the router, and there is none yet
+        self.begin(False)
+        self.end()
+
+    def begin(self, is_one_more):
+        """There is a connection, which is one more than the cache may have, or not."""
+        self.router_has, self.cache_has = True, True
+        self.router_told, self.cache_told = False, False  # that the other end closed
+        self.to_router, self.to_cache = b"", b""
+        self.begun = {}  # what the last unit of an end begins with
+        self.is_one_more, self.had_no_data, self.has_report = is_one_more, False, False
+        self.is_slow = False   # the router takes no more of the bytes that the cache sends
+        self.was_slow = False  # so, at some time: what it sends can be of before
+
+    def end(self):
+        self.router_has = self.cache_has = False
+        self.to_router = self.to_cache = b""
+
+    def awaits(self, to_router):
+        """Whether bytes are on their way to this end, or that the other one closed."""
+        if to_router:
+            return self.router_has and bool(self.to_router
+                                            or not (self.cache_has or self.router_told))
+        return self.cache_has and bool(self.to_cache or not (self.router_has or self.cache_told))
+
+    def take(self, to_router, most):
+        """So many of the bytes at most; none where the other end closed."""
+        if to_router:
+            taken, self.to_router = self.to_router[:most], self.to_router[most:]
+            self.router_told |= not taken
+        else:
+            taken, self.to_cache = self.to_cache[:most], self.to_cache[most:]
+            self.cache_told |= not taken
+        return taken
+
+    def sent(self, end, sent):
+        """The units that an end has sent with these bytes."""
+        self.begun[end], rest = b"", self.begun.get(end, b"") + sent
+        for one in units.split(rest):
+            if len(one) < 8 or len(one) < struct.unpack(">I", one[4:8])[0]:
+                self.begun[end] = one
+            else:
+                yield one
