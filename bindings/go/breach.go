@@ -82,7 +82,7 @@ var endings = map[C.uint8_t]error{
 
 // reasonText is the text of a reason, as reports have it.
 func reasonText(reason C.uint8_t) string {
-	return C.GoString(C.rtr_reason_text(reason))
+	return name(namedReason, uint16(reason))
 }
 
 // ErrTooSlow is of a peer that let a limit of time pass.

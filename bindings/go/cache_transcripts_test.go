@@ -6,6 +6,7 @@ import (
 	"encoding/hex"
 	"fmt"
 	"io"
+	"math"
 	"net"
 	"os"
 	"strconv"
@@ -17,20 +18,23 @@ import (
 // playedCache is a scene of a cache: a connection with a made clock, and what the server does.
 type playedCache struct {
 	net.Conn // none: what isn't below isn't called
-	name     string
+	steps    // connects, beyond, > for bytes, closes, breaks, data, forgets, at
 	server   *Server
-	given    []step // connects, beyond, > for bytes, closes, breaks, data, forgets, at
-	clock    uint64
-	deadline time.Time // of the next read
 	client   *served
 	broken   bool
-	over     bool
-	wanted   []string
-	seen     []string
+	deadline [2]time.Time // of the next read, and of the next write
+	later    []step       // came while it wrote
+	room     uint64       // how many bytes the router takes, until it is to take others
 }
 
-func newPlayedCache(name string) transcript {
-	p := &playedCache{name: name, server: NewServer()}
+// The deadlines.
+const (
+	toRead = iota
+	toWrite
+)
+
+func newPlayedCache(of steps) transcript {
+	p := &playedCache{steps: of, server: NewServer()}
 	begun := time.Unix(1<<30, 0)
 	p.server.clock = clock{begun, func() time.Time {
 		return begun.Add(time.Duration(p.clock) * time.Millisecond)
@@ -38,47 +42,60 @@ func newPlayedCache(name string) transcript {
 	return p
 }
 
-// notes puts down what the server does.
-func (p *playedCache) notes(format string, values ...any) {
-	p.seen = append(p.seen, fmt.Sprintf("%d ", p.clock)+fmt.Sprintf(format, values...))
-}
-
-func (p *playedCache) SetDeadline(time.Time) error      { return nil }
-func (p *playedCache) SetWriteDeadline(time.Time) error { return nil }
-
-func (p *playedCache) SetReadDeadline(until time.Time) error {
-	p.deadline = until
+func (p *playedCache) SetDeadline(until time.Time) error {
+	p.deadline = [2]time.Time{until, until}
 	return nil
 }
 
-// until is the deadline of a read, by the made clock.
-func (p *playedCache) until() uint64 {
-	if p.deadline.Before(p.server.clock.begun) {
+func (p *playedCache) SetReadDeadline(until time.Time) error {
+	p.deadline[toRead] = until
+	return nil
+}
+
+func (p *playedCache) SetWriteDeadline(until time.Time) error {
+	p.deadline[toWrite] = until
+	return nil
+}
+
+// until is a deadline by the made clock.
+func (p *playedCache) until(which int) uint64 {
+	if p.deadline[which].Before(p.server.clock.begun) {
 		return 0
 	}
-	return uint64(p.deadline.Sub(p.server.clock.begun).Milliseconds())
+	return uint64(p.deadline[which].Sub(p.server.clock.begun).Milliseconds())
+}
+
+// waits has the clock come to the next step, if the deadline doesn't come before.
+func (p *playedCache) waits(which int) error {
+	until := p.until(which)
+	switch {
+	case len(p.given) > 0:
+	case until <= p.clock:
+		return os.ErrDeadlineExceeded
+	case !p.has(until):
+		return errDone
+	}
+	next := p.given[0].time
+	if until <= next {
+		next = until
+	}
+	if next > p.clock {
+		p.clock = next
+	}
+	if next == until {
+		return os.ErrDeadlineExceeded
+	}
+	return nil
 }
 
 // Read takes steps until bytes come, or the deadline does.
 func (p *playedCache) Read(buffer []byte) (int, error) {
+	p.given, p.later = append(p.later, p.given...), nil
 	for {
-		until := p.until()
-		switch {
-		case len(p.given) > 0:
-		case until <= p.clock:
-			return 0, os.ErrDeadlineExceeded
-		default:
-			p.over = true
-			return 0, errDone
+		if err := p.waits(toRead); err != nil {
+			return 0, err
 		}
 		one := &p.given[0]
-		if until <= one.time {
-			if until > p.clock {
-				p.clock = until
-			}
-			return 0, os.ErrDeadlineExceeded
-		}
-		p.clock = one.time
 		if one.what == ">" {
 			n := copy(buffer, one.data)
 			if one.data = one.data[n:]; len(one.data) == 0 {
@@ -90,25 +107,54 @@ func (p *playedCache) Read(buffer []byte) (int, error) {
 		if err := p.next(); err != nil {
 			return 0, err
 		}
-		switch what {
-		case "closes":
+		switch {
+		case what == "closes":
 			return 0, io.EOF
-		case "breaks":
-			p.broken = true
+		case p.broken:
 			return 0, errBroken
 		}
 	}
 }
 
-// Write notes the units that are written.
+// Write notes what is written, as far as the router takes it, and takes steps until it takes all,
+// or the deadline comes.
 func (p *playedCache) Write(bytes []byte) (int, error) {
-	if p.broken {
-		return 0, errBroken
+	for written := 0; ; {
+		if p.broken {
+			return written, errBroken
+		}
+		taken := len(bytes) - written
+		if uint64(taken) > p.room {
+			taken = int(p.room)
+		}
+		p.room -= uint64(taken)
+		if err := p.sends(bytes[written : written+taken]); err != nil {
+			return written, err
+		}
+		if written += taken; written == len(bytes) {
+			return written, nil
+		}
+		if err := p.waits(toWrite); err != nil {
+			return written, err
+		}
+		if what := p.given[0].what; what == ">" || what == "closes" {
+			p.later, p.given = append(p.later, p.given[0]), p.given[1:]
+		} else if err := p.next(); err != nil {
+			return written, err
+		}
+	}
+}
+
+// sends notes units, or bytes for another end.
+func (p *playedCache) sends(bytes []byte) error {
+	if p.more != nil && len(bytes) > 0 {
+		p.notes("cache> %x", bytes)
+		return nil
 	}
 	for rest := bytes; len(rest) > 0; {
 		unit, after, err := Next(rest)
 		if err != nil {
-			return 0, err
+			return err
 		}
 		if unit.Kind == ErrorReport {
 			about := "-"
@@ -121,15 +167,23 @@ func (p *playedCache) Write(bytes []byte) (int, error) {
 		}
 		rest = after
 	}
-	return len(bytes), nil
+	return nil
 }
 
 // next takes a step that isn't about the connection.
 func (p *playedCache) next() error {
 	one := p.given[0]
 	p.given = p.given[1:]
-	p.clock = one.time
+	if one.time > p.clock {
+		p.clock = one.time
+	}
 	switch one.what {
+	case "breaks":
+		p.broken = true
+	case "takes":
+		room, err := strconv.ParseUint(string(one.data), 10, 64)
+		p.room = room
+		return err
 	case "data":
 		data, err := ParseData(one.data)
 		if err != nil {
@@ -138,6 +192,11 @@ func (p *playedCache) next() error {
 		return p.server.Update(data)
 	case "forgets":
 		p.forgets(one.data)
+	case "saves":
+		return p.server.Save(string(one.data))
+	case "restores":
+		_, err := p.server.Restore(string(one.data))
+		return err
 	}
 	return nil
 }
@@ -155,7 +214,7 @@ func (p *playedCache) forgets(serial []byte) {
 
 // play has a server do what the scene asks for.
 func (p *playedCache) play() error {
-	for len(p.given) > 0 {
+	for p.has(math.MaxUint64) {
 		what := p.given[0].what
 		if err := p.next(); err != nil {
 			return fmt.Errorf("%s: %w", p.name, err)
@@ -164,6 +223,7 @@ func (p *playedCache) play() error {
 			continue
 		}
 		p.client, p.broken = newServed(p.server, p), false
+		p.later, p.room = nil, math.MaxUint64
 		p.server.clients = map[*served]bool{p.client: true}
 		if what == "beyond" {
 			p.client.refuse()
@@ -174,11 +234,7 @@ func (p *playedCache) play() error {
 		}
 		p.server.clients = map[*served]bool{}
 	}
-	wanted, seen := strings.Join(p.wanted, "\n"), strings.Join(p.seen, "\n")
-	if wanted != seen {
-		return fmt.Errorf("%s: wanted\n%s\nseen\n%s", p.name, wanted, seen)
-	}
-	return nil
+	return p.differs()
 }
 
 // take takes a line of the scene.
@@ -198,6 +254,8 @@ func (p *playedCache) take(line string) error {
 	switch rest := strings.Join(words[1:], " "); {
 	case rest == "router connects beyond the limit":
 		one.what = "beyond"
+	case words[1] == "router" && words[2] == "takes":
+		one.what, one.data = words[2], []byte(words[3])
 	case words[1] == "router":
 		one.what = words[2]
 	case words[1] == "router>":
@@ -205,7 +263,7 @@ func (p *playedCache) take(line string) error {
 		one.data, err = hex.DecodeString(strings.Join(words[2:], ""))
 	case words[1] == "data":
 		one.data, err = hex.DecodeString(strings.Join(words[3:len(words)-1], ""))
-	case words[1] == "forgets":
+	case words[1] == "forgets" || words[1] == "saves" || words[1] == "restores":
 		one.data = []byte(words[2])
 	case words[1] == "cache>" && words[2] != "report":
 		p.wanted = append(p.wanted, words[0]+" cache> "+strings.Join(words[2:], ""))
@@ -220,10 +278,10 @@ func (p *playedCache) take(line string) error {
 
 // set takes a setting of the scene.
 func (p *playedCache) set(words []string) error {
-	number, err := strconv.ParseUint(words[1], 10, 32)
+	number, err := strconv.ParseUint(words[1], 10, 64)
 	span := time.Duration(number) * time.Millisecond
 	switch words[0] {
-	case "usual":
+	case "usual", "date":
 	case "first-limit":
 		p.server.Limits.First = span
 	case "idle-limit":
@@ -232,6 +290,8 @@ func (p *playedCache) set(words []string) error {
 		p.server.Limits.Notify = span
 	case "refuses":
 		p.server.Limits.Refuse = true
+	case "keep-bytes":
+		p.server.Limits.KeepBytes = int(number)
 	default:
 		return fmt.Errorf("no setting %s", words[0])
 	}

@@ -204,8 +204,9 @@ func (d Data) Units() *Units {
 
 // Units is a loop over payload units in memory that were checked: those of Data or of an Update.
 type Units struct {
-	rest []byte
-	unit Unit
+	rest  []byte
+	unit  Unit
+	ahead *decoded
 }
 
 // Scan goes to the next payload unit, which Unit then gives. It answers false after the last one.
@@ -213,11 +214,16 @@ func (u *Units) Scan() bool {
 	if len(u.rest) == 0 || Kind(u.rest[1]) == EndOfData {
 		return false
 	}
-	size, status, _ := u.unit.parse(u.rest)
-	if status != OK {
+	if u.ahead == nil {
+		u.ahead = new(decoded)
+	}
+	if u.ahead.next == u.ahead.count {
+		u.ahead.fill(u.rest, len(u.ahead.units))
+	}
+	if u.ahead.count == 0 {
 		return false
 	}
-	u.rest = u.rest[size:]
+	u.rest = u.ahead.take(&u.unit, u.rest)
 	return true
 }
 

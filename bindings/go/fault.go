@@ -36,43 +36,14 @@ const (
 	Undecided
 )
 
-var statusTexts = [...]string{
-	OK:             "accepted",
-	Short:          "unexpected end of input",
-	UnitType:       "unit type is not allowed here",
-	UnitVersion:    "version is not supported here",
-	TooLong:        "unit is longer than 65535 bytes",
-	UnitLength:     "invalid unit length",
-	EmptyProviders: "ASPA unit has no providers",
-	PrefixRule:     "prefix fields are not allowed",
-	TooMany:        "too many units",
-	NoRoom:         "no room in the output",
-	NoForm:         "no unit has these fields",
-	NotCanonical:   "not in canonical form",
-	OtherSession:   "of another session",
-	Duplicate:      "duplicate announcement",
-	Unknown:        "withdrawal of an unknown record",
-	Undecided:      "an ASPA is announced and then withdrawn",
-}
-
 // String is the text of the status.
 func (s Status) String() string {
-	if int(s) < len(statusTexts) && statusTexts[s] != "" {
-		return statusTexts[s]
-	}
-	return fmt.Sprintf("unknown status %d", uint8(s))
+	return name(namedStatus, uint16(s))
 }
 
 // Error is the same text.
 func (s Status) Error() string {
 	return s.String()
-}
-
-// The texts of the rules on prefix lengths, by Detail.
-var ruleTexts = [...]string{
-	1: "prefix length too large",
-	2: "max-length too large",
-	3: "max-length smaller than prefix length",
 }
 
 // Side is one of the two inputs of SameMeaning.
@@ -125,17 +96,7 @@ func (f *Fault) Error() string {
 
 // text names the detail.
 func (f *Fault) text() string {
-	switch f.Status {
-	case UnitType:
-		return fmt.Sprintf("unit type %d is not allowed here", f.Detail)
-	case UnitVersion:
-		return fmt.Sprintf("version %d is not supported here", f.Detail)
-	case PrefixRule:
-		if 0 < f.Detail && int(f.Detail) < len(ruleTexts) {
-			return ruleTexts[f.Detail]
-		}
-	}
-	return f.Status.String()
+	return statusText(f.Status, f.Detail)
 }
 
 // Unwrap gives the Status, so that errors.Is(err, rtr.NoRoom) works.
@@ -224,25 +185,7 @@ const (
 	OrderingError
 )
 
-var codeTexts = [...]string{
-	CorruptData:                   "Corrupt Data",
-	InternalError:                 "Internal Error",
-	NoDataAvailable:               "No Data Available",
-	InvalidRequest:                "Invalid Request",
-	UnsupportedProtocolVersion:    "Unsupported Protocol Version",
-	UnsupportedPDUType:            "Unsupported PDU Type",
-	WithdrawalOfUnknownRecord:     "Withdrawal of Unknown Record",
-	DuplicateAnnouncementReceived: "Duplicate Announcement Received",
-	UnexpectedProtocolVersion:     "Unexpected Protocol Version",
-	ASPAProviderListError:         "ASPA Provider List Error",
-	TransportError:                "Transport Error",
-	OrderingError:                 "Ordering Error",
-}
-
 // String is the name of the code.
 func (c ErrorCode) String() string {
-	if int(c) < len(codeTexts) {
-		return codeTexts[c]
-	}
-	return fmt.Sprintf("error code %d", uint16(c))
+	return name(namedCode, uint16(c))
 }

@@ -10,6 +10,7 @@ import (
 	"hash/fnv"
 	"io"
 	"os"
+	"path/filepath"
 	"time"
 )
 
@@ -25,10 +26,14 @@ const keptHead = 16
 var ErrTorn = errors.New("rtr: the file of editions is torn")
 
 // Save writes the present data, and what leads back to those before them, to a file: by another one
-// beside it, which then gets its name. Without data it writes nothing.
+// beside it, which then gets its name once it is on the disk. Without data it writes nothing.
 func (s *Server) Save(path string) error {
-	present := s.present.Load()
-	if !present.full {
+	return s.present.Load().save(path)
+}
+
+// save writes the edition to a file as Save does.
+func (e *edition) save(path string) error {
+	if !e.full {
 		return nil
 	}
 	file, err := os.Create(path + ".new")
@@ -36,13 +41,29 @@ func (s *Server) Save(path string) error {
 		return err
 	}
 	defer file.Close()
-	if err := present.write(file); err != nil {
+	if err := e.write(file); err != nil {
+		return err
+	}
+	if err := file.Sync(); err != nil {
 		return err
 	}
 	if err := file.Close(); err != nil {
 		return err
 	}
-	return os.Rename(path+".new", path)
+	if err := os.Rename(path+".new", path); err != nil {
+		return err
+	}
+	return syncFolder(filepath.Dir(path))
+}
+
+// syncFolder has the names in a folder be on the disk.
+func syncFolder(path string) error {
+	folder, err := os.Open(path)
+	if err != nil {
+		return err
+	}
+	defer folder.Close()
+	return folder.Sync()
 }
 
 // write writes the edition to a file that is empty.

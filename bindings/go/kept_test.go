@@ -96,6 +96,32 @@ func TestServerTorn(t *testing.T) {
 	}
 }
 
+// Data are saved before they are served. Where they can't be saved, or stay the same, nothing
+// changes.
+func TestUpdateSaved(t *testing.T) {
+	noLeaks(t)
+	folder := t.TempDir()
+	path := folder + "/kept"
+	all := sequences(1, 1, 1)
+	server := NewServer()
+	for _, sequence := range all[:2] {
+		if err := server.UpdateSaved(parsed(t, sequence), path); err != nil {
+			t.Fatal(err)
+		}
+		again := NewServer()
+		if data, err := again.Restore(path); err != nil || !bytes.Equal(data.Bytes(), sequence) {
+			t.Fatal(data, err)
+		}
+	}
+	err := server.UpdateSaved(parsed(t, all[2]), folder+"/none/kept")
+	if !errors.Is(err, os.ErrNotExist) || server.present.Load().data.Serial() != 2 {
+		t.Fatal(err)
+	}
+	if err := server.UpdateSaved(parsed(t, all[1]), folder+"/none/kept"); err != nil {
+		t.Fatal(err)
+	}
+}
+
 // watched is a watcher of a file that isn't there yet, and what it told last.
 func watched(t *testing.T) (w *watcher, last *error) {
 	last = new(error)

@@ -8,7 +8,7 @@ import (
 	"testing"
 )
 
-// Each payload unit as a line and as an object, by docs/PROGRAMS.md.
+// Each payload unit as a line and as an object, by rtr_diff(1).
 func TestChangeLines(t *testing.T) {
 	long := append(changed(key, 7, 36), 0xfb, 0xff)
 	mapped := changed(changed(announced6, 9, 128), 10, 128)
@@ -51,7 +51,7 @@ func TestChangeLines(t *testing.T) {
 	}
 }
 
-// The lines of units, by docs/LISTING.md, where there is room at once and where there isn't.
+// The lines of units, by rtr_list(1), where there is room at once and where there isn't.
 func TestUnitLines(t *testing.T) {
 	broken := changed(ipv4, 9, 33)
 	const identifier = "0102030405060708090a0b0c0d0e0f1011121314"

@@ -211,5 +211,5 @@ const (
 
 // String is the text of the cause, as reports have it.
 func (c cause) String() string {
-	return C.GoString(C.rtr_cause_text(C.uint8_t(c)))
+	return name(namedCause, uint16(c))
 }

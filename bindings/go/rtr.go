@@ -88,6 +88,20 @@ static struct shown next(const uint8_t *input, size_t length)
 	return shown;
 }
 
+struct many {
+	size_t count;
+	uint8_t status;
+};
+
+static struct many next_many(const uint8_t *input, size_t length,
+                             struct rtr_unit *units, size_t most)
+{
+	struct many many;
+	size_t taken;
+	many.status = rtr_next_many(input, length, units, most, &many.count, &taken);
+	return many;
+}
+
 static struct sized unit_size(const uint8_t *input, size_t length)
 {
 	struct sized sized;
@@ -103,12 +117,73 @@ static struct rtr_line line(const uint8_t *input, size_t length, uint64_t offset
 	return answer;
 }
 
+static struct rtr_naming check_name(const uint8_t *input, size_t length,
+                                    uint8_t *output, size_t output_length)
+{
+	struct rtr_naming answer;
+	rtr_check_name(input, length, output, output_length, &answer);
+	return answer;
+}
+
+struct check_step {
+	struct rtr_check check;
+	struct rtr_checked checked;
+};
+
+static struct check_step check_unit(struct rtr_check check, const uint8_t *input, size_t length,
+                                    bool was_there)
+{
+	struct check_step step = {check, {0}};
+	rtr_check_unit(&step.check, input, length, was_there, &step.checked);
+	return step;
+}
+
+static struct rtr_finding check_end(struct rtr_check check)
+{
+	struct rtr_finding finding;
+	rtr_check_end(&check, &finding);
+	return finding;
+}
+
+static size_t finding_line(struct rtr_finding finding, uint64_t offset,
+                           uint8_t *output, size_t output_length)
+{
+	return rtr_finding_line(&finding, offset, output, output_length);
+}
+
 static struct rtr_line change_line(const uint8_t *input, size_t length,
                                    uint8_t *output, size_t output_length)
 {
 	struct rtr_line answer;
 	rtr_change_line(input, length, output, output_length, &answer);
 	return answer;
+}
+
+static struct rtr_line change_json(const uint8_t *input, size_t length,
+                                   uint8_t *output, size_t output_length)
+{
+	struct rtr_line answer;
+	rtr_change_json(input, length, output, output_length, &answer);
+	return answer;
+}
+
+struct said {
+	uint8_t text[RTR_TEXT_ROOM];
+	size_t length;
+};
+
+static struct said status_text(uint8_t status, uint8_t detail)
+{
+	struct said said;
+	rtr_text(status, detail, said.text, sizeof said.text, &said.length);
+	return said;
+}
+
+static struct said name_of(uint8_t named, uint16_t number)
+{
+	struct said said;
+	rtr_name(named, number, said.text, sizeof said.text, &said.length);
+	return said;
 }
 
 static struct sized write_unit(struct rtr_unit unit, const uint8_t *part, size_t part_length,
@@ -156,6 +231,7 @@ import "C"
 
 import (
 	"net/netip"
+	"sync"
 	"unsafe"
 )
 
@@ -191,6 +267,53 @@ func line(input []byte, offset uint64, output []byte) (length, size int, status 
 	return int(a.length), int(a.size), Status(a.status), uint8(a.detail)
 }
 
+// sequenceState is what is known of a sequence, but for the names that are announced in it.
+type sequenceState = C.struct_rtr_check
+
+// naming says which payload a unit names, and what is to be done with the name.
+type naming struct {
+	size, length      int
+	status            Status
+	detail            uint8
+	begins, announces bool
+}
+
+// checkName writes the name of the payload of the unit that input begins with.
+func checkName(input, output []byte) naming {
+	in, n := place(input)
+	out, room := place(output)
+	a := C.check_name(in, n, out, room)
+	return naming{int(a.size), int(a.length), Status(a.status), uint8(a.detail), bool(a.begins),
+		bool(a.announces)}
+}
+
+// checkUnit appends the lines of what the unit breaks that input begins with, and answers the state
+// after it.
+func checkUnit(lines []string, state sequenceState, input []byte, wasThere bool, offset uint64) (
+	[]string, sequenceState) {
+	in, n := place(input)
+	step := C.check_unit(state, in, n, C.bool(wasThere))
+	for _, finding := range step.checked.findings {
+		lines = appendFinding(lines, finding, offset)
+	}
+	return lines, step.check
+}
+
+// checkEnd appends the line of what is missing where the input ends.
+func checkEnd(lines []string, state sequenceState, offset uint64) []string {
+	return appendFinding(lines, C.check_end(state), offset)
+}
+
+func appendFinding(lines []string, finding C.struct_rtr_finding, offset uint64) []string {
+	if finding.rule == C.RTR_RULE_NONE {
+		return lines
+	}
+	var output [128]byte // room for any line
+	out, room := place(output[:])
+	n := C.finding_line(finding, C.uint64_t(offset), out, room)
+	return append(lines, string(output[:n]))
+}
+
 // changeLine is line of the change that the unit makes.
 func changeLine(input, output []byte) (length int, status Status) {
 	in, n := place(input)
@@ -199,15 +322,48 @@ func changeLine(input, output []byte) (length int, status Status) {
 	return int(a.length), Status(a.status)
 }
 
+// changeJSON is changeLine of the object in JSON.
+func changeJSON(input, output []byte) (length int, status Status) {
+	in, n := place(input)
+	out, room := place(output)
+	a := C.change_json(in, n, out, room)
+	return int(a.length), Status(a.status)
+}
+
+// What name has names of.
+const (
+	namedStatus = C.RTR_NAMED_STATUS
+	namedKind   = C.RTR_NAMED_KIND
+	namedCause  = C.RTR_NAMED_CAUSE
+	namedReason = C.RTR_NAMED_REASON
+	namedCode   = C.RTR_NAMED_CODE
+)
+
+// name is that of a number: of a status, a kind, a cause, a reason or an error code.
+func name(named uint8, number uint16) string {
+	said := C.name_of(C.uint8_t(named), C.uint16_t(number))
+	return C.GoStringN((*C.char)(unsafe.Pointer(&said.text)), C.int(said.length))
+}
+
+// statusText is the text of a status with its detail.
+func statusText(status Status, detail uint8) string {
+	said := C.status_text(C.uint8_t(status), C.uint8_t(detail))
+	return C.GoStringN((*C.char)(unsafe.Pointer(&said.text)), C.int(said.length))
+}
+
 // parse makes the unit the one that input begins with, and answers its size. If it is refused, the
 // unit is as it was; then the size is that of the unit if the status is PrefixRule, and else 0.
 func (unit *Unit) parse(input []byte) (size int, status Status, detail uint8) {
 	in, n := place(input)
 	shown := C.next(in, n)
-	u := &shown.unit
-	if shown.status != 0 {
-		return int(u.size), Status(shown.status), uint8(u.detail)
+	if shown.status == 0 {
+		unit.show(&shown.unit, input)
 	}
+	return int(shown.unit.size), Status(shown.status), uint8(shown.unit.detail)
+}
+
+// show makes the unit the one that u says, which input begins with.
+func (unit *Unit) show(u *C.struct_rtr_unit, input []byte) {
 	*unit = Unit{
 		Kind: Kind(u.kind), Version: uint8(u.version), Announce: u.action == 1,
 		MaxLength: uint8(u.max_length), ASN: uint32(u.asn), Customer: uint32(u.customer),
@@ -231,7 +387,39 @@ func (unit *Unit) parse(input []byte) (size int, status Status, detail uint8) {
 			unit.Text = part(input, u.text_start, u.text_length)
 		}
 	}
-	return int(u.size), OK, 0
+}
+
+// decoded is room for units that one call of the library shows: a call of C from Go takes longer than
+// the library does for a unit.
+type decoded struct {
+	units       [64]C.struct_rtr_unit
+	next, count int
+}
+
+// What calls that end have no use for.
+var decodedUnits = sync.Pool{New: func() any { return new(decoded) }}
+
+// fill shows units that input begins with, most of them at once, in the places of those before. If
+// one is refused it answers why, with that of an input that ends.
+func (p *decoded) fill(input []byte, most int) (status Status, detail uint8) {
+	if most > len(p.units) {
+		most = len(p.units)
+	}
+	in, n := place(input)
+	told := C.next_many(in, n, &p.units[0], C.size_t(most))
+	p.next, p.count = 0, int(told.count)
+	if told.status != 0 {
+		detail = uint8(p.units[told.count].detail)
+	}
+	return Status(told.status), detail
+}
+
+// take makes the unit the next one, with which input begins, and answers what follows it.
+func (p *decoded) take(unit *Unit, input []byte) []byte {
+	shown := &p.units[p.next]
+	p.next++
+	unit.show(shown, input)
+	return input[shown.size:]
 }
 
 func prefix(address netip.Addr, u *C.struct_rtr_unit) netip.Prefix {

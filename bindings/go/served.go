@@ -23,6 +23,7 @@ var passed = time.Unix(1, 0)
 type served struct {
 	server     *Server
 	connection net.Conn
+	resumes    bool // a write goes on where one before it met its deadline
 	cache      C.struct_rtr_cache
 	present    C.struct_rtr_present // what names the data of its place
 	serving    C.struct_rtr_serving // what the machine said last
@@ -41,7 +42,8 @@ type served struct {
 }
 
 func newServed(server *Server, connection net.Conn) *served {
-	c := &served{server: server, connection: connection}
+	_, resumes := connection.(*net.TCPConn)
+	c := &served{server: server, connection: connection, resumes: resumes}
 	c.input = c.buffer[:0]
 	var wanted C.struct_rtr_cache_settings
 	wanted.first_limit = milliseconds(server.Limits.First)
@@ -191,7 +193,7 @@ func (c *served) receive() {
 
 // write writes parts, as long as some of them is taken now and then, in the time of a response.
 func (c *served) write(parts ...[]byte) error {
-	last := time.Now().Add(c.server.Limits.Response)
+	last := c.server.clock.time().Add(c.server.Limits.Response)
 	for _, part := range parts {
 		for taken := 1; len(part) > 0; part = part[taken:] {
 			if err := c.allow(last, len(part) > chunk); err != nil {
@@ -201,7 +203,7 @@ func (c *served) write(parts ...[]byte) error {
 				return ErrTooSlow
 			}
 			var err error
-			if taken, err = c.connection.Write(part); err != nil && !isTimeout(err) {
+			if taken, err = c.connection.Write(c.piece(part)); err != nil && !isTimeout(err) {
 				return err
 			}
 		}
@@ -209,12 +211,21 @@ func (c *served) write(parts ...[]byte) error {
 	return nil
 }
 
+// piece is what is written of a part in one call. TLS can't go on after a write that met its
+// deadline, so all connections but those of TCP get a chunk at a time.
+func (c *served) piece(part []byte) []byte {
+	if c.resumes || len(part) <= chunk {
+		return part
+	}
+	return part[:chunk]
+}
+
 // allow gives a write its time, or says why no more of the place is to be written.
 func (c *served) allow(last time.Time, long bool) error {
 	c.lock.Lock()
 	defer c.lock.Unlock()
 	c.long = c.long || long
-	if next := time.Now().Add(c.server.Limits.Write); next.Before(last) {
+	if next := c.server.clock.time().Add(c.server.Limits.Write); next.Before(last) {
 		last = next
 	}
 	if c.cut == nil {

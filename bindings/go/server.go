@@ -80,11 +80,24 @@ func NewServer() *Server {
 //
 // Errors: ErrSameSerial or ErrNewTiming; a Fault with Short for the zero Data.
 func (s *Server) Update(data Data) error {
-	return s.update(data, func() {})
+	return s.update(data, nothingSaved, func() {})
 }
 
-// update is Update, which does something once the data before are gone, and then tells clients.
-func (s *Server) update(data Data, before func()) error {
+// UpdateSaved gives the server new data as Update does, but first saves to a file what Save writes
+// once it has them. So the file knows each serial number that a client may have data of, whenever
+// the process ends: after a restart no other data get one of these.
+//
+// Errors: those of Update, and those of the file; then nothing changes.
+func (s *Server) UpdateSaved(data Data, path string) error {
+	return s.update(data, func(next *edition) error { return next.save(path) }, func() {})
+}
+
+// nothingSaved is how an edition is saved by a server that saves none.
+func nothingSaved(*edition) error { return nil }
+
+// update is Update, which saves the next edition before it is served, does something once the data
+// before are gone, and then tells clients.
+func (s *Server) update(data Data, save func(*edition) error, before func()) error {
 	if data.IsZero() {
 		return &Fault{Status: Short, Offset: -1}
 	}
@@ -96,6 +109,9 @@ func (s *Server) update(data Data, before func()) error {
 		return err
 	}
 	next.prepare(present)
+	if err := save(next); err != nil {
+		return err
+	}
 	s.present.Store(next)
 	before()
 	s.wake()

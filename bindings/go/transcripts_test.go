@@ -24,17 +24,48 @@ type step struct {
 	data []byte
 }
 
-// played is a scene: a peer with a made clock, and what the client does.
-type played struct {
+// steps are what a client and a cache have in common that play one, with a made clock.
+type steps struct {
 	name         string
-	client       Client
-	chance       uint16
 	given        []step
 	wanted, seen []string
 	clock        uint64
-	open, broken bool // open from a connect to a close
 	over         bool
+	more         func(s *steps, wakes uint64) // takes further steps, if not nil
 }
+
+// notes puts down what the end does that plays.
+func (s *steps) notes(format string, values ...any) {
+	s.seen = append(s.seen, fmt.Sprintf("%d ", s.clock)+fmt.Sprintf(format, values...))
+}
+
+// has says whether a further step is given to an end that acts by itself at this time.
+func (s *steps) has(wakes uint64) bool {
+	if len(s.given) == 0 && !s.over && s.more != nil {
+		s.more(s, wakes)
+	}
+	s.over = len(s.given) == 0
+	return !s.over
+}
+
+// differs is what was done otherwise than the scene says.
+func (s *steps) differs() error {
+	wanted, seen := strings.Join(s.wanted, "\n"), strings.Join(s.seen, "\n")
+	if s.more == nil && wanted != seen {
+		return fmt.Errorf("%s: wanted\n%s\nseen\n%s", s.name, wanted, seen)
+	}
+	return nil
+}
+
+// played is a scene: a peer with a made clock, and what the client does.
+type played struct {
+	steps
+	client       Client
+	chance       uint16
+	open, broken bool // open from a connect to a close
+}
+
+func newPlayed(of steps) transcript { return &played{steps: of} }
 
 func (p *played) now() uint64 { return p.clock }
 
@@ -45,15 +76,9 @@ func (p *played) ended() error {
 	return nil
 }
 
-// notes puts down what the client does.
-func (p *played) notes(format string, values ...any) {
-	p.seen = append(p.seen, fmt.Sprintf("%d ", p.clock)+fmt.Sprintf(format, values...))
-}
-
 // next is the next step, if it comes before the time; else the clock comes to the time.
 func (p *played) next(until uint64) (step, error) {
-	if len(p.given) == 0 {
-		p.over = true
+	if !p.has(until) {
 		return step{}, errDone
 	}
 	one := p.given[0]
@@ -117,7 +142,9 @@ func (p *played) write(bytes []byte, until uint64) error {
 }
 
 func (p *played) close(last []byte) {
-	if unit, _, err := Next(last); err == nil && !p.broken {
+	if p.more != nil && len(last) > 0 && !p.broken {
+		p.notes("router> %x", last)
+	} else if unit, _, err := Next(last); err == nil && !p.broken {
 		about := "-"
 		if len(unit.Enclosed) > 0 {
 			about = hex.EncodeToString(unit.Enclosed)
@@ -158,11 +185,7 @@ func (p *played) play() error {
 	if err := f.run(); err != errDone {
 		return err
 	}
-	wanted, seen := strings.Join(p.wanted, "\n"), strings.Join(p.seen, "\n")
-	if wanted != seen {
-		return fmt.Errorf("%s: wanted\n%s\nseen\n%s", p.name, wanted, seen)
-	}
-	return nil
+	return p.differs()
 }
 
 // take takes a line of the scene.
@@ -231,7 +254,7 @@ type transcript interface {
 }
 
 // scenesOf are the scenes of a file.
-func scenesOf(t *testing.T, path string, begin func(name string) transcript) []transcript {
+func scenesOf(t *testing.T, path string, begin func(of steps) transcript) []transcript {
 	file, err := os.Open(path)
 	if err != nil {
 		t.Fatal(err)
@@ -241,7 +264,7 @@ func scenesOf(t *testing.T, path string, begin func(name string) transcript) []t
 	for lines := bufio.NewScanner(file); lines.Scan(); {
 		line, _, _ := strings.Cut(lines.Text(), "#")
 		if words := strings.Fields(line); len(words) == 2 && words[0] == "scene" {
-			all = append(all, begin(words[1]))
+			all = append(all, begin(steps{name: words[1]}))
 		} else if len(words) > 0 {
 			if err := all[len(all)-1].take(line); err != nil {
 				t.Fatalf("%s: %s: %v", path, line, err)
@@ -252,7 +275,7 @@ func scenesOf(t *testing.T, path string, begin func(name string) transcript) []t
 }
 
 // playAll plays the scenes that are kept in a folder, and those that are made by these options.
-func playAll(t *testing.T, folder string, begin func(name string) transcript, options ...string) {
+func playAll(t *testing.T, folder string, begin func(of steps) transcript, options ...string) {
 	const transcripts = "../../tests/transcripts/"
 	made := t.TempDir()
 	out, err := exec.Command(transcripts+"make", append(options, made)...).CombinedOutput()
@@ -283,5 +306,5 @@ func playAll(t *testing.T, folder string, begin func(name string) transcript, op
 
 // A client does in each scene what the scene says.
 func TestTranscripts(t *testing.T) {
-	playAll(t, "scenes", func(name string) transcript { return &played{name: name} })
+	playAll(t, "scenes", newPlayed)
 }

@@ -13,6 +13,7 @@ import (
 	"errors"
 	"math/big"
 	"net"
+	"net/netip"
 	"os"
 	"strings"
 	"testing"
@@ -183,6 +184,87 @@ func TestStrangersOverTLS(t *testing.T) {
 				t.Errorf("%d payloads, %v", data.Len(), err)
 			}
 		})
+	}
+}
+
+// manyPayloads are data of so many bytes, or some more.
+func manyPayloads(t *testing.T, size int) rtr.Data {
+	t.Helper()
+	var vrps []rtr.VRP
+	for i := 0; i < size/20; i++ {
+		address := netip.AddrFrom4([4]byte{10, byte(i >> 16), byte(i >> 8), byte(i)})
+		vrps = append(vrps, rtr.VRP{Prefix: netip.PrefixFrom(address, 32), ASN: 64496})
+	}
+	data, err := rtr.NewDataOf(vrps, 1, 7, 1, rtr.RecommendedTiming)
+	if err != nil {
+		t.Fatal(err)
+	}
+	return data
+}
+
+// smallBuffers is a listener whose connections buffer little of what is written.
+type smallBuffers struct{ net.Listener }
+
+func (l smallBuffers) Accept() (net.Conn, error) {
+	connection, err := l.Listener.Accept()
+	if err == nil {
+		connection.(*net.TCPConn).SetWriteBuffer(1 << 16)
+	}
+	return connection, err
+}
+
+// slowConn reads little at a time, with pauses.
+type slowConn struct{ net.Conn }
+
+func (c slowConn) Read(buffer []byte) (int, error) {
+	time.Sleep(2 * time.Millisecond)
+	if len(buffer) > 1<<14 {
+		buffer = buffer[:1<<14]
+	}
+	return c.Conn.Read(buffer)
+}
+
+// A router that takes some of an answer now and then gets all of it over TLS, too, in more time
+// than a write has.
+func TestSlowRouterOverTLS(t *testing.T) {
+	trusted := newAuthority(t)
+	listener, err := net.Listen("tcp", "127.0.0.1:0")
+	if err != nil {
+		t.Fatal(err)
+	}
+	data := manyPayloads(t, 1<<22)
+	server := rtr.NewServer()
+	server.Limits.Write = 500 * time.Millisecond
+	if err := server.Update(data); err != nil {
+		t.Fatal(err)
+	}
+	served := make(chan error)
+	go func() {
+		cache := trusted.issue(cacheName, time.Hour)
+		served <- cacheOverTLS(server, smallBuffers{listener}, cache, trusted.pool())
+	}()
+	defer func() {
+		server.Close()
+		<-served
+	}()
+	router := trusted.issue("router.example", time.Hour)
+	client := rtr.NewClient(listener.Addr().String())
+	client.Dial = func(ctx context.Context, network, address string) (net.Conn, error) {
+		connection, err := new(net.Dialer).DialContext(ctx, network, address)
+		if err != nil {
+			return nil, err
+		}
+		connection.(*net.TCPConn).SetReadBuffer(1 << 16)
+		return tls.Client(slowConn{connection}, &tls.Config{
+			ServerName: cacheName, RootCAs: trusted.pool(), Certificates: []tls.Certificate{router},
+		}), nil
+	}
+	ctx, cancel := context.WithTimeout(context.Background(), tlsWait)
+	defer cancel()
+	from := time.Now()
+	fetched, err := client.Fetch(ctx)
+	if err != nil || !fetched.Equal(data) || time.Since(from) < server.Limits.Write {
+		t.Errorf("%d payloads in %v, %v", fetched.Len(), time.Since(from), err)
 	}
 }
 

@@ -4,7 +4,6 @@ package rtr
 
 import (
 	"encoding/binary"
-	"fmt"
 	"net/netip"
 )
 
@@ -35,26 +34,9 @@ const (
 	ASPA          Kind = 11
 )
 
-var kindTexts = [...]string{
-	SerialNotify:  "serial notify",
-	SerialQuery:   "serial query",
-	ResetQuery:    "reset query",
-	CacheResponse: "cache response",
-	IPv4Prefix:    "IPv4 prefix",
-	IPv6Prefix:    "IPv6 prefix",
-	EndOfData:     "end of data",
-	CacheReset:    "cache reset",
-	RouterKey:     "router key",
-	ErrorReport:   "error report",
-	ASPA:          "ASPA",
-}
-
 // String is the name of the kind.
 func (k Kind) String() string {
-	if int(k) < len(kindTexts) && kindTexts[k] != "" {
-		return kindTexts[k]
-	}
-	return fmt.Sprintf("type %d", uint8(k))
+	return name(namedKind, uint16(k))
 }
 
 // In says whether a version of the protocol has units of this kind: version 0 doesn't have router
@@ -149,6 +131,40 @@ func Next(input []byte) (Unit, []byte, error) {
 		return Unit{}, input, refusal(status, detail, input, 0)
 	}
 	return unit, input[size:], nil
+}
+
+// NextMany gives the units that input begins with, each as Next does, in the places of units, until
+// all are filled or the input ends after a whole unit. It answers how many there are, and what
+// follows them. One call of the library shows many: a table is read in a fraction of the time that
+// Next takes.
+//
+//	for units := make([]rtr.Unit, 256); len(input) > 0; {
+//		n, rest, err := rtr.NextMany(input, units)
+//		for i := range units[:n] {
+//			fmt.Println(units[i].Kind)
+//		}
+//		if err != nil {
+//			return err
+//		}
+//		input = rest
+//	}
+//
+// Errors: those of Next, of the unit after those that are given.
+func NextMany(input []byte, units []Unit) (int, []byte, error) {
+	shown := decodedUnits.Get().(*decoded)
+	defer decodedUnits.Put(shown)
+	given := 0
+	for given < len(units) && len(input) > 0 {
+		status, detail := shown.fill(input, len(units)-given)
+		for shown.next < shown.count {
+			input = shown.take(&units[given], input)
+			given++
+		}
+		if status != OK && len(input) > 0 {
+			return given, input, refusal(status, detail, input, 0)
+		}
+	}
+	return given, input, nil
 }
 
 // UnitSize says by a header alone how many bytes the unit has that input begins with: at most

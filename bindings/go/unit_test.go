@@ -9,7 +9,9 @@ import (
 	"fmt"
 	"io"
 	"net/netip"
+	"os"
 	"reflect"
+	"strconv"
 	"strings"
 	"testing"
 )
@@ -392,6 +394,63 @@ func BenchmarkNext(b *testing.B) {
 	}
 }
 
+// Many units at once are those that Next gives one after the other, in any number of places.
+func TestNextMany(t *testing.T) {
+	var input []byte
+	for i := 0; i < 30; i++ {
+		for _, one := range shownUnits {
+			input = append(input, one.bytes...)
+		}
+	}
+	for _, end := range [][]byte{nil, ipv4[:5], {1, 5, 0, 0, 0, 0, 0, 8}} {
+		all := append(append([]byte(nil), input...), end...)
+		var expected []Unit
+		rest, refused := all, error(nil)
+		for len(rest) > 0 && refused == nil {
+			var unit Unit
+			if unit, rest, refused = Next(rest); refused == nil {
+				expected = append(expected, unit)
+			}
+		}
+		for _, places := range []int{1, 2, 63, 64, 65, 128, 1000} {
+			var got []Unit
+			rest, err := all, error(nil)
+			for len(rest) > 0 && err == nil {
+				units, n := make([]Unit, places), 0
+				n, rest, err = NextMany(rest, units)
+				if n < places && err == nil && len(rest) > 0 {
+					t.Fatal(n, places)
+				}
+				got = append(got, units[:n]...)
+			}
+			if !reflect.DeepEqual(got, expected) || !reflect.DeepEqual(err, refused) || len(rest) != len(end) {
+				t.Fatal(places, len(got), err, len(rest))
+			}
+		}
+	}
+	if n, rest, err := NextMany(input, nil); n != 0 || err != nil || len(rest) != len(input) {
+		t.Fatal(n, len(rest), err)
+	}
+	if n, _, err := NextMany(nil, make([]Unit, 1)); n != 0 || err != nil {
+		t.Fatal(n, err)
+	}
+}
+
+// A table of 100,000 prefixes.
+func BenchmarkNextMany(b *testing.B) {
+	b.ReportAllocs()
+	input := bytes.Repeat(ipv4, 100000)
+	units := make([]Unit, 256)
+	for i := 0; i < b.N; i++ {
+		for rest := input; len(rest) > 0; {
+			var err error
+			if _, rest, err = NextMany(rest, units); err != nil {
+				b.Fatal(err)
+			}
+		}
+	}
+}
+
 func BenchmarkAppendBinary(b *testing.B) {
 	for _, one := range shownUnits {
 		b.Run(one.unit.Kind.String(), func(b *testing.B) {
@@ -428,6 +487,54 @@ func BenchmarkWriter(b *testing.B) {
 		if err := writer.Write(&unit); err != nil {
 			b.Fatal(err)
 		}
+	}
+}
+
+// The texts of the library, as in all languages.
+func TestTextRows(t *testing.T) {
+	file, err := os.ReadFile("../../tests/texts")
+	if err != nil {
+		t.Fatal(err)
+	}
+	rows := 0
+	for _, row := range strings.Split(string(file), "\n") {
+		if row == "" || row[0] == '#' {
+			continue
+		}
+		word, rest, _ := strings.Cut(row, " ")
+		digits, text, _ := strings.Cut(rest, " ")
+		number, err := strconv.ParseUint(digits, 10, 16)
+		if err != nil {
+			t.Fatal(row)
+		}
+		said := ""
+		switch word {
+		case "text":
+			digits, after, _ := strings.Cut(text, " ")
+			detail, err := strconv.ParseUint(digits, 10, 8)
+			if err != nil {
+				t.Fatal(row)
+			}
+			fault := Fault{Status: Status(number), Detail: uint8(detail), Offset: -1}
+			text, said = "rtr: "+after, fault.Error()
+		case "status":
+			said = name(namedStatus, uint16(number))
+		case "kind":
+			said = name(namedKind, uint16(number))
+		case "cause":
+			said = name(namedCause, uint16(number))
+		case "reason":
+			said = name(namedReason, uint16(number))
+		case "code":
+			said = ErrorCode(number).String()
+		}
+		if said != text {
+			t.Fatalf("%s: %q", row, said)
+		}
+		rows++
+	}
+	if rows < 80 {
+		t.Fatal(rows)
 	}
 }
 
@@ -473,7 +580,7 @@ func TestStatus(t *testing.T) {
 		"duplicate announcement",
 		"withdrawal of an unknown record",
 		"an ASPA is announced and then withdrawn",
-		"unknown status 17",
+		"no room in the index",
 	} {
 		var err error = Status(status)
 		if err.Error() != text || Status(status).String() != text {

@@ -91,8 +91,8 @@ func moved(err error, by int) error {
 // the server has, or why data couldn't be taken; the server then keeps those that it has. A file
 // that the system can't give is tried again each time, and told once.
 //
-// After new data it saves what a restart needs beside the file, with KeptSuffix behind its name. A
-// server that is started has to Restore that first.
+// Before new data are served it saves what a restart needs beside the file, with KeptSuffix behind
+// its name, and tells where that fails. A server that is started has to Restore that first.
 func (s *Server) Watch(
 	ctx context.Context, path string, every time.Duration, told func(Data, error),
 ) {
@@ -117,6 +117,7 @@ type watcher struct {
 	told   func(Data, error)
 	seen   stamp
 	failed string   // why the system couldn't give the file, as it was told
+	saved  error    // why the last edition wasn't saved
 	spare  *os.File // a descriptor that is kept for the file
 }
 
@@ -136,7 +137,7 @@ func (w *watcher) look() {
 	failed := w.load()
 	if present := w.server.present.Load(); present.mark != old {
 		w.told(present.data, nil)
-		failed = w.server.Save(w.path + KeptSuffix)
+		failed = w.saved
 		debug.FreeOSMemory() // what slow clients had that are ended now
 	}
 	w.spare, _ = os.Open(os.DevNull)
@@ -164,9 +165,15 @@ func (w *watcher) load() error {
 		return err
 	}
 	debug.FreeOSMemory() // the file, as it was read
-	if err := w.server.update(data, debug.FreeOSMemory); err != nil {
+	if err := w.server.update(data, w.save, debug.FreeOSMemory); err != nil {
 		return fmt.Errorf("%s: %w", w.path, err)
 	}
+	return nil
+}
+
+// save saves an edition beside the file. Where that fails it is served all the same.
+func (w *watcher) save(next *edition) error {
+	w.saved = next.save(w.path + KeptSuffix)
 	return nil
 }
 

@@ -1,0 +1,77 @@
+//go:build cgo && linux && (amd64 || arm64)
+
+package rtr
+
+import (
+	"encoding/binary"
+	"errors"
+	"os"
+	"os/exec"
+	"strings"
+	"testing"
+)
+
+// check is the lines of what a recording breaks, up to a unit that is refused.
+func check(recording []byte) (string, error) {
+	var checker Checker
+	var said strings.Builder
+	for rest := recording; len(rest) > 0; {
+		found, size, err := checker.Unit(rest)
+		if err != nil {
+			return said.String(), err
+		}
+		for _, one := range found {
+			said.WriteString(one.String() + "\n")
+		}
+		rest = rest[size:]
+	}
+	for _, one := range checker.Finish() {
+		said.WriteString(one.String() + "\n")
+	}
+	return said.String(), nil
+}
+
+// The recordings of the file that RTR_FINDINGS names, or else of .ci/listings --findings, with the
+// lines of what they break.
+func TestFindings(t *testing.T) {
+	rows, err := exec.Command("python3", "../../.ci/listings", "--findings").Output()
+	if path := os.Getenv("RTR_FINDINGS"); path != "" {
+		rows, err = os.ReadFile(path)
+	}
+	if errors.Is(err, exec.ErrNotFound) {
+		t.Skip("there is no python3 to print recordings, and RTR_FINDINGS names no file of them")
+	}
+	if err != nil {
+		t.Fatal(err)
+	}
+	count := 0
+	for ; len(rows) > 0; count++ {
+		size := binary.LittleEndian.Uint32(rows)
+		length := binary.LittleEndian.Uint32(rows[4:])
+		recording, lines := rows[8:8+size], string(rows[8+size:8+size+length])
+		if said, err := check(recording); err != nil || said != lines {
+			t.Errorf("% x: %q, %v; wanted %q", recording, said, err, lines)
+		}
+		rows = rows[8+size+length:]
+	}
+	if count < 50 {
+		t.Errorf("%d rows", count)
+	}
+}
+
+// Units that are refused come after what was found before them.
+func TestFindingsBeforeRefusal(t *testing.T) {
+	hosts := changed(ipv4, 15, 1)
+	for _, one := range []struct {
+		last []byte
+		err  error
+	}{
+		{hosts[:9], Short},
+		{[]byte{2, 11, 1, 0, 0, 0, 0, 12, 0, 1, 0, 15}, EmptyProviders},
+	} {
+		said, err := check(append(append([]byte{}, hosts...), one.last...))
+		if said != "offset 0: host bits of the prefix are not zero\n" || !errors.Is(err, one.err) {
+			t.Errorf("%q, %v", said, err)
+		}
+	}
+}

@@ -1,0 +1,75 @@
+//go:build cgo && linux && (amd64 || arm64)
+
+package rtr
+
+import (
+	"bufio"
+	"fmt"
+	"os"
+	"strings"
+	"testing"
+)
+
+// joined is an end that another one is joined with (tests/joined): what happens to it comes on
+// standard input, as the steps of a scene, and what it does at each goes to standard output.
+type joined struct {
+	lines *bufio.Scanner
+	out   *bufio.Writer
+	one   transcript
+	next  string // the line that begins the next scene
+}
+
+// play has the end play scenes as long as there are some.
+func (j *joined) play(begin func(of steps) transcript) error {
+	for j.take(); j.next != ""; {
+		j.one, j.next = begin(steps{name: j.next, more: j.more}), ""
+		j.take()
+		if err := j.one.play(); err != nil {
+			return err
+		}
+	}
+	return j.lines.Err()
+}
+
+// take takes lines up to a step, or to the beginning of the next scene.
+func (j *joined) take() {
+	for j.lines.Scan() {
+		line := j.lines.Text()
+		if strings.HasPrefix(line, "scene ") {
+			j.next = line
+			return
+		}
+		if err := j.one.take(line); err != nil {
+			panic(err)
+		}
+		if !strings.HasPrefix(line, "router ") && !strings.HasPrefix(line, "cache ") {
+			return
+		}
+	}
+}
+
+// more tells what the end did, and when it acts by itself, and takes the next step.
+func (j *joined) more(s *steps, wakes uint64) {
+	for _, line := range s.seen {
+		fmt.Fprintln(j.out, line)
+	}
+	fmt.Fprintln(j.out, "wakes", wakes)
+	j.out.Flush()
+	s.seen = s.seen[:0]
+	j.take()
+}
+
+// The test program is an end itself, where its argument says which one.
+func TestMain(m *testing.M) {
+	ends := map[string]func(of steps) transcript{"router": newPlayed, "cache": newPlayedCache}
+	if begin := ends[os.Args[len(os.Args)-1]]; begin != nil {
+		lines := bufio.NewScanner(os.Stdin)
+		lines.Buffer(nil, 1<<20)
+		end := joined{lines: lines, out: bufio.NewWriter(os.Stdout)}
+		if err := end.play(begin); err != nil {
+			panic(err)
+		}
+		return
+	}
+	os.Exit(m.Run())
+}
