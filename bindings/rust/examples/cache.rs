@@ -184,7 +184,7 @@ impl Watched<'_> {
         }
         let bytes = read(self.file)?;
         (self.mark, self.failure) = (Some(found), None);
-        let data = data(bytes)?;
+        let data = data(&bytes)?;
         server.update(data.clone())?;
         say_taken(self.file, &data);
         if let Err(error) = server.save(&self.kept) {
@@ -212,13 +212,13 @@ fn read(file: &str) -> io::Result<Vec<u8>> {
 }
 
 /// The data that a file holds.
-fn data(bytes: Vec<u8>) -> Result<Data, Box<dyn Error>> {
+fn data(bytes: &[u8]) -> Result<Data, Box<dyn Error>> {
     if bytes.len() as u64 > LARGEST {
         return Err(format!("more than {LARGEST} bytes").into());
     }
-    let sequence = match Unit::first(&bytes) {
+    let sequence = match Unit::first(bytes) {
         Ok((Unit::CacheResponse(_), rest)) => rest,
-        _ => &bytes,
+        _ => bytes,
     };
     Ok(Data::from_sequence(sequence)?)
 }
@@ -254,6 +254,7 @@ fn serve(arguments: &Arguments) -> Result<(), Box<dyn Error>> {
     Ok(())
 }
 
+#[allow(clippy::single_match_else)] // `let else` came with Rust 1.65.
 fn main() -> ExitCode {
     let arguments = match arguments(std::env::args().skip(1)) {
         Some(arguments) => arguments,

@@ -86,7 +86,7 @@ mod signals {
 
     pub fn catch() {
         for number in [INTERRUPT, TERMINATE] {
-            // SAFETY: the handler only loads and stores atomics, as a handler may.
+            // SAFETY: the handler stores an atomic and writes a byte, as a handler may.
             unsafe { signal(number, end) };
         }
     }
@@ -109,6 +109,7 @@ fn tell(event: &Event<'_>, arguments: &Arguments) -> io::Result<bool> {
     Ok(false)
 }
 
+#[allow(clippy::single_match_else)] // `let else` came with Rust 1.65.
 fn main() -> ExitCode {
     let arguments = match arguments(std::env::args().skip(1)) {
         Some(arguments) => arguments,
@@ -137,9 +138,10 @@ fn main() -> ExitCode {
         if failed {
             status = ExitCode::FAILURE;
         }
-        match failed || arguments.once {
-            true => ControlFlow::Break(()),
-            false => ControlFlow::Continue(()),
+        if failed || arguments.once {
+            ControlFlow::Break(())
+        } else {
+            ControlFlow::Continue(())
         }
     });
     status

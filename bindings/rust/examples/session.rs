@@ -71,5 +71,9 @@ fn fields(unit: &UnitRef) -> Result<String, std::fmt::Error> {
 }
 
 fn hex(bytes: &[u8]) -> String {
-    bytes.iter().map(|byte| format!("{byte:02x}")).collect()
+    let mut digits = String::new();
+    for byte in bytes {
+        write!(digits, "{byte:02x}").expect("a string has room");
+    }
+    digits
 }

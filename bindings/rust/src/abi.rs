@@ -1,6 +1,8 @@
 //! What `rtr.h` declares. `generate` made this file of it: don't edit it.
 #![allow(dead_code)]
 
+pub(crate) const TEXT_ROOM: usize = 64;
+
 /// How a call ended; each call below names the statuses that it can answer. The faults of a
 /// unit are 1 to 7, and are checked in the order of docs/PROTOCOL.md.
 pub(crate) mod status {
@@ -88,6 +90,20 @@ pub(crate) mod order {
     pub(crate) const NO_ORDER: u8 = 3;
 }
 
+/// What rtr_name has names of.
+pub(crate) mod named {
+    /// an rtr_status, without its detail: "unit type is not allowed here"
+    pub(crate) const STATUS: u8 = 0;
+    /// an rtr_kind: "IPv4 prefix"
+    pub(crate) const KIND: u8 = 1;
+    /// an rtr_cause: "the cache is too slow"
+    pub(crate) const CAUSE: u8 = 2;
+    /// an rtr_reason: "the router is too slow"
+    pub(crate) const REASON: u8 = 3;
+    /// an error code (RFC 8210 section 12): "Corrupt Data"
+    pub(crate) const CODE: u8 = 4;
+}
+
 /// The two inputs of a comparison.
 pub(crate) mod side {
     pub(crate) const LEFT: u8 = 1;
@@ -116,6 +132,46 @@ pub(crate) mod mismatch {
     pub(crate) const OTHER_AS: u8 = 2;
     /// the route's prefix is longer than its max length
     pub(crate) const LONGER: u8 = 3;
+}
+
+/// A rule that a unit breaks.
+pub(crate) mod rule {
+    pub(crate) const RULE_NONE: u8 = 0;
+    /// the byte at `value` has to be zero
+    pub(crate) const RULE_RESERVED: u8 = 1;
+    /// all bits of the flags but the lowest have to be zero
+    pub(crate) const RULE_FLAGS: u8 = 2;
+    /// the prefix length is at most 32 or 128
+    pub(crate) const RULE_PREFIX_LENGTH: u8 = 3;
+    /// the max length is at most 32 or 128
+    pub(crate) const RULE_MAX_LENGTH: u8 = 4;
+    /// the max length is no less than the prefix length
+    pub(crate) const RULE_MAX_BELOW: u8 = 5;
+    /// a prefix has no bits after its length
+    pub(crate) const RULE_HOST_BITS: u8 = 6;
+    /// the version, `value`, is that of the sequence, `begun`
+    pub(crate) const RULE_VERSION: u8 = 7;
+    /// the session, `value`, is that of the answer, `begun`
+    pub(crate) const RULE_SESSION: u8 = 8;
+    /// an answer ends with an end of data
+    pub(crate) const RULE_CUT_OFF: u8 = 9;
+    /// a recording has an end of data
+    pub(crate) const RULE_NO_ANSWER: u8 = 10;
+    /// the version, `value`, has such units
+    pub(crate) const RULE_LACKS: u8 = 11;
+    /// a withdrawn ASPA has no providers; with `value` 1 the unit reads as one of an older
+    /// draft
+    pub(crate) const RULE_WITHDRAWN_PROVIDERS: u8 = 12;
+    /// a payload is announced once
+    pub(crate) const RULE_TWICE: u8 = 13;
+    /// providers ascend
+    pub(crate) const RULE_PROVIDER_ORDER: u8 = 14;
+    /// the lengths inside an error report make it up
+    pub(crate) const RULE_REPORT_PARTS: u8 = 15;
+    /// the text of an error report is UTF-8
+    pub(crate) const RULE_REPORT_TEXT: u8 = 16;
+    /// no error report is about an error report
+    pub(crate) const RULE_REPORT_OF_REPORT: u8 = 17;
 }
 
 /// The numbers of enum rtr_action_kind.
@@ -298,6 +354,46 @@ pub(crate) struct Covering {
 
 #[repr(C)]
 #[derive(Clone, Copy, Debug, Default, PartialEq, Eq, Hash)]
+pub(crate) struct Check {
+    pub(crate) session: u16,
+    pub(crate) version: u8,
+    pub(crate) has_session: bool,
+    pub(crate) has_version: bool,
+    pub(crate) stage: u8,
+}
+
+#[repr(C)]
+#[derive(Clone, Copy, Debug, Default, PartialEq, Eq, Hash)]
+pub(crate) struct Finding {
+    pub(crate) value: u16,
+    pub(crate) begun: u16,
+    pub(crate) rule: u8,
+}
+
+#[repr(C)]
+#[derive(Clone, Copy, Debug, Default, PartialEq, Eq, Hash)]
+pub(crate) struct Checked {
+    pub(crate) size: usize,
+    pub(crate) wanted: usize,
+    pub(crate) findings: [Finding; 7],
+    pub(crate) status: u8,
+    pub(crate) detail: u8,
+}
+
+#[repr(C)]
+#[derive(Clone, Copy, Debug, Default, PartialEq, Eq, Hash)]
+pub(crate) struct Naming {
+    pub(crate) size: usize,
+    pub(crate) length: usize,
+    pub(crate) wanted: usize,
+    pub(crate) status: u8,
+    pub(crate) detail: u8,
+    pub(crate) begins: bool,
+    pub(crate) announces: bool,
+}
+
+#[repr(C)]
+#[derive(Clone, Copy, Debug, Default, PartialEq, Eq, Hash)]
 pub(crate) struct Settings {
     pub(crate) most_bytes: u64,
     pub(crate) pause: u32,
@@ -443,6 +539,14 @@ extern "C" {
         input_length: usize,
         unit: *mut Unit,
     ) -> u8;
+    pub(crate) fn rtr_next_many_nonnull(
+        input: *const u8,
+        input_length: usize,
+        units: *mut Unit,
+        units_length: usize,
+        count: *mut usize,
+        taken: *mut usize,
+    ) -> u8;
     pub(crate) fn rtr_line_nonnull(
         input: *const u8,
         input_length: usize,
@@ -457,6 +561,27 @@ extern "C" {
         output: *mut u8,
         output_length: usize,
         answer: *mut Line,
+    ) -> u8;
+    pub(crate) fn rtr_change_json_nonnull(
+        input: *const u8,
+        input_length: usize,
+        output: *mut u8,
+        output_length: usize,
+        answer: *mut Line,
+    ) -> u8;
+    pub(crate) fn rtr_text_nonnull(
+        status: u8,
+        detail: u8,
+        output: *mut u8,
+        output_length: usize,
+        length: *mut usize,
+    ) -> u8;
+    pub(crate) fn rtr_name_nonnull(
+        named: u8,
+        number: u16,
+        output: *mut u8,
+        output_length: usize,
+        length: *mut usize,
     ) -> u8;
     pub(crate) fn rtr_provider_nonnull(
         unit: *const Unit,
@@ -554,6 +679,30 @@ extern "C" {
     ) -> bool;
     pub(crate) fn rtr_wire_version(
     ) -> u32;
+    pub(crate) fn rtr_check_name_nonnull(
+        input: *const u8,
+        input_length: usize,
+        output: *mut u8,
+        output_length: usize,
+        answer: *mut Naming,
+    ) -> u8;
+    pub(crate) fn rtr_check_unit_nonnull(
+        check: *mut Check,
+        input: *const u8,
+        input_length: usize,
+        was_there: bool,
+        answer: *mut Checked,
+    ) -> u8;
+    pub(crate) fn rtr_finding_line_nonnull(
+        finding: *const Finding,
+        offset: u64,
+        output: *mut u8,
+        output_length: usize,
+    ) -> usize;
+    pub(crate) fn rtr_check_end(
+        check: *const Check,
+        finding: *mut Finding,
+    );
     pub(crate) fn rtr_settings_usual(
         settings: *mut Settings,
         highest: u8,
@@ -759,6 +908,34 @@ mod tests {
         assert_eq!(place!(value.prefix_length), 12);
         assert_eq!(place!(value.max_length), 13);
         assert_eq!(place!(value.mismatch), 14);
+        let value = super::Check::default();
+        assert_eq!(size_of::<super::Check>(), 6);
+        assert_eq!(place!(value.session), 0);
+        assert_eq!(place!(value.version), 2);
+        assert_eq!(place!(value.has_session), 3);
+        assert_eq!(place!(value.has_version), 4);
+        assert_eq!(place!(value.stage), 5);
+        let value = super::Finding::default();
+        assert_eq!(size_of::<super::Finding>(), 6);
+        assert_eq!(place!(value.value), 0);
+        assert_eq!(place!(value.begun), 2);
+        assert_eq!(place!(value.rule), 4);
+        let value = super::Checked::default();
+        assert_eq!(size_of::<super::Checked>(), 64);
+        assert_eq!(place!(value.size), 0);
+        assert_eq!(place!(value.wanted), 8);
+        assert_eq!(place!(value.findings), 16);
+        assert_eq!(place!(value.status), 58);
+        assert_eq!(place!(value.detail), 59);
+        let value = super::Naming::default();
+        assert_eq!(size_of::<super::Naming>(), 32);
+        assert_eq!(place!(value.size), 0);
+        assert_eq!(place!(value.length), 8);
+        assert_eq!(place!(value.wanted), 16);
+        assert_eq!(place!(value.status), 24);
+        assert_eq!(place!(value.detail), 25);
+        assert_eq!(place!(value.begins), 26);
+        assert_eq!(place!(value.announces), 27);
         let value = super::Settings::default();
         assert_eq!(size_of::<super::Settings>(), 40);
         assert_eq!(place!(value.most_bytes), 0);

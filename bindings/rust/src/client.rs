@@ -1,86 +1,21 @@
 //! A router's end of a session.
 
 use crate::client_error::ClientError;
-use crate::following::Follower;
-use crate::owned_data::{Changes, Data};
+use crate::following::{dial, Follower};
+use crate::options::ClientOptions;
+use crate::owned_data::Data;
+use crate::router::Event;
+use crate::socket::Socket;
 use crate::timed::Stop;
+use std::boxed::Box;
+use std::fmt;
+use std::io;
 use std::ops::ControlFlow;
 use std::string::String;
 use std::time::Duration;
 
-/// What a [`Client`] asks for, and what it allows a cache.
-///
-/// ```
-/// use rtr_wire::ClientOptions;
-///
-/// let options = ClientOptions { version: 2, ..ClientOptions::default() };
-/// assert_eq!(options.bytes, 1 << 27);
-/// ```
-#[derive(Clone, Debug)]
-pub struct ClientOptions {
-    /// The highest version that it asks in, 1 if not said: of ASPAs, which came with version 2,
-    /// caches in use have several layouts.
-    pub version: u8,
-    /// How long a connection may take to be made, 30 seconds if not said.
-    pub dial: Duration,
-    /// How long the cache has from a query to the end of data, 2 minutes if not said.
-    pub response: Duration,
-    /// The bytes of an answer, at most: 128 MiB if not said.
-    pub bytes: usize,
-    /// The units of an answer, at most, the end of data included: four million if not said.
-    pub units: u64,
-    /// How long it is between two queries, and two connections, at least: a second if not said.
-    pub pause: Duration,
-    /// How long a report may take to be sent, 2 seconds if not said.
-    pub report: Duration,
-    /// How long it waits before it asks again; as the cache says if none is given.
-    pub refresh: Option<Duration>,
-    /// How long it waits after a query that failed; as the cache says if none is given.
-    pub retry: Option<Duration>,
-    /// How long it keeps data that it can't refresh; as the cache says if none is given.
-    pub expire: Option<Duration>,
-}
-
-impl Default for ClientOptions {
-    fn default() -> Self {
-        ClientOptions {
-            version: 1,
-            dial: Duration::from_secs(30),
-            response: Duration::from_secs(120),
-            bytes: 1 << 27,
-            units: 1 << 22,
-            pause: Duration::from_secs(1),
-            report: Duration::from_secs(2),
-            refresh: None,
-            retry: None,
-            expire: None,
-        }
-    }
-}
-
-/// What a [`Client`] tells while it runs.
-#[derive(Debug)]
-#[non_exhaustive]
-pub enum Event<'a> {
-    /// An end of data came: these are all data of the cache now, whole, and the changes lead there
-    /// from those before.
-    Data {
-        /// The data.
-        data: &'a Data,
-        /// What announces and withdraws the difference.
-        changes: &'a Changes,
-    },
-    /// The data had to be dropped, since they have expired or the cache has begun another session.
-    Dropped {
-        /// What withdraws all of them.
-        changes: &'a Changes,
-    },
-    /// A connection has ended, or a query has no answer yet. The client goes on.
-    Failed(&'a ClientError),
-}
-
-/// A router's end: it asks a cache for data, and follows their changes over TCP (RFC 8210 sections
-/// 6 to 8), in one thread.
+/// A router's end: it asks a cache for data, and follows their changes (RFC 8210 sections 6 to 8),
+/// in one thread, which wakes for bytes and times alone.
 ///
 /// It asks for all data, and then for changes: when the cache notifies it of some, and when the
 /// refresh interval has passed. The data are always those that the cache had at one serial number:
@@ -93,7 +28,8 @@ pub enum Event<'a> {
 /// Whatever the cache sends, or doesn't, costs no more memory and time than [`ClientOptions`]
 /// allow: some five times the bytes of an answer, at most.
 ///
-/// Neither is anything encrypted nor is the cache authenticated (RFC 8210 section 9).
+/// Over TCP alone nothing is encrypted, and the cache isn't authenticated (RFC 8210 section 9);
+/// [`over`](Client::over) has connections where that is so.
 ///
 /// ```
 /// use rtr_wire::{Client, ClientOptions, Data, Server, ServerOptions};
@@ -107,19 +43,31 @@ pub enum Event<'a> {
 /// assert_eq!(client.fetch()?, data);
 /// # Ok::<(), Box<dyn std::error::Error>>(())
 /// ```
-#[derive(Debug)]
 pub struct Client {
-    pub(crate) address: String,
+    pub(crate) dial: Box<Dial>,
     pub(crate) options: ClientOptions,
     pub(crate) stop: Stop,
 }
+
+/// What makes a connection in a time.
+pub(crate) type Dial = dyn Fn(Duration) -> io::Result<Box<dyn Socket>> + Send + Sync;
 
 impl Client {
     /// A client of the cache at this address: a name or an IPv4 address, a colon and a port, or an
     /// IPv6 address in brackets, a colon and a port.
     pub fn new(address: impl Into<String>, options: ClientOptions) -> Self {
+        let address = address.into();
+        Client::over(options, move |time| dial(&address, time))
+    }
+
+    /// A client that has each of its connections made by this function, in the time that it is
+    /// given: over TLS, for example.
+    pub fn over<S: Socket + 'static>(
+        options: ClientOptions,
+        dial: impl Fn(Duration) -> io::Result<S> + Send + Sync + 'static,
+    ) -> Self {
         Client {
-            address: address.into(),
+            dial: Box::new(move |time| Ok(Box::new(dial(time)?))),
             options,
             stop: Stop::default(),
         }
@@ -140,9 +88,17 @@ impl Client {
         Follower::new(self).run(on)
     }
 
-    /// Has [`run`](Client::run) and [`fetch`](Client::fetch) end, from another thread: soon, but
-    /// where a connection is just made.
+    /// Has [`run`](Client::run) and [`fetch`](Client::fetch) end, from another thread or a signal's
+    /// handler: at once, but where a connection is just made.
     pub fn stop(&self) {
         self.stop.set();
+    }
+}
+
+impl fmt::Debug for Client {
+    fn fmt(&self, f: &mut fmt::Formatter<'_>) -> fmt::Result {
+        let mut shown = f.debug_struct("Client");
+        shown.field("options", &self.options);
+        shown.field("stop", &self.stop).finish_non_exhaustive()
     }
 }

@@ -1,15 +1,15 @@
 //! Why a client ends a connection.
 
 use crate::data::DataError;
+use crate::error;
 use crate::fault::{ErrorCode, Fault};
 use crate::input::Input;
 use crate::machine::{cause, cause_text, Action};
-use crate::reader::Refusal;
+use crate::refusal::Refusal;
 use crate::unit::{unit_size, ErrorReport, Unit};
-use std::fmt;
-use std::io;
-use std::string::String;
-use std::vec::Vec;
+use alloc::string::String;
+use alloc::vec::Vec;
+use core::fmt;
 
 /// What a cache did that the rules of a session don't allow.
 #[derive(Clone, Copy, Debug, PartialEq, Eq)]
@@ -42,7 +42,8 @@ impl fmt::Display for Breach {
 #[non_exhaustive]
 pub enum ClientError {
     /// The connection failed, or couldn't be made.
-    Io(io::Error),
+    #[cfg(feature = "std")]
+    Io(std::io::Error),
     /// The cache closed the connection.
     Closed,
     /// The cache let a limit of time pass.
@@ -78,6 +79,7 @@ pub enum ClientError {
 impl fmt::Display for ClientError {
     fn fmt(&self, f: &mut fmt::Formatter<'_>) -> fmt::Result {
         match self {
+            #[cfg(feature = "std")]
             ClientError::Io(error) => error.fmt(f),
             ClientError::Closed => f.write_str(&cause_text(cause::LOST)),
             ClientError::TooSlow => f.write_str(&cause_text(cause::SLOW)),
@@ -101,9 +103,10 @@ impl fmt::Display for ClientError {
     }
 }
 
-impl std::error::Error for ClientError {
-    fn source(&self) -> Option<&(dyn std::error::Error + 'static)> {
+impl error::Error for ClientError {
+    fn source(&self) -> Option<&(dyn error::Error + 'static)> {
         match self {
+            #[cfg(feature = "std")]
             ClientError::Io(error) => Some(error),
             _ => None,
         }

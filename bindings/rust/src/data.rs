@@ -39,6 +39,7 @@ impl DataError {
     /// The error report that the peer is owed, if one is, where these are the bytes of the input at
     /// fault: [`Fault::report`] about the unit there. A duplicate has code 7, and a withdrawal of
     /// what isn't there code 6 (RFC 8210 sections 5.11 and 12).
+    #[must_use]
     pub fn report<'a>(&self, input: &'a [u8], text: &'a str) -> Option<ErrorReport<&'a [u8]>> {
         let unit = input.get(self.place?.offset..)?;
         self.fault.report(unit, text)

@@ -1,9 +1,10 @@
 //! What a cache has now, and what leads back to what it had before.
 
+use crate::cache::locked;
+use crate::cache_machine::Present;
 use crate::data::DataError;
-use crate::machine::Present;
+use crate::options::ServerOptions;
 use crate::owned_data::{Changes, Data};
-use crate::server::{locked, ServerOptions};
 use crate::server_error::UpdateError;
 use crate::unit::compare_serials;
 use std::cmp::Ordering;

@@ -1,6 +1,6 @@
 //! What may be wrong with a unit or a call.
 
-use crate::abi::{prefix_rule, status};
+use crate::abi::{named, prefix_rule, status};
 use crate::error::Error;
 use crate::sys;
 use crate::unit::{ErrorReport, ReportParts, MOST_IN_REPORT};
@@ -88,6 +88,7 @@ impl Fault {
     }
 
     /// The status, as `rtr.h` numbers it.
+    #[must_use]
     pub fn status(self) -> u8 {
         match self {
             Fault::Short => status::SHORT,
@@ -110,6 +111,17 @@ impl Fault {
         }
     }
 
+    /// The type, the version or the broken rule, as `rtr.h` numbers it, or 0.
+    fn detail(self) -> u8 {
+        match self {
+            Fault::UnitType(detail) | Fault::UnitVersion(detail) => detail,
+            Fault::Prefix(PrefixRule::LengthOver) => prefix_rule::LENGTH_OVER,
+            Fault::Prefix(PrefixRule::MaxLengthOver) => prefix_rule::MAX_LENGTH_OVER,
+            Fault::Prefix(PrefixRule::MaxLengthUnder) => prefix_rule::MAX_LENGTH_UNDER,
+            _ => 0,
+        }
+    }
+
     /// The error code that this fault is reported with, where it is that of the unit that these
     /// bytes begin, or none: for what isn't the peer's fault, and about an error report (RFC 8210
     /// sections 5.11 and 12).
@@ -123,6 +135,7 @@ impl Fault {
     ///
     /// It encloses that unit, of one whose header is refused the header, and at most 65519 bytes;
     /// of the text as much as is then left. More bytes after the unit don't matter.
+    #[must_use]
     pub fn report<'a>(self, unit: &'a [u8], text: &'a str) -> Option<ErrorReport<&'a [u8]>> {
         let code = self.code(unit)?;
         let unit = self.of_unit(unit);
@@ -149,8 +162,11 @@ impl Fault {
             | Fault::Duplicate
             | Fault::UnknownRecord
             | Fault::Undecided => sys::unit_size(bytes).unwrap_or(8),
-            Fault::TooMany | Fault::NoRoom | Fault::NoForm => 0,
-            Fault::OtherSession | Fault::NoIndex => 0,
+            Fault::TooMany
+            | Fault::NoRoom
+            | Fault::NoForm
+            | Fault::OtherSession
+            | Fault::NoIndex => 0,
             _ => 8,
         };
         &bytes[..size.min(bytes.len())]
@@ -159,29 +175,7 @@ impl Fault {
 
 impl fmt::Display for Fault {
     fn fmt(&self, f: &mut fmt::Formatter<'_>) -> fmt::Result {
-        match self {
-            Fault::Short => f.write_str("unexpected end of input"),
-            Fault::UnitType(kind) => write!(f, "unit type {kind} is not allowed here"),
-            Fault::UnitVersion(version) => write!(f, "version {version} is not supported here"),
-            Fault::TooLong => f.write_str("unit is longer than 65535 bytes"),
-            Fault::UnitLength => f.write_str("invalid unit length"),
-            Fault::EmptyProviders => f.write_str("ASPA unit has no providers"),
-            Fault::Prefix(PrefixRule::LengthOver) => f.write_str("prefix length too large"),
-            Fault::Prefix(PrefixRule::MaxLengthOver) => f.write_str("max-length too large"),
-            Fault::Prefix(PrefixRule::MaxLengthUnder) => {
-                f.write_str("max-length smaller than prefix length")
-            }
-            Fault::TooMany => f.write_str("too many units"),
-            Fault::NoRoom => f.write_str("no room in the output"),
-            Fault::NoForm => f.write_str("no unit has these fields"),
-            Fault::NotCanonical => f.write_str("not in canonical form"),
-            Fault::OtherSession => f.write_str("of another session"),
-            Fault::Duplicate => f.write_str("duplicate announcement"),
-            Fault::UnknownRecord => f.write_str("withdrawal of an unknown record"),
-            Fault::Undecided => f.write_str("an ASPA is announced and then withdrawn"),
-            Fault::NoIndex => f.write_str("no room in the index"),
-            Fault::Unknown(status) => write!(f, "unknown status {status}"),
-        }
+        f.pad(&sys::status_text(self.status(), self.detail()))
     }
 }
 
@@ -217,29 +211,10 @@ impl ErrorCode {
     pub const TRANSPORT_ERROR: Self = ErrorCode(10);
     /// Units came in the wrong order, as in the Rust crate `rpki`.
     pub const ORDERING_ERROR: Self = ErrorCode(11);
-
-    /// The names of the codes, by their numbers.
-    const NAMES: [&'static str; 12] = [
-        "Corrupt Data",
-        "Internal Error",
-        "No Data Available",
-        "Invalid Request",
-        "Unsupported Protocol Version",
-        "Unsupported PDU Type",
-        "Withdrawal of Unknown Record",
-        "Duplicate Announcement Received",
-        "Unexpected Protocol Version",
-        "ASPA Provider List Error",
-        "Transport Error",
-        "Ordering Error",
-    ];
 }
 
 impl fmt::Display for ErrorCode {
     fn fmt(&self, f: &mut fmt::Formatter<'_>) -> fmt::Result {
-        match Self::NAMES.get(usize::from(self.0)) {
-            Some(name) => f.pad(name),
-            None => write!(f, "error code {}", self.0),
-        }
+        f.pad(&sys::name(named::CODE, self.0))
     }
 }

@@ -1,38 +1,49 @@
-//! A router over TCP, in one thread.
+//! A router over a socket, in one thread.
 
-use crate::client::{Client, Event};
+use crate::client::Client;
 use crate::client_error::ClientError;
 use crate::owned_data::Data;
-use crate::router::{Router, Step};
-use crate::timed::{after, is_tick, send_last, set_ticks, TICK};
+use crate::router::{Event, Router, Step};
+use crate::socket::Socket;
+use crate::timed::{after, has_to_wait, milliseconds_since, send_last, write};
+use crate::waiting::Awaited;
+use std::boxed::Box;
 use std::collections::hash_map::RandomState;
 use std::hash::{BuildHasher, Hasher};
-use std::io::{self, ErrorKind, Read, Write};
+use std::io::{self, ErrorKind};
 use std::net::{TcpStream, ToSocketAddrs};
 use std::ops::ControlFlow;
-use std::thread::sleep;
 use std::time::{Duration, Instant};
+use std::vec::Vec;
 
 /// How many bytes are read at once.
 const CHUNK: usize = 1 << 16;
+/// How long a connection may take at least, also where little time is left.
+const LEAST: Duration = Duration::from_millis(100);
 
 /// A router that runs, and its connection.
 pub(crate) struct Follower<'c> {
     client: &'c Client,
     begun: Instant,
     router: Router,
-    stream: Option<TcpStream>,
+    socket: Option<Box<dyn Socket>>,
+    /// Whether the socket may hold bytes that it took.
+    holds: bool,
+    buffer: Vec<u8>,
 }
 
 impl<'c> Follower<'c> {
     pub(crate) fn new(client: &'c Client) -> Self {
         // A hasher is the one source of random numbers in the standard library.
-        let random = RandomState::new().build_hasher().finish() as u16;
+        let random = RandomState::new().build_hasher().finish().to_be_bytes();
+        let random = u16::from_be_bytes([random[0], random[1]]);
         Follower {
             client,
             begun: Instant::now(),
             router: Router::new(&client.options, random),
-            stream: None,
+            socket: None,
+            holds: false,
+            buffer: std::vec![0; CHUNK],
         }
     }
 
@@ -47,11 +58,9 @@ impl<'c> Follower<'c> {
     /// Runs until the client is stopped, or the caller breaks off.
     pub(crate) fn run(mut self, mut on: impl FnMut(Event<'_>) -> ControlFlow<()>) -> Option<Data> {
         while let Some(step) = self.next() {
-            let event = match (&step, self.router.data()) {
-                (Step::Data(changes), Some(data)) => Event::Data { data, changes },
-                (Step::Dropped(changes), _) => Event::Dropped { changes },
-                (Step::Failed(error), _) => Event::Failed(error),
-                _ => continue,
+            let event = match self.router.event(&step) {
+                Some(event) => event,
+                None => continue,
             };
             if on(event).is_break() {
                 break;
@@ -75,7 +84,7 @@ impl<'c> Follower<'c> {
 
     /// The time by the router's clock.
     fn now(&self) -> u64 {
-        self.begun.elapsed().as_millis() as u64
+        milliseconds_since(self.begun)
     }
 
     /// How long it is until the router wants to know the time.
@@ -83,11 +92,12 @@ impl<'c> Follower<'c> {
         Duration::from_millis(self.router.wakes().saturating_sub(self.now()))
     }
 
-    /// A connection to the first of the addresses that gives one, before the router wants to know.
+    /// A connection, if one can be made before the router wants to know.
     fn connect(&mut self) {
-        match self.connection() {
-            Ok(stream) => {
-                self.stream = Some(stream);
+        match (self.client.dial)(self.left().max(LEAST)) {
+            Ok(socket) => {
+                self.socket = Some(socket);
+                self.holds = false;
                 self.router.connected(self.now());
             }
             Err(_) if self.left().is_zero() => {}
@@ -95,43 +105,63 @@ impl<'c> Follower<'c> {
         }
     }
 
-    fn connection(&self) -> io::Result<TcpStream> {
-        let mut last = ErrorKind::NotFound.into();
-        for address in self.client.address.to_socket_addrs()? {
-            match TcpStream::connect_timeout(&address, self.left().max(TICK)) {
-                Ok(stream) => return set_ticks(&stream).map(|()| stream),
-                Err(error) => last = error,
-            }
-        }
-        Err(last)
-    }
-
-    /// Sends what is to be sent, or else waits for bytes, for a tick at most.
+    /// Sends what is to be sent, or else reads, and waits where neither can be done.
     fn wait(&mut self) {
-        let mut stream = match &self.stream {
-            Some(stream) => stream,
-            None => return sleep(self.left().min(TICK)),
+        let left = self.left();
+        let socket = match &mut self.socket {
+            Some(socket) => socket,
+            None => return self.client.stop.wait(None, left),
         };
+        let sends = self.holds || !self.router.output().is_empty();
         let done = match self.router.output() {
+            [] if sends => socket.flush().map(|()| self.holds = false),
             [] => {
-                let mut buffer = [0; CHUNK];
-                let read = stream.read(&mut buffer);
-                read.map(|count| self.router.received(&buffer[..count]))
+                let read = socket.read(&mut self.buffer);
+                read.map(|count| self.router.received(&self.buffer[..count]))
             }
-            output => stream.write(output).map(|count| self.router.sent(count)),
+            output => write(socket, output).map(|count| {
+                self.holds = true;
+                self.router.sent(count);
+            }),
         };
         match done {
-            Err(error) if !is_tick(&error) => self.router.lost(self.now(), error),
-            _ => {}
+            Err(error) if has_to_wait(&error) => {
+                let awaited = if sends {
+                    Awaited::to_write(&socket.socket())
+                } else {
+                    Awaited::to_read(&socket.socket())
+                };
+                self.client.stop.wait(Some(awaited), left);
+            }
+            Err(error) => self.router.lost(self.now(), error),
+            Ok(()) => {}
         }
     }
 
     /// Sends the report that is owed, if there is one, and closes the connection.
     fn close(&mut self) {
-        let (stream, report) = (self.stream.take(), self.router.output());
-        if let Some(stream) = stream.filter(|_| !report.is_empty()) {
+        let (socket, report) = (self.socket.take(), self.router.output());
+        if let Some(socket) = socket.filter(|_| !report.is_empty()) {
             let until = after(Instant::now(), self.client.options.report);
-            send_last(&stream, report, until, &self.client.stop);
+            send_last(socket, report, until, &self.client.stop);
         }
     }
+}
+
+/// A connection over TCP to the first of the addresses that gives one in this time.
+pub(crate) fn dial(address: &str, time: Duration) -> io::Result<TcpStream> {
+    let until = after(Instant::now(), time);
+    let mut last = ErrorKind::NotFound.into();
+    for address in address.to_socket_addrs()? {
+        let left = until.saturating_duration_since(Instant::now());
+        match TcpStream::connect_timeout(&address, left.max(LEAST)) {
+            Ok(stream) => {
+                stream.set_nodelay(true)?;
+                stream.set_nonblocking(true)?;
+                return Ok(stream);
+            }
+            Err(error) => last = error,
+        }
+    }
+    Err(last)
 }

@@ -1,6 +1,6 @@
 //! What comes on a connection.
 
-use std::vec::Vec;
+use alloc::vec::Vec;
 
 /// The bytes that came on a connection and aren't done with.
 #[derive(Debug, Default)]

@@ -5,8 +5,8 @@
 //! milliseconds since 1970, and its length. Numbers have 64 bits, the highest first.
 
 use crate::editions::{Back, Edition};
+use crate::options::ServerOptions;
 use crate::owned_data::{order, Data};
-use crate::server::ServerOptions;
 use std::fs::{read, rename, File};
 use std::io::{self, ErrorKind, Seek, Write};
 use std::path::Path;
@@ -43,7 +43,8 @@ pub(crate) fn save(edition: &Edition, path: &Path) -> io::Result<()> {
     let mut hash = NOTHING;
     for (until, sequence) in edition.sequences() {
         let since = until.duration_since(UNIX_EPOCH).unwrap_or_default();
-        let head = head([since.as_millis() as u64, sequence.len() as u64]);
+        let since = u64::try_from(since.as_millis()).unwrap_or(u64::MAX);
+        let head = head([since, sequence.len() as u64]);
         for part in [&head[..], sequence] {
             hash = hashed(hash, part);
             file.write_all(part)?;
@@ -68,10 +69,10 @@ fn parse(input: &[u8], options: &ServerOptions) -> Option<Edition> {
     }
     let (mut data, mut back) = (None, Vec::new());
     while !rest.is_empty() {
-        let numbers = u128::from_be_bytes(rest.get(..HEAD)?.try_into().ok()?);
-        let until = Duration::from_millis((numbers >> 64) as u64);
+        let (until, size) = rest.get(..HEAD)?.split_at(8);
+        let until = Duration::from_millis(u64::from_be_bytes(until.try_into().ok()?));
         let until = SystemTime::checked_add(&UNIX_EPOCH, until)?;
-        let size = usize::try_from(numbers as u64).ok()?;
+        let size = usize::try_from(u64::from_be_bytes(size.try_into().ok()?)).ok()?;
         let sequence = rest[HEAD..].get(..size)?;
         match data {
             None => data = Some(Data::parse(sequence).ok()?),

@@ -1,6 +1,6 @@
 //! The types of units.
 
-use crate::abi::kind;
+use crate::abi::{kind, named};
 use crate::error::Error;
 use crate::sys;
 use core::fmt;
@@ -76,11 +76,13 @@ impl From<Kind> for u8 {
 impl Kind {
     /// Whether a version of the protocol has units of this type: version 0 doesn't have router
     /// keys, version 1 doesn't have ASPAs, and there is no version above 2.
+    #[must_use]
     pub fn is_in(self, version: u8) -> bool {
         sys::version_has(version, self.into())
     }
 
     /// Whether a sequence may have units of this type: payload units and the end of data.
+    #[must_use]
     pub fn is_in_sequences(self) -> bool {
         matches!(
             self,
@@ -91,18 +93,6 @@ impl Kind {
 
 impl fmt::Display for Kind {
     fn fmt(&self, f: &mut fmt::Formatter<'_>) -> fmt::Result {
-        f.pad(match self {
-            Kind::SerialNotify => "serial notify",
-            Kind::SerialQuery => "serial query",
-            Kind::ResetQuery => "reset query",
-            Kind::CacheResponse => "cache response",
-            Kind::Ipv4Prefix => "IPv4 prefix",
-            Kind::Ipv6Prefix => "IPv6 prefix",
-            Kind::EndOfData => "end of data",
-            Kind::CacheReset => "cache reset",
-            Kind::RouterKey => "router key",
-            Kind::ErrorReport => "error report",
-            Kind::Aspa => "ASPA",
-        })
+        f.pad(&sys::name(named::KIND, u16::from(*self as u8)))
     }
 }

@@ -52,13 +52,22 @@
 //! `Data::validate` says whether a route is valid by the data (RFC 6811), and `Data::covering`
 //! which VRPs cover it and why each doesn't match. [`Tables`] does the same over slices.
 //!
+//! # Sessions
+//!
+//! `Client` follows a cache, and `Server` is one, each in a thread, over TCP or what else is a
+//! `Socket`. `Router` and `Served` are their ends of a connection without sockets and clock, for
+//! programs with a loop of their own; the crate `rtr-wire-tokio` has one.
+//!
 //! # Features
 //!
-//! `std`, on by default, has readers, writers, and units, data and changes that own their bytes.
-//! Without it the crate is `no_std`.
+//! `std`, on by default, has readers, writers, and clients and caches in threads. Without it the
+//! crate is `no_std`, and `alloc` has units, data and changes that own their bytes, and `Router`.
 #![no_std]
 #![deny(missing_docs, unsafe_op_in_unsafe_fn)]
+#![warn(clippy::pedantic)]
 
+#[cfg(any(feature = "alloc", test))]
+extern crate alloc;
 #[cfg(any(feature = "std", test))]
 extern crate std;
 
@@ -69,10 +78,17 @@ use core::{error, net};
 use std::{error, net};
 
 #[rustfmt::skip]
+#[allow(clippy::pedantic)] // It has the words of `rtr.h`.
 mod abi;
 #[cfg(feature = "std")]
-mod client;
+mod cache;
 #[cfg(feature = "std")]
+mod cache_machine;
+#[cfg(feature = "alloc")]
+mod checking;
+#[cfg(feature = "std")]
+mod client;
+#[cfg(feature = "alloc")]
 mod client_error;
 mod data;
 #[cfg(feature = "std")]
@@ -80,30 +96,38 @@ mod editions;
 mod fault;
 #[cfg(feature = "std")]
 mod following;
-#[cfg(feature = "std")]
+#[cfg(feature = "alloc")]
 mod input;
 #[cfg(feature = "std")]
 mod kept;
 mod kind;
-#[cfg(feature = "std")]
+#[cfg(feature = "alloc")]
 mod lines;
-#[cfg(feature = "std")]
+#[cfg(feature = "alloc")]
 mod machine;
+#[cfg(feature = "alloc")]
+mod options;
 #[cfg(feature = "std")]
 mod output;
-#[cfg(feature = "std")]
+#[cfg(feature = "alloc")]
 mod owned_data;
 #[cfg(feature = "std")]
 mod reader;
-#[cfg(feature = "std")]
+#[cfg(feature = "alloc")]
+mod refusal;
+#[cfg(feature = "alloc")]
 mod router;
 mod sequence;
+#[cfg(feature = "std")]
+mod served;
 #[cfg(feature = "std")]
 mod server;
 #[cfg(feature = "std")]
 mod server_error;
 #[cfg(feature = "std")]
 mod serving;
+#[cfg(feature = "std")]
+mod socket;
 mod sys;
 #[cfg(feature = "std")]
 mod timed;
@@ -116,26 +140,38 @@ mod waiting;
 mod writer;
 
 #[cfg(feature = "std")]
-pub use client::{Client, ClientOptions, Event};
+pub use cache::{Cache, Moment};
+#[cfg(feature = "alloc")]
+pub use checking::{Checker, Finding};
 #[cfg(feature = "std")]
+pub use client::Client;
+#[cfg(feature = "alloc")]
 pub use client_error::{Breach, ClientError};
 pub use data::{apply_in_order, apply_into, delta_into, order_into, DataError, Place, Side};
 pub use fault::{ErrorCode, Fault, PrefixRule};
 pub use kind::{Kind, UnknownKind};
-#[cfg(feature = "std")]
+#[cfg(feature = "alloc")]
 pub use lines::{change_json, change_line, unit_line};
-#[cfg(feature = "std")]
+#[cfg(feature = "alloc")]
+pub use options::{ClientOptions, ServerOptions};
+#[cfg(feature = "alloc")]
 pub use owned_data::{order, Changes, Data};
 #[cfg(feature = "std")]
-pub use reader::{Error, Reader, Refusal, Sequence};
-#[cfg(feature = "std")]
-pub use router::{Router, Step};
+pub use reader::{Error, Reader, Sequence};
+#[cfg(feature = "alloc")]
+pub use refusal::Refusal;
+#[cfg(feature = "alloc")]
+pub use router::{Event, Router, Step};
 pub use sequence::{normalise, normalise_for, same_meaning, NotCompared, Progress, Stopped};
 #[cfg(feature = "std")]
-pub use server::{Server, ServerOptions};
+pub use served::{Served, ServedStep};
+#[cfg(feature = "std")]
+pub use server::Server;
 #[cfg(feature = "std")]
 pub use server_error::{ServerError, UpdateError};
 #[cfg(feature = "std")]
+pub use socket::Socket;
+#[cfg(feature = "alloc")]
 pub use unit::OwnedUnit;
 pub use unit::{
     compare_serials, unit_size, Aspa, CacheReset, CacheResponse, EndOfData, ErrorReport,

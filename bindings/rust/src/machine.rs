@@ -1,46 +1,18 @@
-//! Safe calls of the proved machines of a router's end and of a cache's end. Times are in
-//! milliseconds.
+//! Safe calls of the proved machine of a router's end. Times are in milliseconds.
 
 pub(crate) use crate::abi::{action, cause, Action, Router as Machine};
-pub(crate) use crate::abi::{reason, serving, Cache, Present, Serving};
 
-use crate::abi::{self, CacheSettings, Settings};
-use crate::client::ClientOptions;
-use crate::server::ServerOptions;
-use std::mem::MaybeUninit;
-use std::string::String;
-use std::time::Duration;
-use std::vec::Vec;
+use crate::abi::{self, named, Settings};
+use crate::options::ClientOptions;
+use crate::sys;
+use alloc::string::{String, ToString};
+use alloc::vec::Vec;
+use core::mem::MaybeUninit;
+use core::time::Duration;
 
-/// What a report says of a cause: so the text stands in the archive alone.
+/// What a report says of a cause.
 pub(crate) fn cause_text(cause: u8) -> String {
-    let action = Action {
-        cause,
-        reports: true,
-        ..Action::default()
-    };
-    let mut report = Vec::new();
-    action.append_report(&[], &mut report);
-    text_of(&report)
-}
-
-/// What a report says of the reason for which a cache ends a connection.
-pub(crate) fn reason_text(reason: u8) -> String {
-    let serving = Serving {
-        kind: serving::END,
-        reason,
-        reports: true,
-        ..Serving::default()
-    };
-    let mut report = Vec::new();
-    serving.append(&[], &mut report);
-    text_of(&report)
-}
-
-/// The text of a report about no unit.
-fn text_of(report: &[u8]) -> String {
-    const FIXED: usize = 16; // the bytes before it
-    String::from_utf8_lossy(report.get(FIXED..).unwrap_or_default()).into_owned()
+    sys::name(named::CAUSE, cause.into()).to_string()
 }
 
 /// A span in milliseconds; what isn't zero isn't rounded to zero.
@@ -114,7 +86,14 @@ impl Machine {
         let mut action = Action::default();
         // SAFETY: as above, and the slice is live and of this length; so below.
         unsafe {
-            abi::rtr_router_read_nonnull(self, now, input.as_ptr(), input.len(), ended, &mut action)
+            abi::rtr_router_read_nonnull(
+                self,
+                now,
+                input.as_ptr(),
+                input.len(),
+                ended,
+                &mut action,
+            );
         };
         action
     }
@@ -147,84 +126,12 @@ impl Action {
 
 /// Appends the report that is written at a pointer with so much room behind it; a count says how
 /// long it is.
-fn append_report(output: &mut Vec<u8>, write: impl Fn(*mut u8, usize, &mut usize) -> bool) {
-    let (mut report, mut written) = (std::vec![0; crate::unit::LONGEST], 0);
+pub(crate) fn append_report(
+    output: &mut Vec<u8>,
+    write: impl Fn(*mut u8, usize, &mut usize) -> bool,
+) {
+    let (mut report, mut written) = (alloc::vec![0; crate::unit::LONGEST], 0);
     if write(report.as_mut_ptr(), report.len(), &mut written) {
         output.extend_from_slice(&report[..written]);
-    }
-}
-
-impl Cache {
-    /// A connection that was made now, with these options.
-    pub(crate) fn new(now: u64, options: &ServerOptions) -> Cache {
-        let settings = CacheSettings {
-            first_limit: milliseconds(options.first_query),
-            idle_limit: milliseconds(options.idle),
-            pause: milliseconds(options.notify),
-            refuses: options.refuse,
-        };
-        let mut cache = Cache::default();
-        unsafe { abi::rtr_cache_init(&mut cache, now, &settings) };
-        cache
-    }
-
-    pub(crate) fn tick(&mut self, now: u64, present: &Present) -> Serving {
-        let mut serving = Serving::default();
-        unsafe { abi::rtr_cache_tick(self, now, present, &mut serving) };
-        serving
-    }
-
-    pub(crate) fn full(&mut self, now: u64, present: &Present) -> Serving {
-        let mut serving = Serving::default();
-        unsafe { abi::rtr_cache_full(self, now, present, &mut serving) };
-        serving
-    }
-
-    /// A unit came; `ended` where nothing follows it. Changes can be told from these serial numbers
-    /// on.
-    pub(crate) fn read(
-        &mut self,
-        now: u64,
-        present: &Present,
-        known: &[u32],
-        input: &[u8],
-        ended: bool,
-    ) -> Serving {
-        let mut serving = Serving::default();
-        unsafe {
-            abi::rtr_cache_read_nonnull(
-                self,
-                now,
-                present,
-                known.as_ptr(),
-                known.len(),
-                input.as_ptr(),
-                input.len(),
-                ended,
-                &mut serving,
-            )
-        };
-        serving
-    }
-
-    /// When a tick is wanted, if nothing comes before.
-    pub(crate) fn wakes(&self, present: &Present) -> u64 {
-        unsafe { abi::rtr_cache_wakes(self, present) }
-    }
-}
-
-impl Serving {
-    /// Appends the unit that an answer begins with, or the report that is owed about the unit that
-    /// the input begins with.
-    pub(crate) fn append(&self, input: &[u8], output: &mut Vec<u8>) {
-        if self.reports {
-            return append_report(output, |report, room, written| unsafe {
-                let (start, length) = (input.as_ptr(), input.len());
-                abi::rtr_cache_report_nonnull(self, start, length, report, room, written)
-            });
-        }
-        let mut unit = [0; 12];
-        let length = unsafe { abi::rtr_cache_unit_nonnull(self, unit.as_mut_ptr(), unit.len()) };
-        output.extend_from_slice(&unit[..length]);
     }
 }

@@ -1,7 +1,5 @@
 //! What is sent on a connection.
 
-use std::io::{self, IoSlice, Write};
-use std::net::TcpStream;
 use std::sync::Arc;
 use std::vec::Vec;
 
@@ -18,28 +16,32 @@ pub(crate) struct Output {
 }
 
 impl Output {
-    /// These bytes, which begin to be sent now.
-    pub(crate) fn new(head: Vec<u8>, body: Arc<Vec<u8>>, now: u64) -> Output {
-        Output {
+    /// These bytes, which begin to be sent now, if there are any.
+    pub(crate) fn new(head: Vec<u8>, body: Arc<Vec<u8>>, now: u64) -> Option<Output> {
+        let output = Output {
             head,
             body,
             sent: 0,
             began: now,
             went_on: now,
-        }
+        };
+        output.sent(0, now)
     }
 
-    /// Sends what the stream takes, and answers whether nothing is left.
-    pub(crate) fn send(&mut self, mut stream: &TcpStream, now: u64) -> io::Result<bool> {
+    /// What is left of them.
+    pub(crate) fn parts(&self) -> [&[u8]; 2] {
         let head = &self.head[self.sent.min(self.head.len())..];
-        let body = &self.body[self.sent.saturating_sub(self.head.len())..];
-        let left = head.len() + body.len();
-        if left == 0 {
-            return Ok(true);
-        }
-        let count = stream.write_vectored(&[IoSlice::new(head), IoSlice::new(body)])?;
+        [
+            head,
+            &self.body[self.sent.saturating_sub(self.head.len())..],
+        ]
+    }
+
+    /// The stream took so many now: what is left, if something is.
+    pub(crate) fn sent(mut self, count: usize, now: u64) -> Option<Output> {
         self.sent += count;
         self.went_on = now;
-        Ok(count == left)
+        let is_left = self.sent < self.head.len() + self.body.len();
+        is_left.then_some(self)
     }
 }

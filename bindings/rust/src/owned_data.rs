@@ -6,10 +6,10 @@ use crate::sequence::normalise_for;
 use crate::unit::{EndOfData, Timing, Unit, UnitRef};
 use crate::units::Units;
 use crate::validation::{Covering, Route, Tables, Validity};
-use std::boxed::Box;
-use std::sync::Arc;
-use std::vec;
-use std::vec::Vec;
+use alloc::boxed::Box;
+use alloc::sync::Arc;
+use alloc::vec;
+use alloc::vec::Vec;
 
 /// The bytes of an end of data, at most.
 const LONGEST_END: usize = 24;
@@ -187,11 +187,13 @@ impl Data {
     }
 
     /// The bytes: payload units, and the end of data.
+    #[must_use]
     pub fn as_bytes(&self) -> &[u8] {
         &self.0.bytes
     }
 
     /// The bytes.
+    #[must_use]
     pub fn into_bytes(self) -> Vec<u8> {
         self.0.into_bytes()
     }
@@ -202,16 +204,19 @@ impl Data {
     }
 
     /// The end of data, with the version, the session and the serial number.
+    #[must_use]
     pub fn end(&self) -> EndOfData {
         self.0.end
     }
 
     /// How many payloads there are.
+    #[must_use]
     pub fn len(&self) -> usize {
         self.0.payloads
     }
 
     /// Whether there are no payloads.
+    #[must_use]
     pub fn is_empty(&self) -> bool {
         self.0.payloads == 0
     }
@@ -231,11 +236,13 @@ impl Data {
     /// assert_eq!(data.validate(&route), Validity::Valid);
     /// # Ok::<(), Box<dyn std::error::Error>>(())
     /// ```
+    #[must_use]
     pub fn validate(&self, route: &Route) -> Validity {
         self.1.validate(self.as_bytes(), route)
     }
 
     /// The VRPs of the data that cover the route, in their order, each with why it doesn't match.
+    #[must_use]
     pub fn covering(&self, route: &Route) -> Covering<'_> {
         self.1.covering(self.as_bytes(), route)
     }
@@ -320,12 +327,14 @@ impl Data {
     }
 
     /// The bytes, shared.
+    #[cfg(feature = "std")]
     pub(crate) fn shared(&self) -> Arc<Vec<u8>> {
         Arc::clone(&self.0.bytes)
     }
 
     /// The same payloads in another session and with another serial number.
     #[must_use]
+    #[allow(clippy::missing_panics_doc)] // It can't: the end of data is one of these data.
     pub fn numbered(&self, session: u16, serial: u32) -> Data {
         let end = EndOfData {
             session,
@@ -345,26 +354,31 @@ impl Data {
 
 impl Changes {
     /// The bytes: payload units, and the end of data.
+    #[must_use]
     pub fn as_bytes(&self) -> &[u8] {
         &self.0.bytes
     }
 
     /// The bytes.
+    #[must_use]
     pub fn into_bytes(self) -> Vec<u8> {
         self.0.into_bytes()
     }
 
     /// The bytes, shared.
+    #[cfg(feature = "std")]
     pub(crate) fn shared(&self) -> Arc<Vec<u8>> {
         Arc::clone(&self.0.bytes)
     }
 
     /// The bytes of the payload units.
+    #[cfg(feature = "std")]
     pub(crate) fn unit_bytes(&self) -> &[u8] {
         self.0.unit_bytes()
     }
 
     /// Without what a version that there is doesn't have.
+    #[cfg(feature = "std")]
     pub(crate) fn in_version(&self, version: u8) -> Changes {
         Changes(self.0.for_version(version).expect("there is this version"))
     }
@@ -375,16 +389,19 @@ impl Changes {
     }
 
     /// The end of data, with the version, the session and the serial number.
+    #[must_use]
     pub fn end(&self) -> EndOfData {
         self.0.end
     }
 
     /// How many payloads are announced or withdrawn.
+    #[must_use]
     pub fn len(&self) -> usize {
         self.0.payloads
     }
 
     /// Whether no payload is announced or withdrawn.
+    #[must_use]
     pub fn is_empty(&self) -> bool {
         self.0.payloads == 0
     }

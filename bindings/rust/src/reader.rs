@@ -2,12 +2,12 @@
 
 use crate::fault::Fault;
 use crate::kind::Kind;
+use crate::refusal::Refusal;
 use crate::sys;
-use crate::unit::{ErrorReport, OwnedUnit, Unit, UnitRef, LONGEST};
+use crate::unit::{OwnedUnit, Unit, UnitRef, LONGEST};
 use crate::units::refuse_outside_of_sequences;
 use std::fmt;
 use std::io::{self, Read};
-use std::string::ToString;
 use std::vec::Vec;
 
 /// The bytes of a header.
@@ -27,37 +27,9 @@ pub enum Error {
     NoForm(Fault),
 }
 
-/// A unit that a [`Reader`] refused.
-#[derive(Clone, Debug, PartialEq, Eq)]
-pub struct Refusal {
-    /// What is wrong.
-    pub fault: Fault,
-    /// Where the unit begins, in bytes from the first one that the reader gave.
-    pub offset: u64,
-    /// The bytes of the unit, as far as they were read: of one whose header is refused, the header.
-    pub unit: Vec<u8>,
-}
-
-impl Refusal {
-    /// The error report that the fault owes to the peer, if it owes one, as [`Fault::report`] says:
-    /// it encloses the unit, and its text says what is wrong.
-    pub fn report(&self) -> Option<ErrorReport<Vec<u8>>> {
-        let text = self.fault.to_string();
-        let report = self.fault.report(&self.unit, &text)?;
-        Some(report.into_owned())
-    }
-}
-
-impl fmt::Display for Refusal {
-    fn fmt(&self, f: &mut fmt::Formatter<'_>) -> fmt::Result {
-        write!(f, "{}, at byte {}", self.fault, self.offset)
-    }
-}
-
-impl std::error::Error for Refusal {}
-
 impl Error {
     /// What is wrong with the unit, or none if the reader or the writer failed.
+    #[must_use]
     pub fn fault(&self) -> Option<Fault> {
         match self {
             Error::Io(_) => None,

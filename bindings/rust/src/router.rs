@@ -1,14 +1,13 @@
 //! A router's end of a session without sockets and clock.
 
-use crate::client::ClientOptions;
 use crate::client_error::ClientError;
 use crate::input::Input;
 use crate::machine::{action, cause, Action, Machine};
+use crate::options::ClientOptions;
 use crate::owned_data::{Changes, Data};
-use std::collections::VecDeque;
-use std::io;
-use std::mem::replace;
-use std::vec::Vec;
+use alloc::collections::VecDeque;
+use alloc::vec::Vec;
+use core::mem::replace;
 
 /// What the program that carries a [`Router`] has to do next.
 #[derive(Debug)]
@@ -26,6 +25,27 @@ pub enum Step {
     Dropped(Changes),
     /// Why the connection was closed, or why there is no answer yet. The router goes on.
     Failed(ClientError),
+}
+
+/// What a [`Client`](crate::Client) tells while it runs.
+#[derive(Debug)]
+#[non_exhaustive]
+pub enum Event<'a> {
+    /// An end of data came: these are all data of the cache now, whole, and the changes lead there
+    /// from those before.
+    Data {
+        /// The data.
+        data: &'a Data,
+        /// What announces and withdraws the difference.
+        changes: &'a Changes,
+    },
+    /// The data had to be dropped, since they have expired or the cache has begun another session.
+    Dropped {
+        /// What withdraws all of them.
+        changes: &'a Changes,
+    },
+    /// A connection has ended, or a query has no answer yet. The client goes on.
+    Failed(&'a ClientError),
 }
 
 /// A router's end of a session (RFC 8210) without sockets and clock: bytes and times are given to
@@ -56,6 +76,7 @@ struct Connection {
 impl Router {
     /// A router without data, which wants a connection at once. The random number has the waits of
     /// many routers differ.
+    #[must_use]
     pub fn new(options: &ClientOptions, random: u16) -> Router {
         Router {
             machine: Machine::new(options, random),
@@ -66,16 +87,30 @@ impl Router {
     }
 
     /// All data of the cache, whole, if there are some.
+    #[must_use]
     pub fn data(&self) -> Option<&Data> {
         self.data.as_ref()
     }
 
     /// The data, if there are some.
+    #[must_use]
     pub fn into_data(self) -> Option<Data> {
         self.data
     }
 
+    /// What a step tells of the data or of a failure; none for one that has something be done.
+    #[must_use]
+    pub fn event<'a>(&'a self, step: &'a Step) -> Option<Event<'a>> {
+        match (step, self.data()) {
+            (Step::Data(changes), Some(data)) => Some(Event::Data { data, changes }),
+            (Step::Dropped(changes), _) => Some(Event::Dropped { changes }),
+            (Step::Failed(error), _) => Some(Event::Failed(error)),
+            _ => None,
+        }
+    }
+
     /// When [`Router::next`] is to be called, if nothing comes before.
+    #[must_use]
     pub fn wakes(&self) -> u64 {
         self.machine.wakes()
     }
@@ -91,8 +126,14 @@ impl Router {
     }
 
     /// No connection could be made, or it broke.
-    pub fn lost(&mut self, now: u64, error: io::Error) {
+    #[cfg(feature = "std")]
+    pub fn lost(&mut self, now: u64, error: std::io::Error) {
         self.connection.error = Some(ClientError::Io(error));
+        self.disconnected(now);
+    }
+
+    /// The same, where no more is known of why.
+    pub fn disconnected(&mut self, now: u64) {
         self.connection.input.end();
         if !self.connection.is_open {
             let action = self.machine.lost(now);
@@ -106,6 +147,7 @@ impl Router {
     }
 
     /// What is to be sent.
+    #[must_use]
     pub fn output(&self) -> &[u8] {
         &self.connection.output
     }

@@ -1,17 +1,23 @@
 //! A connection of a server does in each scene of a cache what the scene says
 //! (`tests/transcripts` of the repository).
 
-use super::{locked, Server, ServerOptions};
-use crate::machine::milliseconds;
-use crate::serving::{Connection, Moment};
+use super::{Server, ServerOptions};
+use crate::cache::{locked, Moment};
+use crate::serving::Connection;
+use crate::socket::Socket;
 use crate::waiting::wait;
 use crate::{Data, Unit};
+use std::boxed::Box;
+use std::fmt::Write as _;
 use std::format;
-use std::io::{ErrorKind, Read, Write};
-use std::net::{Shutdown, TcpListener, TcpStream};
+use std::io::{self, BufRead, ErrorKind, Read, Write};
+use std::net::{Ipv4Addr, Shutdown};
+use std::os::unix::io::{AsFd, BorrowedFd};
+use std::os::unix::net::UnixStream;
 use std::path::{Path, PathBuf};
 use std::process::Command;
 use std::string::{String, ToString};
+use std::sync::atomic::{AtomicUsize, Ordering};
 use std::sync::Arc;
 use std::time::Duration;
 use std::vec::Vec;
@@ -23,18 +29,56 @@ const PATIENCE: Duration = Duration::from_secs(20);
 /// A connection, and the router's end of it.
 struct Joined {
     connection: Connection,
-    router: TcpStream,
+    router: UnixStream,
+    /// How many bytes the router takes, until it is to take others.
+    room: Arc<AtomicUsize>,
     is_broken: bool,
 }
 
+/// The cache's end of a connection, and how many bytes the router takes.
+struct Taken(UnixStream, Arc<AtomicUsize>);
+
+impl Read for Taken {
+    fn read(&mut self, bytes: &mut [u8]) -> io::Result<usize> {
+        self.0.read(bytes)
+    }
+}
+
+impl Write for Taken {
+    fn write(&mut self, bytes: &[u8]) -> io::Result<usize> {
+        let most = bytes.len().min(self.1.load(Ordering::Relaxed));
+        if most == 0 {
+            return Err(ErrorKind::WouldBlock.into());
+        }
+        let count = self.0.write(&bytes[..most])?;
+        self.1.fetch_sub(count, Ordering::Relaxed);
+        Ok(count)
+    }
+
+    fn flush(&mut self) -> io::Result<()> {
+        Ok(())
+    }
+}
+
+impl Socket for Taken {
+    fn socket(&self) -> BorrowedFd<'_> {
+        self.0.as_fd()
+    }
+
+    fn finish(&mut self) -> io::Result<()> {
+        self.0.shutdown(Shutdown::Write)
+    }
+}
+
 /// A scene that is played, with a made clock.
-struct Played<'a> {
+struct Played {
     name: String,
-    listener: &'a TcpListener,
     options: ServerOptions,
     server: Option<Server>,
     now: u64,
     joined: Option<Joined>,
+    /// What the cache did, if no scene says what it has to do: it plays with another end.
+    seen: Option<String>,
 }
 
 fn bytes_of(words: &[&str]) -> Vec<u8> {
@@ -44,16 +88,59 @@ fn bytes_of(words: &[&str]) -> Vec<u8> {
 }
 
 fn hex(bytes: &[u8]) -> String {
-    bytes.iter().map(|byte| format!("{:02x}", byte)).collect()
+    let mut digits = String::new();
+    for byte in bytes {
+        write!(digits, "{byte:02x}").unwrap();
+    }
+    digits
 }
 
 impl Joined {
-    /// Whether nothing has come for the router.
-    fn is_silent(&mut self) -> bool {
+    /// What the router does.
+    fn given(&mut self, step: &str, words: &[&str]) {
+        let set_room = |room| self.room.store(room, Ordering::Relaxed);
+        match (step, words) {
+            ("router>", bytes) => self.router.write_all(&bytes_of(bytes)).unwrap(),
+            (_, ["takes", count]) => set_room(count.parse().unwrap()),
+            (_, ["closes"]) => self.router.shutdown(Shutdown::Write).unwrap(),
+            (_, ["breaks"]) => {
+                set_room(usize::MAX);
+                self.router.shutdown(Shutdown::Both).unwrap();
+                self.is_broken = true;
+            }
+            (_, words) => panic!("{:?}", words),
+        }
+    }
+
+    /// Whether nothing is to be done now, where bytes came for the connection or not.
+    fn rests(&self, moment: &Moment, is_ready: bool) -> bool {
+        let connection = &self.connection;
+        let is_held = connection.is_sending() && self.room.load(Ordering::Relaxed) == 0;
+        let waits = is_held || !connection.is_sending() && !is_ready;
+        connection.is_over() || waits && connection.wakes(moment) > moment.now
+    }
+
+    /// Whether bytes came for the connection, or their end.
+    fn is_ready(&self) -> bool {
+        let mut awaited = [self.connection.awaited()];
+        wait(&mut awaited, 0);
+        !self.connection.is_sending() && awaited[0].is_ready()
+    }
+
+    /// Whether all was sent that comes before the end.
+    fn has_ended(&self) -> bool {
+        !self.connection.is_served() && !self.connection.is_sending()
+    }
+
+    /// What has come for the router.
+    fn came(&mut self) -> Vec<u8> {
+        let mut came = Vec::new();
         self.router.set_nonblocking(true).unwrap();
-        let peeked = self.router.peek(&mut [0]);
+        if let Err(error) = self.router.read_to_end(&mut came) {
+            assert_eq!(error.kind(), ErrorKind::WouldBlock);
+        }
         self.router.set_nonblocking(false).unwrap();
-        matches!(peeked, Err(error) if error.kind() == ErrorKind::WouldBlock)
+        came
     }
 
     /// A unit that the router reads, as a scene says it.
@@ -70,22 +157,22 @@ impl Joined {
                 let about = about.unwrap_or_else(|| "-".to_string());
                 let text = String::from_utf8_lossy(parts.text);
                 let (version, code) = (report.version, report.code.0);
-                format!("report {} {} {} {}", version, code, about, text)
+                format!("report {version} {code} {about} {text}")
             }
             _ => hex(&unit),
         }
     }
 }
 
-impl<'a> Played<'a> {
-    fn new(name: &str, listener: &'a TcpListener) -> Played<'a> {
+impl Played {
+    fn new(name: &str) -> Played {
         Played {
             name: name.to_string(),
-            listener,
             options: ServerOptions::default(),
             server: None,
             now: 0,
             joined: None,
+            seen: None,
         }
     }
 
@@ -97,101 +184,103 @@ impl<'a> Played<'a> {
 
     fn moment(&mut self) -> Moment {
         let now = self.now;
-        let shared = Arc::clone(&self.server().shared);
-        let newest = locked(&shared.newest).clone();
-        Moment {
-            now,
-            shared,
-            newest,
-        }
+        self.server().shared.cache.at(now)
     }
 
     /// Has the connection go on at this time until it waits for something.
     fn settle(&mut self) {
         let moment = self.moment();
         if let Some(joined) = &mut self.joined {
-            while joined.connection.is_served() && joined.connection.wakes(&moment) <= moment.now {
-                joined.connection.go_on(&moment, false);
+            let mut is_ready = joined.is_ready();
+            while !joined.rests(&moment, is_ready) {
+                joined.connection.go_on(&moment, &|_, _| {}, is_ready);
+                is_ready = joined.is_ready();
+            }
+        }
+        self.sees();
+    }
+
+    /// Notes what the cache did now, if no scene says it.
+    fn sees(&mut self) {
+        if let (Some(joined), Some(seen)) = (&mut self.joined, &mut self.seen) {
+            let came = joined.came();
+            if !came.is_empty() {
+                writeln!(seen, "{} cache> {}", self.now, hex(&came)).unwrap();
+            }
+            if joined.has_ended() {
+                writeln!(seen, "{} closes", self.now).unwrap();
+                self.joined = None;
             }
         }
     }
 
+    /// When the connection goes on by itself, if there is one.
+    fn wakes(&mut self) -> Option<u64> {
+        let moment = self.moment();
+        let joined = self.joined.as_ref().filter(|joined| !joined.has_ended())?;
+        Some(joined.connection.wakes(&moment))
+    }
+
     /// The clock comes to this time.
     fn pass(&mut self, time: u64) {
-        loop {
-            let moment = self.moment();
-            let connection = self.joined.as_ref().map(|joined| &joined.connection);
-            let wakes = connection.map_or(u64::MAX, |connection| connection.wakes(&moment));
-            let served = connection.map_or(false, Connection::is_served);
-            if !served || wakes > time {
-                break;
-            }
+        while let Some(wakes) = self.wakes().filter(|wakes| *wakes <= time) {
             self.now = self.now.max(wakes);
             self.settle();
         }
         self.now = self.now.max(time);
     }
 
-    /// Something has come for the connection.
-    fn comes(&mut self) {
-        let moment = self.moment();
-        if let Some(joined) = &mut self.joined {
-            let mut awaited = [joined.connection.awaited()];
-            wait(&mut awaited, milliseconds(PATIENCE).into());
-            assert!(awaited[0].is_ready(), "{}: what was sent comes", self.name);
-            joined.connection.go_on(&moment, true);
-        }
-        self.settle();
-    }
-
     fn connects(&mut self, beyond: bool) {
-        let address = self.listener.local_addr().unwrap();
-        let router = TcpStream::connect(address).unwrap();
+        // A pair has each byte at its other end as soon as it was written.
+        let (router, stream) = UnixStream::pair().unwrap();
         router.set_read_timeout(Some(PATIENCE)).unwrap();
-        let (stream, from) = self.listener.accept().unwrap();
+        stream.set_nonblocking(true).unwrap();
+        let room = Arc::new(AtomicUsize::new(usize::MAX));
+        let socket = Box::new(Taken(stream, Arc::clone(&room)));
         let moment = self.moment();
-        let mut connection = Connection::new(stream, from, &moment).unwrap();
+        let from = (Ipv4Addr::LOCALHOST, 0).into();
+        let mut connection = Connection::new(socket, from, &moment);
         if beyond {
-            connection.refuse(&moment);
+            connection.refuse(&moment, &|_, _| {});
         }
         self.joined = Some(Joined {
             connection,
             router,
+            room,
             is_broken: false,
         });
+        self.settle();
     }
 
     /// What the router or the data do.
     fn given(&mut self, step: &str, words: &[&str]) {
         if let Some(joined) = self.joined.as_mut().filter(|joined| !joined.is_broken) {
             let is_over = !joined.connection.is_served();
-            assert!(is_over || joined.is_silent(), "{}: {}", self.name, self.now);
+            assert!(
+                is_over || joined.came().is_empty(),
+                "{}: {}",
+                self.name,
+                self.now
+            );
         }
-        let is_served = |one: &&mut Joined| one.connection.is_served();
-        let joined = self.joined.as_mut().filter(is_served);
         match (step, words) {
-            ("router>", bytes) => {
-                if let Some(joined) = joined {
-                    joined.router.write_all(&bytes_of(bytes)).unwrap();
-                    self.comes();
-                }
-            }
-            ("router", ["closes"]) => {
-                joined.unwrap().router.shutdown(Shutdown::Write).unwrap();
-                self.comes();
-            }
-            ("router", ["breaks"]) => {
-                let joined = joined.unwrap();
-                joined.router.shutdown(Shutdown::Both).unwrap();
-                joined.is_broken = true;
-                self.comes();
-            }
             ("router", ["connects"]) => self.connects(false),
-            ("router", _) => self.connects(true),
+            ("router", ["connects", ..]) => self.connects(true),
+            ("router" | "router>", words) => {
+                if let Some(joined) = self.joined.as_mut().filter(|joined| !joined.has_ended()) {
+                    joined.given(step, words);
+                }
+                self.settle();
+            }
             ("data", ["{", bytes @ .., "}"]) => {
                 let data = Data::parse(&bytes_of(bytes)).expect("data");
-                assert_eq!(self.server().update(data), Ok(true), "{}", self.name);
+                let is_new = self.server().update(data).expect("data that are later");
+                assert!(is_new || self.seen.is_some(), "{}", self.name);
                 self.settle();
+            }
+            ("saves", [path]) => self.server().save(path).expect("a file that is written"),
+            ("restores", [path]) => {
+                self.server().restore(path).expect("a file that is whole");
             }
             (_, words) => self.forgets(words[0].parse().unwrap()),
         }
@@ -200,7 +289,7 @@ impl<'a> Played<'a> {
     /// The changes since a serial number can't be told any more, nor those since the ones before.
     fn forgets(&mut self, serial: u32) {
         let shared = Arc::clone(&self.server().shared);
-        let mut newest = locked(&shared.newest);
+        let mut newest = locked(&shared.cache.newest);
         let newest = newest.as_mut().and_then(Arc::get_mut).expect("an edition");
         let place = newest.known.iter().position(|known| *known == serial);
         newest.known.truncate(place.expect("it is known"));
@@ -232,11 +321,12 @@ impl<'a> Played<'a> {
     fn set(&mut self, name: &str, value: u64) {
         let span = Duration::from_millis(value);
         match name {
-            "usual" => {}
+            "usual" | "date" => {}
             "first-limit" => self.options.first_query = span,
             "idle-limit" => self.options.idle = span,
             "pause" => self.options.notify = span,
             "refuses" => self.options.refuse = true,
+            "keep-bytes" => self.options.keep_bytes = value.try_into().unwrap(),
             _ => panic!("no setting {}", name),
         }
     }
@@ -248,7 +338,8 @@ impl<'a> Played<'a> {
                 self.set(name, value);
             }
             ["at", time] => self.pass(time.parse().unwrap()),
-            [time, step @ ("router" | "router>" | "data" | "forgets"), words @ ..] => {
+            [time, step @ ("router" | "router>" | "data" | "forgets" | "saves" | "restores"), words @ ..] =>
+            {
                 self.pass(time.parse().unwrap());
                 self.given(step, words);
             }
@@ -264,15 +355,16 @@ impl<'a> Played<'a> {
     fn end(mut self) {
         if let Some(joined) = &mut self.joined {
             assert!(joined.connection.is_served(), "{}: it ended", self.name);
-            assert!(joined.is_silent(), "{}: something else is sent", self.name);
+            let came = joined.came();
+            assert!(came.is_empty(), "{}: something else is sent", self.name);
         }
     }
 }
 
 /// Plays the scenes of a file, and answers how many there are.
-fn play(path: &Path, listener: &TcpListener) -> usize {
+fn play(path: &Path) -> usize {
     let text = std::fs::read_to_string(path).expect("a file");
-    let (mut played, mut count): (Option<Played<'_>>, usize) = (None, 0);
+    let (mut played, mut count): (Option<Played>, usize) = (None, 0);
     for line in text.lines() {
         let line = line.split('#').next().unwrap_or_default();
         let words: Vec<&str> = line.split_whitespace().collect();
@@ -280,7 +372,7 @@ fn play(path: &Path, listener: &TcpListener) -> usize {
             [] => {}
             ["scene", name] => {
                 count += 1;
-                let before = played.replace(Played::new(name, listener));
+                let before = played.replace(Played::new(name));
                 before.into_iter().for_each(Played::end);
             }
             words => played.as_mut().expect("a scene").line(words),
@@ -304,19 +396,46 @@ fn transcripts_of_a_cache() {
         std::println!("no transcripts here: they are in the repository");
         return;
     }
-    let made = std::env::temp_dir().join(format!("rtr-cache-scenes-{}", std::process::id()));
-    let make = format!("{}/make", TRANSCRIPTS);
-    let status = Command::new(make).arg("--cache").arg(&made).status();
+    let folder = std::env::temp_dir().join(format!("rtr-cache-scenes-{}", std::process::id()));
+    let make = format!("{TRANSCRIPTS}/make");
+    let status = Command::new(make).arg("--cache").arg(&folder).status();
     let mut paths = scenes_in(&Path::new(TRANSCRIPTS).join("cache"));
     match status {
         Ok(status) => {
             assert!(status.success(), "the families of scenes are made");
-            paths.extend(scenes_in(&made));
+            paths.extend(scenes_in(&folder));
         }
-        Err(error) => std::println!("no python3, so no families of scenes: {}", error),
+        Err(error) => std::println!("no python3, so no families of scenes: {error}"),
     }
-    let listener = TcpListener::bind("127.0.0.1:0").unwrap();
-    let count: usize = paths.iter().map(|path| play(path, &listener)).sum();
-    let _ = std::fs::remove_dir_all(&made);
-    assert!(count >= 100, "only {} scenes", count); // without those that are made
+    let count: usize = paths.iter().map(|path| play(path)).sum();
+    let _ = std::fs::remove_dir_all(&folder);
+    assert!(count >= 100, "only {count} scenes"); // without those that are made
+}
+
+/// Is an end that a router is joined with (`tests/joined`), where the environment says where to
+/// tell what it does: what happens to it comes on standard input.
+#[test]
+fn joined() {
+    let mut output = match std::env::var("RTR_JOINED") {
+        Ok(path) => std::fs::File::create(path).unwrap(),
+        Err(_) => return,
+    };
+    let mut played = Played::new("");
+    for line in std::io::stdin().lock().lines() {
+        let line = line.unwrap();
+        let words: Vec<&str> = line.split_whitespace().collect();
+        match words.as_slice() {
+            ["scene", name] => {
+                played = Played::new(name);
+                played.seen = Some(String::new());
+            }
+            words => played.line(words),
+        }
+        if !matches!(words[0], "scene" | "cache") {
+            let wakes = played.wakes().unwrap_or(u64::MAX);
+            let seen = played.seen.replace(String::new()).unwrap_or_default();
+            let answer = format!("{seen}wakes {wakes}\n");
+            output.write_all(answer.as_bytes()).unwrap();
+        }
+    }
 }

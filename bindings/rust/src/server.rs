@@ -1,21 +1,23 @@
 //! A cache.
 
-use crate::editions::Edition;
-use crate::kept::{restore, save};
+use crate::cache::{locked, Cache, Moment};
+use crate::options::ServerOptions;
 use crate::owned_data::Data;
 use crate::server_error::{ServerError, UpdateError};
-use crate::serving::{Connection, Moment};
-use crate::timed::{is_tick, Stop};
+use crate::serving::{Connection, Ended};
+use crate::socket::Socket;
+use crate::timed::{has_to_wait, milliseconds_since, Stop};
 use crate::waiting::{wait, waker, Awaited, Waker, Woken};
 use std::boxed::Box;
 use std::io;
+use std::mem::take;
 use std::net::{SocketAddr, TcpListener, TcpStream, ToSocketAddrs};
 use std::path::Path;
 use std::string::ToString;
 use std::sync::atomic::{AtomicUsize, Ordering};
-use std::sync::{Arc, Mutex, MutexGuard, PoisonError};
+use std::sync::{Arc, Mutex};
 use std::thread::{self, JoinHandle};
-use std::time::{Duration, Instant};
+use std::time::Instant;
 use std::vec::Vec;
 
 #[cfg(test)]
@@ -27,76 +29,19 @@ const MOST_CLOSING: usize = 64;
 /// How long no client is taken in, in milliseconds, after the system had no place for one.
 const PAUSE: u64 = 100;
 
-/// The limits of a [`Server`].
-///
-/// ```
-/// use rtr_wire::ServerOptions;
-///
-/// let options = ServerOptions { connections: 50, ..ServerOptions::default() };
-/// assert_eq!(options.keep.as_secs(), 7200);
-/// ```
-#[derive(Clone, Debug)]
-pub struct ServerOptions {
-    /// How many clients are served at once, 1024 if not said. One more gets a report of code 1.
-    pub connections: usize,
-    /// How long it is known what leads from data to the present ones, after newer ones came: two
-    /// hours if not said.
-    pub keep: Duration,
-    /// How many bytes of what leads back are kept for that at most, and of what leads clients from
-    /// there: 64 MiB of each if not said.
-    pub keep_bytes: usize,
-    /// Whether a client whose data aren't known any more is ended by a report of code 0, in place
-    /// of a cache reset: for routers that ask again soon after such a report alone, as BIRD 2.0.
-    pub refuse: bool,
-    /// How long a client has for its first query, 30 seconds if not said.
-    pub first_query: Duration,
-    /// How long a unit may take to come, 10 seconds if not said.
-    pub unit: Duration,
-    /// How long a client may ask nothing, 25 hours if not said: a router asks once a day at least
-    /// (RFC 8210 section 6).
-    pub idle: Duration,
-    /// How long a client may take no byte of what it is sent, 30 seconds if not said.
-    pub write: Duration,
-    /// How long a client may take for all of an answer, 10 minutes if not said.
-    pub response: Duration,
-    /// How long it is between two notifies to a client, at least: a minute if not said, which RFC
-    /// 8210 section 8.2 wants.
-    pub notify: Duration,
-}
-
-impl Default for ServerOptions {
-    fn default() -> Self {
-        ServerOptions {
-            connections: 1024,
-            keep: Duration::from_secs(7200),
-            keep_bytes: 1 << 26,
-            refuse: false,
-            first_query: Duration::from_secs(30),
-            unit: Duration::from_secs(10),
-            idle: Duration::from_secs(25 * 3600),
-            write: Duration::from_secs(30),
-            response: Duration::from_secs(600),
-            notify: Duration::from_secs(60),
-        }
-    }
-}
-
-/// What is told of each connection that the server ends.
-type Ended = dyn Fn(SocketAddr, &ServerError) + Send + Sync;
-
 /// What the thread of a server shares with its callers.
-pub(crate) struct Shared {
-    pub(crate) options: ServerOptions,
-    pub(crate) ended: Box<Ended>,
+struct Shared {
+    cache: Cache,
+    ended: Box<Ended>,
     stop: Stop,
-    /// The listeners that the thread hasn't taken up.
-    listeners: Mutex<Vec<TcpListener>>,
-    newest: Mutex<Option<Arc<Edition>>>,
+    /// The listeners and the connections that the thread hasn't taken up.
+    listeners: Mutex<Vec<Listener>>,
+    given: Mutex<Vec<(Box<dyn Socket>, SocketAddr)>>,
     /// How many clients are served.
     clients: AtomicUsize,
 }
 
-/// A cache over TCP (RFC 8210), for clients of versions 0 to 2, in one thread.
+/// A cache (RFC 8210) over TCP or other sockets, for clients of versions 0 to 2, in one thread.
 ///
 /// The proved machine of `rtr_cache` decides what each client is answered: all data, the changes
 /// since a serial number, as [`Data::delta_to`] makes them, a cache reset where it isn't known what
@@ -108,7 +53,8 @@ pub(crate) struct Shared {
 /// client holds its place in bytes that all share; one that is three data behind in the middle of
 /// an answer is ended, and a slow one by the limits of [`ServerOptions`].
 ///
-/// Neither is anything encrypted nor is a client authenticated (RFC 8210 section 9).
+/// Over TCP alone neither is anything encrypted nor is a client authenticated (RFC 8210 section 9):
+/// [`listen_with`](Server::listen_with) takes what is.
 ///
 /// ```
 /// use rtr_wire::{Data, Server, ServerOptions};
@@ -122,13 +68,27 @@ pub(crate) struct Shared {
 /// ```
 pub struct Server {
     shared: Arc<Shared>,
-    /// Held while new data are compared with the newest, for which the thread doesn't wait.
-    updating: Mutex<()>,
     thread: Mutex<Option<(JoinHandle<()>, Waker)>>,
+}
+
+/// What takes clients.
+struct Listener {
+    socket: TcpListener,
+    ready: Box<Ready>,
+}
+
+/// What makes a connection of the one over TCP.
+type Ready = dyn Fn(TcpStream) -> io::Result<Box<dyn Socket>> + Send;
+
+impl Listener {
+    fn awaited(&self) -> Awaited {
+        Awaited::to_read(&self.socket)
+    }
 }
 
 impl Server {
     /// A server that has no data yet and listens nowhere.
+    #[must_use]
     pub fn new(options: ServerOptions) -> Self {
         Server::telling(options, |_, _| {})
     }
@@ -141,14 +101,13 @@ impl Server {
     ) -> Self {
         Server {
             shared: Arc::new(Shared {
-                options,
+                cache: Cache::new(options),
                 ended: Box::new(ended),
                 stop: Stop::default(),
                 listeners: Mutex::default(),
-                newest: Mutex::default(),
+                given: Mutex::default(),
                 clients: AtomicUsize::new(0),
             }),
-            updating: Mutex::default(),
             thread: Mutex::default(),
         }
     }
@@ -160,15 +119,8 @@ impl Server {
     ///
     /// `NewTimings`; `SerialNotAfter`, also for the same payloads under an earlier serial number.
     pub fn update(&self, data: Data) -> Result<bool, UpdateError> {
-        let _alone = locked(&self.updating);
-        let newest = locked(&self.shared.newest).clone();
-        let next = match newest {
-            None => Some(Edition::first(data, 0)),
-            Some(newest) => newest.next(&data, &self.shared.options)?,
-        };
-        let is_new = next.is_some();
-        if let Some(next) = next {
-            *locked(&self.shared.newest) = Some(Arc::new(next));
+        let is_new = self.shared.cache.update(data)?;
+        if is_new {
             self.wake();
         }
         Ok(is_new)
@@ -181,8 +133,7 @@ impl Server {
     ///
     /// Those of writing.
     pub fn save(&self, path: impl AsRef<Path>) -> io::Result<()> {
-        let newest = locked(&self.shared.newest).clone();
-        newest.map_or(Ok(()), |edition| save(&edition, path.as_ref()))
+        self.shared.cache.save(path)
     }
 
     /// Takes what [`Server::save`] wrote, if the server has no data yet, and answers the data that
@@ -192,10 +143,7 @@ impl Server {
     ///
     /// Those of reading, of which `InvalidData` is for a file that isn't as it was written.
     pub fn restore(&self, path: impl AsRef<Path>) -> io::Result<Data> {
-        let edition = restore(path.as_ref(), &self.shared.options)?;
-        let _alone = locked(&self.updating);
-        let mut newest = locked(&self.shared.newest);
-        let data = newest.get_or_insert_with(|| Arc::new(edition)).data();
+        let data = self.shared.cache.restore(path)?;
         self.wake();
         Ok(data)
     }
@@ -207,17 +155,52 @@ impl Server {
     ///
     /// Those of binding to the address, and of starting a thread.
     pub fn listen(&self, address: impl ToSocketAddrs) -> io::Result<SocketAddr> {
-        let listener = TcpListener::bind(address)?;
-        listener.set_nonblocking(true)?;
-        let address = listener.local_addr()?;
+        self.listen_with(address, Ok)
+    }
+
+    /// The same, where this function makes what carries bytes of each connection, for which no call
+    /// waits: over TLS, for example, whose handshake is part of the first calls, and has the time of
+    /// [`ServerOptions::first_query`].
+    ///
+    /// # Errors
+    ///
+    /// Those of binding to the address, and of starting a thread.
+    pub fn listen_with<S: Socket + 'static>(
+        &self,
+        address: impl ToSocketAddrs,
+        ready: impl Fn(TcpStream) -> io::Result<S> + Send + 'static,
+    ) -> io::Result<SocketAddr> {
+        let socket = TcpListener::bind(address)?;
+        socket.set_nonblocking(true)?;
+        let address = socket.local_addr()?;
+        self.start()?;
+        locked(&self.shared.listeners).push(Listener {
+            socket,
+            ready: Box::new(move |stream| Ok(Box::new(ready(stream)?))),
+        });
+        self.wake();
+        Ok(address)
+    }
+
+    /// Serves a client over a connection that was made from there.
+    ///
+    /// # Errors
+    ///
+    /// Those of starting a thread.
+    pub fn serve(&self, socket: impl Socket + 'static, from: SocketAddr) -> io::Result<()> {
+        self.start()?;
+        locked(&self.shared.given).push((Box::new(socket), from));
+        self.wake();
+        Ok(())
+    }
+
+    /// Starts the thread, if it doesn't run.
+    fn start(&self) -> io::Result<()> {
         let mut thread = locked(&self.thread);
         if thread.is_none() {
             *thread = Some(start(&self.shared)?);
         }
-        locked(&self.shared.listeners).push(listener);
-        drop(thread);
-        self.wake();
-        Ok(address)
+        Ok(())
     }
 
     /// How many clients are served.
@@ -249,11 +232,6 @@ impl Drop for Server {
     }
 }
 
-/// The mutex locked. What it holds is whole, even if a thread has panicked.
-pub(crate) fn locked<T>(mutex: &Mutex<T>) -> MutexGuard<'_, T> {
-    mutex.lock().unwrap_or_else(PoisonError::into_inner)
-}
-
 /// Starts the thread of a server.
 fn start(shared: &Arc<Shared>) -> io::Result<(JoinHandle<()>, Waker)> {
     let (waker, woken) = waker()?;
@@ -263,11 +241,8 @@ fn start(shared: &Arc<Shared>) -> io::Result<(JoinHandle<()>, Waker)> {
         listeners: Vec::new(),
         connections: Vec::new(),
         takes_from: 0,
-        moment: Moment {
-            now: 0,
-            shared: Arc::clone(shared),
-            newest: None,
-        },
+        moment: shared.cache.at(0),
+        shared: Arc::clone(shared),
     };
     let thread = thread::Builder::new().name("rtr cache".to_string());
     Ok((thread.spawn(move || host.run())?, waker))
@@ -277,11 +252,12 @@ fn start(shared: &Arc<Shared>) -> io::Result<(JoinHandle<()>, Waker)> {
 struct Host {
     begun: Instant,
     woken: Woken,
-    listeners: Vec<TcpListener>,
+    listeners: Vec<Listener>,
     connections: Vec<Connection>,
     /// When clients are taken in again.
     takes_from: u64,
     moment: Moment,
+    shared: Arc<Shared>,
 }
 
 impl Host {
@@ -289,8 +265,8 @@ impl Host {
         loop {
             let awaited = self.wait();
             self.look();
-            if self.moment.shared.stop.is_set() {
-                return self.moment.shared.clients.store(0, Ordering::Relaxed);
+            if self.shared.stop.is_set() {
+                return self.shared.clients.store(0, Ordering::Relaxed);
             }
             self.go_on(&awaited);
         }
@@ -299,29 +275,28 @@ impl Host {
     /// Waits until something has come or is to be done: answers what has come for the waker, the
     /// connections, and the listeners if clients are taken in.
     fn wait(&mut self) -> Vec<Awaited> {
-        self.moment.now = self.begun.elapsed().as_millis() as u64;
+        self.moment.now = milliseconds_since(self.begun);
         let (now, moment) = (self.moment.now, &self.moment);
         let pause = Some(self.takes_from).filter(|time| *time > now);
         let times = self.connections.iter().map(|one| one.wakes(moment));
         let wakes = times.chain(pause).min().unwrap_or(u64::MAX);
-        let most = moment.shared.options.connections;
+        let most = moment.options.connections;
         let takes = pause.is_none() && self.connections.len() < most.saturating_add(MOST_CLOSING);
         let mut awaited = std::vec![self.woken.awaited()];
         awaited.extend(self.connections.iter().map(Connection::awaited));
         if takes {
-            awaited.extend(self.listeners.iter().map(Awaited::to_read));
+            awaited.extend(self.listeners.iter().map(Listener::awaited));
         }
         wait(&mut awaited, wakes.saturating_sub(now));
-        self.moment.now = self.begun.elapsed().as_millis() as u64;
+        self.moment.now = milliseconds_since(self.begun);
         awaited
     }
 
     /// Takes up the listeners and the data that are new.
     fn look(&mut self) {
         self.woken.clear();
-        let shared = &self.moment.shared;
-        self.listeners.append(&mut locked(&shared.listeners));
-        self.moment.newest = locked(&shared.newest).clone();
+        self.listeners.append(&mut locked(&self.shared.listeners));
+        self.moment = self.shared.cache.at(self.moment.now);
     }
 
     /// Goes on with all connections that can or have to, and takes in new ones.
@@ -329,22 +304,23 @@ impl Host {
         let (clients, listeners) = awaited[1..].split_at(self.connections.len());
         for (connection, awaited) in self.connections.iter_mut().zip(clients) {
             if awaited.is_ready() || connection.wakes(&self.moment) <= self.moment.now {
-                connection.go_on(&self.moment, awaited.is_ready());
+                connection.go_on(&self.moment, &self.shared.ended, awaited.is_ready());
             }
         }
         for at in (0..listeners.len()).filter(|at| listeners[*at].is_ready()) {
-            match self.listeners[at].accept() {
-                Ok((stream, from)) => self.take_in(stream, from),
-                Err(error) if is_tick(&error) => {}
+            match self.listeners[at].socket.accept() {
+                Ok((stream, from)) => self.take_in(at, stream, from),
+                Err(error) if has_to_wait(&error) => {}
                 Err(_) => self.takes_from = self.moment.now + PAUSE,
             }
         }
-        let moment = &self.moment;
-        self.connections.retain(|one| !one.is_over(moment.now));
-        moment
-            .shared
-            .clients
-            .store(self.served(), Ordering::Relaxed);
+        let given = take(&mut *locked(&self.shared.given));
+        for (socket, from) in given {
+            self.serve(socket, from, false);
+        }
+        self.connections.retain(|one| !one.is_over());
+        let served = self.served();
+        self.shared.clients.store(served, Ordering::Relaxed);
     }
 
     /// How many clients are served.
@@ -355,16 +331,26 @@ impl Host {
             .count()
     }
 
-    /// Takes a client in, or refuses it: where there are as many as there may be, or the system has
-    /// no descriptor left beside that of its connection.
-    fn take_in(&mut self, stream: TcpStream, from: SocketAddr) {
+    /// Takes in a client of a listener.
+    fn take_in(&mut self, at: usize, stream: TcpStream, from: SocketAddr) {
         let is_last = stream.try_clone().is_err();
-        let is_full = self.served() >= self.moment.shared.options.connections;
-        if let Ok(mut connection) = Connection::new(stream, from, &self.moment) {
-            if is_last || is_full {
-                connection.refuse(&self.moment);
-            }
-            self.connections.push(connection);
+        if stream.set_nonblocking(true).is_err() || stream.set_nodelay(true).is_err() {
+            return; // it is gone again
         }
+        match (self.listeners[at].ready)(stream) {
+            Ok(socket) => self.serve(socket, from, is_last),
+            Err(error) => (self.shared.ended)(from, &ServerError::Io(error)),
+        }
+    }
+
+    /// Serves a client, or refuses it: where there are as many as there may be, or the system has
+    /// no descriptor left beside that of its connection.
+    fn serve(&mut self, socket: Box<dyn Socket>, from: SocketAddr, is_last: bool) {
+        let is_full = self.served() >= self.moment.options.connections;
+        let mut connection = Connection::new(socket, from, &self.moment);
+        if is_last || is_full {
+            connection.refuse(&self.moment, &self.shared.ended);
+        }
+        self.connections.push(connection);
     }
 }

@@ -1,7 +1,7 @@
 //! Why a cache ends a connection, or doesn't take data.
 
+use crate::cache_machine::{reason, reason_text, Serving};
 use crate::fault::{ErrorCode, Fault};
-use crate::machine::{reason, reason_text, Serving};
 use crate::unit::{ErrorReport, Unit};
 use std::fmt;
 use std::io;

@@ -1,5 +1,7 @@
 //! Safe calls of the functions of the archive.
 
+#[cfg(feature = "alloc")]
+pub(crate) use crate::abi::{Check, Finding as FindingNumbers};
 pub(crate) use crate::abi::{Covering as CoveringNumbers, Tables, Unit};
 
 use crate::abi::{self, kind, side, status, validity};
@@ -11,6 +13,8 @@ use crate::net::{IpAddr, Ipv4Addr, Ipv6Addr};
 use crate::sequence::{NotCompared, Progress, Stopped};
 use crate::unit::{self, ErrorReport, Providers, ReportParts, Timing, UnitRef};
 use crate::validation::{Route, Validity};
+use core::ops::Deref;
+use core::str;
 
 /// The answer as a result.
 fn result(answer: Answer) -> Result<Progress, Stopped> {
@@ -87,9 +91,53 @@ pub(crate) fn unit_size(input: &[u8]) -> Result<usize, Fault> {
     }
 }
 
+/// A text of the archive.
+pub(crate) struct Said {
+    bytes: [u8; abi::TEXT_ROOM],
+    length: usize,
+}
+
+impl Said {
+    /// The text that a call writes to the front of these bytes.
+    fn by(call: impl FnOnce(&mut [u8], &mut usize) -> u8) -> Self {
+        let mut said = Said {
+            bytes: [0; abi::TEXT_ROOM],
+            length: 0,
+        };
+        call(&mut said.bytes, &mut said.length);
+        said
+    }
+}
+
+impl Deref for Said {
+    type Target = str;
+
+    fn deref(&self) -> &str {
+        // Texts are ASCII, and shorter than the room for them.
+        let text = self.bytes.get(..self.length).unwrap_or(&self.bytes);
+        str::from_utf8(text).unwrap_or_default()
+    }
+}
+
+/// The text of a status with its detail.
+pub(crate) fn status_text(status: u8, detail: u8) -> Said {
+    Said::by(|output, length| {
+        // SAFETY: the output is live and of this length, and the count overlaps nothing.
+        unsafe { abi::rtr_text_nonnull(status, detail, output.as_mut_ptr(), output.len(), length) }
+    })
+}
+
+/// The name of a number, of what `named` says.
+pub(crate) fn name(named: u8, number: u16) -> Said {
+    Said::by(|output, length| {
+        // SAFETY: as in `status_text`.
+        unsafe { abi::rtr_name_nonnull(named, number, output.as_mut_ptr(), output.len(), length) }
+    })
+}
+
 /// The length of the line of the unit that the input begins with, of which the output holds the
 /// front, and the size of the unit.
-#[cfg(feature = "std")]
+#[cfg(feature = "alloc")]
 pub(crate) fn line(input: &[u8], offset: u64, output: &mut [u8]) -> Result<(usize, usize), Fault> {
     let mut answer = abi::Line::default();
     // SAFETY: as in `normalise`.
@@ -107,7 +155,7 @@ pub(crate) fn line(input: &[u8], offset: u64, output: &mut [u8]) -> Result<(usiz
 }
 
 /// As `line`, of the change that the unit makes.
-#[cfg(feature = "std")]
+#[cfg(feature = "alloc")]
 pub(crate) fn change_line(input: &[u8], output: &mut [u8]) -> Result<(usize, usize), Fault> {
     let mut answer = abi::Line::default();
     // SAFETY: as in `normalise`.
@@ -123,12 +171,75 @@ pub(crate) fn change_line(input: &[u8], output: &mut [u8]) -> Result<(usize, usi
     lined(answer)
 }
 
-#[cfg(feature = "std")]
+/// As `change_line`, of the JSON object.
+#[cfg(feature = "alloc")]
+pub(crate) fn change_json(input: &[u8], output: &mut [u8]) -> Result<(usize, usize), Fault> {
+    let mut answer = abi::Line::default();
+    // SAFETY: as in `normalise`.
+    unsafe {
+        abi::rtr_change_json_nonnull(
+            input.as_ptr(),
+            input.len(),
+            output.as_mut_ptr(),
+            output.len(),
+            &mut answer,
+        )
+    };
+    lined(answer)
+}
+
+#[cfg(feature = "alloc")]
 fn lined(answer: abi::Line) -> Result<(usize, usize), Fault> {
     match answer.status {
         status::OK | status::NO_ROOM => Ok((answer.length, answer.size)),
         status => Err(Fault::of(status, answer.detail)),
     }
+}
+
+/// The name is at the front of the output, which has room for any.
+#[cfg(feature = "alloc")]
+pub(crate) fn check_name(input: &[u8], output: &mut [u8]) -> Result<abi::Naming, Fault> {
+    let mut answer = abi::Naming::default();
+    // SAFETY: as in `normalise`.
+    let status = unsafe {
+        abi::rtr_check_name_nonnull(
+            input.as_ptr(),
+            input.len(),
+            output.as_mut_ptr(),
+            output.len(),
+            &mut answer,
+        )
+    };
+    match status {
+        status::OK => Ok(answer),
+        status => Err(Fault::of(status, answer.detail)),
+    }
+}
+
+/// The unit is one that `check_name` takes.
+#[cfg(feature = "alloc")]
+pub(crate) fn check_unit(check: &mut Check, input: &[u8], was_there: bool) -> abi::Checked {
+    let mut answer = abi::Checked::default();
+    // SAFETY: the slice is live and of this length, and the check and the answer overlap nothing.
+    unsafe {
+        abi::rtr_check_unit_nonnull(check, input.as_ptr(), input.len(), was_there, &mut answer)
+    };
+    answer
+}
+
+#[cfg(feature = "alloc")]
+pub(crate) fn check_end(check: Check) -> FindingNumbers {
+    let mut finding = FindingNumbers::default();
+    // SAFETY: both are live, and the finding overlaps nothing.
+    unsafe { abi::rtr_check_end(&check, &mut finding) };
+    finding
+}
+
+/// The length of the line, whose front is written; 0 for none.
+#[cfg(feature = "alloc")]
+pub(crate) fn finding_line(finding: FindingNumbers, offset: u64, output: &mut [u8]) -> usize {
+    // SAFETY: the slice is live and of this length, and overlaps nothing.
+    unsafe { abi::rtr_finding_line_nonnull(&finding, offset, output.as_mut_ptr(), output.len()) }
 }
 
 /// `part` is the key info, the providers, or the unit that a report is about. The fault comes
@@ -507,8 +618,8 @@ impl Unit {
 
     fn with_serial(self, session: u16, serial: u32) -> Self {
         Unit {
-            session,
             serial,
+            session,
             ..self
         }
     }
@@ -545,6 +656,43 @@ mod tests {
             assert_eq!(write(&unit, &[], &mut output), Err(fault));
             assert_eq!(output, [0xa5; 40]);
         }
+    }
+
+    /// The texts of the library, as in all languages.
+    #[cfg(feature = "std")]
+    #[test]
+    fn texts() {
+        use super::abi::named;
+        let path = concat!(env!("CARGO_MANIFEST_DIR"), "/../../tests/texts");
+        let file = std::fs::read_to_string(path).unwrap();
+        let mut rows = 0;
+        for row in file
+            .lines()
+            .filter(|row| !row.is_empty() && !row.starts_with('#'))
+        {
+            let (word, rest) = row.split_once(' ').unwrap();
+            let (number, mut text) = rest.split_once(' ').unwrap();
+            let number = number.parse::<u16>().unwrap();
+            let named = match word {
+                "status" => named::STATUS,
+                "kind" => named::KIND,
+                "cause" => named::CAUSE,
+                "reason" => named::REASON,
+                "code" => named::CODE,
+                _ => {
+                    let (detail, after) = text.split_once(' ').unwrap();
+                    text = after;
+                    let said =
+                        super::status_text(number.try_into().unwrap(), detail.parse().unwrap());
+                    assert_eq!(&*said, text);
+                    rows += 1;
+                    continue;
+                }
+            };
+            assert_eq!(&*super::name(named, number), text);
+            rows += 1;
+        }
+        assert!(rows > 80);
     }
 
     /// A status that isn't known isn't said to be another.

@@ -1,26 +1,69 @@
 //! A client's connections, which never wait for ever.
 
-use std::io::{self, ErrorKind, Read, Write};
-use std::net::{Shutdown, TcpStream};
+use crate::cache::locked;
+use crate::socket::Socket;
+use crate::waiting::{wait, Awaited};
+use std::io::{self, ErrorKind};
+use std::net::Shutdown;
+use std::os::unix::net::UnixStream;
 use std::sync::atomic::{AtomicBool, Ordering};
-use std::sync::Arc;
+use std::sync::Mutex;
 use std::time::{Duration, Instant};
+use std::vec::Vec;
 
-/// How long a call of the system waits, at most: as late as that a thread sees that it has to stop.
-pub(crate) const TICK: Duration = Duration::from_millis(100);
+/// How long a thread waits at most that can't be woken, since the system has no descriptors left.
+const TICK: Duration = Duration::from_millis(100);
 
-/// Whether a thread has to stop.
-#[derive(Clone, Debug, Default)]
-pub(crate) struct Stop(Arc<AtomicBool>);
+/// Whether threads have to stop, and what wakes them then.
+#[derive(Debug, Default)]
+pub(crate) struct Stop {
+    is_set: AtomicBool,
+    /// What a thread has waited for: its other end is shut down when threads have to stop.
+    ends: Mutex<Option<(UnixStream, UnixStream)>>,
+}
 
 impl Stop {
+    /// Has all threads stop. It waits for nothing, so that a signal's handler may call it.
     pub(crate) fn set(&self) {
-        self.0.store(true, Ordering::Relaxed);
+        self.is_set.store(true, Ordering::SeqCst);
+        // Whoever has the lock looks whether this is set after that.
+        if let Ok(ends) = self.ends.try_lock() {
+            if let Some((end, _)) = &*ends {
+                let _ = end.shutdown(Shutdown::Both);
+            }
+        }
     }
 
     pub(crate) fn is_set(&self) -> bool {
-        self.0.load(Ordering::Relaxed)
+        self.is_set.load(Ordering::SeqCst)
     }
+
+    /// Waits for a socket, if there is one, for so long at most, and until threads have to stop.
+    pub(crate) fn wait(&self, socket: Option<Awaited>, most: Duration) {
+        let woken = {
+            let mut ends = locked(&self.ends);
+            if ends.is_none() {
+                *ends = UnixStream::pair().ok();
+            }
+            ends.as_ref().map(|(_, end)| Awaited::to_read(end))
+        };
+        if self.is_set() {
+            return self.set(); // for others, which perhaps weren't woken
+        }
+        let most = if woken.is_some() {
+            most
+        } else {
+            most.min(TICK)
+        };
+        let mut awaited: Vec<Awaited> = socket.into_iter().chain(woken).collect();
+        wait(&mut awaited, in_milliseconds(most));
+    }
+}
+
+/// A span in milliseconds, none of which is left out.
+fn in_milliseconds(span: Duration) -> u64 {
+    let whole = u64::try_from(span.as_millis()).unwrap_or(u64::MAX);
+    whole.saturating_add(u64::from(span.subsec_nanos() % 1_000_000 > 0))
 }
 
 /// A moment so much later; the far future where there is no such moment.
@@ -29,47 +72,67 @@ pub(crate) fn after(start: Instant, time: Duration) -> Instant {
     start.checked_add(time).unwrap_or(start + CENTURY)
 }
 
-/// Has the stream wait no longer than a tick.
-pub(crate) fn set_ticks(stream: &TcpStream) -> io::Result<()> {
-    stream.set_nodelay(true)?;
-    stream.set_nonblocking(false)?;
-    stream.set_read_timeout(Some(TICK))?;
-    stream.set_write_timeout(Some(TICK))
+/// The time by a clock that began then.
+pub(crate) fn milliseconds_since(begun: Instant) -> u64 {
+    u64::try_from(begun.elapsed().as_millis()).unwrap_or(u64::MAX)
 }
 
-/// Whether the stream had nothing to give, or no room, for a tick, or a signal came.
-pub(crate) fn is_tick(error: &io::Error) -> bool {
+/// How long it is until a moment.
+fn left(until: Instant) -> Duration {
+    until.saturating_duration_since(Instant::now())
+}
+
+/// Whether a call had nothing to give, or no room, or a signal came.
+pub(crate) fn has_to_wait(error: &io::Error) -> bool {
     matches!(error.kind(), ErrorKind::WouldBlock | ErrorKind::Interrupted)
 }
 
-/// Sends the last bytes of a connection, until then at most, and closes it so that they arrive.
-pub(crate) fn send_last(mut stream: &TcpStream, bytes: &[u8], until: Instant, stop: &Stop) {
-    let mut rest = bytes;
-    while !rest.is_empty() {
-        if stop.is_set() || Instant::now() >= until {
-            return;
-        }
-        match stream.write(rest) {
-            Ok(count) => rest = &rest[count..],
-            Err(error) if is_tick(&error) => {}
-            Err(_) => return,
-        }
+/// Writes some of the bytes. A socket that takes none fails.
+pub(crate) fn write(socket: &mut impl Socket, bytes: &[u8]) -> io::Result<usize> {
+    match socket.write(bytes)? {
+        0 => Err(ErrorKind::WriteZero.into()),
+        count => Ok(count),
     }
-    close(stream);
 }
 
-/// Closes the stream so that what was written still arrives: bytes of the peer that weren't read
-/// would have it reset. Few of them are waited for, and not for long.
-pub(crate) fn close(stream: &TcpStream) {
+/// Sends the last bytes of a connection, until then at most, and closes it so that they arrive.
+pub(crate) fn send_last(mut socket: impl Socket, bytes: &[u8], until: Instant, stop: &Stop) {
+    let (mut rest, mut is_flushed) = (bytes, false);
+    while !is_flushed {
+        if stop.is_set() || left(until).is_zero() {
+            return;
+        }
+        let done = match rest {
+            [] => socket.flush().map(|()| is_flushed = true),
+            some => write(&mut socket, some).map(|count| rest = &some[count..]),
+        };
+        match done {
+            Err(error) if has_to_wait(&error) => {
+                stop.wait(Some(Awaited::to_write(&socket.socket())), left(until));
+            }
+            Err(_) => return,
+            Ok(()) => {}
+        }
+    }
+    close(socket);
+}
+
+/// Closes the connection so that what was written still arrives: bytes of the peer that weren't
+/// read would have it reset. Few of them are waited for, and not for long.
+fn close(mut socket: impl Socket) {
     const MOST_BYTES: usize = 1 << 18;
-    let deadline = after(Instant::now(), 2 * TICK);
-    let _ = stream.shutdown(Shutdown::Write);
-    let (mut bytes, mut buffer, mut stream) = (0, [0; 4096], stream);
-    while bytes < MOST_BYTES && Instant::now() < deadline {
-        match stream.read(&mut buffer) {
+    const MOST_TIME: Duration = Duration::from_millis(200);
+    let deadline = after(Instant::now(), MOST_TIME);
+    let _ = socket.finish();
+    let (mut bytes, mut buffer) = (0, [0; 4096]);
+    while bytes < MOST_BYTES && !left(deadline).is_zero() {
+        match socket.read(&mut buffer) {
             Ok(0) => return,
             Ok(count) => bytes += count,
-            Err(error) if is_tick(&error) => {}
+            Err(error) if has_to_wait(&error) => {
+                let awaited = Awaited::to_read(&socket.socket());
+                wait(&mut [awaited], in_milliseconds(left(deadline)));
+            }
             Err(_) => return,
         }
     }

@@ -5,9 +5,9 @@ use crate::fault::{ErrorCode, Fault, PrefixRule};
 use crate::kind::Kind;
 use crate::net::{Ipv4Addr, Ipv6Addr};
 use crate::sys;
+#[cfg(feature = "alloc")]
+use alloc::vec::Vec;
 use core::cmp::Ordering;
-#[cfg(feature = "std")]
-use std::vec::Vec;
 
 /// The bytes of a unit that is read or written, at most.
 pub(crate) const LONGEST: usize = 65535;
@@ -197,7 +197,7 @@ impl<B: AsRef<[u8]>> Providers<B> {
     }
 }
 
-#[cfg(feature = "std")]
+#[cfg(feature = "alloc")]
 impl FromIterator<u32> for Providers<Vec<u8>> {
     fn from_iter<I: IntoIterator<Item = u32>>(asns: I) -> Self {
         Providers(asns.into_iter().flat_map(u32::to_be_bytes).collect())
@@ -237,7 +237,7 @@ pub enum Unit<B> {
 pub type UnitRef<'a> = Unit<&'a [u8]>;
 
 /// A unit that owns its key info, providers or parts.
-#[cfg(feature = "std")]
+#[cfg(feature = "alloc")]
 pub type OwnedUnit = Unit<Vec<u8>>;
 
 /// How many bytes the unit has that the input begins with, by its header alone: at most 65535. It
@@ -270,7 +270,7 @@ impl<'a> UnitRef<'a> {
     }
 
     /// The unit with a copy of its bytes.
-    #[cfg(feature = "std")]
+    #[cfg(feature = "alloc")]
     pub fn into_owned(self) -> OwnedUnit {
         self.map(<[u8]>::to_vec)
     }
@@ -360,6 +360,7 @@ impl<B> Unit<B> {
 
 impl<B: AsRef<[u8]>> Unit<B> {
     /// How many bytes the written form has, if the unit has one.
+    #[allow(clippy::match_same_arms)] // in the order of the sections of RFC 8210
     pub fn size(&self) -> usize {
         match self {
             Unit::ResetQuery(_) | Unit::CacheResponse(_) | Unit::CacheReset(_) => 8,
@@ -430,7 +431,7 @@ impl<B: AsRef<[u8]>> Unit<B> {
     /// # Errors
     ///
     /// Those of [`write`](Unit::write) but `NoRoom`. Then nothing is appended.
-    #[cfg(feature = "std")]
+    #[cfg(feature = "alloc")]
     pub fn append(&self, to: &mut Vec<u8>) -> Result<usize, Fault> {
         let start = to.len();
         to.resize(start + self.size().min(LONGEST), 0);
@@ -451,7 +452,7 @@ fn broken(width: u8, length: u8, max_length: u8) -> PrefixRule {
     }
 }
 
-#[cfg(feature = "std")]
+#[cfg(feature = "alloc")]
 impl ErrorReport<&[u8]> {
     /// The report with a copy of its bytes.
     pub(crate) fn into_owned(self) -> ErrorReport<Vec<u8>> {
@@ -486,9 +487,10 @@ impl<B: AsRef<[u8]>> ErrorReport<B> {
         if output.len() < size {
             return Err(Fault::NoRoom);
         }
+        let number = |length| u32::try_from(length).expect("a report isn't as long");
         let start = sys::write(&sys::Unit::of_report(self), unit, output)?;
-        output[4..8].copy_from_slice(&(size as u32).to_be_bytes());
-        output[start - 4..start].copy_from_slice(&(text.len() as u32).to_be_bytes());
+        output[4..8].copy_from_slice(&number(size).to_be_bytes());
+        output[start - 4..start].copy_from_slice(&number(text.len()).to_be_bytes());
         output[start..size].copy_from_slice(text);
         Ok(size)
     }
@@ -504,6 +506,7 @@ impl<B: AsRef<[u8]>> ErrorReport<B> {
 /// assert_eq!(compare_serials(u32::MAX, 0), Some(Ordering::Less));
 /// assert_eq!(compare_serials(0, 1 << 31), None);
 /// ```
+#[must_use]
 pub fn compare_serials(left: u32, right: u32) -> Option<Ordering> {
     match sys::serial_order(left, right) {
         order::EQUAL => Some(Ordering::Equal),

@@ -28,6 +28,7 @@ pub struct Units<'a> {
 
 impl<'a> Units<'a> {
     /// All units of the input, of any type.
+    #[must_use]
     pub fn new(input: &'a [u8]) -> Self {
         Units {
             input,
@@ -42,6 +43,7 @@ impl<'a> Units<'a> {
     ///
     /// Faults: `TooMany`, before a unit is parsed; those of [`Unit::first`], but `UnitType` for
     /// every type that no sequence has, and `Short` where the input ends before an end of data.
+    #[must_use]
     pub fn sequence(input: &'a [u8], limit: u64) -> Self {
         Units {
             limit: Some(limit),
@@ -51,11 +53,13 @@ impl<'a> Units<'a> {
 
     /// How many bytes the units have that were given. After a fault, where the unit begins that is
     /// refused.
+    #[must_use]
     pub fn offset(&self) -> usize {
         self.offset
     }
 
     /// What follows the units that were given.
+    #[must_use]
     pub fn rest(&self) -> &'a [u8] {
         &self.input[self.offset..]
     }

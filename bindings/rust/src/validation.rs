@@ -71,7 +71,7 @@ pub struct Route {
 
 impl Route {
     /// The route of this prefix with this origin AS. An AS of 0 is for a route that has no one
-    /// origin, since its path ends with an AS_SET: no VRP matches it. Host bits are cleared.
+    /// origin, since its path ends with an `AS_SET`: no VRP matches it. Host bits are cleared.
     ///
     /// # Errors
     ///
@@ -91,16 +91,19 @@ impl Route {
     }
 
     /// The address of the prefix, whose host bits are zero.
+    #[must_use]
     pub fn address(&self) -> IpAddr {
         self.address
     }
 
     /// How many bits of the address count.
+    #[must_use]
     pub fn length(&self) -> u8 {
         self.length
     }
 
     /// The origin AS, or 0 where there is no one origin.
+    #[must_use]
     pub fn asn(&self) -> u32 {
         self.asn
     }
@@ -177,17 +180,20 @@ pub struct Tables(sys::Tables);
 impl Tables {
     /// The tables of data in canonical form, as [`apply_into`](crate::apply_into) writes it. Make
     /// them anew after each delta.
+    #[must_use]
     pub fn of(data: &[u8]) -> Tables {
         Tables(sys::tables(data))
     }
 
     /// The validity of the route by the VRPs of the data that these are the tables of. With other
     /// bytes there is some answer.
+    #[must_use]
     pub fn validate(&self, data: &[u8], route: &Route) -> Validity {
         sys::validate(data, &self.0, route)
     }
 
     /// The VRPs of the data that cover the route, in the order of payloads.
+    #[must_use]
     pub fn covering<'a>(&'a self, data: &'a [u8], route: &Route) -> Covering<'a> {
         Covering {
             data,

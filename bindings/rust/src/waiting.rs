@@ -40,7 +40,7 @@ impl Awaited {
     }
 
     /// Whether the socket needn't be waited for, or has failed.
-    pub(crate) fn is_ready(&self) -> bool {
+    pub(crate) fn is_ready(self) -> bool {
         self.came != 0
     }
 }

@@ -714,7 +714,7 @@ fn stopped() {
     let _alone = alone();
     let cache = Played::new();
     let told = follow(cache.address(), options(), |_| {
-        drop(cache.asked(&reset_query(2)))
+        drop(cache.asked(&reset_query(2)));
     });
     assert!(told.len() <= 1);
     let cache = Played::new();
@@ -734,5 +734,36 @@ fn stopped() {
         let running = scope.spawn(|| client.run(|_| ControlFlow::Break(())));
         cache.accept().send(&all(2, 1));
         assert_eq!(running.join().unwrap(), Some(data(1)));
+    });
+}
+
+/// While nothing comes and it isn't time no client wakes, with a connection and without one.
+#[test]
+fn no_thread_wakes() {
+    let _alone = alone();
+    let cache = Played::new();
+    let nobody = TcpListener::bind("127.0.0.1:0").unwrap().local_addr();
+    let addresses = [cache.address(), nobody.unwrap()];
+    let patient = || ClientOptions {
+        pause: PATIENCE,
+        ..options()
+    };
+    let clients = addresses.map(|address| Client::new(address.to_string(), patient()));
+    std::thread::scope(|scope| {
+        let named = || std::thread::Builder::new().name("rtr client".to_string());
+        let stopping = clients.iter().map(|client| {
+            let run = || client.run(|_| ControlFlow::Continue(()));
+            named().spawn_scoped(scope, run).unwrap();
+            Stopping(client)
+        });
+        let stopping: Vec<Stopping<'_>> = stopping.collect();
+        let mut peer = cache.asked(&reset_query(2));
+        peer.send(&all(2, 1));
+        std::thread::sleep(Duration::from_secs(1));
+        let before = waits("rtr client");
+        std::thread::sleep(Duration::from_secs(2));
+        let woken = waits("rtr client") - before;
+        assert!(woken <= 2, "woken {woken} times");
+        drop(stopping);
     });
 }

@@ -90,10 +90,7 @@ fn any(random: &mut Random) -> Payload {
         ),
         1 => prefix(6, &[small; 16], 128, 128, random.byte(3)),
         2 => key(random.byte(2), random.byte(2), &[9, 8, 7][..small.into()]),
-        _ => aspa(
-            small,
-            &[random.byte(2), 9][..1 + usize::from(random.byte(2))],
-        ),
+        _ => aspa(small, &[random.byte(2), 9][..=usize::from(random.byte(2))]),
     }
 }
 
@@ -221,6 +218,7 @@ fn refused(call: impl FnOnce(&mut [u8]) -> Result<usize, DataError>) -> (Fault, 
     (error.fault, error.place)
 }
 
+#[allow(clippy::unnecessary_wraps)] // as errors have it
 fn at(side: Side, offset: usize) -> Option<Place> {
     Some(Place { side, offset })
 }

@@ -5,7 +5,7 @@ mod common;
 
 use rtr_wire::*;
 
-/// As `docs/PROGRAMS.md` and `docs/LISTING.md` show them.
+/// As `rtr_diff(1)` and `rtr_list(1)` show them.
 #[test]
 fn lines() {
     let rows: [(&[u8], &str, &str); 5] = [
@@ -57,7 +57,7 @@ fn lines() {
     assert_eq!((change_line(&unit), change_json(&unit)), (None, None));
 }
 
-/// As `docs/LISTING.md` says, where there is room at once and where there isn't.
+/// As `rtr_list(1)` says, where there is room at once and where there isn't.
 #[test]
 fn units() {
     let (line, size) = unit_line(common::IPV6, 24).unwrap();

@@ -79,9 +79,10 @@ fn watch(address: &str, serial: u32) -> Option<Data> {
             for line in changes.units().filter_map(|unit| change_line(&unit)) {
                 println!("{line}");
             }
-            match data.end().serial == serial {
-                true => ControlFlow::Break(()),
-                false => ControlFlow::Continue(()),
+            if data.end().serial == serial {
+                ControlFlow::Break(())
+            } else {
+                ControlFlow::Continue(())
             }
         }
         Event::Failed(error) => {

@@ -175,9 +175,10 @@ fn restarts() {
         std::fs::write(Cache::kept(&file), kept).unwrap();
         let cache = Cache::start(file.clone());
         let name = Cache::kept(&file);
-        let said = match torn {
-            true => "the file of editions is torn".to_string(),
-            false => format!("session {SESSION} serial 2: {} payloads", data(2).len()),
+        let said = if torn {
+            "the file of editions is torn".to_string()
+        } else {
+            format!("session {SESSION} serial 2: {} payloads", data(2).len())
         };
         assert_eq!(cache.line(), format!("{}: {said}", name.display()));
         let listening = cache.line();

@@ -175,13 +175,11 @@ fn many_steps() {
     let of = |serial: u32| {
         let count = [0, 20, 3, 40, 0, 7][serial as usize % 6];
         let with_aspa = data_of(SESSION, serial, count);
-        match serial % 2 {
-            0 => with_aspa,
-            _ => {
-                let of_1 = with_aspa.for_version(1).unwrap();
-                of_1.for_version(2).unwrap()
-            }
+        if serial % 2 == 0 {
+            return with_aspa;
         }
+        let of_1 = with_aspa.for_version(1).unwrap();
+        of_1.for_version(2).unwrap()
     };
     for serial in 1..=9 {
         assert_eq!(cache.server.update(of(serial)), Ok(true));
@@ -564,17 +562,22 @@ fn a_hundred_clients() {
         let mut client = Peer::connect(address);
         client.send(&reset_query(2));
         let mut mine = Data::from_sequence(&client.response()).unwrap();
+        // One query at a time: the answer to it leads from the data that it names.
+        let (mut is_asked, mut is_behind) = (false, false);
         while mine.end().serial < 4 {
             // An answer, or a notify.
             match client.unit() {
-                Some(Unit::SerialNotify(_)) => {
-                    client.send(&serial_query(2, SESSION, mine.end().serial));
-                }
+                Some(Unit::SerialNotify(_)) => is_behind = true,
                 Some(Unit::CacheResponse(_)) => {
                     let changes = order(&client.sequence()).unwrap();
                     mine = mine.apply(&changes).expect("it leads from these data");
+                    is_asked = false;
                 }
                 other => panic!("{other:?}"),
+            }
+            if is_behind && !is_asked {
+                client.send(&serial_query(2, SESSION, mine.end().serial));
+                (is_asked, is_behind) = (true, false);
             }
             assert_eq!(mine, data(mine.end().serial));
         }
@@ -647,24 +650,6 @@ fn answers_that_are_cut() {
         assert!(began.elapsed() < milliseconds(2000), "it ended late");
         assert!(holds(|| server.clients() == 0));
     }
-}
-
-/// How often threads of this name began to wait.
-fn waits(name: &str) -> u64 {
-    let tasks = std::fs::read_dir("/proc/self/task").unwrap();
-    let statuses =
-        tasks.filter_map(|task| std::fs::read_to_string(task.ok()?.path().join("status")).ok());
-    let named = statuses.filter(|status| {
-        status
-            .lines()
-            .next()
-            .map_or(false, |line| line.contains(name))
-    });
-    let count = |status: String| -> Option<u64> {
-        let line = status.lines().find(|line| line.starts_with("voluntary"))?;
-        line.split_whitespace().last()?.parse().ok()
-    };
-    named.filter_map(count).sum()
 }
 
 /// While nothing comes no thread wakes: neither for clients that ask nothing, nor for those that

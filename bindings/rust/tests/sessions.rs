@@ -189,7 +189,7 @@ fn read() {
             let before = reader.offset() as usize;
             match reader.next_unit() {
                 Ok(Some(unit)) => {
-                    answer.check_unit(&unit, &input[before..][..answer.numbers[1] as usize])
+                    answer.check_unit(&unit, &input[before..][..answer.numbers[1] as usize]);
                 }
                 Ok(None) => assert_eq!((answer.numbers[0], before), (1, input.len())),
                 Err(error) => answer.check_fault(error.fault().expect("no reader fails")),

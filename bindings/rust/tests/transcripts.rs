@@ -1,9 +1,9 @@
 //! A router without sockets does in each scene what the scene says (`tests/transcripts`).
-#![cfg(feature = "std")]
+#![cfg(feature = "alloc")]
 
 use rtr_wire::{ClientError, ClientOptions, ErrorCode, Router, Step, Unit, Units};
 use std::fmt::Write;
-use std::io;
+use std::io::{self, BufRead, Write as _};
 use std::path::{Path, PathBuf};
 use std::process::Command;
 use std::time::Duration;
@@ -21,10 +21,16 @@ struct Played {
     broken: bool,
     wanted: String,
     seen: String,
+    /// Whether it plays with another end (`tests/joined`), which gets the bytes as they are.
+    joined: bool,
 }
 
 fn hex(bytes: &[u8]) -> String {
-    bytes.iter().map(|byte| format!("{:02x}", byte)).collect()
+    let mut digits = String::new();
+    for byte in bytes {
+        write!(digits, "{byte:02x}").unwrap();
+    }
+    digits
 }
 
 fn bytes_of(words: &[&str]) -> Vec<u8> {
@@ -55,6 +61,7 @@ impl Played {
             broken: false,
             wanted: String::new(),
             seen: String::new(),
+            joined: false,
         }
     }
 
@@ -74,6 +81,10 @@ impl Played {
         if self.broken {
             return;
         }
+        if self.joined && !output.is_empty() {
+            self.sees(&format!("router> {}", hex(&output)));
+            return self.router().sent(output.len());
+        }
         for unit in Units::new(&output) {
             let sent = match unit.expect("a whole unit") {
                 Unit::ErrorReport(report) => reported(&report),
@@ -83,7 +94,7 @@ impl Played {
                     hex(&form[..size])
                 }
             };
-            self.sees(&format!("router> {}", sent));
+            self.sees(&format!("router> {sent}"));
         }
         self.router().sent(output.len());
     }
@@ -140,8 +151,13 @@ impl Played {
             "closes" => self.router().received(&[]),
             "refuses" | "breaks" => {
                 self.broken = true;
-                let error = io::Error::new(io::ErrorKind::Other, step);
-                self.router().lost(time, error);
+                #[cfg(feature = "std")]
+                {
+                    let error = std::io::Error::new(std::io::ErrorKind::Other, step);
+                    self.router().lost(time, error);
+                }
+                #[cfg(not(feature = "std"))]
+                self.router().disconnected(time);
             }
             _ => {}
         }
@@ -153,8 +169,8 @@ impl Played {
     fn set(&mut self, name: &str, value: u64) {
         let span = Duration::from_millis(value);
         match name {
-            "version" => self.options.version = value as u8,
-            "chance" => self.chance = value as u16,
+            "version" => self.options.version = value.try_into().unwrap(),
+            "chance" => self.chance = value.try_into().unwrap(),
             "pause" => self.options.pause = span,
             "connect-limit" => self.options.dial = span,
             "response-limit" => self.options.response = span,
@@ -162,8 +178,8 @@ impl Played {
             "retry" => self.options.retry = Some(span),
             "expire" => self.options.expire = Some(span),
             "most-units" => self.options.units = value + 1, // with the end of data
-            "most-bytes" => self.options.bytes = value as usize,
-            _ => panic!("no setting {}", name),
+            "most-bytes" => self.options.bytes = value.try_into().unwrap(),
+            _ => panic!("no setting {name}"),
         }
     }
 
@@ -184,9 +200,10 @@ impl Played {
 /// A report in the words of a scene.
 fn reported(report: &rtr_wire::ErrorReport<&[u8]>) -> String {
     let parts = report.parts.as_ref().expect("its lengths fit");
-    let unit = match parts.unit.is_empty() {
-        true => "-".to_string(),
-        false => hex(parts.unit),
+    let unit = if parts.unit.is_empty() {
+        "-".to_string()
+    } else {
+        hex(parts.unit)
     };
     let text = String::from_utf8_lossy(parts.text);
     format!(
@@ -225,7 +242,7 @@ fn scenes_in(folder: &Path) -> Vec<PathBuf> {
 #[test]
 fn transcripts() {
     let made = std::env::temp_dir().join(format!("rtr-scenes-{}", std::process::id()));
-    let status = Command::new(format!("{}/make", TRANSCRIPTS))
+    let status = Command::new(format!("{TRANSCRIPTS}/make"))
         .arg(&made)
         .status();
     let mut paths = scenes_in(&Path::new(TRANSCRIPTS).join("scenes"));
@@ -234,9 +251,37 @@ fn transcripts() {
             assert!(status.success(), "the families of scenes are made");
             paths.extend(scenes_in(&made));
         }
-        Err(error) => println!("no python3, so no families of scenes: {}", error),
+        Err(error) => println!("no python3, so no families of scenes: {error}"),
     }
     let count: usize = paths.iter().map(|path| play(path)).sum();
     let _ = std::fs::remove_dir_all(&made);
-    assert!(count >= 100, "only {} scenes", count);
+    assert!(count >= 100, "only {count} scenes");
+}
+
+/// Is an end that a cache is joined with (`tests/joined`), where the environment says where to tell
+/// what it does: what happens to it comes on standard input.
+#[test]
+fn joined() {
+    let mut output = match std::env::var("RTR_JOINED") {
+        Ok(path) => std::fs::File::create(path).unwrap(),
+        Err(_) => return,
+    };
+    let mut played = Played::new("");
+    for line in io::stdin().lock().lines() {
+        let line = line.unwrap();
+        let words: Vec<&str> = line.split_whitespace().collect();
+        match words.as_slice() {
+            ["scene", name] => {
+                played = Played::new(name);
+                played.joined = true;
+            }
+            words => played.line(words),
+        }
+        if !matches!(words[0], "scene" | "router") {
+            let wakes = played.router().wakes();
+            let answer = format!("{}wakes {}\n", played.seen, wakes);
+            output.write_all(answer.as_bytes()).unwrap();
+            played.seen.clear();
+        }
+    }
 }

@@ -190,3 +190,21 @@ pub fn threads(name: &str) -> usize {
         tasks.filter_map(|task| std::fs::read_to_string(task.ok()?.path().join("comm")).ok());
     names.filter(|found| found.starts_with(name)).count()
 }
+
+/// How often threads of this name began to wait.
+pub fn waits(name: &str) -> u64 {
+    let tasks = std::fs::read_dir("/proc/self/task").unwrap();
+    let statuses =
+        tasks.filter_map(|task| std::fs::read_to_string(task.ok()?.path().join("status")).ok());
+    let named = statuses.filter(|status| {
+        status
+            .lines()
+            .next()
+            .map_or(false, |line| line.contains(name))
+    });
+    let count = |status: String| -> Option<u64> {
+        let line = status.lines().find(|line| line.starts_with("voluntary"))?;
+        line.split_whitespace().last()?.parse().ok()
+    };
+    named.filter_map(count).sum()
+}

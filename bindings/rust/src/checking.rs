@@ -1,0 +1,121 @@
+//! What units break of the protocol's rules, as the program `rtr_list` says it with `--check`.
+
+use crate::fault::Fault;
+use crate::sys;
+use alloc::collections::BTreeSet;
+use alloc::string::String;
+use alloc::vec;
+use alloc::vec::Vec;
+use core::fmt;
+
+/// Room for the name of any payload.
+const NAME: usize = 65536;
+
+/// Room for the line of any finding.
+const LINE: usize = 128;
+
+/// A rule that the unit at an offset breaks, or all units together, where the offset is their
+/// length. As text it is the line of `rtr_list`.
+#[derive(Clone, Debug, PartialEq, Eq, Hash)]
+#[non_exhaustive]
+pub struct Finding {
+    /// How many bytes stand before the unit.
+    pub offset: u64,
+    /// The line, without its end.
+    pub line: String,
+}
+
+impl fmt::Display for Finding {
+    fn fmt(&self, f: &mut fmt::Formatter) -> fmt::Result {
+        f.write_str(&self.line)
+    }
+}
+
+/// A check of units that come one after the other, which keeps the names of the payloads that are
+/// announced. It says what `rtr_list --check` says.
+///
+/// ```
+/// use rtr_wire::Checker;
+///
+/// // A prefix with host bits (RFC 8210 section 5.6), and no end of data.
+/// let recording = [1, 4, 0, 0, 0, 0, 0, 20, 1, 24, 26, 0, 198, 51, 100, 1, 0, 1, 0, 15];
+/// let mut checker = Checker::new();
+/// let mut findings = Vec::new();
+/// let mut rest = &recording[..];
+/// while !rest.is_empty() {
+///     let (found, size) = checker.unit(rest)?;
+///     findings.extend(found);
+///     rest = &rest[size..];
+/// }
+/// findings.extend(checker.finish());
+/// assert_eq!(findings[0].line, "offset 0: host bits of the prefix are not zero");
+/// assert_eq!(findings[1].line, "offset 20: answer without an end of data");
+/// # Ok::<(), rtr_wire::Fault>(())
+/// ```
+#[derive(Clone, Debug)]
+pub struct Checker {
+    check: sys::Check,
+    names: BTreeSet<Vec<u8>>,
+    name: Vec<u8>,
+    offset: u64,
+}
+
+impl Checker {
+    /// A check that has seen no unit.
+    #[must_use]
+    pub fn new() -> Self {
+        Checker {
+            check: sys::Check::default(),
+            names: BTreeSet::new(),
+            name: vec![0; NAME],
+            offset: 0,
+        }
+    }
+
+    /// What the unit breaks that the input begins with, and the unit's size.
+    ///
+    /// # Errors
+    ///
+    /// Those of [`unit_size`](crate::unit_size), `Short` if not all of the unit is there, and
+    /// `EmptyProviders` for an ASPA that is announced without providers.
+    pub fn unit(&mut self, input: &[u8]) -> Result<(Vec<Finding>, usize), Fault> {
+        let naming = sys::check_name(input, &mut self.name)?;
+        let name = &self.name[..naming.length];
+        let checked = sys::check_unit(&mut self.check, input, self.names.contains(name));
+        let offset = self.offset;
+        let found = checked.findings.iter();
+        let findings = found.filter_map(|finding| said(*finding, offset));
+        if naming.begins {
+            self.names.clear();
+        }
+        if naming.announces {
+            self.names.insert(name.into());
+        } else {
+            self.names.remove(name);
+        }
+        self.offset += naming.size as u64;
+        Ok((findings.collect(), naming.size))
+    }
+
+    /// What is missing where the input ends.
+    #[must_use]
+    pub fn finish(&self) -> Option<Finding> {
+        said(sys::check_end(self.check), self.offset)
+    }
+}
+
+impl Default for Checker {
+    fn default() -> Self {
+        Checker::new()
+    }
+}
+
+/// The finding that the numbers stand for, if one does.
+fn said(finding: sys::FindingNumbers, offset: u64) -> Option<Finding> {
+    let mut line = vec![0; LINE];
+    let length = sys::finding_line(finding, offset, &mut line);
+    line.truncate(length);
+    // A line is ASCII.
+    let line = String::from_utf8(line).unwrap_or_default();
+    (length > 0).then_some(Finding { offset, line })
+}

@@ -1,0 +1,38 @@
+//! A unit that is refused, with its bytes.
+
+use crate::error;
+use crate::fault::Fault;
+use crate::unit::ErrorReport;
+use alloc::string::ToString;
+use alloc::vec::Vec;
+use core::fmt;
+
+/// A unit that a `Reader` refused.
+#[derive(Clone, Debug, PartialEq, Eq)]
+pub struct Refusal {
+    /// What is wrong.
+    pub fault: Fault,
+    /// Where the unit begins, in bytes from the first one that the reader gave.
+    pub offset: u64,
+    /// The bytes of the unit, as far as they were read: of one whose header is refused, the header.
+    pub unit: Vec<u8>,
+}
+
+impl Refusal {
+    /// The error report that the fault owes to the peer, if it owes one, as [`Fault::report`] says:
+    /// it encloses the unit, and its text says what is wrong.
+    #[must_use]
+    pub fn report(&self) -> Option<ErrorReport<Vec<u8>>> {
+        let text = self.fault.to_string();
+        let report = self.fault.report(&self.unit, &text)?;
+        Some(report.into_owned())
+    }
+}
+
+impl fmt::Display for Refusal {
+    fn fmt(&self, f: &mut fmt::Formatter<'_>) -> fmt::Result {
+        write!(f, "{}, at byte {}", self.fault, self.offset)
+    }
+}
+
+impl error::Error for Refusal {}

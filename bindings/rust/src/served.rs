@@ -1,0 +1,269 @@
+//! A client of a cache, without sockets and clock.
+
+use crate::cache::Moment;
+use crate::cache_machine::{serving, Cache as Machine, Serving};
+use crate::input::Input;
+use crate::machine::milliseconds;
+use crate::output::Output;
+use crate::server_error::ServerError;
+use std::io;
+use std::sync::Arc;
+use std::time::Duration;
+use std::vec::Vec;
+
+/// How many editions may come while a client is sent one.
+const MOST_BEHIND: u64 = 2;
+/// How long a client is read on after the last that it is sent, in milliseconds: it would be taken
+/// from it by a close with bytes unread.
+const LINGER: u64 = 200;
+
+/// What the program that carries a [`Served`] has to do next.
+#[derive(Debug)]
+#[non_exhaustive]
+pub enum ServedStep {
+    /// Read, then call [`Served::received`] or [`Served::lost`].
+    Receive,
+    /// Send some of [`Served::output`], then call [`Served::sent`] or [`Served::lost`].
+    Send,
+    /// Send no more: shut the connection down for writing, and read on.
+    Finish,
+    /// Close the connection. It is over.
+    Close,
+    /// Why the connection ends. What is left to be sent is sent before it is closed.
+    Ended(ServerError),
+}
+
+/// How far a connection has come.
+#[derive(Debug, PartialEq)]
+enum Phase {
+    Served,
+    /// What is sent is the last.
+    Ending,
+    /// Nothing is sent any more, and what comes until then is passed over.
+    Over {
+        until: u64,
+    },
+}
+
+/// A connection of a client to a [`Cache`](crate::Cache) (RFC 8210) without sockets and clock:
+/// bytes and times are given to it, and it says what is to be done. The proved machine of
+/// `rtr_cache` decides what the client is answered.
+///
+/// It holds its place in bytes that all share, and no data.
+///
+/// Call [`Served::next`] when something was read or sent, when the cache has new data, and when the
+/// time is [`Served::wakes`]; after [`ServedStep::Finish`] and [`ServedStep::Ended`] call it again.
+///
+/// Here it is joined to a [`Router`](crate::Router), without a socket between them:
+///
+/// ```
+/// use rtr_wire::{Cache, ClientOptions, Data, Router, Served, ServedStep, ServerOptions, Step};
+///
+/// let (cache, now) = (Cache::new(ServerOptions::default()), 0);
+/// let data = Data::new(1, 4660, 1, None)?;
+/// cache.update(data.clone())?;
+///
+/// let mut router = Router::new(&ClientOptions::default(), 0);
+/// assert!(matches!(router.next(now), Step::Connect));
+/// router.connected(now);
+/// let mut served = Served::new(&cache.at(now));
+///
+/// let query = router.output().to_vec();
+/// router.sent(query.len());
+/// served.received(&cache.at(now), &query);
+/// while let ServedStep::Send = served.next(&cache.at(now)) {
+///     let answer = served.output().concat();
+///     served.sent(&cache.at(now), answer.len());
+///     router.received(&answer);
+/// }
+/// while !matches!(router.next(now), Step::Wait) {}
+/// assert_eq!(router.data(), Some(&data));
+/// # Ok::<(), Box<dyn std::error::Error>>(())
+/// ```
+#[derive(Debug)]
+pub struct Served {
+    machine: Machine,
+    input: Input,
+    /// When the unit began to come that the input begins with.
+    began: u64,
+    output: Option<Output>,
+    /// The session and the number of the edition whose data are sent.
+    place: Option<(u16, u64)>,
+    phase: Phase,
+    /// Why it ended, where that wasn't told.
+    ended: Option<ServerError>,
+}
+
+impl Served {
+    /// A connection that was just made.
+    #[must_use]
+    pub fn new(moment: &Moment) -> Self {
+        Served {
+            machine: Machine::new(moment.now, &moment.options),
+            input: Input::default(),
+            began: moment.now,
+            output: None,
+            place: None,
+            phase: Phase::Served,
+            ended: None,
+        }
+    }
+
+    /// Ends the connection, since it is one more than there may be.
+    pub fn refuse(&mut self, moment: &Moment) {
+        let serving = self.machine.full(moment.now, moment.present());
+        self.perform(&serving, moment);
+    }
+
+    /// Whether the connection hasn't ended.
+    #[must_use]
+    pub fn is_served(&self) -> bool {
+        self.phase == Phase::Served
+    }
+
+    /// When [`Served::next`] is to be called, if nothing comes before.
+    #[must_use]
+    pub fn wakes(&self, moment: &Moment) -> u64 {
+        match self.phase {
+            _ if self.ended.is_some() => 0,
+            Phase::Over { until } => until,
+            _ if self.failure(moment).is_some() => 0,
+            _ if self.output.is_some() => self.due(moment),
+            _ => self.due(moment).min(self.machine.wakes(moment.present())),
+        }
+    }
+
+    /// These bytes came. Without any, the client sends no more.
+    pub fn received(&mut self, moment: &Moment, bytes: &[u8]) {
+        let is_empty = self.input.bytes().is_empty();
+        if bytes.is_empty() && is_empty {
+            self.phase = Phase::Over { until: 0 };
+        }
+        if self.is_served() {
+            if is_empty {
+                self.began = moment.now;
+            }
+            self.input.add(bytes);
+        }
+    }
+
+    /// What is to be sent: the second part behind the first.
+    pub fn output(&self) -> [&[u8]; 2] {
+        self.output.as_ref().map_or([&[], &[]], Output::parts)
+    }
+
+    /// So many bytes of it were sent.
+    pub fn sent(&mut self, moment: &Moment, count: usize) {
+        let output = self.output.take();
+        self.output = output.and_then(|output| output.sent(count, moment.now));
+    }
+
+    /// The connection broke.
+    pub fn lost(&mut self, error: io::Error) {
+        self.lose(ServerError::Io(error));
+    }
+
+    /// What is to be done now.
+    pub fn next(&mut self, moment: &Moment) -> ServedStep {
+        if self.output.is_none() && self.is_served() && self.failure(moment).is_none() {
+            let serving = self.tell(moment);
+            self.perform(&serving, moment);
+        }
+        if let Some(error) = self.failure(moment) {
+            self.lose(error);
+        }
+        if let Some(error) = self.ended.take() {
+            return ServedStep::Ended(error);
+        }
+        match self.phase {
+            Phase::Over { until } if until <= moment.now => ServedStep::Close,
+            Phase::Ending if self.output.is_none() => {
+                let until = moment.now + LINGER;
+                self.phase = Phase::Over { until };
+                ServedStep::Finish
+            }
+            _ if self.output.is_some() => ServedStep::Send,
+            _ => ServedStep::Receive,
+        }
+    }
+
+    /// When the time is over for what is sent, or for the unit that comes.
+    fn due(&self, moment: &Moment) -> u64 {
+        let options = &moment.options;
+        match &self.output {
+            Some(output) => {
+                later(output.went_on, options.write).min(later(output.began, options.response))
+            }
+            None if self.input.bytes().is_empty() => u64::MAX,
+            None => later(self.began, options.unit),
+        }
+    }
+
+    /// Why the connection is given up, if it is: the time is over, or what is sent is too old.
+    fn failure(&self, moment: &Moment) -> Option<ServerError> {
+        if matches!(self.phase, Phase::Over { .. }) {
+            return None;
+        }
+        if moment.now >= self.due(moment) {
+            return Some(ServerError::TooSlow);
+        }
+        let (session, number) = self.place.filter(|_| self.output.is_some())?;
+        match moment.newest.as_ref()? {
+            newest if newest.present.session != session => Some(ServerError::OtherSession),
+            newest if newest.number - number > MOST_BEHIND => Some(ServerError::TooFarBehind),
+            _ => None,
+        }
+    }
+
+    /// Tells the machine of a unit that came, or of the time.
+    fn tell(&mut self, moment: &Moment) -> Serving {
+        let (now, present) = (moment.now, moment.present());
+        let (input, ended) = (self.input.bytes(), self.input.has_ended());
+        if !input.is_empty() {
+            let newest = moment.newest.as_ref();
+            let known = newest.map_or(&[][..], |newest| &newest.known);
+            let serving = self.machine.read(now, present, known, input, ended);
+            if serving.kind != serving::WAIT {
+                return serving;
+            }
+        }
+        self.machine.tick(now, present)
+    }
+
+    /// Begins to send what the machine says.
+    fn perform(&mut self, serving: &Serving, moment: &Moment) {
+        let (version, serial) = (serving.version, serving.serial);
+        let body = match (serving.kind, &moment.newest) {
+            (serving::WAIT, _) => return,
+            (serving::ALL, Some(newest)) => newest.all(version),
+            (serving::CHANGES, Some(newest)) => newest.since(version, serial, &moment.options),
+            _ => Arc::default(),
+        };
+        let newest = moment.newest.as_ref();
+        self.place = newest.map(|newest| (newest.present.session, newest.number));
+        let mut head = Vec::new();
+        serving.append(self.input.bytes(), &mut head);
+        self.output = Output::new(head, body, moment.now);
+        if serving.kind == serving::END {
+            self.ended = Some(ServerError::of(serving, self.input.bytes()));
+            self.phase = Phase::Ending;
+            self.input = Input::default();
+        }
+        self.input.take(serving.taken.min(self.input.bytes().len()));
+        self.began = moment.now;
+    }
+
+    /// The connection is over, for this reason.
+    fn lose(&mut self, error: ServerError) {
+        if self.is_served() {
+            self.ended = Some(error);
+        }
+        self.output = None;
+        self.phase = Phase::Over { until: 0 };
+    }
+}
+
+/// The time so much later.
+fn later(time: u64, span: Duration) -> u64 {
+    time.saturating_add(milliseconds(span).into())
+}

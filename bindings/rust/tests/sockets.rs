@@ -1,0 +1,278 @@
+//! Clients and caches in threads over sockets that aren't TCP, and how they wait.
+#![cfg(feature = "std")]
+
+mod peers;
+
+use peers::*;
+use rtr_wire::*;
+use std::io::{self, ErrorKind, Read, Write};
+use std::net::{SocketAddr, TcpStream};
+use std::ops::ControlFlow;
+use std::os::unix::io::BorrowedFd;
+use std::os::unix::net::UnixStream;
+use std::sync::mpsc::channel;
+use std::sync::{Arc, Mutex};
+use std::thread::{sleep, Builder};
+use std::time::{Duration, Instant};
+
+/// A socket as those that encrypt are: it hides bytes, holds some that it took until it is flushed,
+/// and doesn't do each second call.
+struct Hidden<S> {
+    socket: S,
+    held: Vec<u8>,
+    turns: u32,
+}
+
+fn invert(bytes: &mut [u8]) {
+    for byte in bytes {
+        *byte = !*byte;
+    }
+}
+
+impl<S: Socket> Hidden<S> {
+    fn new(socket: S) -> Self {
+        Hidden {
+            socket,
+            held: Vec::new(),
+            turns: 0,
+        }
+    }
+
+    fn turn(&mut self) -> io::Result<()> {
+        self.turns += 1;
+        match self.turns % 2 {
+            1 => Err(ErrorKind::WouldBlock.into()),
+            _ => Ok(()),
+        }
+    }
+}
+
+impl<S: Socket> Read for Hidden<S> {
+    fn read(&mut self, bytes: &mut [u8]) -> io::Result<usize> {
+        self.turn()?;
+        let most = bytes.len().min(7);
+        let count = self.socket.read(&mut bytes[..most])?;
+        invert(&mut bytes[..count]);
+        Ok(count)
+    }
+}
+
+impl<S: Socket> Write for Hidden<S> {
+    fn write(&mut self, bytes: &[u8]) -> io::Result<usize> {
+        self.turn()?;
+        if self.held.len() >= 100 {
+            let count = self.socket.write(&self.held)?;
+            self.held.drain(..count);
+        }
+        let count = bytes.len().min(11);
+        self.held.extend(bytes[..count].iter().map(|byte| !byte));
+        Ok(count)
+    }
+
+    fn flush(&mut self) -> io::Result<()> {
+        while !self.held.is_empty() {
+            self.turn()?;
+            let count = self.socket.write(&self.held)?;
+            self.held.drain(..count);
+        }
+        Ok(())
+    }
+}
+
+impl<S: Socket> Socket for Hidden<S> {
+    fn socket(&self) -> BorrowedFd<'_> {
+        self.socket.socket()
+    }
+
+    fn finish(&mut self) -> io::Result<()> {
+        self.socket.finish()
+    }
+}
+
+fn server_options() -> ServerOptions {
+    ServerOptions {
+        notify: milliseconds(1),
+        ..ServerOptions::default()
+    }
+}
+
+fn client_options() -> ClientOptions {
+    ClientOptions {
+        version: 2,
+        pause: milliseconds(5),
+        retry: Some(milliseconds(20)),
+        ..ClientOptions::default()
+    }
+}
+
+/// The client has the data of each serial number, one after the other.
+fn follows(client: &Client, server: &Server) {
+    let mut serial = 1;
+    let last = client.run(|event| {
+        match event {
+            Event::Data { data: now, .. } => assert_eq!(*now, data(serial)),
+            other => panic!("{other:?}"),
+        }
+        serial += 1;
+        if serial > 4 {
+            return ControlFlow::Break(());
+        }
+        assert_eq!(server.update(data(serial)), Ok(true));
+        ControlFlow::Continue(())
+    });
+    assert_eq!(last, Some(data(4)));
+}
+
+/// A client and a cache over a pair of sockets without an address.
+#[test]
+fn sockets_of_unix() {
+    let _alone = alone();
+    let server = Arc::new(Server::new(server_options()));
+    server.update(data(1)).unwrap();
+    let serving = Arc::clone(&server);
+    let client = Client::over(client_options(), move |_| {
+        let (mine, other) = UnixStream::pair()?;
+        mine.set_nonblocking(true)?;
+        other.set_nonblocking(true)?;
+        serving.serve(other, SocketAddr::from(([192, 0, 2, 1], 323)))?;
+        Ok(mine)
+    });
+    follows(&client, &server);
+    assert!(holds(|| server.clients() == 0));
+}
+
+/// The same over sockets that hide, hold and refuse: nothing is lost.
+#[test]
+fn hidden_bytes() {
+    let _alone = alone();
+    let server = Server::new(server_options());
+    server.update(data(1)).unwrap();
+    let ready = |stream| Ok(Hidden::new(stream));
+    let address = server.listen_with("127.0.0.1:0", ready).unwrap();
+    let client = Client::over(client_options(), move |time| {
+        let stream = TcpStream::connect_timeout(&address, time)?;
+        stream.set_nonblocking(true)?;
+        Ok(Hidden::new(stream))
+    });
+    follows(&client, &server);
+    assert!(holds(|| server.clients() == 0));
+    // One that reads nothing of the sort is reported to, by a report of which it reads nothing.
+    let mut plain = Peer::connect(address);
+    plain.send(&reset_query(2));
+    let mut report = Vec::new();
+    plain.stream.read_to_end(&mut report).unwrap();
+    invert(&mut report);
+    assert!(matches!(
+        Unit::first(&report),
+        Ok((Unit::ErrorReport(_), _))
+    ));
+}
+
+/// A report reaches the cache over such a socket, too.
+#[test]
+fn a_hidden_report() {
+    let _alone = alone();
+    let (mine, other) = UnixStream::pair().unwrap();
+    mine.set_nonblocking(true).unwrap();
+    let mine = Mutex::new(Some(mine));
+    let client = Client::over(client_options(), move |_| {
+        let mine = mine.lock().unwrap().take();
+        mine.map(Hidden::new)
+            .ok_or_else(|| ErrorKind::NotFound.into())
+    });
+    std::thread::scope(|scope| {
+        let fetched = scope.spawn(|| client.fetch());
+        let mut hidden = Hidden::new(other);
+        let mut read = |count: usize| {
+            let mut bytes = vec![0; count];
+            hidden.socket.read_exact(&mut bytes).unwrap();
+            invert(&mut bytes);
+            bytes
+        };
+        assert_eq!(read(8), reset_query(2));
+        // A cache response of another length (RFC 8210 section 5.5).
+        hidden.held = [2, 3, 0x12, 0x34, 0, 0, 0, 9, 0]
+            .map(|byte: u8| !byte)
+            .to_vec();
+        while hidden.flush().is_err() {}
+        let mut report = Vec::new();
+        hidden.socket.read_to_end(&mut report).unwrap();
+        invert(&mut report);
+        match Unit::first(&report) {
+            Ok((Unit::ErrorReport(report), _)) => {
+                assert_eq!(report.code, ErrorCode::CORRUPT_DATA);
+            }
+            other => panic!("{other:?}"),
+        }
+        let error = fetched.join().unwrap();
+        assert!(matches!(error, Err(ClientError::Refused(_))), "{error:?}");
+    });
+}
+
+/// What can't be made ready is told, and no other waits.
+#[test]
+fn connections_that_are_refused() {
+    let _alone = alone();
+    let (sender, told) = channel();
+    let sender = Mutex::new(sender);
+    let server = Server::telling(server_options(), move |_, error| {
+        let _ = sender.lock().unwrap().send(error.to_string());
+    });
+    server.update(data(1)).unwrap();
+    let ready = |_| Err::<TcpStream, _>(io::Error::new(ErrorKind::Other, "no"));
+    let address = server.listen_with("127.0.0.1:0", ready).unwrap();
+    let plain = server.listen("127.0.0.1:0").unwrap();
+    assert!(Peer::connect(address).is_closed());
+    assert_eq!(told.recv_timeout(PATIENCE).as_deref(), Ok("no"));
+    let mut client = Peer::connect(plain);
+    client.send(&reset_query(2));
+    assert_eq!(client.response(), data(1).as_bytes());
+}
+
+/// A client that waits for bytes, for the time of its next connection, or for room for its query
+/// doesn't wake, and still ends when it is stopped.
+#[test]
+fn no_client_wakes() {
+    let _alone = alone();
+    let server = Server::new(ServerOptions::default());
+    server.update(data(1)).unwrap();
+    let address = server.listen("127.0.0.1:0").unwrap().to_string();
+    let waiting = Client::new(address, client_options());
+    let options = ClientOptions {
+        retry: Some(Duration::from_secs(60)),
+        ..client_options()
+    };
+    let refused = Client::over(options, |_| {
+        Err::<TcpStream, _>(ErrorKind::ConnectionRefused.into())
+    });
+    let full = Client::over(client_options(), |_| {
+        let (mut mine, other) = UnixStream::pair()?;
+        mine.set_nonblocking(true)?;
+        while mine.write(&[0; 1 << 12]).is_ok() {}
+        std::mem::forget(other); // it is there, and reads nothing
+        Ok(mine)
+    });
+    let names = ["rtr waiting", "rtr refused", "rtr full"];
+    std::thread::scope(|scope| {
+        let clients = [&waiting, &refused, &full];
+        let threads = names.iter().zip(clients).map(|(name, client)| {
+            let thread = Builder::new().name((*name).to_string());
+            let run = move || client.run(|_| ControlFlow::Continue(()));
+            thread.spawn_scoped(scope, run).unwrap()
+        });
+        let threads: Vec<_> = threads.collect();
+        sleep(Duration::from_secs(1));
+        let before = names.map(waits);
+        sleep(Duration::from_secs(2));
+        for (name, before) in names.iter().zip(before) {
+            let woken = waits(name) - before;
+            assert!(woken <= 2, "{name}: woken {woken} times");
+        }
+        let began = Instant::now();
+        clients.into_iter().for_each(Client::stop);
+        for thread in threads {
+            thread.join().unwrap();
+        }
+        assert!(began.elapsed() < LATE, "they end late");
+    });
+}

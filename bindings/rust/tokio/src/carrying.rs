@@ -1,0 +1,133 @@
+//! A connection of a server.
+
+use rtr_wire::{Moment, Served, ServedStep};
+use std::future::Future;
+use std::io::{self, ErrorKind, IoSlice};
+use std::pin::Pin;
+use std::task::{Context, Poll};
+use tokio::io::{AsyncRead, AsyncWrite, ReadBuf};
+
+/// How many bytes are read at once.
+const CHUNK: usize = 4096;
+
+/// A stream, and what is to be done with it.
+pub(crate) struct Carried<S> {
+    stream: S,
+    served: Served,
+    /// Whether the stream may hold bytes that it took.
+    holds: bool,
+    /// Whether nothing more is sent, which the client isn't told of yet.
+    is_finishing: bool,
+}
+
+/// What is waited for.
+#[derive(Clone, Copy)]
+pub(crate) enum Wanted {
+    /// That bytes come.
+    Bytes,
+    /// That the stream takes bytes.
+    Room,
+}
+
+impl<S: AsyncRead + AsyncWrite + Unpin> Carried<S> {
+    pub(crate) fn new(stream: S, served: Served) -> Self {
+        Carried {
+            stream,
+            served,
+            holds: false,
+            is_finishing: false,
+        }
+    }
+
+    /// When [`Carried::next`] is to be called, if nothing comes before.
+    pub(crate) fn wakes(&self, moment: &Moment) -> u64 {
+        self.served.wakes(moment)
+    }
+
+    /// What is to be done now; the client is told that nothing more is sent by and by.
+    pub(crate) fn next(&mut self, moment: &Moment) -> ServedStep {
+        match self.served.next(moment) {
+            ServedStep::Finish => {
+                self.is_finishing = true;
+                self.served.next(moment)
+            }
+            step => step,
+        }
+    }
+
+    /// Waits for bytes or for room for them, and carries them at the moment when they are there.
+    pub(crate) fn carry<M: Fn() -> Moment>(
+        &mut self,
+        wanted: Wanted,
+        moment: M,
+    ) -> Carrying<'_, S, M> {
+        Carrying {
+            carried: self,
+            wanted,
+            moment,
+        }
+    }
+
+    fn poll_send(&mut self, moment: impl Fn() -> Moment, cx: &mut Context<'_>) -> Poll<()> {
+        let output = self.served.output().map(IoSlice::new);
+        let sent = Pin::new(&mut self.stream).poll_write_vectored(cx, &output);
+        sent.map(|sent| match sent {
+            Ok(0) => self.served.lost(ErrorKind::WriteZero.into()),
+            Ok(count) => {
+                self.holds = true;
+                self.served.sent(&moment(), count);
+            }
+            Err(error) => self.served.lost(error),
+        })
+    }
+
+    fn poll_receive(&mut self, moment: impl Fn() -> Moment, cx: &mut Context<'_>) -> Poll<()> {
+        if let Poll::Ready(Err(error)) = self.poll_end_of_sending(cx) {
+            self.served.lost(error);
+            return Poll::Ready(());
+        }
+        let mut bytes = [0; CHUNK];
+        let mut room = ReadBuf::new(&mut bytes);
+        let read = Pin::new(&mut self.stream).poll_read(cx, &mut room);
+        read.map(|read| match read {
+            Ok(()) => self.served.received(&moment(), room.filled()),
+            Err(error) => self.served.lost(error),
+        })
+    }
+
+    /// Has the stream send what it holds, and tell that it was the last where it was.
+    fn poll_end_of_sending(&mut self, cx: &mut Context<'_>) -> Poll<io::Result<()>> {
+        let stream = Pin::new(&mut self.stream);
+        let done = match (self.is_finishing, self.holds) {
+            (true, _) => stream.poll_shutdown(cx),
+            (_, true) => stream.poll_flush(cx),
+            _ => return Poll::Pending,
+        };
+        if done.is_ready() {
+            self.is_finishing = false;
+            self.holds = false;
+        }
+        done
+    }
+}
+
+/// A connection that waits for bytes or for room for them.
+pub(crate) struct Carrying<'s, S, M> {
+    carried: &'s mut Carried<S>,
+    wanted: Wanted,
+    moment: M,
+}
+
+impl<S, M> Unpin for Carrying<'_, S, M> {}
+
+impl<S: AsyncRead + AsyncWrite + Unpin, M: Fn() -> Moment> Future for Carrying<'_, S, M> {
+    type Output = ();
+
+    fn poll(mut self: Pin<&mut Self>, cx: &mut Context<'_>) -> Poll<()> {
+        let this = &mut *self;
+        match this.wanted {
+            Wanted::Room => this.carried.poll_send(&this.moment, cx),
+            Wanted::Bytes => this.carried.poll_receive(&this.moment, cx),
+        }
+    }
+}

@@ -1,0 +1,158 @@
+//! Clients and caches in threads over TLS, by a `Socket` that needs nothing of tokio.
+
+mod certificates;
+#[allow(dead_code)]
+#[path = "../examples/tls.rs"]
+mod example;
+#[path = "../../tests/peers/mod.rs"]
+mod peers;
+
+use certificates::{now, paths, Folder, Names, NAME};
+use example::{acceptor, connector};
+use openssl::ssl::{Ssl, SslConnector, SslStream};
+use peers::{alone, data, holds, milliseconds, Peer, LATE, PATIENCE};
+use rtr_wire::{Client, ClientError, ClientOptions, Event, Server, ServerOptions, Socket};
+use std::io::{self, ErrorKind, Read, Write};
+use std::net::{SocketAddr, TcpStream};
+use std::ops::ControlFlow;
+use std::os::unix::io::{AsFd, BorrowedFd};
+use std::path::PathBuf;
+use std::sync::mpsc::{channel, Receiver};
+use std::sync::Mutex;
+use std::time::{Duration, Instant};
+
+/// TLS over a connection for which no call waits.
+struct Tls(SslStream<TcpStream>);
+
+impl Read for Tls {
+    fn read(&mut self, bytes: &mut [u8]) -> io::Result<usize> {
+        self.0.read(bytes)
+    }
+}
+
+impl Write for Tls {
+    fn write(&mut self, bytes: &[u8]) -> io::Result<usize> {
+        self.0.write(bytes)
+    }
+
+    fn flush(&mut self) -> io::Result<()> {
+        self.0.flush()
+    }
+}
+
+impl Socket for Tls {
+    fn socket(&self) -> BorrowedFd<'_> {
+        self.0.get_ref().as_fd()
+    }
+
+    fn finish(&mut self) -> io::Result<()> {
+        let shut = self.0.shutdown();
+        shut.map(drop)
+            .map_err(|error| io::Error::new(ErrorKind::Other, error))
+    }
+}
+
+/// A connection to the cache of this name, whose handshake waits no longer than this for bytes.
+fn connect(
+    connector: &SslConnector,
+    address: SocketAddr,
+    name: &str,
+    time: Duration,
+) -> io::Result<Tls> {
+    let stream = TcpStream::connect_timeout(&address, time)?;
+    stream.set_read_timeout(Some(time))?;
+    stream.set_write_timeout(Some(time))?;
+    let connected = connector.connect(name, stream);
+    let tls = connected.map_err(|_| io::Error::from(ErrorKind::PermissionDenied))?;
+    tls.get_ref().set_nonblocking(true)?;
+    Ok(Tls(tls))
+}
+
+fn client(address: SocketAddr, name: &'static str, files: &[PathBuf; 3]) -> Client {
+    let connector = connector(paths(files)).unwrap();
+    let options = ClientOptions {
+        version: 2,
+        ..ClientOptions::default()
+    };
+    Client::over(options, move |time| {
+        connect(&connector, address, name, time)
+    })
+}
+
+/// A cache with data over TLS, and why it ended connections.
+fn cache(files: &[PathBuf; 3]) -> (Server, SocketAddr, Receiver<String>) {
+    let (sender, told) = channel();
+    let sender = Mutex::new(sender);
+    let options = ServerOptions {
+        first_query: milliseconds(1500),
+        notify: milliseconds(1),
+        ..ServerOptions::default()
+    };
+    let server = Server::telling(options, move |_, error| {
+        let _ = sender.lock().unwrap().send(error.to_string());
+    });
+    server.update(data(1)).unwrap();
+    let acceptor = acceptor(paths(files)).unwrap();
+    let ready = move |stream| {
+        let mut ssl = Ssl::new(acceptor.context())?;
+        ssl.set_accept_state();
+        Ok(Tls(SslStream::new(ssl, stream)?))
+    };
+    let address = server.listen_with("127.0.0.1:0", ready).unwrap();
+    (server, address, told)
+}
+
+/// Two clients stall, one in the middle of a handshake, and hold nobody: another follows the data.
+#[test]
+fn handshakes_that_stall() {
+    let _alone = alone();
+    let folder = Folder::new("threads-stall");
+    let (lately, by) = (now() - 60, Some(&folder.authority));
+    let good = folder.files("cache", &Names::Host(NAME), lately, by);
+    let router = folder.files("router", &Names::Address("127.0.0.1"), lately, by);
+    let (server, address, told) = cache(&good);
+    let began = Instant::now();
+    let mut stalled = [Peer::connect(address), Peer::connect(address)];
+    stalled[1].send(&[22, 3, 1, 2, 0, 1, 0]);
+    let mut serial = 1;
+    let last = client(address, NAME, &router).run(|event| {
+        match event {
+            Event::Data { data: now, .. } => assert_eq!(*now, data(serial)),
+            other => panic!("{other:?}"),
+        }
+        serial += 1;
+        if serial > 4 {
+            return ControlFlow::Break(());
+        }
+        assert_eq!(server.update(data(serial)), Ok(true));
+        ControlFlow::Continue(())
+    });
+    assert_eq!(last, Some(data(4)));
+    assert!(stalled.iter_mut().all(Peer::is_closed));
+    assert!(began.elapsed() >= milliseconds(1400), "they ended early");
+    assert!(began.elapsed() < LATE, "they ended late");
+    let slow = |text: &String| text == "the router is too slow";
+    let texts = std::iter::from_fn(|| told.recv_timeout(milliseconds(500)).ok());
+    assert_eq!(texts.filter(slow).count(), 2);
+}
+
+/// A cache of another name is refused, and so is a router that nobody knows.
+#[test]
+fn certificates_that_are_refused() {
+    let _alone = alone();
+    let folder = Folder::new("threads");
+    let (lately, by) = (now() - 60, Some(&folder.authority));
+    let good = folder.files("cache", &Names::Host(NAME), lately, by);
+    let router = folder.files("router", &Names::Address("127.0.0.1"), lately, by);
+    let nobody = folder.files("nobody", &Names::Address("127.0.0.1"), lately, None);
+    let (server, address, told) = cache(&good);
+    let fetched = client(address, "other.example", &router).fetch();
+    assert!(matches!(fetched, Err(ClientError::Io(_))), "{fetched:?}");
+    assert!(told.recv_timeout(PATIENCE).is_ok());
+    let fetched = client(address, NAME, &nobody).fetch();
+    assert!(fetched.is_err(), "{fetched:?}");
+    let mut texts = std::iter::from_fn(|| told.recv_timeout(PATIENCE).ok());
+    assert!(texts.any(|text| text.contains("certificate")));
+    assert_eq!(client(address, NAME, &router).fetch().unwrap(), data(1));
+    assert!(holds(|| server.clients() == 0));
+}
