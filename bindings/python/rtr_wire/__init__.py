@@ -12,6 +12,8 @@ Units
         for unit in units(open("recording", "rb")):
             print(unit)
 
+    `unit_lines` and `check` say of a recording what the program rtr_list says.
+
 Data
     `Data` is what a cache has, or a router has of it: a collection of payloads that never changes.
     `Data.from_bytes` takes a sequence, `Data.from_vrps` what a validator has; `apply` makes the
@@ -41,14 +43,15 @@ Copyright (c) 2026, the authors of Fishreef; copyright (c) 2018, NLnet Labs. BSD
 from __future__ import annotations
 
 from ._rtr import VERSION as __version__
-from ._rtr import Cause, Kind, Mismatch, PrefixRule, SerialOrder, Side, Status, Validity
+from ._rtr import Cause, Kind, Mismatch, PrefixRule, Rule, SerialOrder, Side, Status, Validity
+from .checking import Finding, check
 from .client import AsyncClient, Client
 from .data import Changes, Covering, Data
 from .faults import (DuplicateError, EmptyProvidersError, Fault, NoFormError, NoIndexError,
                      NoRoomError, NotCanonicalError, OtherSessionError, PrefixError, ShortError,
                      TooLongError, TooManyError, UndecidedError, UnitLengthError, UnitTypeError,
                      UnitVersionError, UnknownError)
-from .lines import unit_lines
+from .lines import change_json, change_line, unit_lines
 from .reading import Normalised, Units, normalise, same_meaning, units
 from .router import Close, Connect, Failed, NoData, Router, SessionError, Settings, Update
 from .units import (AnyUnit, Aspa, CacheReset, CacheResponse, EndOfData, ErrorReport, IPv4Prefix,
@@ -58,12 +61,12 @@ from .units import (AnyUnit, Aspa, CacheReset, CacheResponse, EndOfData, ErrorRe
 __all__ = [
     "AnyUnit", "Aspa", "AsyncClient", "CacheReset", "CacheResponse", "Cause", "Changes", "Client",
     "Close", "Connect", "Covering", "Data", "DuplicateError", "EmptyProvidersError", "EndOfData",
-    "ErrorReport", "Failed", "Fault", "IPv4Prefix", "IPv6Prefix", "Kind", "Mismatch", "NoData",
-    "NoFormError", "NoIndexError", "NoRoomError", "Normalised", "NotCanonicalError",
+    "ErrorReport", "Failed", "Fault", "Finding", "IPv4Prefix", "IPv6Prefix", "Kind", "Mismatch",
+    "NoData", "NoFormError", "NoIndexError", "NoRoomError", "Normalised", "NotCanonicalError",
     "OtherSessionError", "Payload", "Prefix", "PrefixError", "PrefixRule", "ResetQuery", "Router",
-    "RouterKey", "SerialNotify", "SerialOrder", "SerialQuery", "SessionError", "Settings",
+    "RouterKey", "Rule", "SerialNotify", "SerialOrder", "SerialQuery", "SessionError", "Settings",
     "ShortError", "Side", "Status", "TooLongError", "TooManyError", "UndecidedError", "Unit",
     "UnitLengthError", "UnitTypeError", "UnitVersionError", "Units", "UnknownError", "Update",
-    "Validity", "Vrp", "__version__", "normalise", "same_meaning", "serial_order", "unit_lines",
-    "units", "version_has",
+    "Validity", "Vrp", "__version__", "change_json", "change_line", "check", "normalise",
+    "same_meaning", "serial_order", "unit_lines", "units", "version_has",
 ]

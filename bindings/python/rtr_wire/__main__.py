@@ -2,16 +2,19 @@
 
 usage: python -m rtr_wire fetch HOST:PORT [--version 0|1|2] [--tls] [--ca FILE] [--output FILE]
        python -m rtr_wire list FILE
+       python -m rtr_wire check FILE
        python -m rtr_wire validate FILE PREFIX ASN
 
 fetch asks a cache for all of its data, and writes them as a sequence, in canonical form, on
 standard output or to a file. --tls speaks TLS, and --ca names a file of certificates that are
 trusted in the place of the system's. list prints a line of each unit of a recording, as rtr_list
-does, or of standard input where it is -. validate says whether a route is valid by such a file (RFC
-6811), or standard input where it is -, and which VRPs cover it, each with why it doesn't match.
+does, or of standard input where it is -. check prints what the units of such a file break of the
+protocol's rules, as rtr_list does with --check. validate says whether a route is valid by such a
+file (RFC 6811), or standard input where it is -, and which VRPs cover it, each with why it doesn't
+match.
 
-Statuses: 0 if all went well, 1 if the data didn't come or aren't data, or a unit is refused, 2 for
-other arguments.
+Statuses: 0 if all went well, 1 if the data didn't come or aren't data, a unit is refused or breaks
+a rule, 2 for other arguments.
 """
 from __future__ import annotations
 
@@ -21,7 +24,7 @@ import ssl
 import sys
 from typing import List, Optional, Tuple
 
-from . import Client, Data, Fault, SessionError, Settings, unit_lines
+from . import Client, Data, Fault, SessionError, Settings, check, unit_lines
 from ._rtr import VERSION
 
 
@@ -55,6 +58,8 @@ def _arguments(words: Optional[List[str]]) -> argparse.Namespace:
     fetch.add_argument("--output", metavar="FILE", type=pathlib.Path)
     listed = commands.add_parser("list", allow_abbrev=False)
     listed.add_argument("file", metavar="FILE")
+    checked = commands.add_parser("check", allow_abbrev=False)
+    checked.add_argument("file", metavar="FILE")
     validate = commands.add_parser("validate", allow_abbrev=False)
     validate.add_argument("file", metavar="FILE")
     validate.add_argument("prefix", metavar="PREFIX")
@@ -92,6 +97,15 @@ def _list(asked: argparse.Namespace) -> None:
         print(line)
 
 
+def _check(asked: argparse.Namespace) -> int:
+    """Prints what breaks a rule, and answers the status."""
+    status = 0
+    for finding in check(_input(asked.file)):
+        status = 1
+        print(finding)
+    return status
+
+
 def _validate(asked: argparse.Namespace) -> None:
     """Prints the validity of a route, and what covers it."""
     data = Data.from_bytes(_input(asked.file))
@@ -114,6 +128,8 @@ def main(words: Optional[List[str]] = None) -> int:
             _fetch(asked)
         elif asked.command == "list":
             _list(asked)
+        elif asked.command == "check":
+            return _check(asked)
         else:
             _validate(asked)
     except (OSError, Fault, SessionError, ValueError) as error:

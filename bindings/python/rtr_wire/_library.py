@@ -118,6 +118,23 @@ def error_code(status: int, unit: bytes) -> Optional[int]:
     return code.value if owed else None
 
 
+def _said(call: Any, *numbers: int) -> str:
+    """The text that a call writes for these numbers."""
+    output, length = ctypes.create_string_buffer(_rtr.TEXT_ROOM), ctypes.c_size_t()
+    call(*numbers, output, len(output), ctypes.byref(length))
+    return output.raw[:length.value].decode("ascii")
+
+
+def status_text(status: int, detail: int) -> str:
+    """The text of a status with its detail."""
+    return _said(CALLS.rtr_text_nonnull, status, detail)
+
+
+def name(named: _rtr.Named, number: int) -> str:
+    """The name of a number."""
+    return _said(CALLS.rtr_name_nonnull, named, number)
+
+
 def report(action: _rtr.rtr_action, about: bytes) -> bytes:
     """The report that an action owes about the unit that these bytes begin with, or none."""
     room, length = FIELDS.size + len(about), ctypes.c_size_t()

@@ -8,6 +8,7 @@ from typing import Any
 
 VERSION = "0.2.0"
 VERSION_NUMBER = 200
+TEXT_ROOM = 64
 
 
 class Status(enum.IntEnum):
@@ -101,6 +102,21 @@ class SerialOrder(enum.IntEnum):
     NO_ORDER = 3
 
 
+class Named(enum.IntEnum):
+    """What rtr_name has names of."""
+
+    # an rtr_status, without its detail: "unit type is not allowed here"
+    STATUS = 0
+    # an rtr_kind: "IPv4 prefix"
+    KIND = 1
+    # an rtr_cause: "the cache is too slow"
+    CAUSE = 2
+    # an rtr_reason: "the router is too slow"
+    REASON = 3
+    # an error code (RFC 8210 section 12): "Corrupt Data"
+    CODE = 4
+
+
 class Side(enum.IntEnum):
     """The two inputs of a comparison."""
 
@@ -132,6 +148,46 @@ class Mismatch(enum.IntEnum):
     OTHER_AS = 2
     # the route's prefix is longer than its max length
     LONGER = 3
+
+
+class Rule(enum.IntEnum):
+    """A rule that a unit breaks."""
+
+    NONE = 0
+    # the byte at `value` has to be zero
+    RESERVED = 1
+    # all bits of the flags but the lowest have to be zero
+    FLAGS = 2
+    # the prefix length is at most 32 or 128
+    PREFIX_LENGTH = 3
+    # the max length is at most 32 or 128
+    MAX_LENGTH = 4
+    # the max length is no less than the prefix length
+    MAX_BELOW = 5
+    # a prefix has no bits after its length
+    HOST_BITS = 6
+    # the version, `value`, is that of the sequence, `begun`
+    VERSION = 7
+    # the session, `value`, is that of the answer, `begun`
+    SESSION = 8
+    # an answer ends with an end of data
+    CUT_OFF = 9
+    # a recording has an end of data
+    NO_ANSWER = 10
+    # the version, `value`, has such units
+    LACKS = 11
+    # a withdrawn ASPA has no providers; with `value` 1 the unit reads as one of an older draft
+    WITHDRAWN_PROVIDERS = 12
+    # a payload is announced once
+    TWICE = 13
+    # providers ascend
+    PROVIDER_ORDER = 14
+    # the lengths inside an error report make it up
+    REPORT_PARTS = 15
+    # the text of an error report is UTF-8
+    REPORT_TEXT = 16
+    # no error report is about an error report
+    REPORT_OF_REPORT = 17
 
 
 class ActionKind(enum.IntEnum):
@@ -372,6 +428,70 @@ class rtr_covering(Structure):
     ]
 
 
+class rtr_check(Structure):
+    session: int
+    version: int
+    has_session: bool
+    has_version: bool
+    stage: int
+
+    _fields_ = [
+        ("session", c_uint16),
+        ("version", c_uint8),
+        ("has_session", c_bool),
+        ("has_version", c_bool),
+        ("stage", c_uint8),
+    ]
+
+
+class rtr_finding(Structure):
+    value: int
+    begun: int
+    rule: int
+
+    _fields_ = [
+        ("value", c_uint16),
+        ("begun", c_uint16),
+        ("rule", c_uint8),
+    ]
+
+
+class rtr_checked(Structure):
+    size: int
+    wanted: int
+    findings: Any
+    status: int
+    detail: int
+
+    _fields_ = [
+        ("size", c_size_t),
+        ("wanted", c_size_t),
+        ("findings", rtr_finding * 7),
+        ("status", c_uint8),
+        ("detail", c_uint8),
+    ]
+
+
+class rtr_naming(Structure):
+    size: int
+    length: int
+    wanted: int
+    status: int
+    detail: int
+    begins: bool
+    announces: bool
+
+    _fields_ = [
+        ("size", c_size_t),
+        ("length", c_size_t),
+        ("wanted", c_size_t),
+        ("status", c_uint8),
+        ("detail", c_uint8),
+        ("begins", c_bool),
+        ("announces", c_bool),
+    ]
+
+
 class rtr_settings(Structure):
     most_bytes: int
     pause: int
@@ -577,73 +697,8 @@ class rtr_serving(Structure):
 
 
 # The fields of these structs, for the module struct.
-UNIT_LETTERS = "@NNNNNNIIIIIIHHBBBBBB16s20sB"
-ROUTE_LETTERS = "@IBB16s"
-
-STATUS_TEXTS = {
-    0: "accepted",
-    1: "unexpected end of input",
-    2: "unit type is not allowed here",
-    3: "version is not supported here",
-    4: "unit is longer than 65535 bytes",
-    5: "invalid unit length",
-    6: "ASPA unit has no providers",
-    7: "prefix fields are not allowed",
-    8: "too many units",
-    9: "no room in the output",
-    10: "no unit has these fields",
-    12: "not in canonical form",
-    13: "of another session",
-    14: "duplicate announcement",
-    15: "withdrawal of an unknown record",
-    16: "an ASPA is announced and then withdrawn",
-    17: "no room in the index",
-}
-
-KIND_TEXTS = {
-    0: "serial notify",
-    1: "serial query",
-    2: "reset query",
-    3: "cache response",
-    4: "IPv4 prefix",
-    6: "IPv6 prefix",
-    7: "end of data",
-    8: "cache reset",
-    9: "router key",
-    10: "error report",
-    11: "ASPA",
-}
-
-CAUSE_TEXTS = {
-    0: "the cache closed the connection",
-    1: "the cache is too slow",
-    2: "unit is refused",
-    3: "the cache reports an error",
-    4: "unit is not allowed here",
-    5: "version does not have such payloads",
-    6: "unit of another version than the session",
-    7: "answer of a higher version than the query",
-    8: "unit of another session",
-    9: "serial number before that of the query",
-    10: "other data at the serial number of the query",
-    11: "the answer is too long",
-    12: "changes are refused",
-    13: "the data have expired",
-    14: "the cache may have a lower version",
-}
-
-REASON_TEXTS = {
-    0: "the router closed the connection",
-    1: "the router is too slow",
-    2: "too many connections",
-    3: "unit is refused",
-    4: "the router reports an error",
-    5: "unit is not a query",
-    6: "unit of another version than the session",
-    7: "version is not supported",
-    8: "the data are of a new session",
-    9: "no data of this session and serial number",
-}
+UNIT_LETTERS = "@NNNNNNIIIIIIHHBBBBBB16s20sB0N"
+ROUTE_LETTERS = "@IBB16s0I"
 
 # What each function of the library answers, and what it takes.
 PROTOTYPES: dict[str, tuple[Any, list[Any]]] = {
@@ -653,10 +708,16 @@ PROTOTYPES: dict[str, tuple[Any, list[Any]]] = {
         c_uint8, POINTER(rtr_answer)]),
     "rtr_unit_size_nonnull": (c_uint8, [c_void_p, c_size_t, c_void_p, c_void_p]),
     "rtr_next_nonnull": (c_uint8, [c_void_p, c_size_t, POINTER(rtr_unit)]),
+    "rtr_next_many_nonnull": (c_uint8, [c_void_p, c_size_t, POINTER(rtr_unit), c_size_t, c_void_p,
+        c_void_p]),
     "rtr_line_nonnull": (c_uint8, [c_void_p, c_size_t, c_uint64, c_void_p, c_size_t,
         POINTER(rtr_line)]),
     "rtr_change_line_nonnull": (c_uint8, [c_void_p, c_size_t, c_void_p, c_size_t,
         POINTER(rtr_line)]),
+    "rtr_change_json_nonnull": (c_uint8, [c_void_p, c_size_t, c_void_p, c_size_t,
+        POINTER(rtr_line)]),
+    "rtr_text_nonnull": (c_uint8, [c_uint8, c_uint8, c_void_p, c_size_t, c_void_p]),
+    "rtr_name_nonnull": (c_uint8, [c_uint8, c_uint16, c_void_p, c_size_t, c_void_p]),
     "rtr_provider_nonnull": (c_bool, [POINTER(rtr_unit), c_void_p, c_size_t, c_size_t, c_void_p]),
     "rtr_error_code_nonnull": (c_bool, [c_uint8, c_void_p, c_size_t, c_void_p]),
     "rtr_write_unit_nonnull": (c_uint8, [POINTER(rtr_unit), c_void_p, c_size_t, c_void_p, c_size_t,
@@ -679,6 +740,12 @@ PROTOTYPES: dict[str, tuple[Any, list[Any]]] = {
     "rtr_serial_order": (c_uint8, [c_uint32, c_uint32]),
     "rtr_version_has": (c_bool, [c_uint8, c_uint8]),
     "rtr_wire_version": (c_uint32, []),
+    "rtr_check_name_nonnull": (c_uint8, [c_void_p, c_size_t, c_void_p, c_size_t,
+        POINTER(rtr_naming)]),
+    "rtr_check_unit_nonnull": (c_uint8, [POINTER(rtr_check), c_void_p, c_size_t, c_bool,
+        POINTER(rtr_checked)]),
+    "rtr_finding_line_nonnull": (c_size_t, [POINTER(rtr_finding), c_uint64, c_void_p, c_size_t]),
+    "rtr_check_end": (None, [POINTER(rtr_check), POINTER(rtr_finding)]),
     "rtr_settings_usual": (None, [POINTER(rtr_settings), c_uint8]),
     "rtr_router_init": (None, [POINTER(rtr_router), POINTER(rtr_settings)]),
     "rtr_router_tick": (None, [POINTER(rtr_router), c_uint64, POINTER(rtr_action)]),

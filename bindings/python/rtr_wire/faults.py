@@ -34,11 +34,7 @@ class Fault(ValueError):
         self.before: Any = None
 
     def __str__(self) -> str:
-        text = _rtr.STATUS_TEXTS[self.status]
-        if self.status == Status.PREFIX and self.detail:
-            text += f" ({PrefixRule(self.detail).name.lower().replace('_', ' ')})"
-        elif self.detail:
-            text += f" ({self.detail})"
+        text = _library.status_text(self.status, self.detail)
         if self.offset is not None:
             text += f", at byte {self.offset}"
         return text

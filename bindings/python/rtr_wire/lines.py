@@ -1,13 +1,14 @@
-"""Units as lines of text, as the program rtr_list prints them."""
+"""Units as lines of text, as the program rtr_list prints them, and changes as rtr_diff does."""
 from __future__ import annotations
 
 import ctypes
-from typing import Iterator
+from typing import Any, Iterator
 
 from . import _rtr
 from ._library import CALLS, Buffer, address_of
 from ._rtr import Status
 from .faults import refusal
+from .units import Unit
 
 # Room for the lines of most units.
 _ROOM = 160
@@ -31,3 +32,26 @@ def unit_lines(data: Buffer) -> Iterator[str]:
         else:
             yield ctypes.string_at(output, told.length).decode("ascii")
             at += told.size
+
+
+def change_line(unit: Unit) -> str:
+    """The change that a payload unit makes as a line, without its end, as rtr_diff prints it; of
+    another unit an empty text.
+    """
+    return _change(CALLS.rtr_change_line_nonnull, unit)
+
+
+def change_json(unit: Unit) -> str:
+    """The same as an object in JSON, as rtr_diff --json prints it."""
+    return _change(CALLS.rtr_change_json_nonnull, unit)
+
+
+def _change(call: Any, unit: Unit) -> str:
+    """What a call writes of the change that a unit makes."""
+    form, told, room = bytes(unit), _rtr.rtr_line(), _ROOM
+    while True:
+        output = ctypes.create_string_buffer(room)
+        status = call(form, len(form), output, room, ctypes.byref(told))
+        if status == Status.OK:
+            return ctypes.string_at(output, told.length).decode("ascii")
+        room = told.length

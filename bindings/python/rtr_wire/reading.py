@@ -14,8 +14,10 @@ from .units import KIND_PLACE, MAKERS, AnyUnit
 # How much is read, or copied, at once.
 _CHUNK = 1 << 16
 
-_next_unit = CALLS.rtr_next_nonnull
-_unpack = FIELDS.unpack_from
+# A call of the library takes longer than a unit: it shows so many at once.
+_PLACES = 64
+
+_next_units = CALLS.rtr_next_many_nonnull
 
 
 class Units(Iterator[AnyUnit]):
@@ -36,8 +38,8 @@ class Units(Iterator[AnyUnit]):
         self._data = b""
         self._at = 0
         self._before = 0  # bytes of the input before those in _data
-        self._unit = _rtr.rtr_unit()
-        self._told = ctypes.byref(self._unit)
+        self._shown = (_rtr.rtr_unit * _PLACES)()
+        self._going: Iterator[AnyUnit] = iter(())
         if type(source) is bytes:
             self._data = source
         self._more = _reads_of(source)
@@ -49,22 +51,32 @@ class Units(Iterator[AnyUnit]):
         return self._before + self._at
 
     def __next__(self) -> AnyUnit:
-        return next(iter(self))
+        for unit in self:
+            return unit
+        raise StopIteration
 
     def __iter__(self) -> Iterator[AnyUnit]:
-        told, unit = self._told, self._unit
+        # One generator goes on where a loop was left, and a new one after a fault.
+        if getattr(self._going, "gi_frame", None) is None:
+            self._going = self._each()
+        return self._going
+
+    def _each(self) -> Iterator[AnyUnit]:
+        shown, fields_of = self._shown, FIELDS.iter_unpack
+        view, size = memoryview(shown).cast("B"), ctypes.sizeof(_rtr.rtr_unit)
+        count, taken = ctypes.c_size_t(), ctypes.c_size_t()
+        counted, all_taken = ctypes.byref(count), ctypes.byref(taken)
         while True:
-            data, at, address = self._data, self._at, self._address
-            length, status = len(data), 0
-            while data is self._data:
-                status = _next_unit(address + at, length - at, told)
-                if status:
-                    break
-                fields = _unpack(unit)
+            data, at = self._data, self._at
+            status = _next_units(self._address + at, len(data) - at, shown, _PLACES, counted,
+                                 all_taken)
+            for fields in fields_of(view[:size * count.value]):
                 self._at = at + fields[0]
                 yield MAKERS[fields[KIND_PLACE]](fields, data, at)
                 at = self._at
-            if status and (status != Status.SHORT or not self._grown()) and self._ends(status):
+            if not status or status == Status.SHORT and self._grown():
+                continue
+            if self._ends(status, shown[count.value]):
                 return
 
     def _grown(self) -> bool:
@@ -79,14 +91,14 @@ class Units(Iterator[AnyUnit]):
             self._address = address_of(self._data)
         return bool(more)
 
-    def _ends(self, status: int) -> bool:
+    def _ends(self, status: int, refused: _rtr.rtr_unit) -> bool:
         """Whether there is no next unit; raises what is wrong with it where there is one."""
         data, at = self._data, self._at
         if status == Status.SHORT and at == len(data):
             return True
         # After a fault the size is that of a prefix, and else 0.
-        self._at += self._unit.size
-        raise refusal(status, self._unit.detail, data, at, offset=self._before + at)
+        self._at += refused.size
+        raise refusal(status, refused.detail, data, at, offset=self._before + at)
 
 
 def _reads_of(source: Any) -> Callable[[], Optional[bytes]]:

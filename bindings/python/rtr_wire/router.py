@@ -34,7 +34,7 @@ class SessionError(Exception):
         self.reported = reported
 
     def __str__(self) -> str:
-        text = _rtr.CAUSE_TEXTS[self.cause]
+        text = _library.name(_rtr.Named.CAUSE, self.cause)
         if self.reported is not None:
             text += f": code {self.reported.code}"
             if self.reported.text:

@@ -56,7 +56,7 @@ class Commands(unittest.TestCase):
             self.assertEqual(runs("validate", file.name, "0.0.0.0/0", "1")[0], 0)
 
     def test_list(self):
-        """As docs/LISTING.md says."""
+        """As rtr_list(1) says."""
         units = (bytes([1, 3, 0, 7, 0, 0, 0, 8])
                  + bytes([1, 4, 0, 0, 0, 0, 0, 20, 1, 33, 26, 0, 192, 0, 2, 10, 0, 1, 0, 15])
                  + bytes([1, 10, 0, 2, 0, 0, 4, 16, 0, 0, 0, 0, 0, 0, 4, 0]) + b"\n" * 1024)

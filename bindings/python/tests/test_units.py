@@ -3,6 +3,7 @@ import copy
 import dataclasses
 import io
 import ipaddress
+import json
 import pathlib
 import pickle
 import random
@@ -15,6 +16,9 @@ from rtr_wire import (Aspa, CacheReset, CacheResponse, EmptyProvidersError, EndO
                       PrefixRule, ResetQuery, RouterKey, SerialNotify, SerialOrder, SerialQuery,
                       Status, TooLongError, Unit, UnitLengthError, UnitVersionError, Vrp,
                       serial_order, units, version_has)
+from rtr_wire import _library, _rtr
+
+from . import rows as rows_of
 
 V4, V6 = ipaddress.IPv4Network("192.0.2.0/24"), ipaddress.IPv6Network("2001:db8::/32")
 
@@ -72,6 +76,26 @@ class Made(unittest.TestCase):
         for unit, form in FORMS:
             self.assertEqual(bytes(unit), bytes.fromhex(form))
             self.assertEqual(next(units(bytes.fromhex(form))), unit)
+
+    def test_left_loops(self):
+        """A loop goes on where the one before was left, also after a fault."""
+        longer = bytes.fromhex("01040000 00000014 01181000 c0000200 0000fbf0")
+        each = [bytes(unit) for unit, _ in FORMS]
+        for count in (1, 20, 64, 65):
+            told = units(longer.join([b"".join(each)] * count))
+            for _ in range(count):
+                for first in told:
+                    break
+                self.assertEqual(first, FORMS[0][0])
+                self.assertEqual(next(told), FORMS[1][0])
+                self.assertEqual(told.offset % (len(b"".join(each)) + len(longer)),
+                                 len(each[0] + each[1]))
+                for _, unit in zip(FORMS[2:], told):
+                    last = unit
+                self.assertEqual(last, FORMS[-1][0])
+                if told.offset < len(longer.join([b"".join(each)] * count)):
+                    self.assertRaises(PrefixError, next, told)
+            self.assertRaises(StopIteration, next, told)
 
     def test_random(self):
         """Equal and of one hash exactly where the forms are; read again as they were."""
@@ -199,7 +223,32 @@ class Faults(unittest.TestCase):
             self.assertEqual((read.version, read.code), (2, self.CODES[one.status]))
             self.assertTrue(self.PREFIX.startswith(read.enclosed) and read.enclosed)
             self.assertGreater(len(read.text), 5)
-            self.assertTrue(str(fault).startswith(read.text.decode()), fault)
+            self.assertEqual(read.text.decode(), _library.name(_rtr.Named.STATUS, one.status))
+
+    def test_changes(self):
+        """Lines and objects of changes, by rtr_diff(1), also long ones."""
+        aspa = Aspa(65000, [65001, 65551], version=2)
+        self.assertEqual(rtr_wire.change_line(aspa), "+ ASPA AS65000 providers AS65001 AS65551")
+        self.assertEqual(rtr_wire.change_json(aspa), '{"kind":"aspa","action":"announce",'
+                         '"customer_asn":65000,"provider_asns":[65001,65551]}')
+        self.assertEqual(rtr_wire.change_line(ResetQuery(2)), "")
+        many = Aspa(1, list(range(2, 9000)), version=2)
+        self.assertEqual(json.loads(rtr_wire.change_json(many))["provider_asns"],
+                         list(range(2, 9000)))
+
+    def test_texts_of_all(self):
+        """The texts of the library, as in all languages."""
+        rows = [row for row in (rows_of.BINDINGS.parent / "tests" / "texts").read_text().split("\n")
+                if row and row[0] != "#"]
+        self.assertGreater(len(rows), 80)
+        for row in rows:
+            word, number, text = row.split(" ", 2)
+            if word == "text":
+                detail, text = text.split(" ", 1)
+                said = _library.status_text(int(number), int(detail))
+            else:
+                said = _library.name(_rtr.Named[word.upper()], int(number))
+            self.assertEqual(said, text, row)
 
     def test_long_reports(self):
         """Of a long unit and of one that isn't whole a report has what there is room for."""
@@ -213,14 +262,16 @@ class Faults(unittest.TestCase):
             return f"01040000 00000014 01{lengths}00 c0000200 0000fbf0"
 
         for form, detail, text in (
-                (prefix("211a"), PrefixRule.LENGTH_OVER, "length over"),
-                (prefix("1821"), PrefixRule.MAX_LENGTH_OVER, "max length over"),
-                (prefix("1817"), PrefixRule.MAX_LENGTH_UNDER, "max length under"),
-                ("01050000 00000014", 5, "type"), ("03070000 00000018", 3, "version")):
+                (prefix("211a"), PrefixRule.LENGTH_OVER, "prefix length too large"),
+                (prefix("1821"), PrefixRule.MAX_LENGTH_OVER, "max-length too large"),
+                (prefix("1817"), PrefixRule.MAX_LENGTH_UNDER,
+                 "max-length smaller than prefix length"),
+                ("01050000 00000014", 5, "unit type 5 is not allowed here"),
+                ("03070000 00000018", 3, "version 3 is not supported here")):
             with self.assertRaises(Fault) as caught:
                 next(units(bytes.fromhex(form)))
             self.assertEqual((caught.exception.detail, caught.exception.offset), (detail, 0))
-            self.assertIn(text, str(caught.exception))
+            self.assertEqual(f"{text}, at byte 0", str(caught.exception))
 
     def test_lengths(self):
         with self.assertRaises(UnitLengthError):
