@@ -169,9 +169,9 @@ class Files(http.server.SimpleHTTPRequestHandler):
 
 
 @contextlib.contextmanager
-def serving(folder, others):
+def serving(folder, others, files=Files):
     """Serves a folder on the loopback interface, and answers where."""
-    handler = functools.partial(type("Served", (Files,), {"others": others}), directory=folder)
+    handler = functools.partial(type("Served", (files,), {"others": others}), directory=folder)
     with http.server.ThreadingHTTPServer(("127.0.0.1", 0), handler) as server:
         threading.Thread(target=server.serve_forever, daemon=True).start()
         yield f"http://127.0.0.1:{server.server_address[1]}"

@@ -8,6 +8,7 @@ import { UnitsView } from "./units_view.js";
 import { showPicture } from "./picture_view.js";
 import { CompareView } from "./compare_view.js";
 import { RouteView } from "./route_view.js";
+import { RulesView } from "./rules_view.js";
 
 const by = (id) => document.getElementById(id);
 
@@ -23,12 +24,14 @@ class Page {
     #units;
     #compare;
     #route;
+    #rules;
 
     constructor(rtr) {
         this.#rtr = rtr;
         this.#units = new UnitsView(rtr);
         this.#compare = new CompareView(rtr, () => this.#swap());
         this.#route = new RouteView(rtr);
+        this.#rules = new RulesView((offset) => this.#goTo(offset));
         this.#tabs();
         by("files").addEventListener("change", (event) => this.#open([...event.target.files]));
         for (const name of ["dragover", "dragleave", "drop"]) {
@@ -97,6 +100,7 @@ class Page {
                 (offset) => this.#goTo(offset));
             this.#route.show(first);
             this.#compare.show(first, second);
+            this.#rules.show(first);
             this.#choose(second ? "compare" : "units");
         }
         document.body.dataset.state = "shown";
@@ -164,6 +168,9 @@ class Page {
             tab.setAttribute("aria-selected", isChosen);
             tab.tabIndex = isChosen ? 0 : -1;
             by(tab.getAttribute("aria-controls")).hidden = !isChosen;
+        }
+        if (name === "rules") {
+            this.#rules.open();
         }
     }
 }

@@ -1,7 +1,7 @@
 // A recording in the memory of a session, with the places of its units: what they say is asked of
 // the library whenever it is shown, so that a unit takes five bytes besides its own.
 
-import { Kind, Status } from "./library.js";
+import { Fault, Kind, Status } from "./library.js";
 
 // How many units are read before the page may draw.
 const TURN = 20000;
@@ -113,6 +113,7 @@ export class Recording {
     #held;
     #offsets;
     #kinds = new Column(Uint8Array);
+    #isDropped = false;
 
     constructor(rtr, name, bytes) {
         this.#rtr = rtr;
@@ -153,6 +154,35 @@ export class Recording {
             at += shown.word("size");
         }
         return at;
+    }
+
+    /** What its units break of the rules, as rtr_list says it with --check: up to the first unit
+     * that is refused, since nothing is known of those after it. `told` is as for `read`. */
+    async check(told = () => {}) {
+        const checker = this.#held.checker();
+        const all = [];
+        try {
+            for (let at = 0; at < this.size;) {
+                for (let count = 0; count < TURN && at < this.size; count += 1) {
+                    const { findings, size } = checker.take(at);
+                    all.push(...findings);
+                    at += size;
+                }
+                told(at / this.size);
+                await breathe();
+                if (this.#isDropped) {
+                    return [];
+                }
+            }
+            all.push(...checker.finish());
+        } catch (error) {
+            if (!(error instanceof Fault)) {
+                throw error;
+            }
+        } finally {
+            checker.drop();
+        }
+        return all;
     }
 
     /** How many bytes it has. */
@@ -231,6 +261,7 @@ export class Recording {
     }
 
     drop() {
+        this.#isDropped = true;
         this.#held.drop();
     }
 }

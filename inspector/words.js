@@ -1,6 +1,6 @@
 // Units, faults and numbers in words.
 
-import { Fault, Kind, Mismatch, PrefixRule, Status, Validity, addressText, kindText }
+import { Fault, Kind, Mismatch, Status, Validity, addressText, kindText }
     from "./library.js";
 import { REFUSED } from "./recording.js";
 
@@ -71,27 +71,10 @@ export function kindName(kind) {
     return kind === REFUSED ? "refused" : kindText(kind);
 }
 
-const RULES = {
-    [PrefixRule.LENGTH_OVER]: "the prefix length is above that of addresses",
-    [PrefixRule.MAX_LENGTH_OVER]: "the max length is above that of addresses",
-    [PrefixRule.MAX_LENGTH_UNDER]: "the max length is below the prefix length",
-};
-
 /** What is wrong, without where. */
 export function faultText(fault) {
-    const text = fault.message.replace(/, at byte.*/, "");
-    switch (fault.status) {
-        case Status.UNIT_TYPE:
-        case Status.UNIT_VERSION:
-            return `${text}: ${fault.detail}`;
-        case Status.PREFIX:
-            return `${text}: ${RULES[fault.detail]}`;
-        case Status.SHORT:
-            return fault.wanted
-                ? `${text}: ${many(fault.wanted, "byte")} wanted from here on` : text;
-        default:
-            return text;
-    }
+    return fault.status === Status.SHORT && fault.wanted
+        ? `${fault.text}: ${many(fault.wanted, "byte")} wanted from here on` : fault.text;
 }
 
 /** The report that is owed for a fault. */

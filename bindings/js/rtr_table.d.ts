@@ -94,6 +94,21 @@ export const SerialOrder: {
 };
 export type SerialOrder = (typeof SerialOrder)[keyof typeof SerialOrder];
 
+/** What rtr_name has names of. */
+export const Named: {
+    /** an rtr_status, without its detail: "unit type is not allowed here" */
+    readonly STATUS: 0;
+    /** an rtr_kind: "IPv4 prefix" */
+    readonly KIND: 1;
+    /** an rtr_cause: "the cache is too slow" */
+    readonly CAUSE: 2;
+    /** an rtr_reason: "the router is too slow" */
+    readonly REASON: 3;
+    /** an error code (RFC 8210 section 12): "Corrupt Data" */
+    readonly CODE: 4;
+};
+export type Named = (typeof Named)[keyof typeof Named];
+
 /** The two inputs of a comparison. */
 export const Side: {
     readonly LEFT: 1;
@@ -126,6 +141,46 @@ export const Mismatch: {
     readonly LONGER: 3;
 };
 export type Mismatch = (typeof Mismatch)[keyof typeof Mismatch];
+
+/** A rule that a unit breaks. */
+export const Rule: {
+    readonly NONE: 0;
+    /** the byte at `value` has to be zero */
+    readonly RESERVED: 1;
+    /** all bits of the flags but the lowest have to be zero */
+    readonly FLAGS: 2;
+    /** the prefix length is at most 32 or 128 */
+    readonly PREFIX_LENGTH: 3;
+    /** the max length is at most 32 or 128 */
+    readonly MAX_LENGTH: 4;
+    /** the max length is no less than the prefix length */
+    readonly MAX_BELOW: 5;
+    /** a prefix has no bits after its length */
+    readonly HOST_BITS: 6;
+    /** the version, `value`, is that of the sequence, `begun` */
+    readonly VERSION: 7;
+    /** the session, `value`, is that of the answer, `begun` */
+    readonly SESSION: 8;
+    /** an answer ends with an end of data */
+    readonly CUT_OFF: 9;
+    /** a recording has an end of data */
+    readonly NO_ANSWER: 10;
+    /** the version, `value`, has such units */
+    readonly LACKS: 11;
+    /** a withdrawn ASPA has no providers; with `value` 1 the unit reads as one of an older draft */
+    readonly WITHDRAWN_PROVIDERS: 12;
+    /** a payload is announced once */
+    readonly TWICE: 13;
+    /** providers ascend */
+    readonly PROVIDER_ORDER: 14;
+    /** the lengths inside an error report make it up */
+    readonly REPORT_PARTS: 15;
+    /** the text of an error report is UTF-8 */
+    readonly REPORT_TEXT: 16;
+    /** no error report is about an error report */
+    readonly REPORT_OF_REPORT: 17;
+};
+export type Rule = (typeof Rule)[keyof typeof Rule];
 
 export const ActionKind: {
     readonly WAIT: 0;

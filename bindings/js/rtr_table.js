@@ -2,6 +2,7 @@
 
 export const VERSION = "0.2.0";
 export const VERSION_NUMBER = 200;
+export const TEXT_ROOM = 64;
 
 export const Status = Object.freeze({
     OK: 0,
@@ -50,6 +51,14 @@ export const SerialOrder = Object.freeze({
     NO_ORDER: 3,
 });
 
+export const Named = Object.freeze({
+    STATUS: 0,
+    KIND: 1,
+    CAUSE: 2,
+    REASON: 3,
+    CODE: 4,
+});
+
 export const Side = Object.freeze({
     LEFT: 1,
     RIGHT: 2,
@@ -67,6 +76,27 @@ export const Mismatch = Object.freeze({
     AS_ZERO: 1,
     OTHER_AS: 2,
     LONGER: 3,
+});
+
+export const Rule = Object.freeze({
+    NONE: 0,
+    RESERVED: 1,
+    FLAGS: 2,
+    PREFIX_LENGTH: 3,
+    MAX_LENGTH: 4,
+    MAX_BELOW: 5,
+    HOST_BITS: 6,
+    VERSION: 7,
+    SESSION: 8,
+    CUT_OFF: 9,
+    NO_ANSWER: 10,
+    LACKS: 11,
+    WITHDRAWN_PROVIDERS: 12,
+    TWICE: 13,
+    PROVIDER_ORDER: 14,
+    REPORT_PARTS: 15,
+    REPORT_TEXT: 16,
+    REPORT_OF_REPORT: 17,
 });
 
 export const ActionKind = Object.freeze({
@@ -201,6 +231,34 @@ export const STRUCTS = Object.freeze({
         ["maxLength", 13, "uint8"],
         ["mismatch", 14, "uint8"],
     ] },
+    check: { size: 6, fields: [
+        ["session", 0, "uint16"],
+        ["version", 2, "uint8"],
+        ["hasSession", 3, "bool"],
+        ["hasVersion", 4, "bool"],
+        ["stage", 5, "uint8"],
+    ] },
+    finding: { size: 6, fields: [
+        ["value", 0, "uint16"],
+        ["begun", 2, "uint16"],
+        ["rule", 4, "uint8"],
+    ] },
+    checked: { size: 64, fields: [
+        ["size", 0, "size"],
+        ["wanted", 8, "size"],
+        ["findings", 16, "finding", 7],
+        ["status", 58, "uint8"],
+        ["detail", 59, "uint8"],
+    ] },
+    naming: { size: 32, fields: [
+        ["size", 0, "size"],
+        ["length", 8, "size"],
+        ["wanted", 16, "size"],
+        ["status", 24, "uint8"],
+        ["detail", 25, "uint8"],
+        ["begins", 26, "bool"],
+        ["announces", 27, "bool"],
+    ] },
     settings: { size: 40, fields: [
         ["mostBytes", 0, "uint64"],
         ["pause", 8, "uint32"],
@@ -302,8 +360,12 @@ export const FUNCTIONS = Object.freeze({
     rtr_normalise_for_slice_nonnull: ["uint8", "*", "size", "*", "size", "uint64", "uint8", "*"],
     rtr_unit_size_nonnull: ["uint8", "*", "size", "*", "*"],
     rtr_next_nonnull: ["uint8", "*", "size", "*"],
+    rtr_next_many_nonnull: ["uint8", "*", "size", "*", "size", "*", "*"],
     rtr_line_nonnull: ["uint8", "*", "size", "uint64", "*", "size", "*"],
     rtr_change_line_nonnull: ["uint8", "*", "size", "*", "size", "*"],
+    rtr_change_json_nonnull: ["uint8", "*", "size", "*", "size", "*"],
+    rtr_text_nonnull: ["uint8", "uint8", "uint8", "*", "size", "*"],
+    rtr_name_nonnull: ["uint8", "uint8", "uint16", "*", "size", "*"],
     rtr_provider_nonnull: ["bool", "*", "*", "size", "size", "*"],
     rtr_error_code_nonnull: ["bool", "uint8", "*", "size", "*"],
     rtr_write_unit_nonnull: ["uint8", "*", "*", "size", "*", "size", "*"],
@@ -318,6 +380,10 @@ export const FUNCTIONS = Object.freeze({
     rtr_serial_order: ["uint8", "uint32", "uint32"],
     rtr_version_has: ["bool", "uint8", "uint8"],
     rtr_wire_version: ["uint32"],
+    rtr_check_name_nonnull: ["uint8", "*", "size", "*", "size", "*"],
+    rtr_check_unit_nonnull: ["uint8", "*", "*", "size", "bool", "*"],
+    rtr_finding_line_nonnull: ["size", "*", "uint64", "*", "size"],
+    rtr_check_end: ["void", "*", "*"],
     rtr_settings_usual: ["void", "*", "uint8"],
     rtr_router_init: ["void", "*", "*"],
     rtr_router_tick: ["void", "*", "uint64", "*"],

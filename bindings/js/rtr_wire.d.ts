@@ -1,10 +1,10 @@
 /** The RTR wire layer in JavaScript, over the proved module rtr_wire.wasm. */
 
-import type { ActionKind, Cause, Kind, Mismatch, SerialOrder, Status, Validity }
+import type { ActionKind, Cause, Kind, Mismatch, Named, Rule, SerialOrder, Status, Validity }
     from "./rtr_table.js";
 
-export { ActionKind, Cause, Kind, Mismatch, PrefixRule, SerialOrder, Side, Status, Validity,
-    VERSION, VERSION_NUMBER, causeText, kindText, statusText } from "./rtr_table.js";
+export { ActionKind, Cause, Kind, Mismatch, Named, PrefixRule, Rule, SerialOrder, Side, Status,
+    VERSION, VERSION_NUMBER, Validity, causeText, kindText, statusText } from "./rtr_table.js";
 
 /** What each unit has. */
 interface AnyUnit {
@@ -77,6 +77,8 @@ export type Written = Unit extends infer One ? One extends Unit
 export class Fault extends Error {
     readonly name: "Fault";
     readonly status: Status;
+    /** What the status and the detail say, as in rtr_text. */
+    readonly text: string;
     /** Where the unit at fault begins, in the input of `side`. */
     readonly offset: number;
     /** 1 or 2 where one of two inputs is at fault, else 0. */
@@ -241,6 +243,14 @@ export interface Shown {
     row(field: string, length: number): Uint8Array;
 }
 
+/** A rule that the unit at an offset breaks, or all units together, where the offset is their
+ * length; and the line of rtr_list. */
+export interface Finding {
+    offset: number;
+    rule: Rule;
+    line: string;
+}
+
 /** Bytes that stay in the memory of a session, to look at their units in any order. */
 export class Held {
     private constructor();
@@ -250,6 +260,13 @@ export class Held {
     status(offset: number): Status;
     shown(offset: number): Shown;
     unit(offset: number): Unit | Fault;
+    findings(): Generator<Finding, void, undefined>;
+    /** A check of its units, one after the other: `take` at the offset of each, then `finish`. */
+    checker(): {
+        take(offset: number): { findings: Finding[]; size: number };
+        finish(): Finding[];
+        drop(): void;
+    };
 }
 
 /** The library in a memory of its own. Calls throw a Fault for what rtr.h refuses, OutOfMemory
@@ -265,6 +282,8 @@ export class Session {
     next(bytes: Uint8Array, offset?: number): Unit;
     units(bytes: Uint8Array, offset?: number): Generator<Unit, void, undefined>;
     hold(bytes: Uint8Array): Held;
+    /** What the units break of the rules that rtr_list looks for with --check. */
+    check(bytes: Uint8Array): Generator<Finding, void, undefined>;
     unitSize(bytes: Uint8Array): number;
     writeUnit(unit: Written): Uint8Array;
     errorCode(status: Status, bytes: Uint8Array): number | null;
@@ -281,6 +300,19 @@ export class Session {
     data(bytes: Uint8Array): Data;
     validate(data: Data, route: Route): Validity;
     covering(data: Data, route: Route): Generator<Covering, void, undefined>;
+
+    /** The line that rtr_list prints of the unit that the bytes begin with, of one that stands
+     * after `offset` bytes. */
+    unitLine(bytes: Uint8Array, offset?: number | bigint): string;
+    /** The change that a payload unit makes, as rtr_diff prints it; of another unit "". */
+    changeLine(unit: Written): string;
+    /** The same as an object in JSON, as rtr_diff --json prints it. */
+    changeJson(unit: Written): string;
+
+    /** The text of a status with its detail: "unit type 5 is not allowed here". */
+    statusText(status: number, detail?: number): string;
+    /** The name of a number, of what `named` says: "IPv4 prefix" of Named.KIND and 4. */
+    name(named: Named, number: number): string;
 
     router(settings?: Partial<Settings>): Router;
     usualSettings(highest: number): Settings;

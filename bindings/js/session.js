@@ -1,9 +1,10 @@
 // The library in a memory of its own.
 
-import { FUNCTIONS, STRUCTS, Status } from "./rtr_table.js";
+import { FUNCTIONS, STRUCTS, Status, TEXT_ROOM } from "./rtr_table.js";
 import { Heap, placesOf, readStruct, writeStruct } from "./memory.js";
 import { Fault } from "./fault.js";
 import { Shown, structOf, unitOf } from "./units.js";
+import { Checker } from "./checking.js";
 import { Data } from "./data.js";
 import { Router } from "./router.js";
 
@@ -11,6 +12,9 @@ import { Router } from "./router.js";
 const PIECE = 1 << 17;
 
 const LONGEST = 65535;
+
+// Room for the lines of most units.
+const LINE = 160;
 const ALL = (1n << 64n) - 1n;
 const NEXT = placesOf("unit");
 const NOTHING = new Uint8Array(0);
@@ -53,6 +57,7 @@ export class Session {
         this.#frame = Object.fromEntries(
             Object.keys(STRUCTS).map((name) => [name, this.#heap.take(STRUCTS[name].size)]));
         this.#frame.number = this.#heap.take(8);
+        this.#frame.text = this.#heap.take(TEXT_ROOM);
         this.#unit = BigInt(this.#frame.unit);
     }
 
@@ -182,11 +187,22 @@ export class Session {
         return new Held(this, bytes);
     }
 
+    /** What the units break of the rules that rtr_list looks for with --check, in order; where one
+     * is refused the Fault comes after what was found before it. */
+    * check(bytes) {
+        const held = this.hold(bytes);
+        try {
+            yield* held.findings();
+        } finally {
+            held.drop();
+        }
+    }
+
     /** The Fault of rtr_next with this status, about what lies at a place. */
     refused(status, at, length, offset) {
         const view = this.heap.view;
         const field = (name) => Number(view.getBigUint64(this.#frame.unit + NEXT[name], true));
-        return new Fault({
+        return this.#fault({
             status,
             offset,
             size: field("size"),
@@ -194,6 +210,10 @@ export class Session {
             detail: view.getUint8(this.#frame.unit + NEXT.detail),
             code: this.#code(status, at, length),
         });
+    }
+
+    #fault(fields) {
+        return new Fault({ ...fields, text: this.statusText(fields.status, fields.detail) });
     }
 
     #code(status, at, length) {
@@ -218,7 +238,7 @@ export class Session {
             if (status !== Status.OK) {
                 const detail = this.heap.view.getUint8(unit);
                 const code = this.#code(status, at, piece.length);
-                throw new Fault({ status, detail, wanted: size, code });
+                throw this.#fault({ status, detail, wanted: size, code });
             }
             return size;
         });
@@ -232,7 +252,7 @@ export class Session {
             const status = this.call("rtr_write_unit_nonnull", this.#frame.unit, at, input.length,
                 output, LONGEST, this.#frame.number);
             if (status !== Status.OK) {
-                throw new Fault({ status });
+                throw this.#fault({ status });
             }
             return this.copy(output, Number(this.heap.view.getBigUint64(this.#frame.number, true)));
         });
@@ -253,7 +273,7 @@ export class Session {
             const form = this.copy(output, written);
             if (status !== Status.OK) {
                 const code = this.#code(status, at + taken, bytes.length - taken);
-                const fault = new Fault({ status, detail, offset: taken, wanted, code });
+                const fault = this.#fault({ status, detail, offset: taken, wanted, code });
                 throw Object.assign(fault, { units, forms, taken, form });
             }
             return { units, forms, taken, form };
@@ -278,7 +298,7 @@ export class Session {
         const [at, length] = inputs[answer.side - 1] ?? [this.#frame.number, 0];
         const { status, offset } = answer;
         const code = answer.side ? this.#code(status, at + offset, length - offset) : null;
-        return new Fault({ ...answer, code });
+        return this.#fault({ ...answer, code });
     }
 
     // ---- data and changes
@@ -340,6 +360,66 @@ export class Session {
         return this.answer("settings");
     }
 
+    // ---- lines and texts
+
+    /** The line that rtr_list prints of the unit that the bytes begin with, of one that stands
+     * after `offset` bytes. */
+    unitLine(bytes, offset = 0) {
+        return this.#line("rtr_line_nonnull", bytes, offset);
+    }
+
+    /** The change that a payload unit makes, as rtr_diff prints it; of another unit "". */
+    changeLine(unit) {
+        return this.#line("rtr_change_line_nonnull", this.writeUnit(unit));
+    }
+
+    /** The same as an object in JSON, as rtr_diff --json prints it. */
+    changeJson(unit) {
+        return this.#line("rtr_change_json_nonnull", this.writeUnit(unit));
+    }
+
+    /** What a call writes of the unit that the bytes begin with. */
+    #line(name, bytes, ...more) {
+        const piece = bytes.subarray(0, LONGEST);
+        let room = LINE;
+        for (;;) {
+            const said = this.within([piece, room], (at, output) => {
+                this.call(name, at, piece.length, ...more, output, room, this.#frame.line);
+                const { status, detail, length, wanted } = this.answer("line");
+                if (status === Status.OK) {
+                    return new TextDecoder().decode(this.copy(output, length));
+                }
+                if (status !== Status.NO_ROOM) {
+                    const code = this.#code(status, at, piece.length);
+                    throw this.#fault({ status, detail, wanted, code });
+                }
+                room = length;
+                return null;
+            });
+            if (said !== null) {
+                return said;
+            }
+        }
+    }
+
+    /** The text of a status with its detail. */
+    statusText(status, detail = 0) {
+        return this.#said("rtr_text_nonnull", status, detail);
+    }
+
+    /** The name of a number, of what `named` says: of a status, a kind, a cause, a reason or an
+     * error code. */
+    name(named, number) {
+        return this.#said("rtr_name_nonnull", named, number);
+    }
+
+    #said(name, first, second) {
+        const { text, number } = this.#frame;
+        this.call(name, first, second, text, TEXT_ROOM, number);
+        const length = Number(this.heap.view.getBigUint64(number, true));
+        return new TextDecoder().decode(this.copy(text, length));
+    }
+
     // ---- numbers
 
     /** The order of two serial numbers, a SerialOrder. */
@@ -383,6 +463,32 @@ export class Held {
     /** Gives the memory back. */
     drop() {
         this.#session.heap.release(this.#start);
+    }
+
+    /** A check of its units, one after the other: `take` at the offset of each, then `finish`, then
+     * `drop`. */
+    checker() {
+        const checker = new Checker(this.#session);
+        return {
+            take: (offset) => checker.take(this.#start + offset, this.length - offset, offset),
+            finish: () => checker.finish(this.length),
+            drop: () => checker.drop(),
+        };
+    }
+
+    /** What the units break of the rules that rtr_list looks for with --check, in order. */
+    * findings() {
+        const checker = this.checker();
+        try {
+            for (let at = 0; at < this.length;) {
+                const { findings, size } = checker.take(at);
+                yield* findings;
+                at += size;
+            }
+            yield* checker.finish();
+        } finally {
+            checker.drop();
+        }
     }
 
     /** The status of the unit at an offset, whose fields `shown` has until the next call. */

@@ -2,7 +2,7 @@
 // validity.py say what a file of each has.
 
 import assert from "node:assert/strict";
-import { Fault, Status } from "../rtr_wire.js";
+import { Fault, Named, Status } from "../rtr_wire.js";
 import { STRUCTS } from "../rtr_table.js";
 
 /** Reads the numbers and pieces of a file, one after the other. */
@@ -210,6 +210,37 @@ export function validity(rtr, bytes) {
             assert.equal(found.length, covers);
         }
         data.drop();
+    }
+    return count;
+}
+
+/** The texts of the library, as in all languages. */
+export function texts(rtr, bytes) {
+    let count = 0;
+    for (const row of new TextDecoder().decode(bytes).split("\n")) {
+        if (row === "" || row.startsWith("#")) {
+            continue;
+        }
+        const [, word, number, detail, text] = row.match(/^(text) (\d+) (\d+) (.*)$/)
+            ?? row.match(/^(\w+) (\d+)( )(.*)$/);
+        const said = word === "text" ? rtr.statusText(Number(number), Number(detail))
+            : rtr.name(Named[word.toUpperCase()], Number(number));
+        assert.equal(said, text, row);
+        count += 1;
+    }
+    assert.ok(count > 80);
+    return count;
+}
+
+/** The rows of .ci/listings --findings: recordings, and the lines of what they break. */
+export function findings(rtr, bytes) {
+    const rows = new Rows(bytes);
+    const text = new TextDecoder();
+    let count = 0;
+    for (; rows.hasMore; count += 1) {
+        const [size, length] = [rows.word(), rows.word()];
+        const [recording, lines] = [rows.piece(size), text.decode(rows.piece(length))];
+        assert.equal([...rtr.check(recording)].map(({ line }) => `${line}\n`).join(""), lines);
     }
     return count;
 }

@@ -1,6 +1,7 @@
 // Plays all rows, and what is JavaScript's own.
 //
-// usage: node run.js MODULE FOLDER    in FOLDER the files cases, sessions, deltas, validity, scenes
+// usage: node run.js MODULE FOLDER    in FOLDER the files cases, sessions, deltas, validity,
+//                                  texts, scenes
 
 import { readFileSync } from "node:fs";
 import { join } from "node:path";

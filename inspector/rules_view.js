@@ -1,0 +1,57 @@
+// The view of broken rules: what rtr_list says of a recording with --check, each a link to its unit.
+
+import { element } from "./table.js";
+import { many } from "./words.js";
+
+const by = (id) => document.getElementById(id);
+
+// How many are listed.
+const MOST = 2000;
+
+export class RulesView {
+    #goTo;
+    #recording = null;
+
+    /** @param goTo what is called with the offset of a unit */
+    constructor(goTo) {
+        this.#goTo = goTo;
+    }
+
+    /** Takes a recording, which is checked once the view is opened. */
+    show(recording) {
+        this.#recording = recording;
+        by("panel-rules").dataset.state = "new";
+        by("checked").textContent = "";
+        by("findings").replaceChildren();
+    }
+
+    /** Checks the recording, unless that was done, and lists what is found. */
+    async open() {
+        const recording = this.#recording;
+        if (by("panel-rules").dataset.state !== "new") {
+            return;
+        }
+        by("panel-rules").dataset.state = "reading";
+        by("checked").textContent = "Looking";
+        const findings = await recording.check();
+        if (this.#recording === recording) {
+            this.#list(findings);
+        }
+    }
+
+    #list(findings) {
+        by("checked").textContent = findings.length === 0 ? "No rule is broken."
+            : findings.length <= MOST ? `${many(findings.length, "broken rule")}.`
+                : `${many(findings.length, "broken rule")}, of which the first ${MOST} are listed.`;
+        by("findings").replaceChildren(...findings.slice(0, MOST).map((one) => this.#line(one)));
+        by("panel-rules").dataset.state = "shown";
+    }
+
+    #line({ offset, line }) {
+        const made = element("li", {});
+        const link = element("button", { text: line, type: "button" });
+        link.addEventListener("click", () => this.#goTo(offset));
+        made.append(link);
+        return made;
+    }
+}
