@@ -1,0 +1,134 @@
+package cache
+
+import (
+	"context"
+	"errors"
+	"fmt"
+	"syscall"
+	"time"
+
+	"fishreef/programs/internal/payloads"
+	"fishreef/rtr"
+)
+
+// followed is a file that a cache follows.
+type followed struct {
+	payloads.File
+	looked  bool           // it was looked at
+	seen    payloads.Stamp // its state then
+	again   bool           // the system couldn't give it
+	data    rtr.Data       // its payloads, as they were taken last
+	too     payloads.Stamp // its state that would have withdrawn too much; zero for none
+	problem error          // why it wasn't taken the last time
+}
+
+// look takes the files that are in another state than before, or where that was asked for all of
+// them, and says whether one was changed while it was read.
+func (c *Cache) look(ctx context.Context, asked bool) (changing bool) {
+	for _, file := range c.files {
+		if file.looked && !file.again && !asked && payloads.StampOf(file.Path) == file.seen {
+			continue
+		}
+		data, state, err := c.settings.Reader.Read(ctx, file.File)
+		if errors.Is(err, payloads.ErrChanged) {
+			changing = true
+			continue
+		}
+		if ctx.Err() != nil {
+			return false
+		}
+		if err == nil {
+			err = c.take(file, data, state)
+		}
+		c.note(file, state, err, asked)
+	}
+	return changing
+}
+
+// take serves what changes by a file, unless it would withdraw too much.
+func (c *Cache) take(file *followed, data rtr.Data, state payloads.Stamp) error {
+	var all []rtr.Data
+	for _, other := range c.files {
+		switch {
+		case other == file:
+			all = append(all, data)
+		case other.data.IsZero():
+			file.data = data
+			c.log.Infof("%s: %d payloads, which wait for %s", file.Path, data.Len(), other.Path)
+			return nil
+		default:
+			all = append(all, other.data)
+		}
+	}
+	merged, err := payloads.Merged(all...)
+	if err != nil {
+		return err
+	}
+	if c.same(merged) {
+		c.log.Infof("%s: nothing changed", file.Path)
+	} else {
+		if err := c.guarded(file, merged, state); err != nil {
+			return err
+		}
+		if err := c.update(merged, file.Path); err != nil {
+			return err
+		}
+	}
+	file.too, c.force = payloads.Stamp{}, false
+	if len(c.files) > 1 {
+		file.data = data
+	}
+	return nil
+}
+
+// guarded refuses payloads that would withdraw too much, unless another state of the file would
+// have, too.
+func (c *Cache) guarded(file *followed, merged rtr.Data, state payloads.Stamp) error {
+	none := payloads.Stamp{}
+	if c.present.IsZero() || c.force || file.too != none && file.too != state {
+		return nil
+	}
+	err := c.settings.Guard.Guard(c.present, merged)
+	if errors.As(err, new(*payloads.Withdrawal)) {
+		file.too = state
+	}
+	return err
+}
+
+// note says what came of a look at a file, once unless it was asked for.
+func (c *Cache) note(file *followed, state payloads.Stamp, err error, asked bool) {
+	c.lock.Lock()
+	before := file.problem
+	sameState := file.seen == state
+	file.looked, file.seen, file.problem = true, state, err
+	c.lock.Unlock()
+	file.again = errors.As(err, new(syscall.Errno)) && !errors.Is(err, syscall.ENOENT)
+	if err == nil {
+		c.metrics.Took(file.Path, state.Time())
+		return
+	}
+	if !asked && sameState && before != nil && before.Error() == err.Error() {
+		return // it was told
+	}
+	c.metrics.Refused(file.Path)
+	c.log.Warnf("%s: %s", file.Path, plainText(err))
+}
+
+// healthy says what isn't as it should be: no data, a file that was refused, or one that is old.
+func (c *Cache) healthy() error {
+	c.lock.Lock()
+	defer c.lock.Unlock()
+	if c.present.IsZero() {
+		return errors.New("there are no data")
+	}
+	for _, file := range c.files {
+		if file.problem != nil {
+			return fmt.Errorf("%s: %s", file.Path, plainText(file.problem))
+		}
+		age := time.Since(file.seen.Time()).Round(time.Second)
+		if file.looked && age > c.settings.Stale {
+			return fmt.Errorf("%s: it was written %v ago", file.Path, age)
+		}
+	}
+	return nil
+}

@@ -1,0 +1,40 @@
+package cache
+
+import (
+	"errors"
+	"strings"
+
+	"fishreef/rtr"
+)
+
+// lost is the reason of connections that the network or the client ended.
+const lost = "lost"
+
+// reasonOf is the reason of an end in one word, as metrics have it.
+func reasonOf(err error) string {
+	switch {
+	case errors.As(err, new(*rtr.Fault)):
+		return "unit"
+	case errors.As(err, new(*rtr.Breach)):
+		return "rule"
+	case errors.As(err, new(*rtr.Reported)):
+		return "reported"
+	case errors.Is(err, rtr.ErrTooSlow):
+		return "slow"
+	case errors.Is(err, rtr.ErrManyClients):
+		return "full"
+	case errors.Is(err, rtr.ErrSessionEnded):
+		return "session"
+	case errors.Is(err, rtr.ErrUnknownData):
+		return "unknown"
+	case errors.Is(err, rtr.ErrBehind):
+		return "behind"
+	}
+	return lost
+}
+
+// plainText is the text of an error in one line, without the library's name.
+func plainText(err error) string {
+	text := strings.ReplaceAll(err.Error(), "rtr: ", "")
+	return strings.ReplaceAll(text, "\n", "; ")
+}

@@ -1,0 +1,151 @@
+package cache
+
+import (
+	"context"
+	"errors"
+	"net"
+	"os"
+	"time"
+
+	"github.com/coreos/go-systemd/v22/daemon"
+
+	"fishreef/programs/internal/transport"
+	"fishreef/rtr"
+)
+
+// How long answers that have begun may take at the end.
+const lastAnswers = 10 * time.Second
+
+// Run serves until the context ends, and closes the cache. A value of hup has it read everything
+// anew: files, and certificates.
+//
+// Errors: of an address, a socket or a certificate at the beginning; of a listener that fails.
+func (c *Cache) Run(ctx context.Context, hup <-chan os.Signal) error {
+	inner, stop := context.WithCancel(ctx)
+	defer stop()
+	s, err := c.open()
+	if err != nil {
+		c.Close(ctx)
+		return err
+	}
+	for _, bound := range s.bound {
+		bound := bound
+		c.log.Infof("listening at %v for %s", bound.Listener.Addr(), bound.Kind)
+		listener := transport.Guarded(bound, s.secured[bound.Kind], s.gate, c.metrics)
+		go func() { s.failed <- c.server.Serve(listener) }()
+	}
+	if s.metrics != nil {
+		c.log.Infof("metrics are at http://%v/metrics", s.metrics.Addr())
+		go func() { s.failed <- c.metrics.Serve(inner, s.metrics, c.healthy) }()
+	}
+	err = c.follow(inner, hup, s)
+	c.notify(daemon.SdNotifyStopping)
+	last, end := context.WithTimeout(context.Background(), lastAnswers)
+	defer end()
+	s.gate.Close()
+	c.Close(last)
+	if errors.Is(err, rtr.ErrServerClosed) {
+		return nil
+	}
+	return err
+}
+
+// sockets are what a cache listens at.
+type sockets struct {
+	bound   []transport.Bound
+	metrics net.Listener
+	secured map[transport.Kind]transport.Secured
+	reload  []func() error // what reads certificates and keys anew
+	gate    *transport.Gate
+	failed  chan error
+}
+
+// open takes all sockets and certificates, or none.
+func (c *Cache) open() (s *sockets, err error) {
+	s = &sockets{secured: map[transport.Kind]transport.Secured{transport.TCP: transport.Plain}}
+	defer func() {
+		if err != nil {
+			s.close()
+		}
+	}()
+	if s.bound, err = transport.Activated(); err != nil {
+		return s, err
+	}
+	for _, address := range c.settings.Listen {
+		bound, err := address.Listen()
+		if err != nil {
+			return s, err
+		}
+		s.bound = append(s.bound, bound)
+	}
+	if len(s.bound) == 0 {
+		bound, err := transport.Address{Kind: transport.TCP, Address: anywhere}.Listen()
+		if err != nil {
+			return s, err
+		}
+		s.bound = append(s.bound, bound)
+	}
+	if c.settings.Metrics != "" {
+		if s.metrics, err = net.Listen("tcp", c.settings.Metrics); err != nil {
+			return s, err
+		}
+	}
+	s.failed = make(chan error, len(s.bound)+1)
+	s.gate = transport.NewGate(c.settings.PerAddress, c.ended)
+	return s, c.secure(s)
+}
+
+// anywhere is where a cache listens that isn't told where: at a port that needs no rights.
+const anywhere = ":3323"
+
+// secure reads the certificates and keys of the transports that are listened for.
+func (c *Cache) secure(s *sockets) error {
+	for _, bound := range s.bound {
+		if s.secured[bound.Kind] != nil {
+			continue
+		}
+		switch bound.Kind {
+		case transport.TLS:
+			if c.settings.TLS.Certificate == "" || c.settings.TLS.Key == "" {
+				return errors.New("TLS wants --tls-cert and --tls-key")
+			}
+			identity, err := transport.NewIdentity(c.settings.TLS)
+			if err != nil {
+				return err
+			}
+			s.secured[transport.TLS] = identity.Secure
+			s.reload = append(s.reload, identity.Load)
+		case transport.SSH:
+			if c.settings.SSH.HostKey == "" || c.settings.SSH.Routers == "" {
+				return errors.New("SSH wants --ssh-host-key and --ssh-routers")
+			}
+			host, err := transport.NewHost(c.settings.SSH)
+			if err != nil {
+				return err
+			}
+			s.secured[transport.SSH] = host.Secure
+			s.reload = append(s.reload, host.Load)
+		}
+	}
+	return nil
+}
+
+// close closes the sockets.
+func (s *sockets) close() {
+	for _, bound := range s.bound {
+		bound.Listener.Close()
+	}
+	if s.metrics != nil {
+		s.metrics.Close()
+	}
+	if s.gate != nil {
+		s.gate.Close()
+	}
+}
+
+// notify tells systemd of the state of the cache, if it wants to know.
+func (c *Cache) notify(state string) {
+	if _, err := daemon.SdNotify(false, state); err != nil {
+		c.log.Warnf("systemd can't be told: %v", err)
+	}
+}

@@ -1,0 +1,74 @@
+// Package transport has the ways by which routers reach a cache: TCP, TLS and SSH (RFC 8210 section
+// 9), with limits by address, and with counts of what goes over them.
+package transport
+
+import (
+	"fmt"
+	"net"
+	"strings"
+
+	"github.com/coreos/go-systemd/v22/activation"
+)
+
+// Kind is a transport.
+type Kind string
+
+// The transports.
+const (
+	TCP Kind = "tcp"
+	TLS Kind = "tls"
+	SSH Kind = "ssh"
+)
+
+// Address is where a cache listens, and for which transport.
+type Address struct {
+	Kind    Kind
+	Address string // as net.Listen takes it
+}
+
+// ParseAddress reads ADDRESS:PORT, with the transport before it, as tls:ADDRESS:PORT, unless it is
+// TCP.
+func ParseAddress(word string) (Address, error) {
+	address := Address{TCP, word}
+	for _, kind := range []Kind{TCP, TLS, SSH} {
+		if rest := strings.TrimPrefix(word, string(kind)+":"); rest != word {
+			address = Address{kind, rest}
+		}
+	}
+	if _, _, err := net.SplitHostPort(address.Address); err != nil {
+		return Address{}, fmt.Errorf(
+			"%q is no ADDRESS:PORT, nor one with tcp:, tls: or ssh: before it", word)
+	}
+	return address, nil
+}
+
+// Bound is a listener for a transport.
+type Bound struct {
+	Kind     Kind
+	Listener net.Listener
+}
+
+// Listen listens at an address.
+func (a Address) Listen() (Bound, error) {
+	listener, err := net.Listen("tcp", a.Address)
+	return Bound{a.Kind, listener}, err
+}
+
+// Activated are the listeners that systemd gave, each for the transport that it has as a name; or
+// TCP, if it has another one.
+func Activated() ([]Bound, error) {
+	var all []Bound
+	for _, file := range activation.Files(true) {
+		listener, err := net.FileListener(file)
+		if err != nil {
+			return nil, fmt.Errorf("socket %s of systemd: %w", file.Name(), err)
+		}
+		kind := Kind(file.Name())
+		if kind != TLS && kind != SSH {
+			kind = TCP
+		}
+		file.Close()
+		all = append(all, Bound{kind, listener})
+	}
+	return all, nil
+}

@@ -1,0 +1,165 @@
+package transport
+
+import (
+	"errors"
+	"fmt"
+	"net"
+	"os"
+	"sync/atomic"
+	"time"
+
+	"golang.org/x/crypto/ssh"
+)
+
+// Subsystem is the one of SSH that RTR has (RFC 8210 section 9.1).
+const Subsystem = "rpki-rtr"
+
+// SSHFiles are the files of a cache that is reached over SSH.
+type SSHFiles struct {
+	HostKey string
+	Routers string // public keys of routers, as in authorized_keys
+}
+
+// Host is what a cache shows of itself over SSH, and whom it trusts. Load reads it anew.
+type Host struct {
+	files   SSHFiles
+	present atomic.Pointer[ssh.ServerConfig]
+}
+
+// NewHost reads the files.
+func NewHost(files SSHFiles) (*Host, error) {
+	h := &Host{files: files}
+	return h, h.Load()
+}
+
+// Load reads the files again, as Identity.Load does.
+func (h *Host) Load() error {
+	text, err := os.ReadFile(h.files.HostKey)
+	if err != nil {
+		return err
+	}
+	key, err := ssh.ParsePrivateKey(text)
+	if err != nil {
+		return fmt.Errorf("%s: %w", h.files.HostKey, err)
+	}
+	trusted, err := publicKeys(h.files.Routers)
+	if err != nil {
+		return err
+	}
+	config := &ssh.ServerConfig{
+		PublicKeyCallback: func(_ ssh.ConnMetadata, key ssh.PublicKey) (*ssh.Permissions, error) {
+			if trusted[string(key.Marshal())] {
+				return nil, nil
+			}
+			return nil, fmt.Errorf("%s isn't the key of a router", ssh.FingerprintSHA256(key))
+		},
+	}
+	config.AddHostKey(key)
+	h.present.Store(config)
+	return nil
+}
+
+// publicKeys are those of a file of authorized keys, in the form in which they go over the wire.
+func publicKeys(path string) (map[string]bool, error) {
+	text, err := os.ReadFile(path)
+	if err != nil {
+		return nil, err
+	}
+	keys := map[string]bool{}
+	for {
+		key, _, _, rest, err := ssh.ParseAuthorizedKey(text)
+		if err != nil {
+			break
+		}
+		keys[string(key.Marshal())] = true
+		text = rest
+	}
+	if len(keys) == 0 {
+		return nil, fmt.Errorf("%s: there is no public key in it", path)
+	}
+	return keys, nil
+}
+
+// handshakeTime is how long a router may take until it asks for the subsystem.
+const handshakeTime = 30 * time.Second
+
+// Secure has a connection go over SSH. The handshake goes on beside the caller.
+func (h *Host) Secure(connection net.Conn) net.Conn {
+	near, far := newPiped(connection)
+	go func() {
+		channel, err := h.accept(connection)
+		if err != nil {
+			err = fmt.Errorf("the handshake of SSH: %w", err)
+			near.failed.Store(&err)
+			far.close()
+			connection.Close()
+			return
+		}
+		far.pass(ending{channel}, connection)
+	}()
+	return near
+}
+
+// ending is a channel that ends as one of a program that ended well.
+type ending struct{ ssh.Channel }
+
+// Close ends the channel.
+func (e ending) Close() error {
+	good := ssh.Marshal(struct{ Status uint32 }{})
+	if _, err := e.SendRequest("exit-status", false, good); err != nil {
+		return err
+	}
+	return e.Channel.Close()
+}
+
+// accept makes the handshake, and gives the channel of the subsystem.
+func (h *Host) accept(connection net.Conn) (ssh.Channel, error) {
+	if err := connection.SetDeadline(time.Now().Add(handshakeTime)); err != nil {
+		return nil, err
+	}
+	_, channels, requests, err := ssh.NewServerConn(connection, h.present.Load())
+	if err != nil {
+		return nil, err
+	}
+	go ssh.DiscardRequests(requests)
+	for offered := range channels {
+		if offered.ChannelType() != "session" {
+			offered.Reject(ssh.UnknownChannelType, "this is a cache of the RPKI to Router protocol")
+			continue
+		}
+		channel, requests, err := offered.Accept()
+		if err != nil {
+			return nil, err
+		}
+		if isSubsystem(requests) {
+			go ssh.DiscardRequests(requests)
+			go refuseChannels(channels)
+			return channel, connection.SetDeadline(time.Time{})
+		}
+		channel.Close()
+	}
+	return nil, errors.New("the router didn't ask for the subsystem " + Subsystem)
+}
+
+// isSubsystem answers requests until the one for the subsystem comes, and says whether it came.
+func isSubsystem(requests <-chan *ssh.Request) bool {
+	for request := range requests {
+		var named struct{ Name string }
+		is := request.Type == "subsystem" && ssh.Unmarshal(request.Payload, &named) == nil &&
+			named.Name == Subsystem
+		if request.WantReply {
+			request.Reply(is, nil)
+		}
+		if is {
+			return true
+		}
+	}
+	return false
+}
+
+// refuseChannels refuses all channels beside the one of the subsystem.
+func refuseChannels(channels <-chan ssh.NewChannel) {
+	for offered := range channels {
+		offered.Reject(ssh.ResourceShortage, "one channel is enough")
+	}
+}

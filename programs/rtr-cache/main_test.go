@@ -1,0 +1,275 @@
+package main
+
+import (
+	"context"
+	"fmt"
+	"os"
+	"path/filepath"
+	"strings"
+	"testing"
+
+	"fishreef/programs/internal/trial"
+	"fishreef/rtr"
+)
+
+func TestMain(tests *testing.M) { trial.Main(tests, run) }
+
+// rows are lines of CSV: so many prefixes of AS 64496.
+func rows(count int) string {
+	var text strings.Builder
+	for i := 0; i < count; i++ {
+		fmt.Fprintf(&text, "AS64496,10.%d.%d.0/24,24\n", i/256, i%256)
+	}
+	return text.String()
+}
+
+// started is a cache with these options that listens, and its address.
+func started(t *testing.T, folder string, line ...string) (*trial.Process, string) {
+	t.Helper()
+	process := trial.Start(t, folder, append(line, "--listen", "127.0.0.1:0")...)
+	return process, process.After("listening at ")
+}
+
+// fetched are the data that a cache gives to a client of a version.
+func fetched(t *testing.T, address string, version uint8) rtr.Data {
+	t.Helper()
+	ctx, cancel := context.WithTimeout(context.Background(), trial.Wait)
+	defer cancel()
+	client := rtr.NewClient(address)
+	client.Version = version
+	data, err := client.Fetch(ctx)
+	if err != nil {
+		t.Fatal(err)
+	}
+	return data
+}
+
+// lines are the payloads of data, one on a line.
+func lines(data rtr.Data) string {
+	var all []string
+	for units := data.Units(); units.Scan(); {
+		all = append(all, strings.TrimPrefix(rtr.ChangeLine(units.Unit()), "+ "))
+	}
+	return strings.Join(all, "\n")
+}
+
+const validators = `{"roas": [
+	{"asn": 64496, "prefix": "192.0.2.0/24", "maxLength": 24},
+	{"asn": 65551, "prefix": "2001:db8::/32", "maxLength": 48}],
+	"aspas": [{"customer_asid": 64496, "providers": [64510, 64511]}]}`
+
+// Files of all formats are merged, and what two have is there once. Each client gets what its
+// version has.
+func TestServesFiles(t *testing.T) {
+	folder := t.TempDir()
+	trial.Write(t, folder+"/a.json", validators)
+	trial.Write(t, folder+"/b.csv", "ASN,IP Prefix,Max Length\nAS64496,192.0.2.0/24,24\nAS64497,198.51.100.0/24,26\n")
+	one, err := rtr.NewDataOf([]rtr.VRP{{ASN: 64499}}, 1, 7, 9, rtr.RecommendedTiming)
+	if err == nil {
+		t.Fatal("a VRP without a prefix")
+	}
+	one, err = rtr.NewData(0, 7, 9, rtr.RecommendedTiming)
+	if err != nil {
+		t.Fatal(err)
+	}
+	trial.Write(t, folder+"/c", string(one.Bytes()))
+	process, address := started(t, folder, "--json", "a.json", "--csv", "b.csv", "--sequence", "c",
+		"--refresh", "100", "--retry", "50", "--expire", "6000")
+	process.Says("4 payloads", 1)
+	const prefixes = "IPv4 prefix 192.0.2.0/24-24 AS64496\nIPv4 prefix 198.51.100.0/24-26 AS64497\n" +
+		"IPv6 prefix 2001:db8::/32-48 AS65551"
+	for version, says := range []string{prefixes, prefixes, prefixes + "\nASPA AS64496 providers AS64510 AS64511"} {
+		data := fetched(t, address, uint8(version))
+		if lines(data) != says || int(data.Version()) != version {
+			t.Errorf("version %d has\n%s", data.Version(), lines(data))
+		}
+		times := rtr.Timing{Refresh: 100, Retry: 50, Expire: 6000}
+		if version > 0 && data.Timing() != times {
+			t.Error(data.Timing())
+		}
+	}
+	if status := process.End(); status != 0 {
+		t.Error(status)
+	}
+}
+
+// Where two files contradict each other the second is refused, by the payload.
+func TestContradiction(t *testing.T) {
+	folder := t.TempDir()
+	trial.Write(t, folder+"/a", validators)
+	trial.Write(t, folder+"/b", `{"roas": [], "aspas": [{"customer_asid": 64496, "providers": [64512]}]}`)
+	process, _ := started(t, folder, "--json", "a", "--json", "b")
+	process.Says("AS64496 providers AS64512", 1)
+	if process.Lines("session") != 0 {
+		t.Error(process.Said())
+	}
+}
+
+// change is what a client is told.
+type change struct {
+	data               rtr.Data
+	announced, removed int
+}
+
+// follow has a client of version 2 follow a cache until the test ends.
+func follow(t *testing.T, address string) <-chan change {
+	ctx, cancel := context.WithCancel(context.Background())
+	changes, ended := make(chan change, 100), make(chan struct{})
+	client := rtr.NewClient(address)
+	client.Version = 2
+	go func() {
+		defer close(ended)
+		client.Run(ctx, func(update rtr.Update) error {
+			c := change{data: update.Data}
+			for units := update.Changes(); units.Scan(); {
+				if units.Unit().Announce {
+					c.announced++
+				} else {
+					c.removed++
+				}
+			}
+			changes <- c
+			return nil
+		})
+	}()
+	t.Cleanup(func() {
+		cancel()
+		<-ended
+	})
+	return changes
+}
+
+// A file that is written anew with the same payloads changes nothing; one with others gets the next
+// serial number, and clients get what changed.
+func TestSerialNumbers(t *testing.T) {
+	folder := t.TempDir()
+	file := filepath.Join(folder, "vrps.csv")
+	trial.Write(t, file, rows(10))
+	process, address := started(t, folder, "--csv", "vrps.csv")
+	process.Says("10 payloads", 1)
+	changes := follow(t, address)
+	first := <-changes
+	if first.data.Len() != 10 || first.announced != 10 {
+		t.Fatal(first)
+	}
+	trial.Write(t, file, "\n"+rows(10)+rows(3))
+	trial.Write(t, file, rows(12))
+	second := <-changes
+	if second.announced != 2 || second.removed != 0 || second.data.Serial() != first.data.Serial()+1 ||
+		second.data.Session() != first.data.Session() {
+		t.Fatal(second)
+	}
+	if got := fetched(t, address, 2); !got.Equal(second.data) {
+		t.Error(lines(got))
+	}
+}
+
+// Wrong words end the program with status 2 and one line that names the word; nothing is served.
+func TestWrongWords(t *testing.T) {
+	folder := t.TempDir()
+	trial.Write(t, folder+"/f", rows(1))
+	for _, row := range []struct{ words, says string }{
+		{"", "no file is named"},
+		{"f", `"f" is no option`},
+		{"--csv", "--csv lacks its FILE"},
+		{"--csv=", "--csv: it is empty"},
+		{"--csv f --csv f", "--csv: f is named twice"},
+		{"--csv f --nothing", `no option "--nothing"`},
+		{"--csv f -x", `no option "-x"`},
+		{"--csv f --help", `no option "--help"`},
+		{"--csv f --force=yes", "--force takes no argument"},
+		{"--csv f --guard 101%", `--guard: "101%" is no share`},
+		{"--csv f --guard half", `--guard: "half" is no share`},
+		{"--csv f --look 10", `--look: "10" is no time`},
+		{"--csv f --look 1ms", `--look: "1ms" is no time`},
+		{"--csv f --refresh 4294967296", `--refresh: "4294967296" is no number`},
+		{"--csv f --listen 3323", `--listen: "3323" is no ADDRESS:PORT`},
+		{"--csv f --listen quic:1.2.3.4:5", `--listen: "quic:1.2.3.4:5" is no ADDRESS:PORT`},
+		{"--csv f --metrics 9", `--metrics: "9" is no ADDRESS:PORT`},
+		{"--csv f --max-clients 0", `--max-clients: "0" is no number`},
+		{"--csv f --state a --state b", "--state: it is given twice"},
+		{"--csv f --tls-cert a", "--tls-cert and --tls-key come together"},
+		{"--csv f --tls-client-ca a", "--tls-client-ca wants"},
+		{"--csv f --ssh-host-key a", "--ssh-host-key and --ssh-routers come together"},
+		{"--csv f --log-level loud", `--log-level: not a valid logrus Level: "loud"`},
+	} {
+		process := trial.Start(t, folder, strings.Fields(row.words)...)
+		status, said := process.Status(), process.Said()
+		if status != 2 || strings.Count(said, "\n") != 1 || !strings.Contains(said, row.says) ||
+			!strings.HasPrefix(said, "rtr-cache: ") || process.Output() != "" {
+			t.Errorf("%q: status %d, %s", row.words, status, said)
+		}
+	}
+}
+
+// What can't be had at the beginning ends the program with status 1 and a line that names it.
+func TestWrongPlaces(t *testing.T) {
+	folder := t.TempDir()
+	trial.Write(t, folder+"/f", rows(1))
+	trial.Write(t, folder+"/file", "no certificate")
+	_, address := started(t, folder, "--csv", "f", "--state", "taken")
+	for _, row := range []struct{ words, says string }{
+		{"--listen " + address, address + ": bind: address already in use"},
+		{"--listen nowhere.invalid:3323", "nowhere.invalid"},
+		{"--listen 127.0.0.1:0 --metrics " + address, address + ": bind: address already in use"},
+		{"--listen 127.0.0.1:0 --state taken", "taken: another cache has this folder"},
+		{"--listen 127.0.0.1:0 --state f", "f/lock: not a directory"},
+		{"--listen 127.0.0.1:0 --state a/b", "a/b: no such file or directory"},
+		{"--listen tls:127.0.0.1:0", "TLS wants --tls-cert and --tls-key"},
+		{"--listen tls:127.0.0.1:0 --tls-cert none --tls-key file", "none: no such file"},
+		{"--listen tls:127.0.0.1:0 --tls-cert file --tls-key file", "file with file: "},
+		{"--listen ssh:127.0.0.1:0", "SSH wants --ssh-host-key and --ssh-routers"},
+		{"--listen ssh:127.0.0.1:0 --ssh-host-key none --ssh-routers file", "none: no such file"},
+		{"--listen ssh:127.0.0.1:0 --ssh-host-key file --ssh-routers file", "file: ssh: no key found"},
+	} {
+		process := trial.Start(t, folder, append([]string{"--csv", "f"}, strings.Fields(row.words)...)...)
+		status, said := process.Status(), process.Said()
+		if status != 1 || !strings.Contains(said, row.says) || process.Lines("level=error") != 1 {
+			t.Errorf("%q: status %d, %s", row.words, status, said)
+		}
+	}
+}
+
+// A file that is wrong is told by one line, that has the place in it, and what is served stays.
+func TestWrongFiles(t *testing.T) {
+	folder := t.TempDir()
+	trial.Write(t, folder+"/good", rows(2))
+	trial.Write(t, folder+"/j", validators)
+	trial.Write(t, folder+"/s", "")
+	process, address := started(t, folder, "--csv", "good", "--json", "j", "--metrics", "127.0.0.1:0")
+	process.Says("5 payloads", 1)
+	before := fetched(t, address, 2)
+	for _, row := range []struct{ file, text, says string }{
+		{"good", rows(2) + "AS64496,10.0.0.1/24,24\n", "good: line 3: non-zero host portion"},
+		{"good", rows(2) + "AS64496,10.0.0.0/33,33\n", "good: line 3: prefix"},
+		{"good", rows(2) + "AS64496,10.0.0.0/24,23\n", "good: line 3: max"},
+		{"good", rows(2) + "64496x,10.0.0.0/24,24\n", "good: line 3: invalid AS number"},
+		{"good", "", "good: input: no payloads"},
+		{"j", validators[:len(validators)-1], "j: "},
+		{"j", strings.Replace(validators, "roas", "vrps", 1), `j: \"vrps\": payloads under an unknown name`},
+		{"j", strings.Replace(validators, `"192.0.2.0/24"`, `"192.0.2.1/24"`, 1), "j: roas[0].prefix: non-zero host portion"},
+		{"j", strings.Replace(validators, "64511", "4294967296", 1), "j: aspas[0].providers"},
+	} {
+		was := process.Lines("level=warning")
+		trial.Write(t, filepath.Join(folder, row.file), row.text)
+		process.Says("level=warning", was+1)
+		all := strings.Split(strings.TrimSpace(process.Said()), "\n")
+		if last := all[len(all)-1]; !strings.Contains(last, row.says) || process.Lines("level=warning") != was+1 {
+			t.Errorf("%q: %s", row.says, last)
+		}
+		if !fetched(t, address, 2).Equal(before) {
+			t.Errorf("%q changed what is served", row.says)
+		}
+	}
+	if err := os.Remove(folder + "/good"); err != nil {
+		t.Fatal(err)
+	}
+	process.Says("good: no such file or directory", 1)
+	if err := os.Mkdir(folder+"/good", 0o700); err != nil {
+		t.Fatal(err)
+	}
+	process.Says("good: it is no regular file", 1)
+	if !fetched(t, address, 2).Equal(before) {
+		t.Error("a file that is gone changed what is served")
+	}
+}

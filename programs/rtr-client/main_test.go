@@ -1,0 +1,416 @@
+package main
+
+import (
+	"crypto/tls"
+	"fmt"
+	"math/rand"
+	"net"
+	"net/netip"
+	"os"
+	"os/exec"
+	"strconv"
+	"strings"
+	"syscall"
+	"testing"
+	"time"
+
+	"fishreef/programs/internal/trial"
+	"fishreef/rtr"
+)
+
+func TestMain(tests *testing.M) { trial.Main(tests, run) }
+
+// vrp is a VRP of AS 64496.
+func vrp(prefix string, maxLength uint8) rtr.VRP {
+	return rtr.VRP{Prefix: netip.MustParsePrefix(prefix), MaxLength: maxLength, ASN: 64496}
+}
+
+// data are data of version 1 and session 7.
+func data(t *testing.T, serial uint32, vrps ...rtr.VRP) rtr.Data {
+	t.Helper()
+	made, err := rtr.NewDataOf(vrps, 1, 7, serial, rtr.RecommendedTiming)
+	if err != nil {
+		t.Fatal(err)
+	}
+	return made
+}
+
+// cached is a cache with data at an address, and the address.
+func cached(t *testing.T, address string, first rtr.Data) (*rtr.Server, string) {
+	t.Helper()
+	listener, err := net.Listen("tcp", address)
+	if err != nil {
+		t.Fatal(err)
+	}
+	server := rtr.NewServer()
+	server.Limits.Notify = 0
+	if !first.IsZero() {
+		if err := server.Update(first); err != nil {
+			t.Fatal(err)
+		}
+	}
+	go server.Serve(listener)
+	t.Cleanup(server.Close)
+	return server, listener.Addr().String()
+}
+
+// Changes are printed as lines or as JSON, as they come.
+func TestPrintsChanges(t *testing.T) {
+	for option, says := range map[string][2]string{
+		"--version=1": {
+			"+ IPv4 prefix 192.0.2.0/24-26 AS64496\n",
+			"+ IPv6 prefix 2001:db8::/32-32 AS64496\n- IPv4 prefix 192.0.2.0/24-26 AS64496\n",
+		},
+		"--json": {
+			`{"kind":"ipv4_prefix","action":"announce","prefix":"192.0.2.0","prefix_length":24,"max_length":26,"asn":64496}` + "\n",
+			`{"kind":"ipv6_prefix","action":"announce","prefix":"2001:db8::","prefix_length":32,"max_length":32,"asn":64496}` + "\n" +
+				`{"kind":"ipv4_prefix","action":"withdraw","prefix":"192.0.2.0","prefix_length":24,"max_length":26,"asn":64496}` + "\n",
+		},
+	} {
+		server, address := cached(t, "127.0.0.1:0", data(t, 1, vrp("192.0.2.0/24", 26)))
+		process := trial.Start(t, t.TempDir(), address, option)
+		process.Await("the first data", func() bool { return process.Output() == says[0] })
+		if err := server.Update(data(t, 2, vrp("2001:db8::/32", 32))); err != nil {
+			t.Fatal(err)
+		}
+		process.Await("the change", func() bool { return process.Output() == says[0]+says[1] })
+		process.Says("session 7 serial 2", 1)
+		if status := process.End(); status != 0 {
+			t.Error(status)
+		}
+	}
+}
+
+// With --once the program ends after the first data, or with status 1 where there are none.
+func TestOnce(t *testing.T) {
+	_, empty := cached(t, "127.0.0.1:0", rtr.Data{})
+	_, full := cached(t, "127.0.0.1:0", data(t, 1, vrp("192.0.2.0/24", 24)))
+	listener, err := net.Listen("tcp", "127.0.0.1:0")
+	if err != nil {
+		t.Fatal(err)
+	}
+	nobody := listener.Addr().String()
+	listener.Close()
+	for _, row := range []struct {
+		words, output string
+		status        int
+		says          []string
+	}{
+		{full, "+ IPv4 prefix 192.0.2.0/24-24 AS64496\n", 0, []string{full + ": session 7 serial 1 version 2: 1 payloads"}},
+		{empty, "", 1, []string{empty + ": the peer reports: No Data Available", "there are no data"}},
+		{nobody, "", 1, []string{nobody + ": dial tcp", "connection refused"}},
+		{nobody + " " + empty + " " + full, "+ IPv4 prefix 192.0.2.0/24-24 AS64496\n", 0,
+			[]string{nobody + ": dial", empty + ": the peer reports", full + ": session 7"}},
+		{full + " --validate 192.0.2.0/25 AS64496",
+			"192.0.2.0/25 AS64496 invalid: 192.0.2.0/24-24 AS64496 (longer than 24)\n", 0, nil},
+		{full + " --validate 192.0.2.0/24 64496 --validate 198.51.100.0/24 AS1",
+			"192.0.2.0/24 AS64496 valid\n198.51.100.0/24 AS1 not found\n", 0, nil},
+	} {
+		process := trial.Start(t, t.TempDir(), append(strings.Fields(row.words), "--once")...)
+		if status := process.Status(); status != row.status || process.Output() != row.output {
+			t.Errorf("%s: status %d, %s%s", row.words, status, process.Output(), process.Said())
+		}
+		for _, text := range row.says {
+			if process.Lines(text) != 1 {
+				t.Errorf("%s: %q is missing in %s", row.words, text, process.Said())
+			}
+		}
+	}
+}
+
+// The newest data are in the file, as rpki-client writes it or as CSV, and readers see whole ones.
+func TestOut(t *testing.T) {
+	server, address := cached(t, "127.0.0.1:0", data(t, 1, vrp("192.0.2.0/24", 26)))
+	folder := t.TempDir()
+	const first, second = `{"prefix":"192.0.2.0/24","maxLength":26,"asn":64496}`, `{"prefix":"2001:db8::/32","maxLength":32,"asn":64496}`
+	json := trial.Start(t, folder, address, "--out", "vrps.json")
+	csv := trial.Start(t, folder, address, "--out", "vrps.csv")
+	has := func(file, text string) func() bool {
+		return func() bool {
+			read, err := os.ReadFile(folder + "/" + file)
+			if err != nil {
+				return false
+			}
+			if strings.HasSuffix(file, ".json") && !strings.HasSuffix(string(read), "]}\n") {
+				t.Errorf("half a file: %s", read)
+			}
+			return strings.Contains(string(read), text)
+		}
+	}
+	json.Await("the first data", has("vrps.json", first))
+	csv.Await("the first data", has("vrps.csv", "AS64496,192.0.2.0/24,26\n"))
+	if err := server.Update(data(t, 2, vrp("2001:db8::/32", 32))); err != nil {
+		t.Fatal(err)
+	}
+	json.Await("the change", has("vrps.json", second))
+	csv.Await("the change", has("vrps.csv", "AS64496,2001:db8::/32,32\n"))
+	if has("vrps.json", first)() || json.Output() != "" {
+		t.Error("what was withdrawn is there, or changes were printed")
+	}
+	json.End()
+	csv.End()
+	if left, err := os.ReadDir(folder); err != nil || len(left) != 2 {
+		t.Error(left, err)
+	}
+}
+
+// A recording has both directions, and the programs read it; each connection has its own, and a
+// file that is there stays.
+func TestRecord(t *testing.T) {
+	server, address := cached(t, "127.0.0.1:0", data(t, 1, vrp("192.0.2.0/24", 26)))
+	folder := t.TempDir()
+	process := trial.Start(t, folder, address, "--version", "1", "--record", "r")
+	process.Says("serial 1", 1)
+	if err := server.Update(data(t, 2, vrp("192.0.2.0/24", 26), vrp("2001:db8::/32", 32))); err != nil {
+		t.Fatal(err)
+	}
+	process.Says("serial 2", 1)
+	server.Close()
+	process.Says("closed", 1)
+	trial.Write(t, folder+"/r.2", "of before")
+	cached(t, address, data(t, 3, vrp("192.0.2.0/24", 26)))
+	process.Says("serial 3", 1)
+	process.End()
+	lists(t, folder, "r", "0 v1 reset query", "8 v1 cache response session 7",
+		"16 v1 IPv4 prefix announce 192.0.2.0/24-26 AS64496",
+		"36 v1 end of data session 7 serial 1 refresh 3600 retry 600 expire 7200",
+		"60 v1 serial notify session 7 serial 2", "72 v1 serial query session 7 serial 1",
+		"84 v1 cache response session 7", "92 v1 IPv6 prefix announce 2001:db8::/32-32 AS64496",
+		"124 v1 end of data session 7 serial 2 refresh 3600 retry 600 expire 7200")
+	times, err := os.ReadFile(folder + "/r.times")
+	if err != nil {
+		t.Fatal(err)
+	}
+	var ways []string
+	for _, line := range strings.Split(strings.TrimSpace(string(times)), "\n") {
+		words := strings.Fields(line)
+		at, err := time.Parse(time.RFC3339Nano, words[1])
+		if err != nil || time.Since(at) > trial.Wait {
+			t.Error(line, err)
+		}
+		ways = append(ways, words[0]+" "+words[2])
+	}
+	said := strings.Join(ways, ",")
+	if !strings.HasPrefix(said, "0 sent,8 received,") || !strings.Contains(said, "60 received,72 sent,84 received") {
+		t.Error(said)
+	}
+	if info, err := os.Stat(folder + "/r.3"); err != nil || info.Size() == 0 || !trial.Same(folder+"/r.2", "of before") {
+		t.Error(info, err)
+	}
+	process = trial.Start(t, folder, address, "--record", "r", "--once")
+	if status := process.Status(); status != 1 || process.Lines("r: file exists") != 1 {
+		t.Error(status, process.Said())
+	}
+}
+
+// lists compares what rtr_list prints of a recording.
+func lists(t *testing.T, folder, file string, lines ...string) {
+	t.Helper()
+	input, err := os.Open(folder + "/" + file)
+	if err != nil {
+		t.Fatal(err)
+	}
+	defer input.Close()
+	run := exec.Command("rtr_list")
+	run.Stdin = input
+	output, err := run.CombinedOutput()
+	if want := strings.Join(lines, "\n") + "\n"; err != nil || string(output) != want {
+		t.Errorf("%v, %s", err, output)
+	}
+}
+
+// The first cache that has data is followed. While it fails the next one is, and it is left again.
+func TestPreference(t *testing.T) {
+	one, first := cached(t, "127.0.0.1:0", data(t, 1, vrp("192.0.2.0/24", 24)))
+	_, second := cached(t, "127.0.0.1:0", data(t, 5, vrp("198.51.100.0/24", 24)))
+	process := trial.Start(t, t.TempDir(), first, second)
+	process.Says(first+": session 7 serial 1", 1)
+	one.Close()
+	process.Says(second+": session 7 serial 5", 1)
+	cached(t, first, data(t, 1, vrp("192.0.2.0/24", 24)))
+	process.Says(first+": session 7 serial 1", 2)
+	want := "+ IPv4 prefix 192.0.2.0/24-24 AS64496\n" +
+		"+ IPv4 prefix 198.51.100.0/24-24 AS64496\n- IPv4 prefix 192.0.2.0/24-24 AS64496\n" +
+		"+ IPv4 prefix 192.0.2.0/24-24 AS64496\n- IPv4 prefix 198.51.100.0/24-24 AS64496\n"
+	process.Await("the way back", func() bool { return process.Output() == want })
+	process.End()
+	if process.Lines(first+": connections 2") != 1 || process.Lines(second+": connections 1,") != 1 {
+		t.Error(process.Said())
+	}
+}
+
+// Over TLS a cache has to be of an authority, and gets the router's certificate.
+func TestTLS(t *testing.T) {
+	folder := t.TempDir()
+	ours, others := trial.NewAuthority(t), trial.NewAuthority(t)
+	ours.Save(folder + "/ca")
+	others.Save(folder + "/others")
+	trial.Save(t, ours.Issue("127.0.0.1"), folder+"/cert", folder+"/key")
+	listener, err := tls.Listen("tcp", "127.0.0.1:0", &tls.Config{
+		Certificates: []tls.Certificate{ours.Issue("127.0.0.1")},
+		ClientAuth:   tls.RequireAndVerifyClientCert, ClientCAs: ours.Pool(),
+	})
+	if err != nil {
+		t.Fatal(err)
+	}
+	server := rtr.NewServer()
+	if err := server.Update(data(t, 1, vrp("192.0.2.0/24", 24))); err != nil {
+		t.Fatal(err)
+	}
+	go server.Serve(listener)
+	t.Cleanup(server.Close)
+	address := listener.Addr().String()
+	for words, status := range map[string]int{
+		"--tls --tls-ca ca --tls-cert cert --tls-key key":                          0,
+		"--tls --tls-ca ca --tls-cert cert --tls-key key --tls-name cache.invalid": 1,
+		"--tls --tls-ca ca":     1,
+		"--tls --tls-ca others": 1,
+		"--tls":                 1,
+	} {
+		process := trial.Start(t, folder, append(strings.Fields(words), address, "--once")...)
+		if got := process.Status(); got != status {
+			t.Errorf("%s: status %d, %s", words, got, process.Said())
+		}
+	}
+}
+
+// Wrong words end the program with status 2 and one line that names the word; wrong files with
+// status 1.
+func TestWrongWords(t *testing.T) {
+	folder := t.TempDir()
+	trial.Write(t, folder+"/file", "no certificate")
+	for _, row := range []struct {
+		words  string
+		status int
+		says   string
+	}{
+		{"", 2, "no HOST:PORT is named"},
+		{"localhost", 2, `"localhost" is no HOST:PORT`},
+		{"a:1 a:1", 2, "a:1 is named twice"},
+		{"a:1 --version 3", 2, `--version: "3" is no version`},
+		{"a:1 --version", 2, "--version lacks its 0|1|2"},
+		{"a:1 --nothing", 2, `no option "--nothing"`},
+		{"a:1 --out", 2, "--out lacks its FILE"},
+		{"a:1 --validate 10.0.0.0/8", 2, "--validate lacks its PREFIX ASN"},
+		{"a:1 --validate 10.0.0.0 AS1", 2, `--validate: "10.0.0.0" is no prefix`},
+		{"a:1 --validate 10.0.0.0/8 ASx", 2, `--validate: "ASx" is no AS number`},
+		{"a:1 --tls-ca x", 2, "--tls is missing"},
+		{"a:1 --tls --tls-cert x", 2, "--tls-cert and --tls-key come together"},
+		{"a:1 --ssh rpki", 2, "--ssh, --ssh-key and --ssh-known-hosts come together"},
+		{"a:1 --ssh rpki --tls", 2, "--tls and --ssh exclude each other"},
+		{"a:1 --ssh rpki --ssh-key none --ssh-known-hosts none", 1, "none: no such file"},
+		{"a:1 --ssh rpki --ssh-key file --ssh-known-hosts none", 1, "file: ssh: no key found"},
+		{"a:1 --once=1", 2, "--once takes no argument"},
+		{"a:1 --tls --tls-ca none", 1, "none: no such file"},
+		{"a:1 --tls --tls-ca file", 1, "file: there is no certificate in it"},
+		{"a:1 --tls --tls-cert file --tls-key file", 1, "file with file: "},
+		{"a:1 --record none/r", 1, "none/r: no such file"},
+	} {
+		process := trial.Start(t, folder, strings.Fields(row.words)...)
+		status, said := process.Status(), process.Said()
+		if status != row.status || strings.Count(said, "\n") != 1 || !strings.Contains(said, row.says) ||
+			!strings.HasPrefix(said, "rtr-client: ") || process.Output() != "" {
+			t.Errorf("%q: status %d, %s", row.words, status, said)
+		}
+	}
+}
+
+// SIGUSR1 prints the statistics, as the end does.
+func TestStatistics(t *testing.T) {
+	server, address := cached(t, "127.0.0.1:0", data(t, 1, vrp("192.0.2.0/24", 24)))
+	process := trial.Start(t, t.TempDir(), address, "--version", "1")
+	process.Says("serial 1", 1)
+	if err := server.Update(data(t, 2, vrp("198.51.100.0/24", 24), vrp("203.0.113.0/24", 24))); err != nil {
+		t.Fatal(err)
+	}
+	process.Says("serial 2", 1)
+	process.Signal(syscall.SIGUSR1)
+	process.Says(address+": connections 1, failures 0", 1)
+	process.Says("bytes received 156, sent 20", 1)
+	process.Says("payloads 2, changes of the data 2, announced 3, withdrawn 1", 1)
+	process.End()
+	process.Says("payloads 2, changes of the data 2, announced 3, withdrawn 1", 2)
+}
+
+// proxy passes connections on to an address, and cuts each after some bytes.
+func proxy(t *testing.T, to string) string {
+	listener, err := net.Listen("tcp", "127.0.0.1:0")
+	if err != nil {
+		t.Fatal(err)
+	}
+	t.Cleanup(func() { listener.Close() })
+	go func() {
+		for {
+			client, err := listener.Accept()
+			if err != nil {
+				return
+			}
+			cache, err := net.Dial("tcp", to)
+			if err != nil {
+				client.Close()
+				continue
+			}
+			most := rand.Intn(4000)
+			pass := func(to, from net.Conn) {
+				defer to.Close()
+				defer from.Close()
+				buffer := make([]byte, 100)
+				for sum := 0; sum < most; {
+					n, err := from.Read(buffer)
+					if err != nil {
+						return
+					}
+					to.Write(buffer[:n])
+					sum += n
+				}
+			}
+			go pass(client, cache)
+			go pass(cache, client)
+		}
+	}()
+	return listener.Addr().String()
+}
+
+// Beside a cache that changes, behind a proxy that cuts connections anywhere, the file only has
+// data that the cache had, and in the end the last ones.
+func TestCuts(t *testing.T) {
+	folder := t.TempDir()
+	list := func(serial int) (vrps []rtr.VRP) {
+		for i := serial; i < serial+50; i++ {
+			vrps = append(vrps, vrp(fmt.Sprintf("10.0.%d.0/24", i), 24))
+		}
+		return vrps
+	}
+	server, address := cached(t, "127.0.0.1:0", data(t, 1, list(1)...))
+	process := trial.Start(t, folder, proxy(t, address), "--out", "vrps.csv")
+	const last = 60
+	for serial := 2; serial <= last; serial++ {
+		if err := server.Update(data(t, uint32(serial), list(serial)...)); err != nil {
+			t.Fatal(err)
+		}
+		time.Sleep(50 * time.Millisecond)
+		text, err := os.ReadFile(folder + "/vrps.csv")
+		if err != nil {
+			continue
+		}
+		lines := strings.Split(strings.TrimSpace(string(text)), "\n")
+		from := strings.Split(lines[1], ".")[2]
+		first, err := strconv.Atoi(from)
+		if err != nil || len(lines) != 51 || !strings.Contains(lines[50], fmt.Sprintf("10.0.%d.0/24", first+49)) {
+			t.Fatalf("%s", text)
+		}
+	}
+	process.Await("the last data", func() bool {
+		text, err := os.ReadFile(folder + "/vrps.csv")
+		return err == nil && strings.Contains(string(text), fmt.Sprintf("10.0.%d.0/24", last+49))
+	})
+}
+
+// An output that can't be written ends the program.
+func TestNoOutput(t *testing.T) {
+	_, address := cached(t, "127.0.0.1:0", data(t, 1, vrp("192.0.2.0/24", 24)))
+	process := trial.Start(t, t.TempDir(), address, "--out", "none/vrps.json")
+	if status := process.Status(); status != 1 || process.Lines("none/") != 1 {
+		t.Error(status, process.Said())
+	}
+}
