@@ -9,6 +9,7 @@ import threading
 
 import ours as examples
 import payloads
+import programs
 import recorder
 import trust_anchor
 from processes import READY_SECONDS, Missing, Server, on_port, package_version, program, until
@@ -233,6 +234,32 @@ class Ours(Cache):
         """Ends it, and starts it with another list and another session."""
         self.session, self.serial = self.session + 1, 7
         super().restart(listed)
+
+
+class RtrCache(Ours):
+    """The program rtr-cache, over the JSON that rpki-client writes. It keeps session and serial
+    number itself, and began another session where it has no folder for them."""
+
+    name = "rtr-cache"
+    json = "list.json"
+
+    def write(self, listed):
+        """Writes the file that it serves."""
+        return self.keep(self.json, payloads.stayrtr_json(listed))
+
+    def serve(self, listed):
+        """Starts it with this list."""
+        path = os.path.dirname(programs.path("rtr_make"))
+        words = ["env", f"PATH={path}:{os.environ['PATH']}", self.example.built()]
+        words += ["--json", self.write(listed), "--guard", "100%", "--retry", str(self.retry)]
+        return self.start(lambda port: [*words, "--listen", f"127.0.0.1:{port}"])
+
+
+def of_programs(folder):
+    """A maker of rtr-cache, where it can be built here."""
+    program_here = examples.RtrCache(folder)
+    if not program_here.lacks():
+        yield type("RtrCacheHere", (RtrCache,), {"example": program_here})
 
 
 def ours(folder):

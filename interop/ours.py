@@ -31,6 +31,10 @@ BUILDS = {
 }
 
 
+# What builds the programs in Go.
+BUILD = os.path.join(TOP, "programs", "build")
+
+
 class Example:
     """An example of ours in one language."""
 
@@ -92,6 +96,40 @@ class Example:
         return {payloads.as_line(json.loads(line)) for line in done.stdout.splitlines()}
 
 
+class RtrCache:
+    """The program rtr-cache, in Go; RTR_CACHE names one that is built already."""
+
+    lock = threading.Lock()
+
+    def __init__(self, folder):
+        self.folder = os.path.join(folder, "programs")
+
+    def lacks(self):
+        """Why it can't be built here, or None."""
+        if os.environ.get("RTR_CACHE"):
+            return None
+        if shutil.which("go") is None:
+            return "go isn't installed"
+        if not programs.there("rtr_make"):
+            return f"rtr_make isn't in {programs.SHOWN}"
+        said = subprocess.run([BUILD, "--missing"], capture_output=True, text=True, check=True)
+        missing = said.stdout.split()
+        return f"{missing[0]} isn't installed" if missing else None
+
+    def built(self):
+        """The path of the program, which is built where it isn't yet."""
+        if os.environ.get("RTR_CACHE"):
+            return os.environ["RTR_CACHE"]
+        path = os.path.join(self.folder, "rtr-cache")
+        with RtrCache.lock:
+            if not os.path.exists(path):
+                done = subprocess.run([BUILD, self.folder], capture_output=True, text=True,
+                                      timeout=480, check=False)
+                if done.returncode:
+                    raise OSError(f"programs/build: {done.stderr[-500:]}")
+        return path
+
+
 def clients(folder):
     """Our clients that can be built here."""
     examples = [Example(language, "client", folder) for language in BUILDS]
@@ -109,7 +147,8 @@ def build_all(folder):
     def build(example):
         with contextlib.suppress(OSError, subprocess.SubprocessError):
             example.built()
-    for example in (*clients(folder), *caches(folder)):
+    cache = RtrCache(folder)
+    for example in (*clients(folder), *caches(folder), *([] if cache.lacks() else [cache])):
         threading.Thread(target=build, args=(example,), daemon=True).start()
 
 
@@ -121,6 +160,8 @@ def say_absent(results, folder):
             if lacks:
                 pair.skip(f"{name} in {language}", lacks)
     with Pair(results, "our side", "our", "programs") as pair:
+        if lacks := RtrCache(folder).lacks():
+            pair.skip("rtr-cache", lacks)
         for name in programs.NAMES:
             if not programs.there(name):
                 pair.skip(name, f"it isn't in {programs.SHOWN}")

@@ -31,14 +31,24 @@ def differences(rows):
 
 
 def pairs(found, part):
-    """A row for each peer and version of a part."""
-    names = sorted({row.names for row in found.rows if row.names.part == part})
-    for name in names:
-        rows = [row for row in found.rows if row.names == name and row.outcome != SKIPPED]
+    """The table of a part: for each peer beside whom it was, the versions that it spoke, and over
+    all of them how many comparisons and units there were."""
+    met = {}
+    for row in found.rows:
+        if row.names.part == part and row.outcome != SKIPPED:
+            peer, _, beside = row.names.peer.partition(" at ")
+            met.setdefault((peer, row.names.release), []).append((beside, row))
+    lines = []
+    for (peer, release), pairs_of_peer in sorted(met.items()):
+        rows = [row for _, row in pairs_of_peer]
+        beside = ", ".join(sorted({name for name, _ in pairs_of_peer}))
+        versions = ", ".join(sorted({row.names.version or "all" for row in rows}))
         units = sum(row.units or 0 for row in rows)
-        if rows:
-            cells = (name.peer, name.release, name.version or "all")
-            yield (*cells, len(rows), units, differences(rows))
+        lines.append((peer, release, beside, versions, len(rows), units, differences(rows)))
+    heads = ["Peer", "Package", "At", "RTR", "Comparisons", "Units", "Differences"]
+    if not any(line[2] for line in lines):
+        heads, lines = heads[:2] + heads[3:], [line[:2] + line[3:] for line in lines]
+    return table(heads, lines) if lines else []
 
 
 def answers(found):
@@ -89,11 +99,10 @@ def write(found, parts, more):
     tables with theirs."""
     with open(PAGE, encoding="utf-8") as file:
         text = file.read()
-    heads = ["Peer", "Package", "RTR", "Comparisons", "Units", "Differences"]
     for mark, part in parts.items():
-        rows = list(pairs(found, part))
-        if rows:
-            text = replace(text, mark, table(heads, rows))
+        lines = pairs(found, part)
+        if lines:
+            text = replace(text, mark, lines)
     if any("query" in what for _, what, _ in found.seen):
         text = replace(text, "answers", answers(found))
     for mark, lines in more.items():
