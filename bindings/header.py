@@ -1,7 +1,8 @@
-"""What rtr.h declares, for the scripts that write tables of it for languages that don't read C:
-enums, structs with the places of their fields on 64-bit machines, functions, and texts."""
+"""What rtr.h declares, for the scripts that write tables of it for other languages: numbers, enums,
+structs with the places of their fields on 64-bit machines, functions, and texts."""
 import pathlib
 import re
+import sys
 
 HEADER = pathlib.Path(__file__).resolve().parent / "c" / "rtr.h"
 
@@ -24,9 +25,15 @@ def version(text):
 
 
 def constants(text):
-    """The other numbers that the header defines: name and number."""
-    return [(name, int(number)) for name, number in re.findall(
-        r"^#define (RTR_\w+) (\d+)$", text, re.MULTILINE) if name != "RTR_WIRE_VERSION_NUMBER"]
+    """The other numbers that the header defines: name, number, and the comment behind it."""
+    return [(name, int(number), plain(comment)) for name, number, comment in re.findall(
+        r"^#define (RTR_\w+) (\d+)[ \t]*(/\*.*\*/)?$", text, re.MULTILINE)
+        if name != "RTR_WIRE_VERSION_NUMBER"]
+
+
+def is_time(name):
+    """Whether a number of the header is a time of an end of data."""
+    return name.endswith(("_REFRESH", "_RETRY", "_EXPIRE"))
 
 
 def plain(comment):
@@ -87,3 +94,17 @@ def texts(text, function):
     said = [line.strip() for line in listed.split("{\n")[-1].splitlines()]
     return ([None if line == "0," else re.fullmatch(r'"(.*)",', line)[1] for line in said if line],
             re.search(r'"([^"]*)"', rest)[1])
+
+
+def write(files, call):
+    """Writes the files that were made of the header, each a path and its text; or if the script was
+    called with --check, ends with status 1 where one isn't what it would write."""
+    if sys.argv[1:] == ["--check"]:
+        for path, text in files.items():
+            if not path.exists() or path.read_text() != text:
+                sys.exit(f"{path.name} isn't what rtr.h says: call {call}")
+    elif sys.argv[1:]:
+        sys.exit(f"usage: {call} [--check]")
+    else:
+        for path, text in files.items():
+            path.write_text(text)

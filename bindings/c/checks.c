@@ -36,7 +36,7 @@ static void take_out(size_t at, size_t length)
 
 static void say(const struct rtr_finding *finding, size_t offset)
 {
-    uint8_t line[128];
+    uint8_t line[RTR_FINDING_ROOM];
     size_t length = rtr_finding_line(finding, offset, line, sizeof line);
     if (length > 0)
         printf("%.*s\n", (int)length, (const char *)line);
@@ -44,7 +44,7 @@ static void say(const struct rtr_finding *finding, size_t offset)
 
 int main(void)
 {
-    static uint8_t input[1 << 20], name[65536];
+    static uint8_t input[1 << 20], name[RTR_NAME_ROOM];
     size_t length = fread(input, 1, sizeof input, stdin), at = 0;
     struct rtr_check check = {0};
     struct rtr_naming named;

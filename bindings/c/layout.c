@@ -1,8 +1,11 @@
-/* The sizes and offsets that crates/rtr_c states, if a size_t has eight bytes. */
+/* The sizes of structs and the places of their fields, if a size_t has eight bytes. `generate` made
+ * this file of rtr.h: don't edit it. */
 #include "rtr.h"
 
 #define AT(type, field, offset) \
     _Static_assert(offsetof(struct type, field) == (offset), #type " " #field)
+
+_Static_assert(sizeof(bool) == 1, "bool");
 
 #if SIZE_MAX == UINT64_MAX
 _Static_assert(sizeof(struct rtr_answer) == 48, "rtr_answer");
@@ -13,6 +16,28 @@ AT(rtr_answer, written, 24);
 AT(rtr_answer, wanted, 32);
 AT(rtr_answer, status, 40);
 AT(rtr_answer, detail, 41);
+
+_Static_assert(sizeof(struct rtr_data_answer) == 24, "rtr_data_answer");
+AT(rtr_data_answer, written, 0);
+AT(rtr_data_answer, offset, 8);
+AT(rtr_data_answer, status, 16);
+AT(rtr_data_answer, side, 17);
+AT(rtr_data_answer, detail, 18);
+
+_Static_assert(sizeof(struct rtr_comparison) == 24, "rtr_comparison");
+AT(rtr_comparison, offset, 0);
+AT(rtr_comparison, wanted, 8);
+AT(rtr_comparison, status, 16);
+AT(rtr_comparison, side, 17);
+AT(rtr_comparison, detail, 18);
+AT(rtr_comparison, same, 19);
+
+_Static_assert(sizeof(struct rtr_line) == 32, "rtr_line");
+AT(rtr_line, size, 0);
+AT(rtr_line, length, 8);
+AT(rtr_line, wanted, 16);
+AT(rtr_line, status, 24);
+AT(rtr_line, detail, 25);
 
 _Static_assert(sizeof(struct rtr_unit) == 120, "rtr_unit");
 AT(rtr_unit, size, 0);
@@ -39,20 +64,26 @@ AT(rtr_unit, address, 82);
 AT(rtr_unit, key_identifier, 98);
 AT(rtr_unit, detail, 118);
 
-_Static_assert(sizeof(struct rtr_comparison) == 24, "rtr_comparison");
-AT(rtr_comparison, offset, 0);
-AT(rtr_comparison, wanted, 8);
-AT(rtr_comparison, status, 16);
-AT(rtr_comparison, side, 17);
-AT(rtr_comparison, detail, 18);
-AT(rtr_comparison, same, 19);
+_Static_assert(sizeof(struct rtr_route) == 24, "rtr_route");
+AT(rtr_route, asn, 0);
+AT(rtr_route, family, 4);
+AT(rtr_route, prefix_length, 5);
+AT(rtr_route, address, 6);
 
-_Static_assert(sizeof(struct rtr_line) == 32, "rtr_line");
-AT(rtr_line, size, 0);
-AT(rtr_line, length, 8);
-AT(rtr_line, wanted, 16);
-AT(rtr_line, status, 24);
-AT(rtr_line, detail, 25);
+_Static_assert(sizeof(struct rtr_tables) == 2328, "rtr_tables");
+AT(rtr_tables, ipv4, 0);
+AT(rtr_tables, ipv6, 8);
+AT(rtr_tables, starts, 16);
+AT(rtr_tables, shortest_ipv4, 2064);
+AT(rtr_tables, shortest_ipv6, 2065);
+AT(rtr_tables, shortest, 2066);
+
+_Static_assert(sizeof(struct rtr_covering) == 16, "rtr_covering");
+AT(rtr_covering, place, 0);
+AT(rtr_covering, asn, 8);
+AT(rtr_covering, prefix_length, 12);
+AT(rtr_covering, max_length, 13);
+AT(rtr_covering, mismatch, 14);
 
 _Static_assert(sizeof(struct rtr_check) == 6, "rtr_check");
 AT(rtr_check, session, 0);
@@ -81,28 +112,6 @@ AT(rtr_naming, status, 24);
 AT(rtr_naming, detail, 25);
 AT(rtr_naming, begins, 26);
 AT(rtr_naming, announces, 27);
-
-_Static_assert(sizeof(struct rtr_data_answer) == 24, "rtr_data_answer");
-AT(rtr_data_answer, written, 0);
-AT(rtr_data_answer, offset, 8);
-AT(rtr_data_answer, status, 16);
-AT(rtr_data_answer, side, 17);
-AT(rtr_data_answer, detail, 18);
-
-_Static_assert(sizeof(struct rtr_tables) == 2328, "rtr_tables");
-AT(rtr_tables, ipv4, 0);
-AT(rtr_tables, ipv6, 8);
-AT(rtr_tables, starts, 16);
-AT(rtr_tables, shortest_ipv4, 2064);
-AT(rtr_tables, shortest_ipv6, 2065);
-AT(rtr_tables, shortest, 2066);
-
-_Static_assert(sizeof(struct rtr_covering) == 16, "rtr_covering");
-AT(rtr_covering, place, 0);
-AT(rtr_covering, asn, 8);
-AT(rtr_covering, prefix_length, 12);
-AT(rtr_covering, max_length, 13);
-AT(rtr_covering, mismatch, 14);
 
 _Static_assert(sizeof(struct rtr_settings) == 40, "rtr_settings");
 AT(rtr_settings, most_bytes, 0);
@@ -199,11 +208,3 @@ AT(rtr_serving, detail, 28);
 AT(rtr_serving, reports, 29);
 
 #endif
-
-_Static_assert(sizeof(struct rtr_route) == 24, "rtr_route");
-AT(rtr_route, asn, 0);
-AT(rtr_route, family, 4);
-AT(rtr_route, prefix_length, 5);
-AT(rtr_route, address, 6);
-
-_Static_assert(sizeof(bool) == 1, "bool");

@@ -40,6 +40,41 @@
 /* The same as a number: 10000 times the first number, 100 times the second, and the third. */
 #define RTR_WIRE_VERSION_NUMBER 200
 
+/* Numbers of the protocol, as rtr_c is proved to have them. Sizes are in bytes. */
+#define RTR_HIGHEST_VERSION 2         /* versions are 0 to this one */
+#define RTR_HEADER_SIZE 8             /* of a header alone, as a reset query is */
+#define RTR_SERIAL_SIZE 12            /* of a serial notify or a serial query */
+#define RTR_IPV4_SIZE 20              /* of an IPv4 prefix */
+#define RTR_IPV6_SIZE 32              /* of an IPv6 prefix */
+#define RTR_KEY_SIZE 32               /* of a router key, without its key info */
+#define RTR_ASPA_SIZE 12              /* of an ASPA, without its providers */
+#define RTR_REPORT_SIZE 16            /* of an error report, without its unit and its text */
+#define RTR_SHORTEST_END 12           /* the end of data of version 0 */
+#define RTR_LONGEST_END 24            /* that of versions 1 and 2 */
+#define RTR_SHORTEST_PAYLOAD 12       /* an ASPA without providers */
+#define RTR_LONGEST_UNIT 65535        /* a unit that is read or written */
+#define RTR_MOST_KEY_INFO 65503       /* of a router key */
+#define RTR_MOST_PROVIDER_BYTES 65520 /* of an ASPA */
+#define RTR_MOST_REPORT_PARTS 65519   /* of a report: its unit and its text together */
+
+/* The times of an end of data in seconds (RFC 8210 section 6): the usual ones, which version 0
+ * stands for, and the least and most that a router takes. */
+#define RTR_USUAL_REFRESH 3600
+#define RTR_LEAST_REFRESH 1
+#define RTR_MOST_REFRESH 86400
+#define RTR_USUAL_RETRY 600
+#define RTR_LEAST_RETRY 1
+#define RTR_MOST_RETRY 7200
+#define RTR_USUAL_EXPIRE 7200
+#define RTR_LEAST_EXPIRE 600
+#define RTR_MOST_EXPIRE 172800
+
+/* Room for what calls write, which tests try. */
+#define RTR_TEXT_ROOM 64     /* rtr_text and rtr_name, and a 0 behind the text */
+#define RTR_NAME_ROOM 65528  /* rtr_check_name */
+#define RTR_LINE_ROOM 160    /* rtr_line of most units: not of long keys, ASPAs and reports */
+#define RTR_FINDING_ROOM 128 /* rtr_finding_line */
+
 #ifdef __cplusplus
 extern "C" {
 #endif
@@ -88,6 +123,22 @@ enum rtr_kind {
     RTR_ROUTER_KEY = 9,     /* RFC 8210 section 5.10 */
     RTR_ERROR_REPORT = 10,  /* RFC 8210 section 5.11 */
     RTR_ASPA = 11
+};
+
+/* The codes of error reports (RFC 8210 section 12); those above 8 are the Rust crate rpki's. */
+enum rtr_code {
+    RTR_CODE_CORRUPT_DATA = 0,        /* what came can't be read, or contradicts itself */
+    RTR_CODE_INTERNAL_ERROR = 1,      /* the peer failed for a reason of its own */
+    RTR_CODE_NO_DATA_AVAILABLE = 2,   /* the cache has no data yet */
+    RTR_CODE_INVALID_REQUEST = 3,     /* the request makes no sense to the cache */
+    RTR_CODE_UNSUPPORTED_PROTOCOL_VERSION = 4,
+    RTR_CODE_UNSUPPORTED_PDU_TYPE = 5,
+    RTR_CODE_WITHDRAWAL_OF_UNKNOWN_RECORD = 6,
+    RTR_CODE_DUPLICATE_ANNOUNCEMENT_RECEIVED = 7,
+    RTR_CODE_UNEXPECTED_PROTOCOL_VERSION = 8, /* another one than was agreed on */
+    RTR_CODE_ASPA_PROVIDER_LIST_ERROR = 9,    /* an ASPA may not have these providers */
+    RTR_CODE_TRANSPORT_ERROR = 10,            /* the connection failed */
+    RTR_CODE_ORDERING_ERROR = 11              /* units came in the wrong order */
 };
 
 /* The order of two serial numbers (RFC 1982 section 3.2). */
@@ -428,9 +479,6 @@ static inline uint8_t rtr_change_json(const uint8_t *input, size_t input_length,
     return rtr_change_json_nonnull(rtr_readable(input), input_length, rtr_writable(output),
                                    output_length, answer);
 }
-
-/* Room for every text of rtr_text and rtr_name, and a 0 behind it. */
-#define RTR_TEXT_ROOM 64
 
 /* The text of a status with its detail, such as "unit type 5 is not allowed here", in ASCII without
  * a 0 behind it; any numbers may be passed.

@@ -5,7 +5,7 @@
 #include <string.h>
 #include "rtr_cache.h"
 
-enum { SHORTEST_END = 12, LONGEST_END = 24, LONGEST_UNIT = 65535, VERSIONS = 3 };
+enum { VERSIONS = RTR_HIGHEST_VERSION + 1 };
 
 /* How many newer data there may be than those of an answer that is being sent. */
 enum { MOST_BEHIND = 2 };
@@ -67,7 +67,7 @@ static void release(struct rtr_shared *one)
 /* The length of the end of data at the end of a sequence in canonical form. */
 static size_t end_length(const struct rtr_shared *sequence)
 {
-    return sequence->bytes[0] ? LONGEST_END : SHORTEST_END;
+    return sequence->bytes[0] ? RTR_LONGEST_END : RTR_SHORTEST_END;
 }
 
 /* The end of data of a sequence in canonical form. */
@@ -83,7 +83,7 @@ static struct rtr_unit end_of(const struct rtr_shared *sequence)
 static struct rtr_shared *in_version(const struct rtr_shared *from, uint8_t version)
 {
     struct rtr_answer answer;
-    struct rtr_shared *to = shared(from->length + LONGEST_END);
+    struct rtr_shared *to = shared(from->length + RTR_LONGEST_END);
     if (!to)
         return NULL;
     rtr_normalise_for_slice(from->bytes, from->length, to->bytes, to->length, UINT64_MAX, version,
@@ -297,11 +297,12 @@ static struct rtr_shared *data_before(struct rtr_server *s, size_t last)
 {
     struct rtr_data_answer answer;
     const struct rtr_shared *data = s->forms[s->end.version];
-    size_t length = LONGEST_END, at = 0;
+    size_t length = RTR_LONGEST_END, at = 0;
     for (size_t i = 0; i <= last; i++)
         length += s->back[i].changes->length;
     uint8_t *changes = malloc(length);
-    size_t *index = malloc(length / SHORTEST_END * sizeof *index);
+    size_t places = length / RTR_SHORTEST_PAYLOAD;
+    size_t *index = malloc(places * sizeof *index);
     struct rtr_shared *old = changes && index ? shared(data->length + length) : NULL;
     for (size_t i = 0; old && i <= last; i++) {
         const struct rtr_shared *each = s->back[i].changes;
@@ -310,8 +311,8 @@ static struct rtr_shared *data_before(struct rtr_server *s, size_t last)
         at += units;
     }
     if (old)
-        rtr_apply_in_order(data->bytes, data->length, changes, at, index, length / SHORTEST_END,
-                           old->bytes, old->length, &answer);
+        rtr_apply_in_order(data->bytes, data->length, changes, at, index, places, old->bytes,
+                           old->length, &answer);
     free(changes);
     free(index);
     if (old && answer.status) {
@@ -448,7 +449,7 @@ static enum rtr_update restore_one(struct rtr_server *s, int64_t now, int64_t un
         return RTR_UPDATE_MEMORY;
     memcpy(changes->bytes, bytes, length);
     s->back[s->back_count++] = (struct rtr_back){changes, until};
-    return length < SHORTEST_END ? RTR_UPDATE_TORN : RTR_UPDATE_TAKEN;
+    return length < RTR_SHORTEST_END ? RTR_UPDATE_TORN : RTR_UPDATE_TAKEN;
 }
 
 /* Takes what was saved, without the hash. */
@@ -507,7 +508,7 @@ void rtr_server_init(struct rtr_server *s)
     s->write_limit = 30000;
     s->response_limit = 600000;
     s->report_limit = 2000;
-    s->keep = 7200000;
+    s->keep = RTR_USUAL_EXPIRE * INT64_C(1000);
     s->keep_bytes = (size_t)1 << 26;
     s->most_connections = 1024;
 }
@@ -597,10 +598,10 @@ static void say_end(struct rtr_served *c, const struct rtr_serving *serving)
 static void report(struct rtr_served *c, const struct rtr_serving *serving)
 {
     size_t length;
-    c->body = shared(LONGEST_UNIT);
+    c->body = shared(RTR_LONGEST_UNIT);
     if (!c->body)
         return;
-    if (rtr_cache_report(serving, c->input, c->filled, c->body->bytes, LONGEST_UNIT, &length))
+    if (rtr_cache_report(serving, c->input, c->filled, c->body->bytes, RTR_LONGEST_UNIT, &length))
         c->body = cut(c->body, length);
     else
         drop_answer(c);
@@ -631,12 +632,12 @@ static void act(struct rtr_served *c, int64_t now, const struct rtr_serving *ser
 /* Has room for a unit that is longer than the input is now. */
 static bool grow(struct rtr_served *c)
 {
-    uint8_t *more = malloc(LONGEST_UNIT);
+    uint8_t *more = malloc(RTR_LONGEST_UNIT);
     if (!more)
         return false;
     memcpy(more, c->input, c->filled);
     c->input = more;
-    c->room = LONGEST_UNIT;
+    c->room = RTR_LONGEST_UNIT;
     return true;
 }
 

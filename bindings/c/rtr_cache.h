@@ -80,7 +80,8 @@ struct rtr_server {
 
     /* Its own. */
     uint64_t number;             /* of the data: how many there were before */
-    struct rtr_shared *forms[3]; /* the data in each version, from the time that it is asked for */
+    /* The data in each version, from the time that it is asked for. */
+    struct rtr_shared *forms[RTR_HIGHEST_VERSION + 1];
     struct rtr_back *back;       /* from the newest data on, one after the other */
     uint32_t *kept;              /* the serial numbers that they lead to */
     size_t back_count;
@@ -89,7 +90,7 @@ struct rtr_server {
 };
 
 /* The longest of what is at the front of an answer: a notify. */
-enum { RTR_SERVED_HEAD = 12, RTR_SERVED_INPUT = 64 };
+enum { RTR_SERVED_HEAD = RTR_SERIAL_SIZE, RTR_SERVED_INPUT = 64 };
 
 struct rtr_served {
     /* To be read. */

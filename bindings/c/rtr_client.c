@@ -5,8 +5,6 @@
 #include <string.h>
 #include "rtr_client.h"
 
-enum { SHORTEST_END = 12, LONGEST_END = 24 };
-
 /* What a program is told of each rtr_cause. */
 static const uint8_t failures[] = {
     RTR_CLIENT_LOST,   RTR_CLIENT_SLOW,   RTR_CLIENT_REFUSED, RTR_CLIENT_REPORTED,
@@ -32,17 +30,17 @@ static size_t write_form(struct bytes data, uint8_t version, uint16_t session, s
     struct rtr_answer answer;
     rtr_normalise_for_slice(data.at, data.length, form.at, form.length, UINT64_MAX, version,
                             &answer);
-    uint8_t *end = form.at + answer.written - (version ? LONGEST_END : SHORTEST_END);
+    uint8_t *end = form.at + answer.written - (version ? RTR_LONGEST_END : RTR_SHORTEST_END);
     end[2] = (uint8_t)(session >> 8);
     end[3] = (uint8_t)session;
     return answer.written;
 }
 
-/* Data without payloads, with this end of data, in at most LONGEST_END bytes. */
+/* Data without payloads, with this end of data, in at most RTR_LONGEST_END bytes. */
 static struct bytes nothing(const struct rtr_unit *end, uint8_t *at)
 {
     struct bytes none = {at, 0};
-    rtr_write_unit(end, NULL, 0, at, LONGEST_END, &none.length);
+    rtr_write_unit(end, NULL, 0, at, RTR_LONGEST_END, &none.length);
     return none;
 }
 
@@ -50,13 +48,13 @@ static struct bytes nothing(const struct rtr_unit *end, uint8_t *at)
  * false where there is no memory for them. The forms of both lie behind the changes. */
 static bool tell_changes(struct rtr_client *c, struct bytes new, const struct rtr_unit *end)
 {
-    uint8_t none[LONGEST_END];
+    uint8_t none[RTR_LONGEST_END];
     struct rtr_data_answer answer;
     struct bytes old = {c->data, c->data_length};
     if (!c->data)
         old = nothing(end, none);
     uint8_t version = c->data && c->end.version > end->version ? c->end.version : end->version;
-    size_t from = old.length + LONGEST_END, to = new.length + LONGEST_END, size = from + to;
+    size_t from = old.length + RTR_LONGEST_END, to = new.length + RTR_LONGEST_END, size = from + to;
     free(c->changes);
     c->changes = malloc(2 * size);
     answer.written = 0;
@@ -87,7 +85,7 @@ static void show(struct rtr_client *c)
 
 static void drop(struct rtr_client *c)
 {
-    uint8_t none[LONGEST_END];
+    uint8_t none[RTR_LONGEST_END];
     tell_changes(c, nothing(&c->end, none), &c->end);
     free(c->data);
     c->data = NULL;
@@ -187,7 +185,7 @@ static void end(struct rtr_client *c, const struct rtr_action *a, struct bytes a
 /* Makes the changes of the answer, of the data or of none: all, or none. */
 static void apply(struct rtr_client *c, const struct rtr_action *a, struct bytes unit)
 {
-    uint8_t none[LONGEST_END];
+    uint8_t none[RTR_LONGEST_END];
     struct rtr_action next;
     struct rtr_data_answer why = {.status = RTR_OK};
     struct bytes old = {c->data, c->data_length}, made = {NULL, 0};
@@ -223,10 +221,10 @@ static void act(struct rtr_client *c, struct rtr_action *a, struct bytes about)
         c->closed = c->broken = false;
         c->offset = c->start = c->filled = c->sent = c->unsent = 0;
         happens(c, RTR_CLIENT_CONNECT);
-    } else if (a->kind == RTR_ASK && c->unsent > RTR_CLIENT_QUERY) { /* it takes none of them */
+    } else if (a->kind == RTR_ASK && c->unsent > RTR_SERIAL_SIZE) { /* it takes none of them */
         rtr_client_lost(c, rtr_cause_text(RTR_CAUSE_SLOW));
     } else if (a->kind == RTR_ASK) {
-        c->unsent += rtr_router_query(a, output_end(c), RTR_CLIENT_QUERY);
+        c->unsent += rtr_router_query(a, output_end(c), RTR_SERIAL_SIZE);
     } else if (a->kind == RTR_BEGIN) {
         forget(c);
     } else if (a->kind == RTR_APPLY) {
@@ -262,8 +260,12 @@ void rtr_client_init(struct rtr_client *c, uint8_t version)
 {
     memset(c, 0, sizeof *c);
     rtr_settings_usual(&c->settings, version);
+#ifdef RTR_CLIENT_RESPONSE_LIMIT
     c->settings.response_limit = RTR_CLIENT_RESPONSE_LIMIT;
+#endif
+#ifdef RTR_CLIENT_MOST_BYTES
     c->settings.most_bytes = RTR_CLIENT_MOST_BYTES;
+#endif
     c->report_limit = 2000;
 }
 

@@ -60,20 +60,11 @@ enum rtr_client_failure {
     RTR_CLIENT_MEMORY    /* there is no memory for an answer, or for what it changes */
 };
 
-/* Limits if a program sets no others; override with -D. */
-#ifndef RTR_CLIENT_RESPONSE_LIMIT
-#define RTR_CLIENT_RESPONSE_LIMIT 120000 /* milliseconds */
-#endif
-#ifndef RTR_CLIENT_MOST_BYTES
-#define RTR_CLIENT_MOST_BYTES ((size_t)1 << 27)
-#endif
-
-/* The longest unit, and the longest query. */
-enum { RTR_CLIENT_UNIT = 65535, RTR_CLIENT_QUERY = 12 };
-
 /* Times are in milliseconds, by a clock that never goes back and isn't below zero. */
 struct rtr_client {
-    /* Set by rtr_client_init. A program may set others before its first rtr_client_next. */
+    /* Set by rtr_client_init: the usual ones, or what rtr_client.c was compiled with as
+     * -DRTR_CLIENT_RESPONSE_LIMIT=.. and -DRTR_CLIENT_MOST_BYTES=... A program may set others
+     * before its first rtr_client_next. */
     struct rtr_settings settings;
     int64_t report_limit; /* to send a report before a connection is closed; 2 seconds */
 
@@ -102,8 +93,8 @@ struct rtr_client {
     uint8_t *answer, *made;
     size_t answer_length, answer_room, made_length;
     size_t start, filled, sent, unsent;
-    uint8_t input[2 * RTR_CLIENT_UNIT];
-    uint8_t output[2 * RTR_CLIENT_QUERY + RTR_CLIENT_UNIT];
+    uint8_t input[2 * RTR_LONGEST_UNIT];
+    uint8_t output[2 * RTR_SERIAL_SIZE + RTR_LONGEST_UNIT];
 };
 
 /* Begins a client without data, whatever the struct holds. It asks in this version first (0, 1 or

@@ -139,7 +139,7 @@ func (r *Reported) Error() string {
 func breachOf(why error, code ErrorCode, input []byte) error {
 	size, err := UnitSize(input)
 	if err != nil {
-		size = header
+		size = headerSize
 	}
 	if size > len(input) {
 		size = len(input)

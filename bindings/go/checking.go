@@ -26,7 +26,7 @@ type Checker struct {
 // UnitLine.
 func (c *Checker) Unit(input []byte) ([]Finding, int, error) {
 	if c.name == nil {
-		c.name = make([]byte, 1<<16) // room for any
+		c.name = make([]byte, nameRoom)
 		c.names = make(map[string]struct{})
 	}
 	named := checkName(input, c.name)

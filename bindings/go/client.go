@@ -32,7 +32,7 @@ type Client struct {
 // NewClient makes a Client of version 1, that of RFC 8210, with limits for a cache of some million
 // payloads. ASPAs are of version 2, for which caches in use have several layouts.
 func NewClient(address string) *Client {
-	return &Client{Address: address, Version: 1, Limits: usualClientLimits}
+	return &Client{Address: address, Version: 1, Limits: usualClientLimits()}
 }
 
 // Update is a change of the data that a Client has.

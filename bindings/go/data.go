@@ -9,15 +9,6 @@ import (
 	"math"
 )
 
-// The shortest payload unit, an ASPA that is withdrawn, has so many bytes.
-const shortestPayload = 12
-
-// An end of data has so many bytes in version 0, and in later ones.
-const (
-	shortestEnd = 12
-	longestEnd  = 24
-)
-
 // Timing are the three times of an end of data, in seconds (RFC 8210 section 6). Version 0 has
 // none.
 type Timing struct {
@@ -27,7 +18,9 @@ type Timing struct {
 }
 
 // RecommendedTiming are the times that RFC 8210 section 6 recommends.
-var RecommendedTiming = Timing{Refresh: 3600, Retry: 600, Expire: 7200}
+var RecommendedTiming = Timing{
+	Refresh: usualRefresh, Retry: usualRetry, Expire: usualExpire,
+}
 
 // Data is what a cache has, or a router has of it: payloads, and the end of data that says their
 // version, session, serial number and timing. It is kept in canonical form: announcements in the

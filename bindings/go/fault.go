@@ -11,31 +11,6 @@ import (
 // Those of a unit are Short to PrefixRule, and are checked in the order of docs/PROTOCOL.md.
 type Status uint8
 
-// The numbers are those of rtr.h.
-const (
-	OK             Status = iota
-	Short                 // the input ends inside a unit, or before one; it is io.ErrUnexpectedEOF too
-	UnitType              // a unit of the type Detail is not allowed here
-	UnitVersion           // a unit of the version Detail is not allowed here
-	TooLong               // a router key, an error report or an ASPA has more than 65535 bytes
-	UnitLength            // a length doesn't suit the type
-	EmptyProviders        // an ASPA is announced without providers
-	// A prefix breaks its rule: its length (1) or its max length (2) is above that of an address, or
-	// the max length is below the length (3).
-	PrefixRule
-	TooMany // as many units as were allowed were taken
-	NoRoom  // the output is too short for what comes next
-	NoForm  // no unit has these fields
-	_       // 11 was "out of memory", which no call answers any more
-	// A unit or an end of data may not stand there in data or changes in canonical form.
-	NotCanonical
-	OtherSession // changes or data are of another session than the data
-	Duplicate    // a payload is announced that is there already
-	Unknown      // a payload is withdrawn that isn't there
-	// An ASPA is announced and then withdrawn, so that what the changes come to depends on the data.
-	Undecided
-)
-
 // String is the text of the status.
 func (s Status) String() string {
 	return name(namedStatus, uint16(s))
@@ -48,12 +23,6 @@ func (s Status) Error() string {
 
 // Side is one of the two inputs of SameMeaning.
 type Side uint8
-
-// The inputs, with the numbers of rtr.h.
-const (
-	Left Side = 1 + iota
-	Right
-)
 
 // String names the input.
 func (s Side) String() string {
@@ -136,10 +105,10 @@ func reportOn(code ErrorCode, unit []byte, text string) *Unit {
 	if len(unit) > 0 {
 		report.Version = unit[0]
 	}
-	if len(report.Enclosed) > mostInReport {
-		report.Enclosed = report.Enclosed[:mostInReport]
+	if len(report.Enclosed) > mostReportParts {
+		report.Enclosed = report.Enclosed[:mostReportParts]
 	}
-	if left := mostInReport - len(report.Enclosed); len(report.Text) > left {
+	if left := mostReportParts - len(report.Enclosed); len(report.Text) > left {
 		report.Text = report.Text[:left]
 	}
 	return report
@@ -157,7 +126,7 @@ func refusal(status Status, detail uint8, input []byte, offset int64) *Fault {
 		size = 0
 	default:
 		// The length in the header is not to be believed.
-		size = header
+		size = headerSize
 	}
 	if size > len(input) {
 		size = len(input)
@@ -168,22 +137,6 @@ func refusal(status Status, detail uint8, input []byte, offset int64) *Fault {
 // ErrorCode says in an error report what was wrong (RFC 8210 section 12). Those above 8 are as in
 // the Rust crate rpki.
 type ErrorCode uint16
-
-// The error codes.
-const (
-	CorruptData ErrorCode = iota
-	InternalError
-	NoDataAvailable
-	InvalidRequest
-	UnsupportedProtocolVersion
-	UnsupportedPDUType
-	WithdrawalOfUnknownRecord
-	DuplicateAnnouncementReceived
-	UnexpectedProtocolVersion
-	ASPAProviderListError
-	TransportError
-	OrderingError
-)
 
 // String is the name of the code.
 func (c ErrorCode) String() string {

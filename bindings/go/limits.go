@@ -15,19 +15,23 @@ type ClientLimits struct {
 	Report   time.Duration // to send a report on a fault, and to let the cache read it
 }
 
-// usualClientLimits are for a cache of some million payloads.
-var usualClientLimits = ClientLimits{
-	Dial:     30 * time.Second,
-	Response: 2 * time.Minute,
-	Bytes:    1 << 27,
-	Units:    1 << 22,
-	Pause:    time.Second,
-	Report:   2 * time.Second,
+// usualClientLimits are the machine's, for a cache of some million payloads, and two seconds for a
+// report.
+func usualClientLimits() ClientLimits {
+	usual := usualSettings(highestVersion)
+	return ClientLimits{
+		Dial:     span(usual.connect_limit),
+		Response: span(usual.response_limit),
+		Bytes:    int(usual.most_bytes),
+		Units:    uint64(usual.most_units) + 1,
+		Pause:    span(usual.pause),
+		Report:   2 * time.Second,
+	}
 }
 
 // orUsual are the limits, with the usual one in the place of each that is zero.
 func (l ClientLimits) orUsual() ClientLimits {
-	usual := usualClientLimits
+	usual := usualClientLimits()
 	return ClientLimits{
 		Dial:     unlessZero(l.Dial, usual.Dial),
 		Response: unlessZero(l.Response, usual.Response),

@@ -50,6 +50,3 @@ func changeBy(call func(input, output []byte) (int, Status), unit *Unit) string 
 	}
 	return string(output[:length])
 }
-
-// lineRoom is room for the lines of all units but some router keys, ASPAs and error reports.
-const lineRoom = 160

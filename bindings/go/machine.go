@@ -51,7 +51,7 @@ static struct rtr_action router_not_applied(struct rtr_router *router, uint64_t 
 }
 
 struct query {
-	uint8_t bytes[12];
+	uint8_t bytes[RTR_SERIAL_SIZE];
 	size_t length;
 };
 
@@ -90,8 +90,7 @@ type settings = C.struct_rtr_settings
 
 // newMachine is that of a client, with this random number.
 func newMachine(client *Client, chance uint16) machine {
-	var wanted settings
-	C.rtr_settings_usual(&wanted, C.uint8_t(client.Version))
+	wanted := usualSettings(client.Version)
 	limits := client.Limits
 	wanted.most_bytes = C.uint64_t(limits.Bytes)
 	wanted.most_units = C.uint32_t(within32(limits.Units - 1))
@@ -105,6 +104,17 @@ func newMachine(client *Client, chance uint16) machine {
 	var m machine
 	C.rtr_router_init(&m.router, &wanted)
 	return m
+}
+
+// usualSettings are the usual ones for this version.
+func usualSettings(version uint8) (usual settings) {
+	C.rtr_settings_usual(&usual, C.uint8_t(version))
+	return usual
+}
+
+// span is so many milliseconds of C.
+func span(milliseconds C.uint32_t) time.Duration {
+	return time.Duration(milliseconds) * time.Millisecond
 }
 
 // milliseconds is a span for C: what isn't 0 isn't rounded to 0.
@@ -167,7 +177,7 @@ func owedBy(a action, unit []byte) []byte {
 	if !a.reports {
 		return nil
 	}
-	output := make([]byte, longest)
+	output := make([]byte, longestUnit)
 	in, n := place(unit)
 	out, room := place(output)
 	return output[:C.router_report(a, in, n, out, room)]

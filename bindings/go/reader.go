@@ -57,13 +57,13 @@ func (r *Reader) next(inSequence bool) (*Unit, error) {
 		r.offset += int64(r.size)
 		r.filled, r.size = 0, 0
 	}
-	if err := r.fill(header); err != nil {
+	if err := r.fill(headerSize); err != nil {
 		return nil, r.ended(err)
 	}
 	if kind := r.buffer[1]; inSequence && !Kind(kind).inSequence() {
 		return nil, r.fault(UnitType, kind)
 	}
-	size, status, detail := unitSize(r.buffer[:header])
+	size, status, detail := unitSize(r.buffer[:headerSize])
 	if status != OK {
 		return nil, r.fault(status, detail)
 	}
@@ -107,8 +107,8 @@ func (r *Reader) grow(size int) {
 	if twice := 2 * len(r.buffer); size < twice {
 		size = twice
 	}
-	if size > longest {
-		size = longest
+	if size > longestUnit {
+		size = longestUnit
 	}
 	buffer := make([]byte, size)
 	copy(buffer, r.buffer[:r.filled])

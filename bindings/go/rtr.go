@@ -308,7 +308,7 @@ func appendFinding(lines []string, finding C.struct_rtr_finding, offset uint64) 
 	if finding.rule == C.RTR_RULE_NONE {
 		return lines
 	}
-	var output [128]byte // room for any line
+	var output [findingRoom]byte
 	out, room := place(output[:])
 	n := C.finding_line(finding, C.uint64_t(offset), out, room)
 	return append(lines, string(output[:n]))

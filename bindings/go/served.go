@@ -41,11 +41,17 @@ type served struct {
 	last  bool  // nothing more is written but a report
 }
 
+// usualCacheSettings are the usual ones.
+func usualCacheSettings() (usual C.struct_rtr_cache_settings) {
+	C.rtr_cache_settings_usual(&usual)
+	return usual
+}
+
 func newServed(server *Server, connection net.Conn) *served {
 	_, resumes := connection.(*net.TCPConn)
 	c := &served{server: server, connection: connection, resumes: resumes}
 	c.input = c.buffer[:0]
-	var wanted C.struct_rtr_cache_settings
+	wanted := usualCacheSettings()
 	wanted.first_limit = milliseconds(server.Limits.First)
 	wanted.idle_limit = milliseconds(server.Limits.Idle)
 	wanted.pause = milliseconds(server.Limits.Notify)
@@ -150,11 +156,11 @@ func (c *served) answer(e *edition) (err error) {
 // opening is the unit that an answer begins with, or the report that is owed.
 func (c *served) opening() []byte {
 	if !c.serving.reports {
-		output := make([]byte, 12)
+		output := make([]byte, serialSize)
 		out, room := place(output)
 		return output[:C.rtr_cache_unit(&c.serving, out, room)]
 	}
-	output := make([]byte, longest)
+	output := make([]byte, longestUnit)
 	in, n := place(c.input)
 	out, room := place(output)
 	var written C.size_t

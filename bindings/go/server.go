@@ -55,16 +55,17 @@ type Server struct {
 // asks at least once a day (RFC 8210 section 6), and gets a notify at most once a minute (section
 // 8.2); it holds data for two hours, if their expire time is the usual one.
 func NewServer() *Server {
+	usual := usualCacheSettings()
 	s := &Server{
 		Limits: ServerLimits{
 			Connections: 1024,
-			First:       30 * time.Second,
+			First:       span(usual.first_limit),
 			Unit:        10 * time.Second,
-			Idle:        25 * time.Hour,
+			Idle:        span(usual.idle_limit),
 			Write:       30 * time.Second,
 			Response:    10 * time.Minute,
-			Notify:      time.Minute,
-			Keep:        2 * time.Hour,
+			Notify:      span(usual.pause),
+			Keep:        usualExpire * time.Second,
 			KeepBytes:   1 << 26,
 		},
 		clock:     newClock(),

@@ -7,32 +7,8 @@ import (
 	"net/netip"
 )
 
-// Sizes in bytes.
-const (
-	header       = 8     // of a header
-	fixed        = 32    // of the fixed fields of a unit at most
-	longest      = 65535 // of a unit that is read or written at most
-	reportFixed  = 16    // of a report beside its parts
-	mostInReport = longest - reportFixed
-)
-
 // Kind is the type of a unit.
 type Kind uint8
-
-// The kinds of units, with their sections of RFC 8210. ASPA units are as in the Rust crate rpki.
-const (
-	SerialNotify  Kind = 0  // 5.2
-	SerialQuery   Kind = 1  // 5.3
-	ResetQuery    Kind = 2  // 5.4
-	CacheResponse Kind = 3  // 5.5
-	IPv4Prefix    Kind = 4  // 5.6
-	IPv6Prefix    Kind = 6  // 5.7
-	EndOfData     Kind = 7  // 5.8, and of RFC 6810
-	CacheReset    Kind = 8  // 5.9
-	RouterKey     Kind = 9  // 5.10
-	ErrorReport   Kind = 10 // 5.11
-	ASPA          Kind = 11
-)
 
 // String is the name of the kind.
 func (k Kind) String() string {
@@ -198,12 +174,12 @@ func (unit *Unit) MarshalBinary() ([]byte, error) {
 // version above 2.
 func (unit *Unit) AppendBinary(b []byte) ([]byte, error) {
 	part := unit.part()
-	if unit.Kind == ErrorReport && !unit.Announce && len(part)+len(unit.Text) > mostInReport {
+	if unit.Kind == ErrorReport && !unit.Announce && len(part)+len(unit.Text) > mostReportParts {
 		return b, unit.refused(TooLong)
 	}
-	room := fixed + len(part)
-	if room > longest {
-		room = longest
+	room := keySize + len(part) // no unit has more fixed fields than a key
+	if room > longestUnit {
+		room = longestUnit
 	}
 	start := len(b)
 	b = grown(b, room)

@@ -37,14 +37,6 @@ import (
 // Validity is what origin validation says of a route (RFC 6811 section 2).
 type Validity uint8
 
-// The validities of routes.
-const (
-	NotFound Validity = 0 // no VRP covers the route
-	Valid    Validity = 1 // a VRP matches it
-	Invalid  Validity = 2 // VRPs cover it, and none matches
-	NoRoute  Validity = 3 // there is no route: its prefix isn't valid
-)
-
 var validityTexts = [...]string{
 	NotFound: "not found",
 	Valid:    "valid",
@@ -62,14 +54,6 @@ func (v Validity) String() string {
 
 // Mismatch is why a VRP that covers a route doesn't match it: the first of these that holds.
 type Mismatch uint8
-
-// Why VRPs don't match.
-const (
-	Matches Mismatch = 0 // it matches
-	ASZero  Mismatch = 1 // the VRP is of AS 0, which matches no route
-	OtherAS Mismatch = 2 // its AS isn't the route's
-	Longer  Mismatch = 3 // the route's prefix is longer than its max length
-)
 
 var mismatchTexts = [...]string{
 	Matches: "matches",

@@ -1,12 +1,8 @@
 // What units break of the protocol's rules, as the program rtr_list says it with --check.
 
-import { STRUCTS, Status } from "./rtr_table.js";
+import { FINDING_ROOM, LONGEST_UNIT, NAME_ROOM, STRUCTS, Status } from "./rtr_table.js";
 import { Fault } from "./fault.js";
 import { placesOf } from "./memory.js";
-
-// Room for the name of any payload, and for the line of any finding.
-const NAME = 65536;
-const LINE = 128;
 
 const CHECKED = placesOf("checked");
 const FINDING = placesOf("finding");
@@ -27,7 +23,7 @@ export class Checker {
         this.#rtr = rtr;
         this.#state = rtr.heap.take(STRUCTS.check.size);
         rtr.heap.bytes(this.#state, STRUCTS.check.size).fill(0);
-        this.#output = rtr.heap.take(NAME);
+        this.#output = rtr.heap.take(NAME_ROOM);
     }
 
     /** What the unit breaks that lies at a place in the memory, and its size. A Fault says why
@@ -35,10 +31,11 @@ export class Checker {
     take(at, length, offset) {
         const rtr = this.#rtr;
         const [naming, checked] = [rtr.frame("naming"), rtr.frame("checked")];
-        const status = rtr.call("rtr_check_name_nonnull", at, length, this.#output, NAME, naming);
+        const status = rtr.call("rtr_check_name_nonnull", at, length, this.#output, NAME_ROOM,
+            naming);
         const unit = rtr.answer("naming");
         if (status !== Status.OK) {
-            const code = rtr.errorCode(status, rtr.copy(at, Math.min(length, NAME - 1)));
+            const code = rtr.errorCode(status, rtr.copy(at, Math.min(length, LONGEST_UNIT)));
             throw new Fault({ ...unit, offset, code, text: rtr.statusText(status, unit.detail) });
         }
         const name = latin.decode(rtr.heap.bytes(this.#output, unit.length));
@@ -79,7 +76,8 @@ export class Checker {
     /** The finding that lies at a place. */
     #found(at, offset) {
         const rule = this.#rtr.heap.view.getUint8(at + FINDING.rule);
-        const length = this.#rtr.call("rtr_finding_line_nonnull", at, offset, this.#output, LINE);
+        const length = this.#rtr.call("rtr_finding_line_nonnull", at, offset, this.#output,
+            FINDING_ROOM);
         const line = text.decode(this.#rtr.heap.bytes(this.#output, length));
         return { offset, rule, line };
     }

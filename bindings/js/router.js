@@ -1,9 +1,7 @@
 // A router's end of the protocol: what to do when, without sockets and without a clock.
 
-import { STRUCTS } from "./rtr_table.js";
+import { LONGEST_UNIT, STRUCTS } from "./rtr_table.js";
 import { readStruct, writeStruct } from "./memory.js";
-
-const LONGEST = 65535;
 
 // A version that is higher than any: rtr_settings_usual takes the highest that there is.
 const HIGHEST = 255;
@@ -67,20 +65,20 @@ export class Router {
 
     /** The query that an action asks for. */
     query(action) {
-        return this.#session.within([LONGEST], (output) => {
+        return this.#session.within([LONGEST_UNIT], (output) => {
             const length = this.#session.call("rtr_router_query_nonnull", this.#action(action),
-                output, LONGEST);
+                output, LONGEST_UNIT);
             return this.#session.copy(output, length);
         });
     }
 
     /** The report that an action owes about the unit that these bytes begin with, or null. */
     report(action, bytes) {
-        const unit = bytes.subarray(0, LONGEST);
-        return this.#session.within([unit, LONGEST], (at, output) => {
+        const unit = bytes.subarray(0, LONGEST_UNIT);
+        return this.#session.within([unit, LONGEST_UNIT], (at, output) => {
             const written = this.#session.frame("number");
             const isOwed = this.#session.call("rtr_router_report_nonnull", this.#action(action), at,
-                unit.length, output, LONGEST, written);
+                unit.length, output, LONGEST_UNIT, written);
             const length = Number(this.#session.heap.view.getBigUint64(written, true));
             return isOwed ? this.#session.copy(output, length) : null;
         });

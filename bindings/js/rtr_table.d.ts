@@ -82,6 +82,31 @@ export const Kind: {
 };
 export type Kind = (typeof Kind)[keyof typeof Kind];
 
+/** The codes of error reports (RFC 8210 section 12); those above 8 are the Rust crate rpki's. */
+export const ErrorCode: {
+    /** what came can't be read, or contradicts itself */
+    readonly CORRUPT_DATA: 0;
+    /** the peer failed for a reason of its own */
+    readonly INTERNAL_ERROR: 1;
+    /** the cache has no data yet */
+    readonly NO_DATA_AVAILABLE: 2;
+    /** the request makes no sense to the cache */
+    readonly INVALID_REQUEST: 3;
+    readonly UNSUPPORTED_PROTOCOL_VERSION: 4;
+    readonly UNSUPPORTED_PDU_TYPE: 5;
+    readonly WITHDRAWAL_OF_UNKNOWN_RECORD: 6;
+    readonly DUPLICATE_ANNOUNCEMENT_RECEIVED: 7;
+    /** another one than was agreed on */
+    readonly UNEXPECTED_PROTOCOL_VERSION: 8;
+    /** an ASPA may not have these providers */
+    readonly ASPA_PROVIDER_LIST_ERROR: 9;
+    /** the connection failed */
+    readonly TRANSPORT_ERROR: 10;
+    /** units came in the wrong order */
+    readonly ORDERING_ERROR: 11;
+};
+export type ErrorCode = (typeof ErrorCode)[keyof typeof ErrorCode];
+
 /** The order of two serial numbers (RFC 1982 section 3.2). */
 export const SerialOrder: {
     readonly EQUAL: 0;

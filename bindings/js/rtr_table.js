@@ -2,7 +2,34 @@
 
 export const VERSION = "0.2.0";
 export const VERSION_NUMBER = 200;
+export const HIGHEST_VERSION = 2;
+export const HEADER_SIZE = 8;
+export const SERIAL_SIZE = 12;
+export const IPV4_SIZE = 20;
+export const IPV6_SIZE = 32;
+export const KEY_SIZE = 32;
+export const ASPA_SIZE = 12;
+export const REPORT_SIZE = 16;
+export const SHORTEST_END = 12;
+export const LONGEST_END = 24;
+export const SHORTEST_PAYLOAD = 12;
+export const LONGEST_UNIT = 65535;
+export const MOST_KEY_INFO = 65503;
+export const MOST_PROVIDER_BYTES = 65520;
+export const MOST_REPORT_PARTS = 65519;
+export const USUAL_REFRESH = 3600;
+export const LEAST_REFRESH = 1;
+export const MOST_REFRESH = 86400;
+export const USUAL_RETRY = 600;
+export const LEAST_RETRY = 1;
+export const MOST_RETRY = 7200;
+export const USUAL_EXPIRE = 7200;
+export const LEAST_EXPIRE = 600;
+export const MOST_EXPIRE = 172800;
 export const TEXT_ROOM = 64;
+export const NAME_ROOM = 65528;
+export const LINE_ROOM = 160;
+export const FINDING_ROOM = 128;
 
 export const Status = Object.freeze({
     OK: 0,
@@ -42,6 +69,21 @@ export const Kind = Object.freeze({
     ROUTER_KEY: 9,
     ERROR_REPORT: 10,
     ASPA: 11,
+});
+
+export const ErrorCode = Object.freeze({
+    CORRUPT_DATA: 0,
+    INTERNAL_ERROR: 1,
+    NO_DATA_AVAILABLE: 2,
+    INVALID_REQUEST: 3,
+    UNSUPPORTED_PROTOCOL_VERSION: 4,
+    UNSUPPORTED_PDU_TYPE: 5,
+    WITHDRAWAL_OF_UNKNOWN_RECORD: 6,
+    DUPLICATE_ANNOUNCEMENT_RECEIVED: 7,
+    UNEXPECTED_PROTOCOL_VERSION: 8,
+    ASPA_PROVIDER_LIST_ERROR: 9,
+    TRANSPORT_ERROR: 10,
+    ORDERING_ERROR: 11,
 });
 
 export const SerialOrder = Object.freeze({

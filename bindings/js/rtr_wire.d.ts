@@ -3,8 +3,8 @@
 import type { ActionKind, Cause, Kind, Mismatch, Named, Rule, SerialOrder, Status, Validity }
     from "./rtr_table.js";
 
-export { ActionKind, Cause, Kind, Mismatch, Named, PrefixRule, Rule, SerialOrder, Side, Status,
-    VERSION, VERSION_NUMBER, Validity, causeText, kindText, statusText } from "./rtr_table.js";
+export { ActionKind, Cause, ErrorCode, Kind, Mismatch, Named, PrefixRule, Rule, SerialOrder, Side,
+    Status, VERSION, VERSION_NUMBER, Validity, causeText, kindText, statusText } from "./rtr_table.js";
 
 /** What each unit has. */
 interface AnyUnit {
@@ -15,14 +15,22 @@ interface AnyUnit {
     version: number;
 }
 
-export interface SerialNotify extends AnyUnit { kind: 0; session: number; serial: number }
-export interface SerialQuery extends AnyUnit { kind: 1; session: number; serial: number }
-export interface ResetQuery extends AnyUnit { kind: 2 }
-export interface CacheResponse extends AnyUnit { kind: 3; session: number }
+export interface SerialNotify extends AnyUnit {
+    kind: typeof Kind.SERIAL_NOTIFY;
+    session: number;
+    serial: number;
+}
+export interface SerialQuery extends AnyUnit {
+    kind: typeof Kind.SERIAL_QUERY;
+    session: number;
+    serial: number;
+}
+export interface ResetQuery extends AnyUnit { kind: typeof Kind.RESET_QUERY }
+export interface CacheResponse extends AnyUnit { kind: typeof Kind.CACHE_RESPONSE; session: number }
 
 /** A prefix, IPv4 (kind 4, 4 bytes of address) or IPv6 (kind 6, 16), with zero host bits. */
 export interface Prefix extends AnyUnit {
-    kind: 4 | 6;
+    kind: typeof Kind.IPV4_PREFIX | typeof Kind.IPV6_PREFIX;
     announce: boolean;
     address: Uint8Array;
     prefixLength: number;
@@ -32,7 +40,7 @@ export interface Prefix extends AnyUnit {
 
 /** Times are in seconds, and 0 in version 0. */
 export interface EndOfData extends AnyUnit {
-    kind: 7;
+    kind: typeof Kind.END_OF_DATA;
     session: number;
     serial: number;
     refresh: number;
@@ -40,10 +48,10 @@ export interface EndOfData extends AnyUnit {
     expire: number;
 }
 
-export interface CacheReset extends AnyUnit { kind: 8 }
+export interface CacheReset extends AnyUnit { kind: typeof Kind.CACHE_RESET }
 
 export interface RouterKey extends AnyUnit {
-    kind: 9;
+    kind: typeof Kind.ROUTER_KEY;
     announce: boolean;
     keyIdentifier: Uint8Array;
     asn: number;
@@ -52,7 +60,7 @@ export interface RouterKey extends AnyUnit {
 
 /** Where the lengths inside of it don't fit, the three last are null. */
 export interface ErrorReport extends AnyUnit {
-    kind: 10;
+    kind: typeof Kind.ERROR_REPORT;
     code: number;
     about: Uint8Array | null;
     text: string | null;
@@ -60,7 +68,7 @@ export interface ErrorReport extends AnyUnit {
 }
 
 export interface Aspa extends AnyUnit {
-    kind: 11;
+    kind: typeof Kind.ASPA;
     announce: boolean;
     customer: number;
     providers: number[];

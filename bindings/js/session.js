@@ -1,6 +1,6 @@
 // The library in a memory of its own.
 
-import { FUNCTIONS, STRUCTS, Status, TEXT_ROOM } from "./rtr_table.js";
+import { FUNCTIONS, LINE_ROOM, LONGEST_UNIT, STRUCTS, Status, TEXT_ROOM } from "./rtr_table.js";
 import { Heap, placesOf, readStruct, writeStruct } from "./memory.js";
 import { Fault } from "./fault.js";
 import { Shown, structOf, unitOf } from "./units.js";
@@ -11,10 +11,6 @@ import { Router } from "./router.js";
 // How many bytes of an input are read at a time: more than the longest unit has.
 const PIECE = 1 << 17;
 
-const LONGEST = 65535;
-
-// Room for the lines of most units.
-const LINE = 160;
 const ALL = (1n << 64n) - 1n;
 const NEXT = placesOf("unit");
 const NOTHING = new Uint8Array(0);
@@ -132,7 +128,7 @@ export class Session {
 
     /** The unit that the bytes begin with at this offset; a Fault says why there is none. */
     next(bytes, offset = 0) {
-        const piece = bytes.subarray(offset, offset + LONGEST);
+        const piece = bytes.subarray(offset, offset + LONGEST_UNIT);
         return this.within([piece], (at) => {
             const status = this.call("rtr_next_nonnull", at, piece.length, this.#frame.unit);
             if (status !== Status.OK) {
@@ -224,14 +220,14 @@ export class Session {
     /** The error code that is owed for a status about the unit that the bytes begin with, or
      * null. */
     errorCode(status, bytes) {
-        const unit = bytes.subarray(0, LONGEST);
+        const unit = bytes.subarray(0, LONGEST_UNIT);
         return this.within([unit], (at) => this.#code(status, at, unit.length));
     }
 
     /** How long the unit is that the bytes begin with, by its header alone. */
     unitSize(bytes) {
         const { unit, number } = this.#frame;
-        const piece = bytes.subarray(0, LONGEST);
+        const piece = bytes.subarray(0, LONGEST_UNIT);
         return this.within([piece], (at) => {
             const status = this.call("rtr_unit_size_nonnull", at, piece.length, number, unit);
             const size = Number(this.heap.view.getBigUint64(number, true));
@@ -247,10 +243,10 @@ export class Session {
     /** The written form of a unit: an object as `units` gives it. */
     writeUnit(unit) {
         const { fields, input } = structOf(unit);
-        return this.within([input, LONGEST], (at, output) => {
+        return this.within([input, LONGEST_UNIT], (at, output) => {
             writeStruct(this.heap.view, "unit", this.#frame.unit, fields);
             const status = this.call("rtr_write_unit_nonnull", this.#frame.unit, at, input.length,
-                output, LONGEST, this.#frame.number);
+                output, LONGEST_UNIT, this.#frame.number);
             if (status !== Status.OK) {
                 throw this.#fault({ status });
             }
@@ -262,7 +258,7 @@ export class Session {
 
     /** Normalises the sequence that the bytes begin with; with a version, for its clients. */
     normalise(bytes, { limit = ALL, version = null } = {}) {
-        const room = bytes.length + (version === null ? 0 : LONGEST);
+        const room = bytes.length + (version === null ? 0 : LONGEST_UNIT);
         return this.within([bytes, room], (at, output) => {
             const name = version === null
                 ? "rtr_normalise_slice_nonnull" : "rtr_normalise_for_slice_nonnull";
@@ -380,8 +376,8 @@ export class Session {
 
     /** What a call writes of the unit that the bytes begin with. */
     #line(name, bytes, ...more) {
-        const piece = bytes.subarray(0, LONGEST);
-        let room = LINE;
+        const piece = bytes.subarray(0, LONGEST_UNIT);
+        let room = LINE_ROOM;
         for (;;) {
             const said = this.within([piece, room], (at, output) => {
                 this.call(name, at, piece.length, ...more, output, room, this.#frame.line);

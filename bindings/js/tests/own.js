@@ -2,6 +2,7 @@
 
 import assert from "node:assert/strict";
 import { Heap } from "../memory.js";
+import { STRUCTS } from "../rtr_table.js";
 import { Data, Dropped, Fault, Kind, OutOfMemory, Status, Validity, addressOf, addressText, load,
     prefixOf, statusText } from "../rtr_wire.js";
 
@@ -25,7 +26,30 @@ function many(count) {
 /** A module that has a 64-bit memory of a page, and nothing else. */
 const MEMORY = Uint8Array.of(0, 97, 115, 109, 1, 0, 0, 0, 5, 3, 1, 4, 1, 7, 5, 1, 1, 109, 2, 0);
 
+/** How wide C's types are in 64-bit memory. */
+const WIDTHS = { bool: 1, uint8: 1, uint16: 2, uint32: 4, uint64: 8, size: 8 };
+
+/** The number, or the next one that is a multiple of this. */
+const upTo = (multiple, number) => Math.ceil(number / multiple) * multiple;
+
 const TESTS = {
+    /** Structs lie as C lays them out: each field at the next place that suits its widest type, and
+     * their size a multiple of that. */
+    laysOutStructs() {
+        const widest = (kind) => WIDTHS[kind]
+            ?? Math.max(...STRUCTS[kind].fields.map(([, , inner]) => widest(inner)));
+        for (const [name, { size, fields }] of Object.entries(STRUCTS)) {
+            let place = 0;
+            for (const [field, start, kind, many = 1] of fields) {
+                place = upTo(widest(kind), place);
+                assert.equal(start, place, `${name}.${field}`);
+                place += many * (WIDTHS[kind] ?? STRUCTS[kind].size);
+            }
+            assert.equal(size, upTo(widest(name), place), name);
+        }
+        assert.equal(STRUCTS.unit.size, 120);
+    },
+
     /** A memory that grows as parts are taken, and whose parts are used again. */
     growsMemory() {
         const { m: memory } = new WebAssembly.Instance(new WebAssembly.Module(MEMORY)).exports;

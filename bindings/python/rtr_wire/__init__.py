@@ -43,7 +43,8 @@ Copyright (c) 2026, the authors of Fishreef; copyright (c) 2018, NLnet Labs. BSD
 from __future__ import annotations
 
 from ._rtr import VERSION as __version__
-from ._rtr import Cause, Kind, Mismatch, PrefixRule, Rule, SerialOrder, Side, Status, Validity
+from ._rtr import (Cause, ErrorCode, Kind, Mismatch, PrefixRule, Rule, SerialOrder, Side, Status,
+                   Validity)
 from .checking import Finding, check
 from .client import AsyncClient, Client
 from .data import Changes, Covering, Data
@@ -59,14 +60,15 @@ from .units import (AnyUnit, Aspa, CacheReset, CacheResponse, EndOfData, ErrorRe
                     Unit, Vrp, serial_order, version_has)
 
 __all__ = [
-    "AnyUnit", "Aspa", "AsyncClient", "CacheReset", "CacheResponse", "Cause", "Changes", "Client",
-    "Close", "Connect", "Covering", "Data", "DuplicateError", "EmptyProvidersError", "EndOfData",
-    "ErrorReport", "Failed", "Fault", "Finding", "IPv4Prefix", "IPv6Prefix", "Kind", "Mismatch",
-    "NoData", "NoFormError", "NoIndexError", "NoRoomError", "Normalised", "NotCanonicalError",
-    "OtherSessionError", "Payload", "Prefix", "PrefixError", "PrefixRule", "ResetQuery", "Router",
-    "RouterKey", "Rule", "SerialNotify", "SerialOrder", "SerialQuery", "SessionError", "Settings",
-    "ShortError", "Side", "Status", "TooLongError", "TooManyError", "UndecidedError", "Unit",
-    "UnitLengthError", "UnitTypeError", "UnitVersionError", "Units", "UnknownError", "Update",
-    "Validity", "Vrp", "__version__", "change_json", "change_line", "check", "normalise",
-    "same_meaning", "serial_order", "unit_lines", "units", "version_has",
+    "AnyUnit", "Aspa", "AsyncClient", "CacheReset", "CacheResponse", "Cause", "Changes",
+    "Client", "Close", "Connect", "Covering", "Data", "DuplicateError", "EmptyProvidersError",
+    "EndOfData", "ErrorCode", "ErrorReport", "Failed", "Fault", "Finding", "IPv4Prefix",
+    "IPv6Prefix", "Kind", "Mismatch", "NoData", "NoFormError", "NoIndexError", "NoRoomError",
+    "Normalised", "NotCanonicalError", "OtherSessionError", "Payload", "Prefix", "PrefixError",
+    "PrefixRule", "ResetQuery", "Router", "RouterKey", "Rule", "SerialNotify", "SerialOrder",
+    "SerialQuery", "SessionError", "Settings", "ShortError", "Side", "Status", "TooLongError",
+    "TooManyError", "UndecidedError", "Unit", "UnitLengthError", "UnitTypeError",
+    "UnitVersionError", "Units", "UnknownError", "Update", "Validity", "Vrp", "__version__",
+    "change_json", "change_line", "check", "normalise", "same_meaning", "serial_order",
+    "unit_lines", "units", "version_has",
 ]

@@ -8,7 +8,34 @@ from typing import Any
 
 VERSION = "0.2.0"
 VERSION_NUMBER = 200
+HIGHEST_VERSION = 2
+HEADER_SIZE = 8
+SERIAL_SIZE = 12
+IPV4_SIZE = 20
+IPV6_SIZE = 32
+KEY_SIZE = 32
+ASPA_SIZE = 12
+REPORT_SIZE = 16
+SHORTEST_END = 12
+LONGEST_END = 24
+SHORTEST_PAYLOAD = 12
+LONGEST_UNIT = 65535
+MOST_KEY_INFO = 65503
+MOST_PROVIDER_BYTES = 65520
+MOST_REPORT_PARTS = 65519
+USUAL_REFRESH = 3600
+LEAST_REFRESH = 1
+MOST_REFRESH = 86400
+USUAL_RETRY = 600
+LEAST_RETRY = 1
+MOST_RETRY = 7200
+USUAL_EXPIRE = 7200
+LEAST_EXPIRE = 600
+MOST_EXPIRE = 172800
 TEXT_ROOM = 64
+NAME_ROOM = 65528
+LINE_ROOM = 160
+FINDING_ROOM = 128
 
 
 class Status(enum.IntEnum):
@@ -88,6 +115,32 @@ class Kind(enum.IntEnum):
     # RFC 8210 section 5.11
     ERROR_REPORT = 10
     ASPA = 11
+
+
+class ErrorCode(enum.IntEnum):
+    """The codes of error reports (RFC 8210 section 12); those above 8 are the Rust crate rpki's.
+    """
+
+    # what came can't be read, or contradicts itself
+    CORRUPT_DATA = 0
+    # the peer failed for a reason of its own
+    INTERNAL_ERROR = 1
+    # the cache has no data yet
+    NO_DATA_AVAILABLE = 2
+    # the request makes no sense to the cache
+    INVALID_REQUEST = 3
+    UNSUPPORTED_PROTOCOL_VERSION = 4
+    UNSUPPORTED_PDU_TYPE = 5
+    WITHDRAWAL_OF_UNKNOWN_RECORD = 6
+    DUPLICATE_ANNOUNCEMENT_RECEIVED = 7
+    # another one than was agreed on
+    UNEXPECTED_PROTOCOL_VERSION = 8
+    # an ASPA may not have these providers
+    ASPA_PROVIDER_LIST_ERROR = 9
+    # the connection failed
+    TRANSPORT_ERROR = 10
+    # units came in the wrong order
+    ORDERING_ERROR = 11
 
 
 class SerialOrder(enum.IntEnum):

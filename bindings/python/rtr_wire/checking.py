@@ -7,12 +7,8 @@ from typing import Iterator, Set
 
 from . import _rtr
 from ._library import CALLS, Buffer, address_of
-from ._rtr import Rule, Status
+from ._rtr import FINDING_ROOM, NAME_ROOM, Rule, Status
 from .faults import refusal
-
-# Room for the name of any payload, and for the line of any finding.
-_NAME = 65536
-_LINE = 128
 
 
 @dataclass(frozen=True)
@@ -35,11 +31,11 @@ def check(data: Buffer) -> Iterator[Finding]:
     """
     data, at = bytes(data), 0
     state, told, named = _rtr.rtr_check(), _rtr.rtr_checked(), _rtr.rtr_naming()
-    output = ctypes.create_string_buffer(_NAME)
+    output = ctypes.create_string_buffer(NAME_ROOM)
     names: Set[bytes] = set()
     while at < len(data):
         place, left = address_of(data) + at, len(data) - at
-        status = CALLS.rtr_check_name_nonnull(place, left, output, _NAME, ctypes.byref(named))
+        status = CALLS.rtr_check_name_nonnull(place, left, output, NAME_ROOM, ctypes.byref(named))
         if status != Status.OK:
             raise refusal(status, named.detail, data, at)
         name = ctypes.string_at(output, named.length)
@@ -63,6 +59,6 @@ def check(data: Buffer) -> Iterator[Finding]:
 
 def _finding(found: _rtr.rtr_finding, offset: int) -> Finding:
     """The finding of these numbers."""
-    line = ctypes.create_string_buffer(_LINE)
-    length = CALLS.rtr_finding_line_nonnull(ctypes.byref(found), offset, line, _LINE)
+    line = ctypes.create_string_buffer(FINDING_ROOM)
+    length = CALLS.rtr_finding_line_nonnull(ctypes.byref(found), offset, line, FINDING_ROOM)
     return Finding(offset, Rule(found.rule), ctypes.string_at(line, length).decode("ascii"))

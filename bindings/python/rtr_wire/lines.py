@@ -6,12 +6,9 @@ from typing import Any, Iterator
 
 from . import _rtr
 from ._library import CALLS, Buffer, address_of
-from ._rtr import Status
+from ._rtr import LINE_ROOM, Status
 from .faults import refusal
 from .units import Unit
-
-# Room for the lines of most units.
-_ROOM = 160
 
 
 def unit_lines(data: Buffer) -> Iterator[str]:
@@ -21,7 +18,7 @@ def unit_lines(data: Buffer) -> Iterator[str]:
     Raises, at the unit that is next, what Units raises, but no PrefixError.
     """
     data, at = bytes(data), 0
-    output, told = ctypes.create_string_buffer(_ROOM), _rtr.rtr_line()
+    output, told = ctypes.create_string_buffer(LINE_ROOM), _rtr.rtr_line()
     while at < len(data):
         status = CALLS.rtr_line_nonnull(address_of(data) + at, len(data) - at, at, output,
                                         len(output), ctypes.byref(told))
@@ -48,7 +45,7 @@ def change_json(unit: Unit) -> str:
 
 def _change(call: Any, unit: Unit) -> str:
     """What a call writes of the change that a unit makes."""
-    form, told, room = bytes(unit), _rtr.rtr_line(), _ROOM
+    form, told, room = bytes(unit), _rtr.rtr_line(), LINE_ROOM
     while True:
         output = ctypes.create_string_buffer(room)
         status = call(form, len(form), output, room, ctypes.byref(told))

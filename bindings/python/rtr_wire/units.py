@@ -195,9 +195,9 @@ class EndOfData(_ByForm):
     KIND: ClassVar[Kind] = Kind.END_OF_DATA
     session: int
     serial: int
-    refresh: int = 3600
-    retry: int = 600
-    expire: int = 7200
+    refresh: int = _rtr.USUAL_REFRESH
+    retry: int = _rtr.USUAL_RETRY
+    expire: int = _rtr.USUAL_EXPIRE
     version: int = 1
 
 

@@ -1,5 +1,6 @@
 """Units that are made in Python, and faults."""
 import copy
+import ctypes
 import dataclasses
 import io
 import ipaddress
@@ -8,6 +9,7 @@ import pathlib
 import pickle
 import random
 import re
+import sys
 import unittest
 
 import rtr_wire
@@ -291,6 +293,19 @@ class Header(unittest.TestCase):
             for one in enum:
                 self.assertEqual(numbers[one.name], str(int(one)))
         self.assertIn(f'"{rtr_wire.__version__}"', text)
+
+    def test_layout(self):
+        """Structs have the sizes, and their fields the places, that C gives them."""
+        if not (rows_of.BINDINGS / "header.py").exists():
+            self.skipTest("no header.py beside")
+        sys.path.insert(0, str(rows_of.BINDINGS))
+        import header
+
+        for name, fields, size in header.structs(header.HEADER.read_text()):
+            made = getattr(_rtr, name)
+            self.assertEqual(ctypes.sizeof(made), size, name)
+            places = {field: getattr(made, field).offset for field, _ in made._fields_}
+            self.assertEqual(places, {field: place for field, _, _, place in fields}, name)
 
 
 if __name__ == "__main__":

@@ -1,7 +1,53 @@
 //! What `rtr.h` declares. `generate` made this file of it: don't edit it.
 #![allow(dead_code)]
 
+/// versions are 0 to this one
+pub(crate) const HIGHEST_VERSION: u8 = 2;
+/// of a header alone, as a reset query is
+pub(crate) const HEADER_SIZE: usize = 8;
+/// of a serial notify or a serial query
+pub(crate) const SERIAL_SIZE: usize = 12;
+/// of an IPv4 prefix
+pub(crate) const IPV4_SIZE: usize = 20;
+/// of an IPv6 prefix
+pub(crate) const IPV6_SIZE: usize = 32;
+/// of a router key, without its key info
+pub(crate) const KEY_SIZE: usize = 32;
+/// of an ASPA, without its providers
+pub(crate) const ASPA_SIZE: usize = 12;
+/// of an error report, without its unit and its text
+pub(crate) const REPORT_SIZE: usize = 16;
+/// the end of data of version 0
+pub(crate) const SHORTEST_END: usize = 12;
+/// that of versions 1 and 2
+pub(crate) const LONGEST_END: usize = 24;
+/// an ASPA without providers
+pub(crate) const SHORTEST_PAYLOAD: usize = 12;
+/// a unit that is read or written
+pub(crate) const LONGEST_UNIT: usize = 65535;
+/// of a router key
+pub(crate) const MOST_KEY_INFO: usize = 65503;
+/// of an ASPA
+pub(crate) const MOST_PROVIDER_BYTES: usize = 65520;
+/// of a report: its unit and its text together
+pub(crate) const MOST_REPORT_PARTS: usize = 65519;
+pub(crate) const USUAL_REFRESH: u32 = 3600;
+pub(crate) const LEAST_REFRESH: u32 = 1;
+pub(crate) const MOST_REFRESH: u32 = 86400;
+pub(crate) const USUAL_RETRY: u32 = 600;
+pub(crate) const LEAST_RETRY: u32 = 1;
+pub(crate) const MOST_RETRY: u32 = 7200;
+pub(crate) const USUAL_EXPIRE: u32 = 7200;
+pub(crate) const LEAST_EXPIRE: u32 = 600;
+pub(crate) const MOST_EXPIRE: u32 = 172800;
+/// rtr_text and rtr_name, and a 0 behind the text
 pub(crate) const TEXT_ROOM: usize = 64;
+/// rtr_check_name
+pub(crate) const NAME_ROOM: usize = 65528;
+/// rtr_line of most units: not of long keys, ASPAs and reports
+pub(crate) const LINE_ROOM: usize = 160;
+/// rtr_finding_line
+pub(crate) const FINDING_ROOM: usize = 128;
 
 /// How a call ended; each call below names the statuses that it can answer. The faults of a
 /// unit are 1 to 7, and are checked in the order of docs/PROTOCOL.md.
@@ -77,6 +123,30 @@ pub(crate) mod kind {
     /// RFC 8210 section 5.11
     pub(crate) const ERROR_REPORT: u8 = 10;
     pub(crate) const ASPA: u8 = 11;
+}
+
+/// The codes of error reports (RFC 8210 section 12); those above 8 are the Rust crate rpki's.
+pub(crate) mod code {
+    /// what came can't be read, or contradicts itself
+    pub(crate) const CORRUPT_DATA: u16 = 0;
+    /// the peer failed for a reason of its own
+    pub(crate) const INTERNAL_ERROR: u16 = 1;
+    /// the cache has no data yet
+    pub(crate) const NO_DATA_AVAILABLE: u16 = 2;
+    /// the request makes no sense to the cache
+    pub(crate) const INVALID_REQUEST: u16 = 3;
+    pub(crate) const UNSUPPORTED_PROTOCOL_VERSION: u16 = 4;
+    pub(crate) const UNSUPPORTED_PDU_TYPE: u16 = 5;
+    pub(crate) const WITHDRAWAL_OF_UNKNOWN_RECORD: u16 = 6;
+    pub(crate) const DUPLICATE_ANNOUNCEMENT_RECEIVED: u16 = 7;
+    /// another one than was agreed on
+    pub(crate) const UNEXPECTED_PROTOCOL_VERSION: u16 = 8;
+    /// an ASPA may not have these providers
+    pub(crate) const ASPA_PROVIDER_LIST_ERROR: u16 = 9;
+    /// the connection failed
+    pub(crate) const TRANSPORT_ERROR: u16 = 10;
+    /// units came in the wrong order
+    pub(crate) const ORDERING_ERROR: u16 = 11;
 }
 
 /// The order of two serial numbers (RFC 1982 section 3.2).

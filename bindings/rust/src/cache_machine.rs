@@ -83,7 +83,7 @@ impl Serving {
                 abi::rtr_cache_report_nonnull(self, start, length, report, room, written)
             });
         }
-        let mut unit = [0; 12];
+        let mut unit = [0; abi::SERIAL_SIZE];
         let length = unsafe { abi::rtr_cache_unit_nonnull(self, unit.as_mut_ptr(), unit.len()) };
         output.extend_from_slice(&unit[..length]);
     }

@@ -1,5 +1,6 @@
 //! What units break of the protocol's rules, as the program `rtr_list` says it with `--check`.
 
+use crate::abi::{FINDING_ROOM, NAME_ROOM};
 use crate::fault::Fault;
 use crate::sys;
 use alloc::collections::BTreeSet;
@@ -7,12 +8,6 @@ use alloc::string::String;
 use alloc::vec;
 use alloc::vec::Vec;
 use core::fmt;
-
-/// Room for the name of any payload.
-const NAME: usize = 65536;
-
-/// Room for the line of any finding.
-const LINE: usize = 128;
 
 /// A rule that the unit at an offset breaks, or all units together, where the offset is their
 /// length. As text it is the line of `rtr_list`.
@@ -67,7 +62,7 @@ impl Checker {
         Checker {
             check: sys::Check::default(),
             names: BTreeSet::new(),
-            name: vec![0; NAME],
+            name: vec![0; NAME_ROOM],
             offset: 0,
         }
     }
@@ -112,7 +107,7 @@ impl Default for Checker {
 
 /// The finding that the numbers stand for, if one does.
 fn said(finding: sys::FindingNumbers, offset: u64) -> Option<Finding> {
-    let mut line = vec![0; LINE];
+    let mut line = vec![0; FINDING_ROOM];
     let length = sys::finding_line(finding, offset, &mut line);
     line.truncate(length);
     // A line is ASCII.

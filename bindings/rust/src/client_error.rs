@@ -1,5 +1,6 @@
 //! Why a client ends a connection.
 
+use crate::abi::HEADER_SIZE;
 use crate::data::DataError;
 use crate::error;
 use crate::fault::{ErrorCode, Fault};
@@ -167,6 +168,6 @@ impl ClientError {
 
 /// The unit that the input begins with, as far as its header is to be believed.
 fn whole(input: &[u8]) -> &[u8] {
-    let size = unit_size(input).ok().flatten().unwrap_or(8);
+    let size = unit_size(input).ok().flatten().unwrap_or(HEADER_SIZE);
     &input[..size.min(input.len())]
 }

@@ -1,9 +1,9 @@
 //! What may be wrong with a unit or a call.
 
-use crate::abi::{named, prefix_rule, status};
+use crate::abi::{code, named, prefix_rule, status, HEADER_SIZE, MOST_REPORT_PARTS};
 use crate::error::Error;
 use crate::sys;
-use crate::unit::{ErrorReport, ReportParts, MOST_IN_REPORT};
+use crate::unit::{ErrorReport, ReportParts};
 use core::fmt;
 
 /// Why a call failed. `Short` to `Prefix` are the faults of a unit, in the order in which they are
@@ -139,8 +139,8 @@ impl Fault {
     pub fn report<'a>(self, unit: &'a [u8], text: &'a str) -> Option<ErrorReport<&'a [u8]>> {
         let code = self.code(unit)?;
         let unit = self.of_unit(unit);
-        let enclosed = &unit[..unit.len().min(MOST_IN_REPORT)];
-        let left = MOST_IN_REPORT - enclosed.len();
+        let enclosed = &unit[..unit.len().min(MOST_REPORT_PARTS)];
+        let left = MOST_REPORT_PARTS - enclosed.len();
         let text = &text.as_bytes()[..text.len().min(left)];
         Some(ErrorReport {
             version: unit.first().copied().unwrap_or(0),
@@ -161,13 +161,13 @@ impl Fault {
             | Fault::NotCanonical
             | Fault::Duplicate
             | Fault::UnknownRecord
-            | Fault::Undecided => sys::unit_size(bytes).unwrap_or(8),
+            | Fault::Undecided => sys::unit_size(bytes).unwrap_or(HEADER_SIZE),
             Fault::TooMany
             | Fault::NoRoom
             | Fault::NoForm
             | Fault::OtherSession
             | Fault::NoIndex => 0,
-            _ => 8,
+            _ => HEADER_SIZE,
         };
         &bytes[..size.min(bytes.len())]
     }
@@ -188,29 +188,30 @@ pub struct ErrorCode(pub u16);
 
 impl ErrorCode {
     /// The data that came can't be read, or its fields contradict one another.
-    pub const CORRUPT_DATA: Self = ErrorCode(0);
+    pub const CORRUPT_DATA: Self = ErrorCode(code::CORRUPT_DATA);
     /// The peer failed for a reason of its own.
-    pub const INTERNAL_ERROR: Self = ErrorCode(1);
+    pub const INTERNAL_ERROR: Self = ErrorCode(code::INTERNAL_ERROR);
     /// The cache has no data yet.
-    pub const NO_DATA_AVAILABLE: Self = ErrorCode(2);
+    pub const NO_DATA_AVAILABLE: Self = ErrorCode(code::NO_DATA_AVAILABLE);
     /// The request makes no sense to the cache.
-    pub const INVALID_REQUEST: Self = ErrorCode(3);
+    pub const INVALID_REQUEST: Self = ErrorCode(code::INVALID_REQUEST);
     /// The peer doesn't speak this version of the protocol.
-    pub const UNSUPPORTED_PROTOCOL_VERSION: Self = ErrorCode(4);
+    pub const UNSUPPORTED_PROTOCOL_VERSION: Self = ErrorCode(code::UNSUPPORTED_PROTOCOL_VERSION);
     /// The peer doesn't know units of this type.
-    pub const UNSUPPORTED_PDU_TYPE: Self = ErrorCode(5);
+    pub const UNSUPPORTED_PDU_TYPE: Self = ErrorCode(code::UNSUPPORTED_PDU_TYPE);
     /// A record was withdrawn that the router doesn't have.
-    pub const WITHDRAWAL_OF_UNKNOWN_RECORD: Self = ErrorCode(6);
+    pub const WITHDRAWAL_OF_UNKNOWN_RECORD: Self = ErrorCode(code::WITHDRAWAL_OF_UNKNOWN_RECORD);
     /// A record was announced that the router has already.
-    pub const DUPLICATE_ANNOUNCEMENT_RECEIVED: Self = ErrorCode(7);
+    pub const DUPLICATE_ANNOUNCEMENT_RECEIVED: Self =
+        ErrorCode(code::DUPLICATE_ANNOUNCEMENT_RECEIVED);
     /// A unit has another version than the one agreed on.
-    pub const UNEXPECTED_PROTOCOL_VERSION: Self = ErrorCode(8);
+    pub const UNEXPECTED_PROTOCOL_VERSION: Self = ErrorCode(code::UNEXPECTED_PROTOCOL_VERSION);
     /// The providers of an ASPA unit are not allowed, as in the Rust crate `rpki`.
-    pub const ASPA_PROVIDER_LIST_ERROR: Self = ErrorCode(9);
+    pub const ASPA_PROVIDER_LIST_ERROR: Self = ErrorCode(code::ASPA_PROVIDER_LIST_ERROR);
     /// The connection failed, as in the Rust crate `rpki`.
-    pub const TRANSPORT_ERROR: Self = ErrorCode(10);
+    pub const TRANSPORT_ERROR: Self = ErrorCode(code::TRANSPORT_ERROR);
     /// Units came in the wrong order, as in the Rust crate `rpki`.
-    pub const ORDERING_ERROR: Self = ErrorCode(11);
+    pub const ORDERING_ERROR: Self = ErrorCode(code::ORDERING_ERROR);
 }
 
 impl fmt::Display for ErrorCode {

@@ -1,14 +1,12 @@
 //! Units as lines of text, as the program `rtr_list` prints them, and changes as `rtr_diff` does.
 
+use crate::abi::LINE_ROOM;
 use crate::fault::Fault;
 use crate::sys;
 use crate::unit::UnitRef;
 use alloc::string::String;
 use alloc::vec;
 use alloc::vec::Vec;
-
-/// Room for the lines of all units but some router keys, ASPAs and error reports.
-const ROOM: usize = 160;
 
 /// The line that `rtr_list` prints of the unit that the input begins with, of one that stands after
 /// so many bytes, without its end; and the size of the unit. Like `rtr_list` it shows a prefix whose
@@ -53,7 +51,7 @@ pub fn change_line(unit: &UnitRef) -> Option<String> {
 fn line_by(
     mut call: impl FnMut(&mut [u8]) -> Result<(usize, usize), Fault>,
 ) -> Result<(String, usize), Fault> {
-    let mut line = vec![0; ROOM];
+    let mut line = vec![0; LINE_ROOM];
     let (mut length, size) = call(&mut line)?;
     if length > line.len() {
         line.resize(length, 0);

@@ -25,25 +25,22 @@ impl Machine {
     /// A machine with these options, and a random number.
     pub(crate) fn new(options: &ClientOptions, chance: u16) -> Machine {
         let span = |time: Option<Duration>| time.map_or(0, milliseconds);
-        let (mut settings, mut machine) = (MaybeUninit::uninit(), MaybeUninit::uninit());
-        // SAFETY: the calls write all of the struct that the first pointer points at, and the
-        // settings are there when the second one reads them.
+        let wanted = Settings {
+            most_bytes: options.bytes as u64,
+            pause: milliseconds(options.pause),
+            connect_limit: milliseconds(options.dial),
+            response_limit: milliseconds(options.response),
+            refresh: span(options.refresh),
+            retry: span(options.retry),
+            expire: span(options.expire),
+            // Without the end of data.
+            most_units: u32::try_from(options.units.saturating_sub(1)).unwrap_or(u32::MAX),
+            chance,
+            ..sys::usual_settings(options.version)
+        };
+        let mut machine = MaybeUninit::uninit();
+        // SAFETY: the call writes all of the struct that the first pointer points at.
         unsafe {
-            abi::rtr_settings_usual(settings.as_mut_ptr(), options.version);
-            let usual = settings.assume_init();
-            let wanted = Settings {
-                most_bytes: options.bytes as u64,
-                pause: milliseconds(options.pause),
-                connect_limit: milliseconds(options.dial),
-                response_limit: milliseconds(options.response),
-                refresh: span(options.refresh),
-                retry: span(options.retry),
-                expire: span(options.expire),
-                // Without the end of data.
-                most_units: u32::try_from(options.units.saturating_sub(1)).unwrap_or(u32::MAX),
-                chance,
-                ..usual
-            };
             abi::rtr_router_init(machine.as_mut_ptr(), &wanted);
             machine.assume_init()
         }
@@ -107,7 +104,7 @@ impl Machine {
 impl Action {
     /// Appends the query that it asks.
     pub(crate) fn append_query(&self, output: &mut Vec<u8>) {
-        let mut query = [0; 12];
+        let mut query = [0; abi::SERIAL_SIZE];
         let length =
             unsafe { abi::rtr_router_query_nonnull(self, query.as_mut_ptr(), query.len()) };
         output.extend_from_slice(&query[..length]);
@@ -130,7 +127,7 @@ pub(crate) fn append_report(
     output: &mut Vec<u8>,
     write: impl Fn(*mut u8, usize, &mut usize) -> bool,
 ) {
-    let (mut report, mut written) = (alloc::vec![0; crate::unit::LONGEST], 0);
+    let (mut report, mut written) = (alloc::vec![0; abi::LONGEST_UNIT], 0);
     if write(report.as_mut_ptr(), report.len(), &mut written) {
         output.extend_from_slice(&report[..written]);
     }

@@ -1,5 +1,7 @@
 //! The limits of a client and of a cache.
 
+use crate::abi::{HIGHEST_VERSION, USUAL_EXPIRE};
+use crate::sys;
 use core::time::Duration;
 
 /// What a [`Client`](crate::Client) asks for, and what it allows a cache.
@@ -37,13 +39,14 @@ pub struct ClientOptions {
 
 impl Default for ClientOptions {
     fn default() -> Self {
+        let usual = sys::usual_settings(HIGHEST_VERSION);
         ClientOptions {
             version: 1,
-            dial: Duration::from_secs(30),
-            response: Duration::from_secs(120),
-            bytes: 1 << 27,
-            units: 1 << 22,
-            pause: Duration::from_secs(1),
+            dial: span(usual.connect_limit),
+            response: span(usual.response_limit),
+            bytes: usize::try_from(usual.most_bytes).unwrap_or(usize::MAX),
+            units: u64::from(usual.most_units) + 1,
+            pause: span(usual.pause),
             report: Duration::from_secs(2),
             refresh: None,
             retry: None,
@@ -91,17 +94,23 @@ pub struct ServerOptions {
 
 impl Default for ServerOptions {
     fn default() -> Self {
+        let usual = sys::usual_cache_settings();
         ServerOptions {
             connections: 1024,
-            keep: Duration::from_secs(7200),
+            keep: Duration::from_secs(USUAL_EXPIRE.into()),
             keep_bytes: 1 << 26,
-            refuse: false,
-            first_query: Duration::from_secs(30),
+            refuse: usual.refuses,
+            first_query: span(usual.first_limit),
             unit: Duration::from_secs(10),
-            idle: Duration::from_secs(25 * 3600),
+            idle: span(usual.idle_limit),
             write: Duration::from_secs(30),
             response: Duration::from_secs(600),
-            notify: Duration::from_secs(60),
+            notify: span(usual.pause),
         }
     }
+}
+
+/// So many milliseconds of the machine.
+fn span(milliseconds: u32) -> Duration {
+    Duration::from_millis(milliseconds.into())
 }

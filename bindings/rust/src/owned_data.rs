@@ -1,5 +1,6 @@
 //! Data and changes that own their bytes.
 
+use crate::abi::{LONGEST_END, SHORTEST_PAYLOAD};
 use crate::data::{apply_in_order, apply_into, delta_into, order_into, DataError, Place, Side};
 use crate::fault::Fault;
 use crate::sequence::normalise_for;
@@ -10,11 +11,6 @@ use alloc::boxed::Box;
 use alloc::sync::Arc;
 use alloc::vec;
 use alloc::vec::Vec;
-
-/// The bytes of an end of data, at most.
-const LONGEST_END: usize = 24;
-/// The bytes of a payload unit, at least: those of an ASPA that is withdrawn.
-const SHORTEST_UNIT: usize = 12;
 
 /// Bytes in canonical form that end with an end of data. Copies share them.
 #[derive(Clone, Debug, PartialEq, Eq, Hash)]
@@ -302,7 +298,7 @@ impl Data {
     ///
     /// Those of [`apply_in_order`], but `NoIndex` and `NoRoom`.
     pub fn apply_in_order(&self, sent: &[u8]) -> Result<Data, DataError> {
-        let mut index = vec![0; sent.len() / SHORTEST_UNIT];
+        let mut index = vec![0; sent.len() / SHORTEST_PAYLOAD];
         let mut bytes = vec![0; self.0.bytes.len() + sent.len()];
         let length = apply_in_order(self.as_bytes(), sent, &mut index, &mut bytes)?;
         Ok(Data::of(Canonical::new(bytes, length)))
@@ -428,7 +424,7 @@ impl Changes {
 /// assert_eq!(report.code, rtr_wire::ErrorCode::DUPLICATE_ANNOUNCEMENT_RECEIVED);
 /// ```
 pub fn order(input: &[u8]) -> Result<Changes, DataError> {
-    let mut index = vec![0; input.len() / SHORTEST_UNIT];
+    let mut index = vec![0; input.len() / SHORTEST_PAYLOAD];
     let mut bytes = vec![0; input.len()];
     let length = order_into(input, &mut index, &mut bytes)?;
     Ok(Changes(Canonical::new(bytes, length)))

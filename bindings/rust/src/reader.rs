@@ -1,17 +1,16 @@
 //! Units from a reader.
 
+use crate::abi::{HEADER_SIZE, LONGEST_UNIT};
 use crate::fault::Fault;
 use crate::kind::Kind;
 use crate::refusal::Refusal;
 use crate::sys;
-use crate::unit::{OwnedUnit, Unit, UnitRef, LONGEST};
+use crate::unit::{OwnedUnit, Unit, UnitRef};
 use crate::units::refuse_outside_of_sequences;
 use std::fmt;
 use std::io::{self, Read};
 use std::vec::Vec;
 
-/// The bytes of a header.
-const HEADER: usize = 8;
 /// The buffer's first size: that of all units but some router keys, error reports and ASPAs.
 const FIRST_BUFFER: usize = 64;
 
@@ -203,13 +202,13 @@ impl<R: Read> Reader<R> {
             self.offset += self.size as u64;
             (self.filled, self.size) = (0, 0);
         }
-        if !self.fill(HEADER)? {
+        if !self.fill(HEADER_SIZE)? {
             return match self.filled {
                 0 => Ok(false),
                 _ => Err(self.refusal(Fault::Short)),
             };
         }
-        let header = &self.buffer[..HEADER];
+        let header = &self.buffer[..HEADER_SIZE];
         if in_sequence {
             refuse_outside_of_sequences(header).map_err(|fault| self.refusal(fault))?;
         }
@@ -233,7 +232,7 @@ impl<R: Read> Reader<R> {
     fn fill(&mut self, size: usize) -> Result<bool, Error> {
         if size > self.buffer.len() {
             // Twice as long as it was, where the unit isn't longer.
-            let grown = size.max(2 * self.buffer.len()).min(LONGEST);
+            let grown = size.max(2 * self.buffer.len()).min(LONGEST_UNIT);
             self.buffer.resize(grown, 0);
         }
         while self.filled < size {
@@ -347,7 +346,7 @@ impl<R: Read> std::iter::FusedIterator for Sequence<'_, R> {}
 
 #[cfg(test)]
 mod tests {
-    use super::{Reader, LONGEST};
+    use super::{Reader, LONGEST_UNIT};
     use std::vec::Vec;
 
     /// The buffer never has more bytes than the longest unit.
@@ -363,7 +362,7 @@ mod tests {
         }
         let mut reader = Reader::new(&bytes[..]);
         while reader.next_unit().expect("it is read").is_some() {
-            assert!(reader.buffer.len() <= LONGEST);
+            assert!(reader.buffer.len() <= LONGEST_UNIT);
         }
         assert_eq!(reader.offset(), 145_536);
     }

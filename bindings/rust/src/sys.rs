@@ -16,6 +16,23 @@ use crate::validation::{Route, Validity};
 use core::ops::Deref;
 use core::str;
 
+/// The usual settings of a router's machine, with this version, or 2 if it is higher.
+#[cfg(feature = "alloc")]
+pub(crate) fn usual_settings(highest: u8) -> abi::Settings {
+    let mut settings = abi::Settings::default();
+    // SAFETY: the settings are live; so below.
+    unsafe { abi::rtr_settings_usual(&mut settings, highest) };
+    settings
+}
+
+/// The usual settings of a cache's machine.
+#[cfg(feature = "alloc")]
+pub(crate) fn usual_cache_settings() -> abi::CacheSettings {
+    let mut settings = abi::CacheSettings::default();
+    unsafe { abi::rtr_cache_settings_usual(&mut settings) };
+    settings
+}
+
 /// The answer as a result.
 fn result(answer: Answer) -> Result<Progress, Stopped> {
     let progress = Progress {

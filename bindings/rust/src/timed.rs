@@ -68,7 +68,7 @@ fn in_milliseconds(span: Duration) -> u64 {
 
 /// A moment so much later; the far future where there is no such moment.
 pub(crate) fn after(start: Instant, time: Duration) -> Instant {
-    const CENTURY: Duration = Duration::from_secs(100 * 365 * 86400);
+    const CENTURY: Duration = Duration::from_secs(100 * 365 * 24 * 60 * 60);
     start.checked_add(time).unwrap_or(start + CENTURY)
 }
 

@@ -1,6 +1,6 @@
 //! Units, typed.
 
-use crate::abi::order;
+use crate::abi::{self, order, HEADER_SIZE, MOST_REPORT_PARTS, REPORT_SIZE};
 use crate::fault::{ErrorCode, Fault, PrefixRule};
 use crate::kind::Kind;
 use crate::net::{Ipv4Addr, Ipv6Addr};
@@ -8,13 +8,6 @@ use crate::sys;
 #[cfg(feature = "alloc")]
 use alloc::vec::Vec;
 use core::cmp::Ordering;
-
-/// The bytes of a unit that is read or written, at most.
-pub(crate) const LONGEST: usize = 65535;
-/// The bytes of an error report beside its parts: a header and two lengths.
-const REPORT_FIXED: usize = 16;
-/// The bytes of the parts of an error report, at most.
-pub(crate) const MOST_IN_REPORT: usize = LONGEST - REPORT_FIXED;
 
 /// A serial notify: the cache has new data (RFC 8210 section 5.2).
 #[derive(Clone, Copy, Debug, PartialEq, Eq, Hash)]
@@ -115,9 +108,9 @@ pub struct Timing {
 impl Timing {
     /// The intervals that RFC 8210 section 6 recommends.
     pub const RECOMMENDED: Timing = Timing {
-        refresh: 3600,
-        retry: 600,
-        expire: 7200,
+        refresh: abi::USUAL_REFRESH,
+        retry: abi::USUAL_RETRY,
+        expire: abi::USUAL_EXPIRE,
     };
 }
 
@@ -363,19 +356,19 @@ impl<B: AsRef<[u8]>> Unit<B> {
     #[allow(clippy::match_same_arms)] // in the order of the sections of RFC 8210
     pub fn size(&self) -> usize {
         match self {
-            Unit::ResetQuery(_) | Unit::CacheResponse(_) | Unit::CacheReset(_) => 8,
-            Unit::SerialNotify(_) | Unit::SerialQuery(_) => 12,
-            Unit::Ipv4Prefix(_) => 20,
-            Unit::Ipv6Prefix(_) => 32,
-            Unit::EndOfData(end) if end.version == 0 => 12,
-            Unit::EndOfData(_) => 24,
-            Unit::RouterKey(key) => 32 + key.key_info.as_ref().len(),
+            Unit::ResetQuery(_) | Unit::CacheResponse(_) | Unit::CacheReset(_) => HEADER_SIZE,
+            Unit::SerialNotify(_) | Unit::SerialQuery(_) => abi::SERIAL_SIZE,
+            Unit::Ipv4Prefix(_) => abi::IPV4_SIZE,
+            Unit::Ipv6Prefix(_) => abi::IPV6_SIZE,
+            Unit::EndOfData(end) if end.version == 0 => abi::SHORTEST_END,
+            Unit::EndOfData(_) => abi::LONGEST_END,
+            Unit::RouterKey(key) => abi::KEY_SIZE + key.key_info.as_ref().len(),
             Unit::ErrorReport(report) => {
                 let (unit, text) = report.parts();
-                REPORT_FIXED + unit.len() + text.len()
+                REPORT_SIZE + unit.len() + text.len()
             }
-            Unit::Aspa(aspa) if aspa.announce => 12 + aspa.providers.0.as_ref().len(),
-            Unit::Aspa(_) => 12,
+            Unit::Aspa(aspa) if aspa.announce => abi::ASPA_SIZE + aspa.providers.0.as_ref().len(),
+            Unit::Aspa(_) => abi::ASPA_SIZE,
         }
     }
 
@@ -434,7 +427,7 @@ impl<B: AsRef<[u8]>> Unit<B> {
     #[cfg(feature = "alloc")]
     pub fn append(&self, to: &mut Vec<u8>) -> Result<usize, Fault> {
         let start = to.len();
-        to.resize(start + self.size().min(LONGEST), 0);
+        to.resize(start + self.size().min(abi::LONGEST_UNIT), 0);
         let written = self.write(&mut to[start..]);
         to.truncate(start + written.unwrap_or(0));
         written
@@ -480,10 +473,10 @@ impl<B: AsRef<[u8]>> ErrorReport<B> {
     /// the text is put after a report that has none.
     fn write(&self, output: &mut [u8]) -> Result<usize, Fault> {
         let (unit, text) = self.parts();
-        if unit.len() > MOST_IN_REPORT || text.len() > MOST_IN_REPORT - unit.len() {
+        if unit.len() > MOST_REPORT_PARTS || text.len() > MOST_REPORT_PARTS - unit.len() {
             return Err(Fault::TooLong);
         }
-        let size = REPORT_FIXED + unit.len() + text.len();
+        let size = REPORT_SIZE + unit.len() + text.len();
         if output.len() < size {
             return Err(Fault::NoRoom);
         }
