@@ -22,6 +22,8 @@ type Client struct {
 	// Failed is told why a connection ended, or a query has no answer yet, and that the client
 	// goes on. It may be nil.
 	Failed func(error)
+	// Log has a line of each connection, query, change of data and failure. It may be nil.
+	Log Log
 	// Dial makes a connection to the address, for which it has until the end of the context: by
 	// TLS, SSH, or what else there is (RFC 8210 section 9). Where it is nil, it is one of TCP.
 	Dial func(ctx context.Context, network, address string) (net.Conn, error)
@@ -65,7 +67,7 @@ var (
 func (c *Client) Fetch(ctx context.Context) (Data, error) {
 	f := c.follower(ctx, func(Update) error { return nil })
 	f.once = true
-	if err := f.run(); err != errDone {
+	if err := f.runFor(c); err != errDone {
 		return Data{}, unlessEnded(ctx, err)
 	}
 	return f.data, nil
@@ -75,7 +77,7 @@ func (c *Client) Fetch(ctx context.Context) (Data, error) {
 // answers that error. It calls changed when there are other data than before; these are whole
 // data of the cache at one serial number. It connects again when a connection ends.
 func (c *Client) Run(ctx context.Context, changed func(Update) error) error {
-	return unlessEnded(ctx, c.follower(ctx, changed).run())
+	return unlessEnded(ctx, c.follower(ctx, changed).runFor(c))
 }
 
 // unlessEnded is why a follower ended: the error of the context, if that did.
@@ -93,12 +95,20 @@ func (c *Client) follower(ctx context.Context, changed func(Update) error) *foll
 	var chance [2]byte
 	// Where the system has no random number, waits are those of other clients too.
 	_, _ = rand.Read(chance[:])
-	return &follower{
+	f := &follower{
 		client: &limited, changed: changed, last: c.connection != nil,
 		machine: newMachine(&limited, binary.LittleEndian.Uint16(chance[:])),
-		peer: &network{
-			clock: newClock(),
-			ctx:   ctx, dial: c.dialer(), address: c.Address, patience: limited.Limits.Report,
-		},
 	}
+	f.peer = &network{
+		clock: newClock(), wish: &f.wish,
+		ctx: ctx, dial: c.dialer(), address: c.Address, patience: limited.Limits.Report,
+	}
+	return f
+}
+
+// runFor runs a follower, which AskNow of the client finds.
+func (f *follower) runFor(c *Client) error {
+	wishes.Store(&f.wish, c)
+	defer wishes.Delete(&f.wish)
+	return f.run()
 }

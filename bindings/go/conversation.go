@@ -16,6 +16,7 @@ type follower struct {
 	changed func(Update) error
 	peer    peer
 	machine machine
+	wish    wish // to ask before it is time
 	data    Data
 
 	connected bool
@@ -77,6 +78,9 @@ func (f *follower) wait() action {
 		if next, ok := f.read(); ok {
 			return next
 		}
+		if next, ok := f.asked(); ok {
+			return next
+		}
 		until := f.machine.wakes()
 		switch {
 		case f.peer.now() >= until:
@@ -130,6 +134,7 @@ func (f *follower) connect() action {
 	switch {
 	case err == nil:
 		f.connected = true
+		f.logs(LevelDebug, "connected")
 		return f.machine.connected(f.peer.now())
 	case isTimeout(err) && f.peer.now() >= until:
 		return f.machine.tick(f.peer.now())
@@ -146,7 +151,10 @@ func (f *follower) lost(err error) action {
 
 // ask sends a query.
 func (f *follower) ask(a action) action {
-	err := f.peer.write(queryOf(a), f.machine.wakes())
+	query := queryOf(a)
+	f.wish.fulfil()
+	f.logs(LevelDebug, "asks", "query", Kind(query[1]), "version", query[0])
+	err := f.peer.write(query, f.machine.wakes())
 	if err != nil && !isTimeout(err) {
 		return f.lost(err)
 	}
@@ -177,6 +185,11 @@ func (f *follower) apply(changes bool) action {
 func (f *follower) show(data Data) {
 	old := f.data
 	f.data, f.made = data, Data{}
+	if data.IsZero() {
+		f.logs(LevelWarn, "data dropped", old.fields()...)
+	} else {
+		f.logs(LevelInfo, "data", data.fields()...)
+	}
 	changes, err := changesBetween(old, data)
 	if err != nil {
 		f.stop(err)
@@ -205,6 +218,7 @@ func (f *follower) end(a action) {
 // failed tells the caller of a failure; one that wants data once, or has no other connection, ends
 // with it.
 func (f *follower) failed(err error) {
+	f.logs(LevelWarn, "failed", "error", err)
 	if f.once || f.last {
 		f.stop(err)
 	}

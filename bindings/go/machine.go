@@ -165,6 +165,25 @@ func (m *machine) wakes() uint64 {
 	return uint64(C.rtr_router_wakes(&m.router))
 }
 
+// phaseWaiting is the phase of rtr.h in which a router waits for a notify, or for its time.
+const phaseWaiting = 5
+
+// waits says whether the machine is in that phase.
+func (m *machine) waits() bool {
+	return m.router.phase == phaseWaiting
+}
+
+// otherSerial is a notify of another serial number than that of the data, of their session and of
+// the version of the connection.
+func (m *machine) otherSerial() []byte {
+	notify := Unit{
+		Kind: SerialNotify, Version: uint8(m.router.version),
+		Session: uint16(m.router.known.session), Serial: uint32(m.router.known.serial) + 1,
+	}
+	bytes, _ := notify.AppendBinary(nil) // each version has this form
+	return bytes
+}
+
 // queryOf is the query of an action.
 func queryOf(a action) []byte {
 	query := C.router_query(a)

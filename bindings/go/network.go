@@ -49,6 +49,7 @@ func (c clock) at(until uint64) time.Time {
 // network is a peer over connections. Its context ends what it waits for.
 type network struct {
 	clock
+	wish       *wish
 	ctx        context.Context
 	dial       func(ctx context.Context, network, address string) (net.Conn, error)
 	address    string
@@ -87,10 +88,7 @@ func (n *network) connect(until uint64) error {
 }
 
 func (n *network) read(buffer []byte, until uint64) (int, error) {
-	if err := n.connection.SetReadDeadline(n.at(until)); err != nil {
-		return 0, err
-	}
-	count, err := n.connection.Read(buffer)
+	count, err := n.readUntil(n.at(until), buffer)
 	if count == 0 && err == nil {
 		err = io.ErrNoProgress
 	}

@@ -8,12 +8,18 @@ import "C"
 import (
 	"io"
 	"net"
+	"os"
 	"sync"
+	"syscall"
 	"time"
 )
 
 // How much of an answer the system buffers.
 const chunk = 1 << 16
+
+// How much is written in one call where it isn't known what was taken of it at a deadline: as much
+// as a record of TLS has.
+const tlsRecord = 1 << 14
 
 // A deadline that has passed: it ends a read or a write that waits.
 var passed = time.Unix(1, 0)
@@ -23,7 +29,7 @@ var passed = time.Unix(1, 0)
 type served struct {
 	server     *Server
 	connection net.Conn
-	resumes    bool // a write goes on where one before it met its deadline
+	raw        syscall.RawConn // the socket, if the connection is one
 	cache      C.struct_rtr_cache
 	present    C.struct_rtr_present // what names the data of its place
 	serving    C.struct_rtr_serving // what the machine said last
@@ -33,12 +39,13 @@ type served struct {
 	began      uint64 // when the unit that it begins with began to come
 	closed     error  // why nothing more comes
 
-	lock  sync.Mutex
-	place mark  // of the edition of which it is served
-	woken bool  // there may be a newer one
-	long  bool  // more than a chunk of it is being written
-	cut   error // why no more of the place is written
-	last  bool  // nothing more is written but a report
+	lock    sync.Mutex
+	place   mark   // of the edition of which it is served
+	woken   bool   // there may be a newer one
+	long    bool   // more than a chunk of it is being written
+	cut     error  // why no more of the place is written
+	last    bool   // nothing more is written but a report
+	shaking func() // ends a handshake, as long as there is one
 }
 
 // usualCacheSettings are the usual ones.
@@ -48,8 +55,13 @@ func usualCacheSettings() (usual C.struct_rtr_cache_settings) {
 }
 
 func newServed(server *Server, connection net.Conn) *served {
-	_, resumes := connection.(*net.TCPConn)
-	c := &served{server: server, connection: connection, resumes: resumes}
+	c := &served{server: server, connection: connection}
+	if socket, ok := connection.(syscall.Conn); ok {
+		c.raw, _ = socket.SyscallConn()
+	}
+	if _, ok := connection.(shaker); ok {
+		c.shaking = func() {} // serve looks whether the server is closed
+	}
 	c.input = c.buffer[:0]
 	wanted := usualCacheSettings()
 	wanted.first_limit = milliseconds(server.Limits.First)
@@ -68,6 +80,12 @@ func (c *served) wake(present mark) {
 		return
 	}
 	c.woken = true
+	if c.shaking != nil {
+		if c.server.closed.Load() {
+			c.shaking()
+		}
+		return
+	}
 	c.connection.SetReadDeadline(passed)
 	if why := c.place.behind(present); why == ErrSessionEnded || why != nil && c.long {
 		c.cut = why
@@ -88,6 +106,9 @@ func (c *served) look() *edition {
 
 // serve answers queries until the connection ends, and says why it did.
 func (c *served) serve() error {
+	if err := c.shake(); err != nil {
+		return err
+	}
 	for c.serving.kind != C.RTR_SERVE_END {
 		e := c.look()
 		if c.server.closed.Load() {
@@ -145,7 +166,9 @@ func (c *served) answer(e *edition) (err error) {
 		body, err = e.since(version, uint32(c.serving.serial))
 	}
 	if err == nil {
-		err = c.write(c.opening(), body)
+		opening := c.opening()
+		c.logs(LevelDebug, "answers", "unit", Kind(opening[1]), "version", opening[0])
+		err = c.write(opening, body)
 	}
 	taken := int(c.serving.taken)
 	c.input, c.offset = append(c.buffer[:0], c.input[taken:]...), c.offset+int64(taken)
@@ -201,29 +224,43 @@ func (c *served) receive() {
 func (c *served) write(parts ...[]byte) error {
 	last := c.server.clock.time().Add(c.server.Limits.Response)
 	for _, part := range parts {
-		for taken := 1; len(part) > 0; part = part[taken:] {
+		for slow := false; len(part) > 0; {
 			if err := c.allow(last, len(part) > chunk); err != nil {
 				return err
 			}
-			if taken == 0 {
+			if slow {
 				return ErrTooSlow
 			}
-			var err error
-			if taken, err = c.connection.Write(c.piece(part)); err != nil && !isTimeout(err) {
+			taken, err := c.writeSome(part)
+			if slow = isTimeout(err); err != nil && !slow {
 				return err
 			}
+			part = part[taken:]
 		}
 	}
 	return nil
 }
 
-// piece is what is written of a part in one call. TLS can't go on after a write that met its
-// deadline, so all connections but those of TCP get a chunk at a time.
-func (c *served) piece(part []byte) []byte {
-	if c.resumes || len(part) <= chunk {
-		return part
+// writeSome writes some of a part. It is a timeout where nothing was taken until the deadline.
+func (c *served) writeSome(part []byte) (taken int, err error) {
+	if c.raw == nil {
+		// What met its deadline may have been taken in part, but TLS can't go on after it.
+		if len(part) > tlsRecord {
+			part = part[:tlsRecord]
+		}
+		return c.connection.Write(part)
 	}
-	return part[:chunk]
+	failed := c.raw.Write(func(socket uintptr) bool {
+		taken, err = syscall.Write(int(socket), part)
+		return err != syscall.EAGAIN && err != syscall.EINTR
+	})
+	switch {
+	case failed != nil:
+		return 0, failed
+	case err != nil:
+		return 0, os.NewSyscallError("write", err)
+	}
+	return taken, nil
 }
 
 // allow gives a write its time, or says why no more of the place is to be written.

@@ -38,6 +38,9 @@ type Server struct {
 	// Ended is told why each connection ended, unless the client closed it between two units. It
 	// may be nil; else several goroutines may call it at once.
 	Ended func(client net.Addr, err error)
+	// Log has a line of each connection, answer, end and new data. It may be nil; else several
+	// goroutines may call it at once.
+	Log Log
 
 	clock    clock
 	present  atomic.Pointer[edition]
@@ -115,6 +118,7 @@ func (s *Server) update(data Data, save func(*edition) error, before func()) err
 	}
 	s.present.Store(next)
 	before()
+	s.Log.write(LevelInfo, "data", data.fields()...)
 	s.wake()
 	return nil
 }
@@ -148,6 +152,7 @@ func (s *Server) Serve(listener net.Listener) (err error) {
 	s.listeners[listener] = true
 	s.running.Add(1)
 	s.lock.Unlock()
+	s.Log.write(LevelInfo, "listening", "address", listener.Addr())
 	defer func() {
 		s.lock.Lock()
 		delete(s.listeners, listener)
@@ -203,8 +208,10 @@ func (s *Server) take(connection net.Conn) {
 	s.running.Add(1)
 	go func() {
 		defer s.running.Done()
+		client.logs(LevelDebug, "connected")
 		err := client.serve()
 		connection.Close()
+		client.logs(LevelInfo, "ended", "error", err)
 		s.lock.Lock()
 		delete(s.clients, client)
 		s.refused -= refused

