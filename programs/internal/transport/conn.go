@@ -1,6 +1,7 @@
 package transport
 
 import (
+	"context"
 	"errors"
 	"net"
 	"sync"
@@ -107,6 +108,14 @@ func (c *conn) Write(bytes []byte) (int, error) {
 	n, err := c.Conn.Write(bytes)
 	c.observer.Moved(c.kind, Sent, n)
 	return n, err
+}
+
+// HandshakeContext makes the handshake, where the transport has one that has to be made first.
+func (c *conn) HandshakeContext(ctx context.Context) error {
+	if shaking, ok := c.Conn.(interface{ HandshakeContext(context.Context) error }); ok {
+		return shaking.HandshakeContext(ctx)
+	}
+	return nil
 }
 
 // CloseWrite says that nothing more is written, where the transport has a way to.

@@ -6,6 +6,7 @@ import (
 	"io"
 	"net"
 	"os"
+	"sync"
 	"time"
 
 	"golang.org/x/crypto/ssh"
@@ -64,11 +65,8 @@ func (r SSHRouter) Dialer() (Dial, error) {
 func overSSH(
 	ctx context.Context, connection net.Conn, address string, config *ssh.ClientConfig,
 ) (net.Conn, error) {
-	if until, ok := ctx.Deadline(); ok {
-		if err := connection.SetDeadline(until); err != nil {
-			return nil, err
-		}
-	}
+	release := endWith(ctx, connection)
+	defer release()
 	conn, channels, requests, err := ssh.NewClientConn(connection, address, config)
 	if err != nil {
 		return nil, err
@@ -88,9 +86,32 @@ func overSSH(
 	if err := session.RequestSubsystem(Subsystem); err != nil {
 		return nil, fmt.Errorf("the subsystem %s: %w", Subsystem, err)
 	}
+	release()
+	if err := ctx.Err(); err != nil {
+		return nil, err
+	}
 	near, far := newPiped(connection)
 	go far.pass(both{output, input, session}, connection)
 	return near, connection.SetDeadline(time.Time{})
+}
+
+// endWith has what a connection waits for end with the context, until the function is called that
+// it answers.
+func endWith(ctx context.Context, connection net.Conn) (release func()) {
+	done, ended := make(chan struct{}), make(chan struct{})
+	go func() {
+		defer close(ended)
+		select {
+		case <-ctx.Done():
+			connection.SetDeadline(time.Unix(1, 0))
+		case <-done:
+		}
+	}()
+	var once sync.Once
+	return func() {
+		once.Do(func() { close(done) })
+		<-ended
+	}
 }
 
 // both are the two halves of a session of SSH.
