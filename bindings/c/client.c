@@ -1,8 +1,9 @@
 /* A router's end: asks a cache for its data, and prints what changes as it comes (RFC 8210).
  *
- * usage: client HOST:PORT [--version 0|1|2] [--once] [--json]
+ * usage: client (HOST:PORT | --fd N) [--version 0|1|2] [--once] [--json]
  *
- * The lines are those of rtr_diff, with --json those of rtr_diff --json. On standard error is what
+ * With --fd the descriptor N is a socket that is connected to the cache, as socat gives one; the
+ * client ends with it, with status 1. The lines are those of rtr_diff, with --json those of rtr_diff --json. On standard error is what
  * data there are at each end of data, and what fails. It ends with status 0 after a signal, or with
  * --once after all data came; with 1 where they don't, or writing fails; else with 2. */
 #define _POSIX_C_SOURCE 200809L
@@ -12,6 +13,7 @@
 #include <poll.h>
 #include <signal.h>
 #include <stdio.h>
+#include <stdlib.h>
 #include <string.h>
 #include <sys/socket.h>
 #include <time.h>
@@ -97,12 +99,27 @@ static int dial(struct rtr_client *c, const char *host, const char *port)
     return one;
 }
 
+/* Takes the connection that is there already, which is gone the next time; then -1. */
+static int take(struct rtr_client *c, int *given)
+{
+    int one = *given, type;
+    socklen_t size = sizeof type;
+    *given = -1;
+    if (one < 0)
+        rtr_client_lost(c, "there is no other connection");
+    else if (getsockopt(one, SOL_SOCKET, SO_TYPE, &type, &size) < 0)
+        rtr_client_lost(c, strerror(errno));
+    else
+        rtr_client_connected(c);
+    return one;
+}
+
 /* Sends some of what there is to send; false where the connection broke. */
 static bool send_some(struct rtr_client *c, int one)
 {
     size_t length;
     const uint8_t *output = rtr_client_output(c, &length);
-    ssize_t count = send(one, output, length, MSG_NOSIGNAL);
+    ssize_t count = send(one, output, length, MSG_NOSIGNAL | MSG_DONTWAIT);
     if (count >= 0)
         rtr_client_sent(c, (size_t)count);
     else if (errno != EAGAIN && errno != EINTR)
@@ -121,7 +138,7 @@ static void wait_for(struct rtr_client *c, int one)
     if (ready.revents & POLLOUT && !send_some(c, one))
         return;
     uint8_t *room = rtr_client_room(c, &length);
-    ssize_t count = recv(one, room, length, 0);
+    ssize_t count = recv(one, room, length, MSG_DONTWAIT);
     if (count > 0)
         rtr_client_received(c, (size_t)count);
     else if (count == 0 || (errno != EAGAIN && errno != EINTR))
@@ -141,7 +158,7 @@ static void hang_up(struct rtr_client *c, int one)
     shutdown(one, SHUT_WR);
     ready.events = POLLIN;
     for (int64_t until = now() + 200; now() < until;)
-        if (poll(&ready, 1, left(until)) != 1 || recv(one, read, sizeof read, 0) <= 0)
+        if (poll(&ready, 1, left(until)) != 1 || recv(one, read, sizeof read, MSG_DONTWAIT) <= 0)
             break;
     close(one);
 }
@@ -159,16 +176,26 @@ static bool split(char *word, char **host, char **port)
     return true;
 }
 
-/* Follows the cache, or asks once; then the status to end with. */
-static int follow(struct rtr_client *c, const char *host, const char *port, bool once, bool json)
+/* Reads the number of a descriptor. */
+static bool descriptor(const char *word, int *given)
 {
+    size_t length = strspn(word, "0123456789");
+    *given = length > 0 && length < 10 && !word[length] ? (int)strtol(word, NULL, 10) : -1;
+    return *given >= 0;
+}
+
+/* Follows the cache, or asks once, or has one connection; then the status to end with. */
+static int follow(struct rtr_client *c, const char *host, const char *port, int given, bool once,
+                  bool json)
+{
+    bool single = given >= 0;
     for (int one = -1;;) {
         enum rtr_client_event event = rtr_client_next(c, now());
-        bool last = once && event >= RTR_CLIENT_DATA;
+        bool last = (once && event >= RTR_CLIENT_DATA) || (single && event == RTR_CLIENT_FAILED);
         if (event == RTR_CLIENT_WAIT)
             wait_for(c, one);
         if (event == RTR_CLIENT_CONNECT)
-            one = dial(c, host, port);
+            one = single ? take(c, &given) : dial(c, host, port);
         if (event == RTR_CLIENT_DATA || event == RTR_CLIENT_DROPPED)
             print_changes(c, json);
         if (event == RTR_CLIENT_DATA)
@@ -197,6 +224,7 @@ int main(int count, char **words)
     static struct rtr_client c;
     char *host = NULL, *port = NULL, *version = "1";
     bool understood = true, once = false, json = false;
+    int given = -1;
     for (int i = 1; i < count; i++) {
         if (!strcmp(words[i], "--version") && i + 1 < count)
             version = words[++i];
@@ -204,18 +232,22 @@ int main(int count, char **words)
             once = true;
         else if (!strcmp(words[i], "--json"))
             json = true;
-        else
+        else if (!strcmp(words[i], "--fd") && i + 1 < count && !host) {
+            host = "descriptor";
+            port = words[++i];
+            understood = understood && descriptor(port, &given);
+        } else
             understood = understood && !host && split(words[i], &host, &port);
     }
     if (!understood || !host || strlen(version) != 1 || !strchr("012", version[0])) {
-        fprintf(stderr, "usage: client HOST:PORT [--version 0|1|2] [--once] [--json]\n");
+        fprintf(stderr, "usage: client (HOST:PORT | --fd N) [--version 0|1|2] [--once] [--json]\n");
         return 2;
     }
     rtr_client_init(&c, (uint8_t)(version[0] - '0'));
     c.settings.chance = (uint16_t)(now() ^ getpid());
     signal(SIGINT, once ? SIG_DFL : end);
     signal(SIGTERM, once ? SIG_DFL : end);
-    int status = follow(&c, host, port, once, json);
+    int status = follow(&c, host, port, given, once, json);
     rtr_client_free(&c);
     return status;
 }

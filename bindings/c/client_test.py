@@ -10,6 +10,7 @@ well.
 """
 import ipaddress
 import json
+import shutil
 import socket
 import struct
 import subprocess
@@ -396,8 +397,85 @@ def test_following():
     assert refused_texts == ["duplicate announcement, at byte 0", "unit of another session"]
 
 
+def given(words, play):
+    """What a client prints, and its status, whose connection is there already; this plays the cache.
+    """
+    ours, theirs = socket.socketpair()
+    with ours, theirs:
+        ours.settimeout(PATIENCE)
+        client = subprocess.Popen([PROGRAM, "--fd", str(theirs.fileno()), *words],
+                                  pass_fds=[theirs.fileno()], stdout=subprocess.PIPE,
+                                  stderr=subprocess.PIPE)
+        name = f"descriptor:{theirs.fileno()}: "
+        theirs.close()
+        play(ours)
+        ours.close()
+        out, err = client.communicate(timeout=PATIENCE)
+    return client.returncode, out.decode().splitlines(), err.decode().replace(name, "").splitlines()
+
+
+def test_descriptor():
+    """A connection that is there already is the only one: the client ends with it."""
+    plus = ["+ " + line for _, line in PAYLOADS]
+    told = f"session {SESSION} serial 5 version 2: {len(PAYLOADS)} payloads"
+
+    def whole(cache):
+        expect(cache, reset_query(2))
+        cache.sendall(WHOLE)
+        if words[0] == "--once":
+            received(cache)
+
+    for words, status, said in [(("--once", "--version", "2"), 0, [told]),
+                                (("--version", "2"), 1, [told, "the cache closed the connection"])]:
+        assert given(words, whole) == (status, plus, said), words
+
+    def lower(cache):
+        expect(cache, reset_query(2))
+        cache.sendall(report(1, NO_VERSION))
+        received(cache)
+
+    assert given(("--version", "2"), lower) == (1, [], ["there is no other connection"])
+
+    def broken(cache):
+        expect(cache, reset_query(2))
+        cache.sendall(sequence([PAYLOADS[0][0], PAYLOADS[0][0]]))
+        assert received(cache)[1:4] == b"\x0a\0\7"
+
+    said = ["duplicate announcement, at byte 20"]
+    assert given(("--version", "2"), broken) == (1, [], said)
+
+    # A descriptor that isn't open, or no socket.
+    for number, text in [("999", b"Bad file descriptor"), ("0", b"non-socket")]:
+        done = subprocess.run([PROGRAM, "--fd", number], stdin=subprocess.DEVNULL,
+                              capture_output=True, timeout=PATIENCE)
+        assert done.returncode == 1 and text in done.stderr, (number, done.stderr)
+
+
+def test_socat():
+    """As docs/C.md has it; skipped where there is no socat."""
+    if not shutil.which("socat"):
+        print("!!! client_test.py: no socat here: SKIPPED test_socat")
+        return
+    with socket.create_server(("127.0.0.1", 0)) as listener:
+        listener.settimeout(PATIENCE)
+        port = listener.getsockname()[1]
+        client = subprocess.Popen(
+            ["socat", f"TCP:127.0.0.1:{port}",
+             f"EXEC:'{PROGRAM} --fd 3 --version 2',fdin=3,fdout=3"],
+            stdout=subprocess.PIPE, stderr=subprocess.PIPE)
+        cache, _ = listener.accept()
+        with cache:
+            cache.settimeout(PATIENCE)
+            expect(cache, reset_query(2))
+            cache.sendall(WHOLE)
+        out, err = client.communicate(timeout=PATIENCE)
+    assert out.decode().splitlines() == ["+ " + line for _, line in PAYLOADS], (out, err)
+
+
 def test_arguments():
-    bad = [[], ["--once"], ["a"], ["a:1", "b:2"], ["a:1", "--version"], ["a:1", "--version", "3"],
+    bad = [["--fd"], ["--fd", "x"], ["--fd", "-1"], ["--fd", ""], ["--fd", "3", "a:1"],
+           ["a:1", "--fd", "3"], ["--fd", "3", "--fd", "4"], ["--fd", "9999999999"]]
+    bad += [[], ["--once"], ["a"], ["a:1", "b:2"], ["a:1", "--version"], ["a:1", "--version", "3"],
            ["--version", "a:1"], ["a:1", "--other"], ["--help"]]
     for words in bad:
         done = subprocess.run([PROGRAM, *words], capture_output=True, timeout=PATIENCE)
