@@ -21,6 +21,8 @@ from importlib.machinery import SourceFileLoader
 from importlib.util import module_from_spec, spec_from_loader
 
 TOP = os.path.realpath(os.path.join(os.path.dirname(os.path.abspath(__file__)), ".."))
+# Who imports this finds the samples of units.
+sys.path.insert(0, os.path.join(TOP, "tests"))
 ENDINGS = ("", ".by-rattle")
 PREBUILT = os.path.join(TOP, "prebuilt")
 ARCHIVE = "librtr_wire.a"

@@ -3,7 +3,13 @@
 `make` gives an input and the name of its kind. The same random number generator gives the same
 inputs.
 """
+import pathlib
 import struct
+import sys
+
+sys.path.insert(0, str(pathlib.Path(__file__).resolve().parent.parent / "tests"))
+
+import samples  # noqa: E402  (it lies in another folder)
 
 # Values for a length field, around the bounds of each type that sequences have.
 BOUNDS = {
@@ -213,6 +219,17 @@ def mutated(rng):
     return data
 
 
+def sampled(rng):
+    """Samples in any order, perhaps with a broken bit or byte, and mostly an end of data."""
+    units = [sample.bytes for sample in samples.SAMPLES]
+    if rng.random() < 0.7:
+        units = [unit for unit in units if unit[1:2] in (b"\4", b"\6", b"\x09", b"\x0b")]
+    data = b"".join(rng.choices(units, k=rng.randint(1, 6)))
+    if rng.random() < 0.5:
+        data = broken(rng, data)
+    return data + rng.choice([b"", *[samples.unit("end of data")] * 3])
+
+
 def long(rng):
     """A sequence longer than the buffers of the program, perhaps broken or cut."""
     units = [payload_unit(rng) for _ in range(rng.randint(MANY_UNITS // 2, MANY_UNITS))]
@@ -226,11 +243,12 @@ def long(rng):
 # Each kind of input, and how many of a thousand inputs are of that kind.
 KINDS = {
     whole: 200,
-    altered: 328,
+    altered: 278,
     cut: 80,
     joined: 80,
     headers: 160,
     mutated: 150,
+    sampled: 50,
     long: 2,
 }
 

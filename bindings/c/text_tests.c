@@ -1,7 +1,8 @@
 /* The texts of statuses, and names: those in the file tests/texts, with every room for them, which
- * lies between inaccessible pages (testing.h); and lines and JSON of units written by hand.
+ * lies between inaccessible pages (testing.h); and the sample units in the file tests/samples:
+ * their lines and JSON, what is written of them, and why they are refused.
  *
- * usage: text_tests TEXTS */
+ * usage: text_tests TEXTS SAMPLES */
 #include "testing.h"
 
 /* What rows of names begin with, by their rtr_named. */
@@ -90,68 +91,25 @@ static void check_all(void)
         }
 }
 
-/* The lines of units and of changes, by rtr_list(1) and rtr_diff(1). */
-static const struct {
-    size_t length;
-    uint8_t bytes[36];
-    const char *line, *change, *json;
-} lines[] = {
-    {12, {1, 0, 0, 7, 0, 0, 0, 12, 0, 0, 0, 9}, "24 v1 serial notify session 7 serial 9", "", ""},
-    {12, {1, 1, 0, 7, 0, 0, 0, 12, 0, 0, 0, 9}, "24 v1 serial query session 7 serial 9", "", ""},
-    {8, {2, 2, 0, 0, 0, 0, 0, 8}, "24 v2 reset query", "", ""},
-    {8, {0, 3, 255, 255, 0, 0, 0, 8}, "24 v0 cache response session 65535", "", ""},
-    {20, {1, 4, 0, 0, 0, 0, 0, 20, 1, 23, 26, 0, 192, 0, 2, 10, 0, 1, 0, 15},
-     "24 v1 IPv4 prefix announce 192.0.2.10/23-26 AS65551",
-     "+ IPv4 prefix 192.0.2.10/23-26 AS65551",
-     "{\"kind\":\"ipv4_prefix\",\"action\":\"announce\",\"prefix\":\"192.0.2.10\","
-     "\"prefix_length\":23,\"max_length\":26,\"asn\":65551}"},
-    {20, {1, 4, 0, 0, 0, 0, 0, 20, 0, 33, 8, 0, 0, 0, 0, 255, 255, 255, 255, 255},
-     "24 v1 IPv4 prefix withdraw 0.0.0.255/33-8 AS4294967295",
-     "- IPv4 prefix 0.0.0.255/33-8 AS4294967295",
-     "{\"kind\":\"ipv4_prefix\",\"action\":\"withdraw\",\"prefix\":\"0.0.0.255\","
-     "\"prefix_length\":33,\"max_length\":8,\"asn\":4294967295}"},
-    {32, {1, 6, 0, 0, 0, 0, 0, 32, 0, 32, 48, 0, 0x20, 1, 0xd, 0xb8, 0, 0, 0, 0, 0, 1, 0, 0, 0, 0,
-          0, 1, 0, 1, 0, 15},
-     "24 v1 IPv6 prefix withdraw 2001:db8::1:0:0:1/32-48 AS65551",
-     "- IPv6 prefix 2001:db8::1:0:0:1/32-48 AS65551",
-     "{\"kind\":\"ipv6_prefix\",\"action\":\"withdraw\",\"prefix\":\"2001:db8::1:0:0:1\","
-     "\"prefix_length\":32,\"max_length\":48,\"asn\":65551}"},
-    {32, {1, 6, 0, 0, 0, 0, 0, 32, 1, 128, 128, 0, 0, 0, 0, 0, 0, 0, 0, 0, 0, 0, 255, 255, 1, 2, 3,
-          4, 0, 1, 0, 15},
-     "24 v1 IPv6 prefix announce ::ffff:1.2.3.4/128-128 AS65551",
-     "+ IPv6 prefix ::ffff:1.2.3.4/128-128 AS65551",
-     "{\"kind\":\"ipv6_prefix\",\"action\":\"announce\",\"prefix\":\"::ffff:1.2.3.4\","
-     "\"prefix_length\":128,\"max_length\":128,\"asn\":65551}"},
-    {32, {1, 6, 0, 0, 0, 0, 0, 32, 1, 0, 0, 0, 0, 1, 0, 0, 0, 2, 0, 0x0a, 0, 3, 0, 0x10, 0xab, 0xcd,
-          0, 0, 0, 1, 0, 15},
-     "24 v1 IPv6 prefix announce 1:0:2:a:3:10:abcd:0/0-0 AS65551",
-     "+ IPv6 prefix 1:0:2:a:3:10:abcd:0/0-0 AS65551",
-     "{\"kind\":\"ipv6_prefix\",\"action\":\"announce\",\"prefix\":\"1:0:2:a:3:10:abcd:0\","
-     "\"prefix_length\":0,\"max_length\":0,\"asn\":65551}"},
-    {24, {1, 7, 0, 7, 0, 0, 0, 24, 0, 0, 0, 9, 0, 0, 14, 16, 0, 0, 2, 88, 0, 0, 28, 32},
-     "24 v1 end of data session 7 serial 9 refresh 3600 retry 600 expire 7200", "", ""},
-    {12, {0, 7, 0, 7, 0, 0, 0, 12, 0, 0, 0, 9}, "24 v0 end of data session 7 serial 9", "", ""},
-    {8, {1, 8, 0, 0, 0, 0, 0, 8}, "24 v1 cache reset", "", ""},
-    {36, {1, 9, 1, 0, 0, 0, 0, 36, 1, 2, 3, 4, 5, 6, 7, 8, 9, 10, 11, 12, 13, 14, 15, 16, 17, 18, 19,
-          20, 0, 1, 0, 15, 0x15, 0x16, 0xfb, 0xff},
-     "24 v1 router key announce 0102030405060708090a0b0c0d0e0f1011121314 AS65551 FRb7_w",
-     "+ router key 0102030405060708090a0b0c0d0e0f1011121314 AS65551 FRb7_w",
-     "{\"kind\":\"router_key\",\"action\":\"announce\","
-     "\"subject_key_identifier\":\"0102030405060708090a0b0c0d0e0f1011121314\","
-     "\"asn\":65551,\"subject_public_key_info\":\"FRb7_w\"}"},
-    {20, {2, 11, 1, 0, 0, 0, 0, 20, 0, 0, 253, 232, 0, 0, 253, 233, 0, 1, 0, 15},
-     "24 v2 ASPA announce AS65000 providers AS65001 AS65551",
-     "+ ASPA AS65000 providers AS65001 AS65551",
-     "{\"kind\":\"aspa\",\"action\":\"announce\",\"customer_asn\":65000,"
-     "\"provider_asns\":[65001,65551]}"},
-    {12, {2, 11, 0, 0, 0, 0, 0, 12, 0, 0, 253, 232}, "24 v2 ASPA withdraw AS65000 providers",
-     "- ASPA AS65000 providers",
-     "{\"kind\":\"aspa\",\"action\":\"withdraw\",\"customer_asn\":65000,\"provider_asns\":[]}"},
-    {20, {1, 10, 0, 2, 0, 0, 0, 20, 0, 0, 0, 1, 0xab, 0, 0, 0, 3, '"', '\n', 200},
-     "24 v1 error report code 2 (No Data Available) pdu \"ab\" text \"\\\"\\n\\xc8\"", "", ""},
-    {16, {1, 10, 1, 0, 0, 0, 0, 16, 0, 0, 0, 1, 0, 0, 0, 0},
-     "24 v1 error report code 256 with lengths that do not fit", "", ""},
+/* What a sample may have, by the first words of its rows, and where none is of it an empty text. */
+enum { UNIT, BYTES, FORM, REFUSED, LINE, OBJECT_LISTED, CHANGE, OBJECT, WORDS };
+static const char *const sample_words[WORDS] = {
+    "unit", "bytes", "form", "refused", "line", "json", "change", "object",
 };
+
+struct sample {
+    char rows[WORDS][400];
+};
+
+/* The bytes of a row of hex digits, and how many there are. */
+static size_t bytes_of(const char *row, uint8_t *bytes)
+{
+    size_t count = 0;
+    unsigned byte;
+    for (int length; sscanf(row, " %2x%n", &byte, &length) == 1; row += length)
+        bytes[count++] = (uint8_t)byte;
+    return count;
+}
 
 typedef uint8_t line_call(const uint8_t *, size_t, uint8_t *, size_t, struct rtr_line *);
 
@@ -190,55 +148,139 @@ static void check_line(const struct place *place, size_t call, const uint8_t *in
     }
 }
 
-static void check_lines(const struct place *place)
+/* Why a unit is refused: the text of its status. */
+static void check_refused(uint8_t status, uint8_t detail, const char *wanted)
 {
-    for (size_t i = 0; i < sizeof lines / sizeof *lines; i++) {
-        size_t size = lines[i].length;
-        const uint8_t *input = copied(place, place->input, lines[i].bytes, size);
-        check_line(place, 0, input, size, lines[i].line);
-        check_line(place, 1, input, size, lines[i].change);
-        check_line(place, 2, input, size, lines[i].json);
-        for (size_t there = 0; there < size; there++) {
-            input = copied(place, place->input, lines[i].bytes, there);
-            struct rtr_line told = line_of(place, there % 3, input, there, 9);
-            CHECK(told.status == RTR_SHORT && told.wanted == (there < 8 ? 8 : size));
-            CHECK(told.size == 0 && told.length == 0 && told.detail == 0);
-        }
+    uint8_t text[RTR_TEXT_ROOM];
+    size_t length;
+    CHECK(rtr_text(status, detail, text, sizeof text, &length) == RTR_OK);
+    CHECK(length == strlen(wanted) && memcmp(text, wanted, length) == 0);
+}
+
+/* A unit is shown and written as its form, or refused. */
+static void check_unit(const struct place *place, const struct sample *s, const uint8_t *input,
+                       size_t size)
+{
+    uint8_t form[64];
+    size_t length = bytes_of(s->rows[s->rows[FORM][0] ? FORM : BYTES], form), written;
+    struct rtr_unit *unit = FILLED(place->unit, struct rtr_unit);
+    uint8_t status = rtr_next(input, size, unit);
+    if (s->rows[REFUSED][0]) {
+        check_refused(status, unit->detail, s->rows[REFUSED]);
+        return;
     }
-    static const uint8_t refused[][8] = {{1, 5, 0, 0, 0, 0, 0, 8}, {3, 7, 0, 0, 0, 0, 0, 24}};
-    for (uint8_t i = 0; i < 2; i++) {
-        const uint8_t *input = copied(place, place->input, refused[i], 8);
-        struct rtr_line told = line_of(place, i, input, 8, 9);
-        CHECK(told.status == (i ? RTR_UNIT_VERSION : RTR_UNIT_TYPE));
-        CHECK(told.detail == (i ? 3 : 5) && told.size == 0 && told.length == 0);
+    CHECK(status == RTR_OK && unit->size == size);
+    uint8_t *output = lie(place, place->output, length);
+    CHECK(rtr_write_unit(unit, input, size, output, length, &written) == RTR_OK);
+    CHECK(written == length && memcmp(output, form, length) == 0);
+}
+
+/* Lines are written of a unit, and none of its front. */
+static void check_lines(const struct place *place, const struct sample *s, const uint8_t *bytes,
+                        size_t size)
+{
+    char line[400];
+    snprintf(line, sizeof line, "24%s", s->rows[LINE] + 1); /* it stands after 24 bytes */
+    const uint8_t *input = copied(place, place->input, bytes, size);
+    check_line(place, 0, input, size, line);
+    check_line(place, 1, input, size, s->rows[CHANGE]);
+    check_line(place, 2, input, size, s->rows[OBJECT]);
+    for (size_t there = 0; there < size; there++) {
+        input = copied(place, place->input, bytes, there);
+        struct rtr_line told = line_of(place, there % 3, input, there, 9);
+        CHECK(told.status == RTR_SHORT && told.wanted == (there < 8 ? 8 : size));
+        CHECK(told.size == 0 && told.length == 0 && told.detail == 0);
+    }
+}
+
+static void check_sample(const struct place *place, const struct sample *s)
+{
+    uint8_t bytes[64];
+    size_t size = bytes_of(s->rows[BYTES], bytes);
+    CHECK(size > 0);
+    check_unit(place, s, copied(place, place->input, bytes, size), size);
+    if (s->rows[LINE][0]) {
+        check_lines(place, s, bytes, size);
+        return;
+    }
+    for (size_t call = 0; call < 3; call++) {
+        const uint8_t *input = copied(place, place->input, bytes, size);
+        struct rtr_line told = line_of(place, call, input, size, 9);
+        check_refused(told.status, told.detail, s->rows[REFUSED]);
+        CHECK(told.size == 0 && told.length == 0);
         CHECK(*(uint8_t *)lie(place, place->output, 9) == 0xa5);
     }
 }
 
-int main(int count, char **arguments)
+/* The sample that is checked, for a check that fails. */
+static struct sample sample;
+
+static void say_sample(void)
 {
-    CHECK(count == 2);
-    FILE *file = fopen(arguments[1], "r");
+    if (sample.rows[UNIT][0])
+        fprintf(stderr, "in the sample: %s\n", sample.rows[UNIT]);
+}
+
+/* Checks the sample whose rows came, if there is one, and begins another. */
+static void end_sample(struct place *place)
+{
+    for (int side = 0; side < 2 && sample.rows[UNIT][0]; side++) {
+        place->at_end = side;
+        check_sample(place, &sample);
+    }
+    memset(&sample, 0, sizeof sample);
+}
+
+/* Takes a row of the file of samples. */
+static void take_row(struct place *place, const char *row)
+{
+    size_t length = strcspn(row, " ");
+    if (strncmp(row, "unit ", 5) == 0)
+        end_sample(place);
+    for (int word = 0; word < WORDS; word++)
+        if (strlen(sample_words[word]) == length && memcmp(row, sample_words[word], length) == 0) {
+            CHECK(strlen(row + length + 1) < sizeof sample.rows[word]);
+            strcpy(sample.rows[word], row + length + 1);
+            return;
+        }
+    CHECK(!"a row of no such word");
+}
+
+static void take_text(struct place *place, const char *row)
+{
+    for (int side = 0; side < 2; side++) {
+        place->at_end = side;
+        check_row(place, row);
+    }
+}
+
+/* Gives each row of a file, without its end, to a function, and answers how many there are. */
+static int each_row(const char *path, struct place *place,
+                    void (*take)(struct place *place, const char *row))
+{
+    FILE *file = fopen(path, "r");
     CHECK(file != NULL);
-    struct place place = new_place();
-    char row[128];
+    char row[512];
     int rows = 0;
     while (fgets(row, sizeof row, file)) {
         row[strcspn(row, "\n")] = '\0';
         if (row[0] == '\0' || row[0] == '#')
             continue;
-        for (int side = 0; side < 2; side++) {
-            place.at_end = side;
-            check_row(&place, row);
-        }
+        take(place, row);
         rows++;
     }
     fclose(file);
-    CHECK(rows > 80);
+    return rows;
+}
+
+int main(int count, char **arguments)
+{
+    CHECK(count == 3);
+    struct place place = new_place();
+    CHECK(each_row(arguments[1], &place, take_text) > 80);
     check_all();
-    for (int side = 0; side < 2; side++) {
-        place.at_end = side;
-        check_lines(&place);
-    }
+    atexit(say_sample);
+    CHECK(each_row(arguments[2], &place, take_row) > 200);
+    end_sample(&place);
     return 0;
 }

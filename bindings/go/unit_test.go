@@ -16,35 +16,23 @@ import (
 	"testing"
 )
 
-// Units of each kind by RFC 8210 sections 5.2 to 5.11, of an ASPA as docs/PROTOCOL.md has it, by
-// hand.
+// Samples of each kind.
 var (
-	serialNotify  = []byte{1, 0, 0x12, 0x34, 0, 0, 0, 12, 0xde, 0xad, 0xbe, 0xef}
-	serialQuery   = []byte{0, 1, 0x12, 0x34, 0, 0, 0, 12, 0xde, 0xad, 0xbe, 0xef}
-	resetQuery    = []byte{2, 2, 0, 0, 0, 0, 0, 8}
-	cacheResponse = []byte{1, 3, 0x12, 0x34, 0, 0, 0, 8}
-	ipv4          = []byte{1, 4, 0, 0, 0, 0, 0, 20, 1, 23, 26, 0, 192, 0, 2, 0, 0, 1, 0, 15}
-	ipv6          = []byte{
-		1, 6, 0, 0, 0, 0, 0, 32, 0, 32, 48, 0,
-		0x20, 1, 0x0d, 0xb8, 0, 0, 0, 0, 0, 0, 0, 0, 0, 0, 0, 0, 0, 1, 0, 15,
-	}
-	end = []byte{
-		1, 7, 0x12, 0x34, 0, 0, 0, 24, 0xde, 0xad, 0xbe, 0xef,
-		0, 0, 0x0e, 0x10, 0, 0, 0x02, 0x58, 0, 0, 0x1c, 0x20,
-	}
-	end0       = []byte{0, 7, 0x12, 0x34, 0, 0, 0, 12, 0xde, 0xad, 0xbe, 0xef}
-	cacheReset = []byte{1, 8, 0, 0, 0, 0, 0, 8}
-	key        = []byte{
-		1, 9, 1, 0, 0, 0, 0, 34, 1, 2, 3, 4, 5, 6, 7, 8, 9, 10,
-		11, 12, 13, 14, 15, 16, 17, 18, 19, 20, 0, 1, 0, 15, 0xca, 0xfe,
-	}
-	errorReport = []byte{
-		1, 10, 0, 2, 0, 0, 0, 26, 0, 0, 0, 8, 1, 2, 0, 0, 0, 0, 0, 8, 0, 0, 0, 2, 'n', 'o',
-	}
-	emptyReport = []byte{1, 10, 0, 1, 0, 0, 0, 16, 0, 0, 0, 0, 0, 0, 0, 0}
-	textReport  = []byte{1, 10, 0, 1, 0, 0, 0, 18, 0, 0, 0, 0, 0, 0, 0, 2, 'n', 'o'}
-	aspa        = []byte{2, 11, 1, 0, 0, 0, 0, 20, 0, 0, 0xfd, 0xe8, 0, 0, 0xfd, 0xe9, 0, 1, 0, 15}
-	withdrawn   = []byte{2, 11, 0, 0, 0, 0, 0, 12, 0, 0, 0xfd, 0xe8}
+	serialNotify  = sampleOf("serial notify")
+	serialQuery   = sampleOf("serial query")
+	resetQuery    = sampleOf("reset query")
+	cacheResponse = sampleOf("cache response")
+	ipv4          = sampleOf("IPv4 prefix")
+	ipv6          = sampleOf("IPv6 prefix")
+	end           = sampleOf("end of data")
+	end0          = sampleOf("end of data of version 0")
+	cacheReset    = sampleOf("cache reset")
+	key           = sampleOf("router key")
+	errorReport   = sampleOf("error report")
+	emptyReport   = sampleOf("empty report")
+	textReport    = sampleOf("report without a unit")
+	aspa          = sampleOf("ASPA")
+	withdrawn     = sampleOf("withdrawn ASPA")
 )
 
 // What each of them shows.

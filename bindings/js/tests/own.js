@@ -147,21 +147,13 @@ const TESTS = {
         assert.equal(next.validate({ prefix: "no prefix", asn: 1 }), Validity.NO_ROUTE);
     },
 
-    /** Lines and objects, by rtr_list(1) and rtr_diff(1). */
-    writesLines(rtr) {
-        const bytes = Uint8Array.from([2, 11, 1, 0, 0, 0, 0, 20, 0, 0, 253, 232, 0, 0, 253, 233,
-            0, 1, 0, 15]);
-        const line = "24 v2 ASPA announce AS65000 providers AS65001 AS65551";
-        assert.equal(rtr.unitLine(bytes, 24), line);
-        const unit = rtr.next(bytes);
-        assert.equal(rtr.changeLine(unit), "+ ASPA AS65000 providers AS65001 AS65551");
-        assert.equal(rtr.changeJson(unit), "{\"kind\":\"aspa\",\"action\":\"announce\","
-            + "\"customer_asn\":65000,\"provider_asns\":[65001,65551]}");
-        assert.equal(rtr.changeLine(rtr.next(END)), "");
-        const long = { ...unit, providers: Array.from({ length: 9000 }, (_, place) => place + 1) };
-        assert.deepEqual(JSON.parse(rtr.changeJson(long)).provider_asns, long.providers);
-        assert.throws(() => rtr.unitLine(bytes.subarray(0, 19)),
-            (error) => error.status === Status.SHORT && error.wanted === 20);
+    /** An object for which there isn't room at once, and no line of a unit that is cut off. */
+    writesLongLines(rtr) {
+        const providers = Array.from({ length: 9000 }, (_, place) => place + 1);
+        const long = { kind: Kind.ASPA, version: 2, announce: true, customer: 65000, providers };
+        assert.deepEqual(JSON.parse(rtr.changeJson(long)).provider_asns, providers);
+        assert.throws(() => rtr.unitLine(END.subarray(0, 19)),
+            (error) => error.status === Status.SHORT && error.wanted === 24);
     },
 
     /** A header alone says how long its unit is. */

@@ -13,6 +13,9 @@ from typing import Iterator, List, NamedTuple, Tuple
 BINDINGS = pathlib.Path(__file__).resolve().parent.parent.parent
 SAMPLES = BINDINGS.parent / "crates"
 
+sys.path.insert(0, str(BINDINGS.parent / "tests"))
+import samples  # noqa: E402  (the sample units of all languages)
+
 
 def rows(variable: str, *script: str) -> bytes:
     """The bytes of the rows."""

@@ -1,4 +1,4 @@
-"""Lines, objects and texts of faults, by the rows of rtr_list in .ci/listings."""
+"""Lines, objects and texts of faults, by the samples in tests/samples and .ci/listings."""
 import json
 import random
 import sys
@@ -8,9 +8,10 @@ from importlib.util import module_from_spec, spec_from_loader
 
 from rtr_wire import Fault, unit_lines, units
 from rtr_wire._library import CALLS
-from rtr_wire.lines import _change
+from rtr_wire.lines import _change, change_json, change_line
 
 from . import rows
+from .rows import samples
 
 
 def _listings():
@@ -39,30 +40,73 @@ def _change_of(unit):
     return json.dumps(change, separators=(",", ":"))
 
 
+# What rtr_list --json calls attributes of units.
+NAMES = {"session": "session_id", "serial": "serial_number", "refresh": "refresh_interval",
+         "retry": "retry_interval", "expire": "expire_interval", "max_length": "max_length",
+         "asn": "asn", "customer": "customer_asn", "code": "error_code",
+         "key_identifier": "subject_key_identifier", "enclosed": "erroneous_pdu",
+         "text": "error_text_bytes", "providers": "provider_asns", "version": "version"}
+
+
+def _shown(unit):
+    """The fields of a unit as rtr_list --json has them."""
+    shown = {"kind": unit.KIND.name.lower()}
+    for name, value in vars(unit).items():
+        if name in NAMES and not (name in ("refresh", "retry", "expire") and unit.version == 0):
+            shown[NAMES[name]] = value.hex() if isinstance(value, bytes) else \
+                list(value) if name == "providers" else value
+    if hasattr(unit, "prefix"):
+        shown["prefix_length"] = unit.prefix.prefixlen
+    if hasattr(unit, "announce"):
+        shown["action"] = "announce" if unit.announce else "withdraw"
+    return shown
+
+
+def _told(sample):
+    """The same of a sample, without what means nothing or is no attribute as it stands."""
+    other = ("offset", "length", "flags", "zero", "prefix", "subject_public_key_info", "error_text")
+    return {name: value for name, value in json.loads(sample.json).items() if name not in other}
+
+
 class Listings(unittest.TestCase):
     """What the programs print, by the calls of the library."""
 
     def test_lines(self):
-        data = b"".join(bytes.fromhex(form) for form, _ in LISTINGS.UNITS)
+        data = b"".join(sample.bytes for sample in LISTINGS.LISTED)
         lines, offset = [], 0
-        for form, text in LISTINGS.UNITS:
-            lines.append(f"{offset} {text}")
-            offset += len(bytes.fromhex(form))
+        for sample in LISTINGS.LISTED:
+            lines.append(sample.line_at(offset))
+            offset += len(sample.bytes)
         self.assertEqual(list(unit_lines(data)), lines)
+
+    def test_samples(self):
+        """Each sample is shown and written as the file says, or refused."""
+        for sample in samples.SAMPLES:
+            with self.subTest(sample.unit):
+                for call in (units, unit_lines) if not sample.line else \
+                        (units,) if sample.refused else ():
+                    with self.assertRaises(Fault) as caught:
+                        list(call(sample.bytes))
+                    self.assertEqual(str(caught.exception), f"{sample.refused}, at byte 0")
+                if sample.line:
+                    self.assertEqual(list(unit_lines(sample.bytes)), [sample.line])
+                    for call, text in ((CALLS.rtr_change_line_nonnull, sample.change),
+                                       (CALLS.rtr_change_json_nonnull, sample.object)):
+                        self.assertEqual(_change(call, sample.bytes), text or "")
+                if sample.refused:
+                    continue
+                unit = next(units(sample.bytes))
+                self.assertEqual(bytes(unit), sample.written)
+                if not sample.form:
+                    self.assertEqual(change_line(unit), sample.change or "")
+                    self.assertEqual(change_json(unit), sample.object or "")
+                    self.assertEqual(_shown(unit), _told(sample))
 
     def test_changes(self):
         random_units = random.Random(7)
-        forms = [bytes.fromhex(form) for form, _ in LISTINGS.UNITS]
-        forms += [LISTINGS.some_unit(random_units) for _ in range(500)]
-        for form in forms:
+        for form in [LISTINGS.some_unit(random_units) for _ in range(500)]:
             self.assertEqual(_change(CALLS.rtr_change_json_nonnull, form), _change_of(form),
                              form.hex())
-
-    def test_faults(self):
-        for form, text in LISTINGS.FAULTS:
-            with self.assertRaises(Fault) as caught:
-                list(units(bytes.fromhex(form)))
-            self.assertEqual(str(caught.exception), f"{text}, at byte 0")
 
 
 if __name__ == "__main__":

@@ -21,27 +21,27 @@ from rtr_wire import (Aspa, CacheReset, CacheResponse, EmptyProvidersError, EndO
 from rtr_wire import _library, _rtr
 
 from . import rows as rows_of
+from .rows import samples
 
 V4, V6 = ipaddress.IPv4Network("192.0.2.0/24"), ipaddress.IPv6Network("2001:db8::/32")
 
-# Units with their forms, written by hand from RFC 8210 section 5 and docs/PROTOCOL.md.
-FORMS = [
-    (SerialNotify(4660, 7, version=0), "00001234 0000000c 00000007"),
-    (SerialQuery(4660, 0xdeadbeef), "01011234 0000000c deadbeef"),
-    (ResetQuery(2), "02020000 00000008"),
-    (CacheResponse(1, 0), "00030001 00000008"),
-    (IPv4Prefix(V4, 26, 64496), "01040000 00000014 01181a00 c0000200 0000fbf0"),
-    (IPv6Prefix(V6, 48, 1, announce=False, version=2),
-     "02060000 00000020 00203000 20010db8 00000000 00000000 00000000 00000001"),
-    (EndOfData(1, 2, version=0), "00070001 0000000c 00000002"),
-    (EndOfData(1, 2, 3, 4, 5), "01070001 00000018 00000002 00000003 00000004 00000005"),
-    (CacheReset(), "01080000 00000008"),
-    (RouterKey(bytes(range(20)), 5, b"\xca\xfe\0"),
-     "01090100 00000023 00010203 04050607 08090a0b 0c0d0e0f 10111213 00000005 cafe00"),
-    (ErrorReport(3, b"\1\2\3", b"no"), "010a0003 00000015 00000003 010203 00000002 6e6f"),
-    (Aspa(9, (1, 2)), "020b0100 00000014 00000009 00000001 00000002"),
-    (Aspa(9, (1, 2), announce=False), "020b0000 0000000c 00000009"),
-]
+# Units, and the samples that are their forms.
+FORMS = [(unit, samples.unit(name)) for unit, name in (
+    (SerialNotify(4660, 0xdeadbeef), "serial notify"),
+    (SerialQuery(4660, 0xdeadbeef, version=0), "serial query"),
+    (ResetQuery(2), "reset query"),
+    (CacheResponse(4660), "cache response"),
+    (IPv4Prefix(ipaddress.IPv4Network("192.0.2.0/23"), 26, 65551), "IPv4 prefix"),
+    (IPv6Prefix(V6, 48, 65551, announce=False), "IPv6 prefix"),
+    (EndOfData(4660, 0xdeadbeef, version=0), "end of data of version 0"),
+    (EndOfData(4660, 0xdeadbeef), "end of data"),
+    (EndOfData(36591, 0, 399, 600, 7200, version=2), "end of data of version 2"),
+    (CacheReset(), "cache reset"),
+    (RouterKey(bytes(range(1, 21)), 65551, b"\xca\xfe"), "router key"),
+    (ErrorReport(2, bytes(ResetQuery()), b"no"), "error report"),
+    (Aspa(65000, (65001, 65551)), "ASPA"),
+    (Aspa(65000, (65001, 65551), announce=False), "withdrawn ASPA"),
+)]
 
 
 def any_unit(rng):
@@ -76,8 +76,8 @@ class Made(unittest.TestCase):
     def test_forms(self):
         self.assertEqual({unit.KIND for unit, _ in FORMS}, set(Kind))
         for unit, form in FORMS:
-            self.assertEqual(bytes(unit), bytes.fromhex(form))
-            self.assertEqual(next(units(bytes.fromhex(form))), unit)
+            self.assertEqual(bytes(unit), form)
+            self.assertEqual(next(units(form)), unit)
 
     def test_left_loops(self):
         """A loop goes on where the one before was left, also after a fault."""
@@ -197,7 +197,7 @@ class Faults(unittest.TestCase):
     CODES = {Status.SHORT: 0, Status.UNIT_TYPE: 5, Status.UNIT_VERSION: 4, Status.TOO_LONG: 0,
              Status.UNIT_LENGTH: 0, Status.EMPTY_PROVIDERS: 9, Status.PREFIX: 0,
              Status.DUPLICATE: 7, Status.UNKNOWN: 6}
-    PREFIX = bytes(FORMS[4][0])
+    PREFIX = samples.unit("IPv4 prefix")
 
     def test_codes(self):
         names = set()
@@ -205,7 +205,7 @@ class Faults(unittest.TestCase):
             fault = one(1, 40, self.PREFIX)
             self.assertEqual(fault.code, self.CODES.get(one.status), one)
             self.assertIsNone(one(1, None, self.PREFIX).code)
-            self.assertIsNone(one(1, 40, bytes(FORMS[10][0])).code)
+            self.assertIsNone(one(1, 40, samples.unit("error report")).code)
             self.assertIs(getattr(rtr_wire, one.__name__), one)
             names.add(one.status)
             self.assertIn("at byte 40", str(fault))

@@ -7,37 +7,126 @@ use std::net::Ipv6Addr;
 /// The bytes of a unit, and the unit.
 pub type Row = (&'static [u8], Unit<&'static [u8]>);
 
-// Bytes by RFC 8210 sections 5.2 to 5.11, of an ASPA as `docs/PROTOCOL.md` has them.
-pub const SERIAL_NOTIFY: &[u8] = &[1, 0, 0x12, 0x34, 0, 0, 0, 12, 0xde, 0xad, 0xbe, 0xef];
-pub const SERIAL_QUERY: &[u8] = &[0, 1, 0x12, 0x34, 0, 0, 0, 12, 0xde, 0xad, 0xbe, 0xef];
-pub const RESET_QUERY: &[u8] = &[2, 2, 0, 0, 0, 0, 0, 8];
-pub const CACHE_RESPONSE: &[u8] = &[1, 3, 0x12, 0x34, 0, 0, 0, 8];
-pub const IPV4: &[u8] = &[
-    1, 4, 0, 0, 0, 0, 0, 20, 1, 23, 26, 0, 192, 0, 2, 0, 0, 1, 0, 15,
-];
-pub const IPV6: &[u8] = &[
-    1, 6, 0, 0, 0, 0, 0, 32, 0, 32, 48, 0, 0x20, 1, 0x0d, 0xb8, 0, 0, 0, 0, 0, 0, 0, 0, 0, 0, 0, 0,
-    0, 1, 0, 15,
-];
-pub const END: &[u8] = &[
-    1, 7, 0x12, 0x34, 0, 0, 0, 24, 0xde, 0xad, 0xbe, 0xef, 0, 0, 0x0e, 0x10, 0, 0, 0x02, 0x58, 0,
-    0, 0x1c, 0x20,
-];
-pub const END_0: &[u8] = &[0, 7, 0x12, 0x34, 0, 0, 0, 12, 0xde, 0xad, 0xbe, 0xef];
-pub const CACHE_RESET: &[u8] = &[1, 8, 0, 0, 0, 0, 0, 8];
-pub const KEY: &[u8] = &[
-    1, 9, 1, 0, 0, 0, 0, 34, 1, 2, 3, 4, 5, 6, 7, 8, 9, 10, 11, 12, 13, 14, 15, 16, 17, 18, 19, 20,
-    0, 1, 0, 15, 0xca, 0xfe,
-];
-pub const REPORT: &[u8] = &[
-    1, 10, 0, 2, 0, 0, 0, 26, 0, 0, 0, 8, 1, 2, 0, 0, 0, 0, 0, 8, 0, 0, 0, 2, b'n', b'o',
-];
-pub const EMPTY_REPORT: &[u8] = &[1, 10, 0, 1, 0, 0, 0, 16, 0, 0, 0, 0, 0, 0, 0, 0];
-pub const TEXT_REPORT: &[u8] = &[1, 10, 0, 1, 0, 0, 0, 18, 0, 0, 0, 0, 0, 0, 0, 2, b'n', b'o'];
-pub const ASPA: &[u8] = &[
-    2, 11, 1, 0, 0, 0, 0, 20, 0, 0, 0xfd, 0xe8, 0, 0, 0xfd, 0xe9, 0, 1, 0, 15,
-];
-pub const WITHDRAWN: &[u8] = &[2, 11, 0, 0, 0, 0, 0, 12, 0, 0, 0xfd, 0xe8];
+/// The file of the samples of all languages, which says what each has.
+pub const SAMPLES: &str = include_str!("../../../../tests/samples");
+
+/// A sample.
+#[derive(Default)]
+pub struct Sample {
+    pub unit: &'static str,
+    pub bytes: Vec<u8>,
+    pub form: Option<Vec<u8>>,
+    pub refused: Option<&'static str>,
+    pub line: Option<&'static str>,
+    pub change: Option<&'static str>,
+    pub object: Option<&'static str>,
+}
+
+/// All samples.
+pub fn samples() -> Vec<Sample> {
+    let mut all: Vec<Sample> = Vec::new();
+    let rows = SAMPLES.lines().filter(|row| !row.starts_with('#'));
+    for (word, rest) in rows.filter_map(|row| row.split_once(' ')) {
+        if word == "unit" {
+            all.push(Sample::default());
+        }
+        let last = all.last_mut().expect("a sample begins with its name");
+        match word {
+            "unit" => last.unit = rest,
+            "bytes" => last.bytes = unspaced(rest),
+            "form" => last.form = Some(unspaced(rest)),
+            "refused" => last.refused = Some(rest),
+            "line" => last.line = Some(rest),
+            "change" => last.change = Some(rest),
+            "object" => last.object = Some(rest),
+            "json" => {} // of rtr_list alone
+            _ => panic!("a sample has no {word}"),
+        }
+    }
+    all
+}
+
+/// The bytes of hex digits.
+fn unspaced(row: &str) -> Vec<u8> {
+    let digits: Vec<u8> = row.bytes().filter(|byte| *byte != b' ').collect();
+    digits
+        .chunks(2)
+        .map(|pair| 16 * digit(pair[0]) + digit(pair[1]))
+        .collect()
+}
+
+const fn digit(character: u8) -> u8 {
+    match character {
+        b'0'..=b'9' => character - b'0',
+        b'a'..=b'f' => character - b'a' + 10,
+        _ => panic!("this is no hex digit"),
+    }
+}
+
+/// Where the digits of the sample of this name begin.
+const fn digits_of(name: &str) -> usize {
+    let (all, name) = (SAMPLES.as_bytes(), name.as_bytes());
+    let mut at = 0;
+    while at + 5 + name.len() < all.len() {
+        let begins = all[at] == b'\n' && all[at + 1] == b'u' && all[at + 5] == b' ';
+        let mut same = 0;
+        while begins && same < name.len() && all[at + 6 + same] == name[same] {
+            same += 1;
+        }
+        if begins && same == name.len() && all[at + 6 + same] == b'\n' {
+            return at + 6 + same + "\nbytes ".len();
+        }
+        at += 1;
+    }
+    panic!("there is no sample of this name")
+}
+
+/// How many bytes the sample of this name has.
+const fn length_of(name: &str) -> usize {
+    let (mut at, mut digits) = (digits_of(name), 0);
+    while SAMPLES.as_bytes()[at] != b'\n' {
+        digits += (SAMPLES.as_bytes()[at] != b' ') as usize;
+        at += 1;
+    }
+    digits / 2
+}
+
+/// The bytes of the sample of this name, as many as it has.
+const fn bytes_of<const LENGTH: usize>(name: &str) -> [u8; LENGTH] {
+    let (mut at, mut bytes, mut digits) = (digits_of(name), [0; LENGTH], 0);
+    while digits < 2 * LENGTH {
+        let character = SAMPLES.as_bytes()[at];
+        if character != b' ' {
+            bytes[digits / 2] = 16 * (bytes[digits / 2] % 16) + digit(character);
+            digits += 1;
+        }
+        at += 1;
+    }
+    bytes
+}
+
+/// The bytes of a sample.
+macro_rules! sample {
+    ($name:literal) => {
+        &bytes_of::<{ length_of($name) }>($name)
+    };
+}
+
+pub const SERIAL_NOTIFY: &[u8] = sample!("serial notify");
+pub const SERIAL_QUERY: &[u8] = sample!("serial query");
+pub const RESET_QUERY: &[u8] = sample!("reset query");
+pub const CACHE_RESPONSE: &[u8] = sample!("cache response");
+pub const IPV4: &[u8] = sample!("IPv4 prefix");
+pub const IPV6: &[u8] = sample!("IPv6 prefix");
+pub const END: &[u8] = sample!("end of data");
+pub const END_0: &[u8] = sample!("end of data of version 0");
+pub const CACHE_RESET: &[u8] = sample!("cache reset");
+pub const KEY: &[u8] = sample!("router key");
+pub const REPORT: &[u8] = sample!("error report");
+pub const EMPTY_REPORT: &[u8] = sample!("empty report");
+pub const TEXT_REPORT: &[u8] = sample!("report without a unit");
+pub const ASPA: &[u8] = sample!("ASPA");
+pub const WITHDRAWN: &[u8] = sample!("withdrawn ASPA");
 
 const SESSION: u16 = 0x1234;
 const SERIAL: u32 = 0xdead_beef;

@@ -1,0 +1,126 @@
+//go:build cgo && linux && (amd64 || arm64)
+
+package rtr
+
+import (
+	"bytes"
+	"encoding/hex"
+	"errors"
+	"fmt"
+	"os"
+	"strings"
+	"testing"
+)
+
+// sample is a unit of the file tests/samples, which says what it has.
+type sample struct {
+	unit         string
+	bytes, form  []byte
+	refused      string
+	line, change string
+	object       string
+}
+
+// samples are all of them.
+var samples = readSamples("../../tests/samples")
+
+func readSamples(path string) []sample {
+	file, err := os.ReadFile(path)
+	if err != nil {
+		panic(err)
+	}
+	var all []sample
+	for _, row := range strings.Split(string(file), "\n") {
+		if row == "" || row[0] == '#' {
+			continue
+		}
+		word, rest, _ := strings.Cut(row, " ")
+		if word == "unit" {
+			all = append(all, sample{unit: rest})
+			continue
+		}
+		last := &all[len(all)-1]
+		switch word {
+		case "bytes":
+			last.bytes = unspaced(rest)
+		case "form":
+			last.form = unspaced(rest)
+		case "refused":
+			last.refused = rest
+		case "line":
+			last.line = rest
+		case "change":
+			last.change = rest
+		case "object":
+			last.object = rest
+		case "json": // of rtr_list alone
+		default:
+			panic("a sample has no " + word)
+		}
+	}
+	return all
+}
+
+// unspaced are the bytes of hex digits.
+func unspaced(row string) []byte {
+	digits, err := hex.DecodeString(strings.ReplaceAll(row, " ", ""))
+	if err != nil {
+		panic(err)
+	}
+	return digits
+}
+
+// sampleOf are the bytes of the sample of this name.
+func sampleOf(name string) []byte {
+	for _, one := range samples {
+		if one.unit == name {
+			return one.bytes[:len(one.bytes):len(one.bytes)]
+		}
+	}
+	panic("there is no sample " + name)
+}
+
+// Each sample is shown and written as the file says, or refused.
+func TestSamples(t *testing.T) {
+	if len(samples) < 50 {
+		t.Fatalf("%d samples", len(samples))
+	}
+	for _, one := range samples {
+		t.Run(one.unit, one.check)
+	}
+}
+
+func (s sample) check(t *testing.T) {
+	line, size, err := UnitLine([]byte("> "), append(s.bytes[:len(s.bytes):len(s.bytes)], 1), 24)
+	switch wanted := "> 24" + strings.TrimPrefix(s.line, "0"); {
+	case s.line == "" && (string(line) != "> " || size != 0):
+		t.Errorf("%s, %d", line, size)
+	case s.line != "" && (err != nil || size != len(s.bytes) || string(line) != wanted):
+		t.Errorf("%s, %d, %v, but expected is %s", line, size, err, wanted)
+	}
+	unit, rest, err := Next(s.bytes)
+	if s.refused != "" {
+		var fault *Fault
+		if !errors.As(err, &fault) || err.Error() != fmt.Sprintf("rtr: %s, at byte 0", s.refused) {
+			t.Errorf("%v, but expected is %s", err, s.refused)
+		}
+		return
+	}
+	form, failed := unit.AppendBinary(nil)
+	if wanted := s.written(); err != nil || len(rest) > 0 || failed != nil ||
+		!bytes.Equal(form, wanted) {
+		t.Fatalf("%x, %x, %v, %v, but expected is %x", form, rest, err, failed, wanted)
+	}
+	// What has another form makes the change of that.
+	if s.form == nil && (ChangeLine(&unit) != s.change || ChangeJSON(&unit) != s.object) {
+		t.Errorf("%s, %s", ChangeLine(&unit), ChangeJSON(&unit))
+	}
+}
+
+// written is what is written of the sample.
+func (s sample) written() []byte {
+	if s.form == nil {
+		return s.bytes
+	}
+	return s.form
+}

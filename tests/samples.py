@@ -1,0 +1,60 @@
+"""The sample units that stand in the file `samples`, which says what they have."""
+import dataclasses
+import pathlib
+from typing import Dict, Optional
+
+FILE = pathlib.Path(__file__).resolve().with_suffix("")
+
+
+@dataclasses.dataclass
+class Sample:
+    """A sample, with None for what it doesn't have."""
+
+    unit: str
+    part: str  # of the file, by its heading
+    bytes: bytes = b""
+    form: Optional[bytes] = None
+    refused: Optional[str] = None
+    line: Optional[str] = None
+    json: Optional[str] = None
+    change: Optional[str] = None
+    object: Optional[str] = None
+    # The digits of bytes and form as they stand in the file.
+    spaced: Dict[str, str] = dataclasses.field(default_factory=dict)
+
+    @property
+    def written(self):
+        """What is written of it."""
+        return self.form or self.bytes
+
+    def line_at(self, offset):
+        """The line of it where it stands after so many bytes."""
+        return f"{offset}{self.line[1:]}"
+
+
+def read():
+    """All of them, in their order."""
+    found, part = [], ""
+    for row in FILE.read_text(encoding="utf-8").split("\n"):
+        word, _, rest = row.partition(" ")
+        if rest.startswith("---- "):
+            part = rest[5:]
+        if not word or word == "#":
+            continue
+        if word == "unit":
+            found.append(Sample(rest, part))
+        else:
+            if word in ("bytes", "form"):
+                found[-1].spaced[word] = rest
+            setattr(found[-1], word, bytes.fromhex(rest) if word in found[-1].spaced else rest)
+    return found
+
+
+SAMPLES = read()
+BY_NAME = {sample.unit: sample for sample in SAMPLES}
+assert len(BY_NAME) == len(SAMPLES), "two samples have one name"
+
+
+def unit(name):
+    """The bytes of the sample of this name."""
+    return BY_NAME[name].bytes
