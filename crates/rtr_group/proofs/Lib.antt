@@ -1,0 +1,6 @@
+mod Best
+mod Placed
+mod Heard
+mod Agreeing
+mod Showing
+mod Joined

@@ -1,0 +1,5 @@
+use Rattle.rtr_group.proofs.Showing.{changes_rightly}
+use Rattle.rtr_group.proofs.laws.changes_with_it.Goals as goal
+
+pub returns : goal.returns
+returns x count ms g c m e d run = changes_rightly count ms g c m e d run

@@ -1,0 +1,122 @@
+-- A group whose members are routers' ends: what becomes of a member is what its router does.
+use Rattle.std.specs.Prelude.{◌≡◌, ℕ, Bool, true, false, ◌<◌, ◌==◌, Option, Some, None, List, []}
+use Rattle.std.specs.Prelude.{◌∷◌, if◌then◌else◌}
+use Rattle.rtr_router.specs.declared.router.Router.{Router}
+use Rattle.rtr_router.specs.declared.event.Event as router_event
+use Rattle.rtr_router.specs.declared.event.Action.{Action}
+use Rattle.rtr_router.specs.declared.event.Action.TheVariants as actions
+use Rattle.rtr_router.specs.declared.event.Cause.{Cause}
+use Rattle.rtr_router.specs.declared.event.Cause.TheVariants as causes
+use Rattle.rtr_router.specs.Histories as histories
+use Rattle.rtr_router.specs.Histories.{Host, IsAnswered, IsHistory, MaySay, at, empty_host}
+use Rattle.rtr_router.specs.Histories.{host_after}
+use Rattle.rtr_router.specs.Step.{IsStep}
+use Rattle.rtr_group.specs.declared.event.Event.{Event}
+use Rattle.rtr_group.specs.declared.event.Event.TheVariants as events
+use Rattle.rtr_group.specs.declared.group.Group.{Group}
+use Rattle.rtr_group.specs.Groups.{after, answer}
+use Rattle.rtr_group.specs.Runs.{Caller, IsNew, Moment, caller_after, first_caller}
+
+-- ---- what a group is told
+
+-- A connection that ends since the cache may have a lower version is no failure: the next one
+-- begins at once.
+abbrev pub tells_at_end : (drop : Bool) → Cause → Option Event
+tells_at_end true cause = Some events.Drops
+tells_at_end false causes.Lower = None
+tells_at_end false cause = Some events.Fails
+
+-- what it is told of a member whose router does this
+abbrev pub tells : Action → Option Event
+tells actions.Show = Some events.Shows
+tells actions.Drop = Some events.Drops
+tells actions.NoData = Some events.Fails
+tells (actions.End x) = tells_at_end x.drop x.cause
+tells action = None
+
+-- ---- the ends
+
+-- a router's end since it was started: its history, its router, and what its caller has of it
+pub record End (Body Data : Type 0) : Type 0 where
+  pub history : List (histories.Moment Body)
+  pub router : Router
+  pub host : Host Body Data
+
+-- one that is to be started
+pub record IsFresh {Body Data : Type 0} (c : histories.Caller Body Data) (x : End Body Data) :
+    Type 0 where
+  pub history : x.history ≡ []
+  pub router : histories.IsNew c.settings x.router
+  pub host : x.host ≡ empty_host
+
+-- the end of a member after a step
+abbrev pub end_after : {Body Data : Type 0} → histories.Caller Body Data → End Body Data
+    → (now : ℕ) → router_event.Event → Body → Action → Router → End Body Data
+end_after c x n e b a r' = record {
+  history = at n e b a ∷ x.history;
+  router = r';
+  host = host_after c x.host b a;
+}
+
+abbrev pub with_end : {Body Data : Type 0} → (ℕ → End Body Data) → ℕ → End Body Data
+    → ℕ → End Body Data
+with_end ends m x i = if i == m then x else ends i
+
+-- the member that is started, if there is one, begins afresh
+abbrev pub with_fresh : {Body Data : Type 0} → (ℕ → End Body Data) → Option ℕ → End Body Data
+    → ℕ → End Body Data
+with_fresh ends None x i = ends i
+with_fresh ends (Some k) x i = if i == k then x else ends i
+
+-- ---- runs
+
+-- Any run of a group of so many routers' ends, whatever comes to each, and whenever: with the
+-- history of the group, its caller, and the ends.
+pub data IsGroup {Body Data : Type 0} (c : ℕ → histories.Caller Body Data) (count : ℕ) :
+    List (Moment Data) → Group → Caller Data → (ℕ → End Body Data) → Type 0 where
+  group_begins :
+      (g : Group) (ends : ℕ → End Body Data)
+      → IsNew count g → ((i : ℕ) → IsFresh (c i) (ends i))
+      → IsGroup c count [] g (first_caller count) ends
+  -- a router's step that the group isn't told of
+  goes_on_silently :
+      (m n : ℕ) (e : router_event.Event) (b : Body) (a : Action) (r' : Router)
+      (ms : List (Moment Data)) (g : Group) (k : Caller Data) (ends : ℕ → End Body Data)
+      → IsGroup c count ms g k ends
+      → (k.members m).runs ≡ true
+      → MaySay (ends m).router (ends m).host e → IsStep (ends m).router n e a r'
+      → tells a ≡ None
+      → IsGroup c count ms g k (with_end ends m (end_after (c m) (ends m) n e b a r'))
+  -- one that it is told of: the data that come with it are those that the router's caller shows
+  goes_on :
+      (m n : ℕ) (e : router_event.Event) (b : Body) (a : Action) (r' : Router) (told : Event)
+      (d : Data) (fresh : End Body Data)
+      (ms : List (Moment Data)) (g : Group) (k : Caller Data) (ends : ℕ → End Body Data)
+      → IsGroup c count ms g k ends
+      → (k.members m).runs ≡ true
+      → MaySay (ends m).router (ends m).host e → IsStep (ends m).router n e a r'
+      → tells a ≡ Some told
+      → (told ≡ events.Shows → (host_after (c m) (ends m).host b a).shown ≡ Some d)
+      → ((i : ℕ) → (answer g m told).starts ≡ Some i → IsFresh (c i) fresh)
+      → IsGroup c count
+      (record { member = m; event = told; came = d; answer = answer g m told } ∷ ms)
+      (after g m told)
+      (caller_after k m told d (answer g m told))
+      (with_fresh
+      (with_end ends m (end_after (c m) (ends m) n e b a r')) (answer g m told).starts fresh)
+
+-- What is shown is nothing where no end that runs shows data; else the data that the first of those
+-- shows that show some, and one whole answer of its cache made them, of no data or of that end's
+-- data before it. They haven't expired.
+pub data ShowsWhole {Body Data : Type 0} (c : ℕ → histories.Caller Body Data) (k : Caller Data)
+    (ends : ℕ → End Body Data) : Type 0 where
+  none_shows :
+      k.shown ≡ None
+      → ((i : ℕ) → (k.members i).runs ≡ true → (ends i).host.shown ≡ None)
+      → ShowsWhole c k ends
+  of_first :
+      (m : ℕ) → (k.members m).runs ≡ true
+      → k.shown ≡ (ends m).host.shown
+      → IsAnswered (c m) (ends m).history (ends m).router.known k.shown
+      → ((i : ℕ) → i < m → (k.members i).runs ≡ true → (ends i).host.shown ≡ None)
+      → ShowsWhole c k ends
