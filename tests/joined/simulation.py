@@ -253,7 +253,7 @@ class Simulation:
 
     def renew(self):
         """New data of the session, or several in a burst."""
-        for _ in range(self.random.randrange(20) if self.random.random() < 0.1 else 1):
+        for _ in range(self.random.randrange(1, 21) if self.random.random() < 0.1 else 1):
             self.give(self.past.renew())
 
     def give(self, edition):

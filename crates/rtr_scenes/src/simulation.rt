@@ -203,7 +203,7 @@ impl Simulation {
     /// New data of the session, or several in a burst.
     fn renew(&mut self) -> Result<(), Fail> {
         let count = if self.random.once_in(10) {
-            self.random.below(20)
+            self.random.below(20).saturating_add(1)
         } else {
             1
         };
