@@ -1,10 +1,12 @@
 /* A router's end: asks a cache for its data, and prints what changes as it comes (RFC 8210).
  *
- * usage: client (HOST:PORT | --fd N) [--version 0|1|2] [--once] [--json]
+ * usage: client (HOST:PORT | --prefer HOST:PORT .. | --fd N) [--version 0|1|2] [--once] [--json]
  *
- * With --fd the descriptor N is a socket that is connected to the cache, as socat gives one; the
- * client ends with it, with status 1. The lines are those of rtr_diff, with --json those of rtr_diff --json. On standard error is what
- * data there are at each end of data, and what fails. It ends with status 0 after a signal, or with
+ * With --prefer, up to 16 times, it has the data of the first of these caches that has some
+ * (section 10; docs/SESSIONS.md says when it asks which). With --fd the descriptor N is a socket
+ * that is connected to the cache, as socat gives one; the client ends with it, with status 1. The
+ * lines are those of rtr_diff, with --json those of rtr_diff --json. On standard error is what data
+ * there are at each end of data, and what fails. It ends with status 0 after a signal, or with
  * --once after all data came; with 1 where they don't, or writing fails; else with 2. */
 #define _POSIX_C_SOURCE 200809L
 #include <errno.h>
@@ -20,6 +22,29 @@
 #include <unistd.h>
 #include "rtr_client.h"
 
+enum { MOST = 16, NONE = -1 };
+
+/* A cache, and the client that asks it. */
+static struct member {
+    struct rtr_client client;
+    char *host, *port;
+    int socket;
+    struct addrinfo *all, *tried; /* its addresses, while the one that is tried doesn't answer */
+    bool runs;
+} members[MOST];
+
+/* Whose data are shown, or NONE, and the data as they were shown. */
+static int source = NONE;
+static uint8_t *shown;
+static size_t shown_length;
+static struct rtr_unit shown_end;
+static struct rtr_group group;
+static bool once, json;
+
+/* A connection that is there already, the only one, until it is taken. */
+static int given = NONE;
+static bool single;
+
 /* The time in milliseconds. */
 static int64_t now(void)
 {
@@ -29,7 +54,7 @@ static int64_t now(void)
 }
 
 /* Prints the change that these bytes begin with; how many of them it has. */
-static size_t print_change(const uint8_t *bytes, size_t length, bool json)
+static size_t print_change(const uint8_t *bytes, size_t length)
 {
     static uint8_t text[1 << 18]; /* more than any change has */
     struct rtr_line told;
@@ -45,10 +70,10 @@ static size_t print_change(const uint8_t *bytes, size_t length, bool json)
 }
 
 /* Prints the changes that the client has. The program ends where that fails. */
-static void print_changes(const struct rtr_client *c, bool json)
+static void print_changes(const struct rtr_client *c)
 {
     for (size_t at = 0, size = 1; size > 0; at += size)
-        size = print_change(c->changes + at, c->changes_length - at, json);
+        size = print_change(c->changes + at, c->changes_length - at);
     if (fflush(stdout) || ferror(stdout)) {
         perror("standard output");
         _exit(1);
@@ -62,106 +87,252 @@ static int left(int64_t until)
     return time < 0 ? 0 : time < 60000 ? (int)time : 60000;
 }
 
-/* Connects a socket; 0, or the error. */
-static int connect_until(int one, const struct addrinfo *to, int64_t until)
+/* ---- connections */
+
+static void close_socket(struct member *m)
 {
-    int error = 0;
-    socklen_t size = sizeof error;
-    struct pollfd writable = {.fd = one, .events = POLLOUT};
-    if (connect(one, to->ai_addr, to->ai_addrlen) == 0)
-        return 0;
-    if (errno != EINPROGRESS)
-        return errno;
-    if (poll(&writable, 1, left(until)) != 1)
-        return ETIMEDOUT;
-    return getsockopt(one, SOL_SOCKET, SO_ERROR, &error, &size) < 0 ? errno : error;
+    if (m->socket != NONE)
+        close(m->socket);
+    if (m->all)
+        freeaddrinfo(m->all);
+    m->socket = NONE;
+    m->all = m->tried = NULL;
 }
 
-/* Connects to the first of the addresses that answers; -1 if none does. */
-static int dial(struct rtr_client *c, const char *host, const char *port)
+/* Tries the next address, or says that none answers, for this reason. */
+static void try_next(struct member *m, const char *reason)
 {
-    struct addrinfo hints = {.ai_socktype = SOCK_STREAM}, *all = NULL, *each;
-    int one = -1, error = 0, unknown = getaddrinfo(host, port, &hints, &all);
-    for (each = all; each && one < 0; each = each->ai_next) {
-        one = socket(each->ai_family, SOCK_STREAM | SOCK_CLOEXEC | SOCK_NONBLOCK, 0);
-        error = one < 0 ? errno : connect_until(one, each, c->wakes);
-        if (one >= 0 && error) {
-            close(one);
-            one = -1;
-        }
+    for (; m->tried; m->tried = m->tried->ai_next) {
+        int type = SOCK_STREAM | SOCK_CLOEXEC | SOCK_NONBLOCK;
+        m->socket = socket(m->tried->ai_family, type, 0);
+        if (m->socket != NONE && (connect(m->socket, m->tried->ai_addr, m->tried->ai_addrlen) == 0
+                                  || errno == EINPROGRESS))
+            return;
+        reason = strerror(errno);
+        if (m->socket != NONE)
+            close(m->socket);
+        m->socket = NONE;
     }
-    if (one >= 0)
-        rtr_client_connected(c);
-    else
-        rtr_client_lost(c, unknown ? gai_strerror(unknown) : strerror(error));
-    if (all)
-        freeaddrinfo(all);
-    return one;
+    close_socket(m);
+    rtr_client_lost(&m->client, reason);
 }
 
-/* Takes the connection that is there already, which is gone the next time; then -1. */
-static int take(struct rtr_client *c, int *given)
+static void dial(struct member *m)
 {
-    int one = *given, type;
+    struct addrinfo hints = {.ai_socktype = SOCK_STREAM};
+    int unknown = getaddrinfo(m->host, m->port, &hints, &m->all);
+    m->tried = m->all = unknown ? NULL : m->all;
+    try_next(m, unknown ? gai_strerror(unknown) : "no address");
+}
+
+/* Takes the connection that is there already. */
+static void take(struct member *m)
+{
+    int type;
     socklen_t size = sizeof type;
-    *given = -1;
-    if (one < 0)
-        rtr_client_lost(c, "there is no other connection");
-    else if (getsockopt(one, SOL_SOCKET, SO_TYPE, &type, &size) < 0)
-        rtr_client_lost(c, strerror(errno));
+    m->socket = given;
+    given = NONE;
+    if (m->socket == NONE)
+        rtr_client_lost(&m->client, "there is no other connection");
+    else if (getsockopt(m->socket, SOL_SOCKET, SO_TYPE, &type, &size) < 0)
+        rtr_client_lost(&m->client, strerror(errno));
     else
-        rtr_client_connected(c);
-    return one;
+        rtr_client_connected(&m->client);
+}
+
+/* Looks whether the address that is tried answered. */
+static void look(struct member *m, bool answered)
+{
+    int error = answered ? 0 : ETIMEDOUT;
+    socklen_t size = sizeof error;
+    if (answered && getsockopt(m->socket, SOL_SOCKET, SO_ERROR, &error, &size) < 0)
+        error = errno;
+    if (error) {
+        close(m->socket);
+        m->socket = NONE;
+        m->tried = answered ? m->tried->ai_next : NULL;
+        try_next(m, strerror(error));
+    } else {
+        freeaddrinfo(m->all);
+        m->all = m->tried = NULL;
+        rtr_client_connected(&m->client);
+    }
 }
 
 /* Sends some of what there is to send; false where the connection broke. */
-static bool send_some(struct rtr_client *c, int one)
+static bool send_some(struct member *m)
 {
     size_t length;
-    const uint8_t *output = rtr_client_output(c, &length);
-    ssize_t count = send(one, output, length, MSG_NOSIGNAL | MSG_DONTWAIT);
+    const uint8_t *output = rtr_client_output(&m->client, &length);
+    ssize_t count = send(m->socket, output, length, MSG_NOSIGNAL | MSG_DONTWAIT);
     if (count >= 0)
-        rtr_client_sent(c, (size_t)count);
+        rtr_client_sent(&m->client, (size_t)count);
     else if (errno != EAGAIN && errno != EINTR)
-        rtr_client_lost(c, strerror(errno));
+        rtr_client_lost(&m->client, strerror(errno));
     return count >= 0 || errno == EAGAIN || errno == EINTR;
 }
 
-/* Sends, or reads, what can be, when it can; or waits until the client wakes. */
-static void wait_for(struct rtr_client *c, int one)
+/* Reads some of what came. */
+static void receive_some(struct member *m)
 {
     size_t length;
-    rtr_client_output(c, &length);
-    struct pollfd ready = {.fd = one, .events = length ? POLLIN | POLLOUT : POLLIN};
-    if (poll(&ready, 1, left(c->wakes)) != 1)
-        return;
-    if (ready.revents & POLLOUT && !send_some(c, one))
-        return;
-    uint8_t *room = rtr_client_room(c, &length);
-    ssize_t count = recv(one, room, length, MSG_DONTWAIT);
+    uint8_t *room = rtr_client_room(&m->client, &length);
+    ssize_t count = recv(m->socket, room, length, MSG_DONTWAIT);
     if (count > 0)
-        rtr_client_received(c, (size_t)count);
+        rtr_client_received(&m->client, (size_t)count);
     else if (count == 0 || (errno != EAGAIN && errno != EINTR))
-        rtr_client_lost(c, count < 0 ? strerror(errno) : NULL);
+        rtr_client_lost(&m->client, count < 0 ? strerror(errno) : NULL);
 }
 
 /* Closes the connection so that what is sent still arrives: bytes of the peer that weren't read
  * would have it reset. They are read for a fifth of a second. */
-static void hang_up(struct rtr_client *c, int one)
+static void hang_up(struct member *m)
 {
     size_t length;
     uint8_t read[4096];
-    struct pollfd ready = {.fd = one, .events = POLLOUT};
+    struct pollfd ready = {.fd = m->socket, .events = POLLOUT};
+    if (m->socket == NONE || m->tried) {
+        close_socket(m);
+        return;
+    }
     do {
-        rtr_client_output(c, &length);
-    } while (length && poll(&ready, 1, left(c->wakes)) == 1 && send_some(c, one));
-    shutdown(one, SHUT_WR);
+        rtr_client_output(&m->client, &length);
+    } while (length && poll(&ready, 1, left(m->client.wakes)) == 1 && send_some(m));
+    shutdown(m->socket, SHUT_WR);
     ready.events = POLLIN;
     for (int64_t until = now() + 200; now() < until;)
-        if (poll(&ready, 1, left(until)) != 1 || recv(one, read, sizeof read, MSG_DONTWAIT) <= 0)
+        if (poll(&ready, 1, left(until)) != 1
+            || recv(m->socket, read, sizeof read, MSG_DONTWAIT) <= 0)
             break;
-    close(one);
+    close_socket(m);
 }
+
+/* Sends and reads what can be, when it can; or waits until a client wakes. */
+static void wait_for_all(void)
+{
+    struct pollfd ready[MOST];
+    int64_t wakes = INT64_MAX;
+    for (size_t i = 0; i < group.runs; i++) {
+        size_t length;
+        rtr_client_output(&members[i].client, &length);
+        ready[i].fd = members[i].socket;
+        ready[i].events = members[i].tried ? POLLOUT : length ? POLLIN | POLLOUT : POLLIN;
+        if (members[i].client.wakes < wakes)
+            wakes = members[i].client.wakes;
+    }
+    if (poll(ready, group.runs, left(wakes)) < 0)
+        return;
+    for (size_t i = 0; i < group.runs; i++) {
+        struct member *m = &members[i];
+        bool may = ready[i].fd != NONE && ready[i].revents;
+        if (m->tried && (may || m->client.wakes <= now()))
+            look(m, may);
+        else if (may && (!(ready[i].revents & POLLOUT) || send_some(m)))
+            receive_some(m);
+    }
+}
+
+/* ---- what is shown, and who is asked */
+
+static void start(size_t number, uint8_t version)
+{
+    struct member *m = &members[number];
+    rtr_client_init(&m->client, version);
+    m->client.settings.chance = (uint16_t)(now() ^ getpid());
+    m->socket = NONE;
+    m->runs = true;
+}
+
+static void stop(struct member *m)
+{
+    if (m->runs)
+        close_socket(m);
+    if (m->runs)
+        rtr_client_free(&m->client);
+    m->runs = false;
+}
+
+/* Prints what leads from the data that are shown to those of a member, which are shown then. */
+static void show(size_t number)
+{
+    struct rtr_client *c = &members[number].client;
+    uint8_t *copy = malloc(c->data_length);
+    bool same = source == (int)number;
+    if (!copy || (!same && !rtr_client_instead(c, shown, shown_length, &shown_end))) {
+        fprintf(stderr, "no memory\n");
+        _exit(1);
+    }
+    print_changes(c);
+    fprintf(stderr, "session %u serial %" PRIu32 " version %u: %zu payloads\n",
+            c->end.session, c->end.serial, c->end.version, c->payloads);
+    free(shown);
+    shown = memcpy(copy, c->data, c->data_length);
+    shown_length = c->data_length;
+    shown_end = c->end;
+    source = (int)number;
+}
+
+/* Does what the group answers to what happened to a member. */
+static void obey(const struct rtr_group_answer *answer, size_t number)
+{
+    uint8_t version = members[0].client.settings.highest;
+    if (answer->shown == RTR_GROUP_DATA)
+        show(answer->member);
+    if (answer->shown == RTR_GROUP_NOTHING) {
+        print_changes(&members[number].client);
+        free(shown);
+        shown = NULL;
+        source = NONE;
+    }
+    for (size_t i = answer->stop; answer->stops && i < MOST; i++)
+        stop(&members[i]);
+    if (answer->starts)
+        start(answer->start, version);
+}
+
+/* Does what a client wants done, and tells the group of it. Whether that is all: with --once all
+ * was asked, or the only connection is gone. */
+static bool act(size_t number, enum rtr_client_event event)
+{
+    struct member *m = &members[number];
+    struct rtr_group_answer answer = {.shown = RTR_GROUP_SAME};
+    if (event == RTR_CLIENT_CONNECT && single)
+        take(m);
+    else if (event == RTR_CLIENT_CONNECT)
+        dial(m);
+    if (event == RTR_CLIENT_DATA)
+        rtr_group_shows(&group, number, &answer);
+    if (event == RTR_CLIENT_DROPPED)
+        rtr_group_drops(&group, number, &answer);
+    if (event == RTR_CLIENT_NO_DATA || event == RTR_CLIENT_FAILED) {
+        fprintf(stderr, "%s:%s: %s\n", m->host, m->port, m->client.text);
+        rtr_group_fails(&group, number, &answer);
+    }
+    obey(&answer, number);
+    bool failed = event > RTR_CLIENT_DATA && number + 1 == group.count;
+    bool last = (once && (source != NONE || failed)) || (single && event == RTR_CLIENT_FAILED);
+    if (last || event == RTR_CLIENT_CLOSE)
+        hang_up(m);
+    return last;
+}
+
+/* Follows the caches, or asks once, or has one connection; then the status to end with. */
+static int follow(void)
+{
+    for (;;) {
+        bool waits = true;
+        for (size_t i = 0; i < group.runs; i++) {
+            enum rtr_client_event event = rtr_client_next(&members[i].client, now());
+            waits = waits && event == RTR_CLIENT_WAIT;
+            if (event != RTR_CLIENT_WAIT && act(i, event))
+                return !once || source == NONE;
+        }
+        if (waits)
+            wait_for_all();
+    }
+}
+
+/* ---- arguments */
 
 /* Splits where a cache is: a host, or an IPv6 address in brackets, a colon and a port. */
 static bool split(char *word, char **host, char **port)
@@ -177,39 +348,40 @@ static bool split(char *word, char **host, char **port)
 }
 
 /* Reads the number of a descriptor. */
-static bool descriptor(const char *word, int *given)
+static bool descriptor(const char *word)
 {
     size_t length = strspn(word, "0123456789");
-    *given = length > 0 && length < 10 && !word[length] ? (int)strtol(word, NULL, 10) : -1;
-    return *given >= 0;
+    given = length > 0 && length < 10 && !word[length] ? (int)strtol(word, NULL, 10) : NONE;
+    return given >= 0;
 }
 
-/* Follows the cache, or asks once, or has one connection; then the status to end with. */
-static int follow(struct rtr_client *c, const char *host, const char *port, int given, bool once,
-                  bool json)
+/* Reads the words; how many caches they name, or 0 where they are wrong. */
+static size_t read_words(int words_count, char **words, const char **version)
 {
-    bool single = given >= 0;
-    for (int one = -1;;) {
-        enum rtr_client_event event = rtr_client_next(c, now());
-        bool last = (once && event >= RTR_CLIENT_DATA) || (single && event == RTR_CLIENT_FAILED);
-        if (event == RTR_CLIENT_WAIT)
-            wait_for(c, one);
-        if (event == RTR_CLIENT_CONNECT)
-            one = single ? take(c, &given) : dial(c, host, port);
-        if (event == RTR_CLIENT_DATA || event == RTR_CLIENT_DROPPED)
-            print_changes(c, json);
-        if (event == RTR_CLIENT_DATA)
-            fprintf(stderr, "session %u serial %" PRIu32 " version %u: %zu payloads\n",
-                    c->end.session, c->end.serial, c->end.version, c->payloads);
-        if (event == RTR_CLIENT_NO_DATA || event == RTR_CLIENT_FAILED)
-            fprintf(stderr, "%s:%s: %s\n", host, port, c->text);
-        if (one >= 0 && (last || event == RTR_CLIENT_CLOSE)) {
-            hang_up(c, one);
-            one = -1;
-        }
-        if (last)
-            return event != RTR_CLIENT_DATA;
+    size_t count = 0;
+    bool understood = true, preferred = false;
+    for (int i = 1; i < words_count; i++) {
+        bool valued = i + 1 < words_count, prefers = valued && !strcmp(words[i], "--prefer");
+        if (!strcmp(words[i], "--version") && valued)
+            *version = words[++i];
+        else if (!strcmp(words[i], "--once"))
+            once = true;
+        else if (!strcmp(words[i], "--json"))
+            json = true;
+        else if (!strcmp(words[i], "--fd") && valued && !count) {
+            single = true;
+            members[count].host = "descriptor";
+            members[count++].port = words[++i];
+            understood &= descriptor(words[i]);
+        } else if (count < MOST && (!count || (preferred && prefers))) {
+            preferred = prefers;
+            i += prefers;
+            understood &= split(words[i], &members[count].host, &members[count].port);
+            count++;
+        } else
+            understood = false;
     }
+    return understood && strlen(*version) == 1 && strchr("012", **version) ? count : 0;
 }
 
 /* A signal ends a client that goes on. */
@@ -219,35 +391,22 @@ static void end(int number)
     _exit(0);
 }
 
-int main(int count, char **words)
+int main(int words_count, char **words)
 {
-    static struct rtr_client c;
-    char *host = NULL, *port = NULL, *version = "1";
-    bool understood = true, once = false, json = false;
-    int given = -1;
-    for (int i = 1; i < count; i++) {
-        if (!strcmp(words[i], "--version") && i + 1 < count)
-            version = words[++i];
-        else if (!strcmp(words[i], "--once"))
-            once = true;
-        else if (!strcmp(words[i], "--json"))
-            json = true;
-        else if (!strcmp(words[i], "--fd") && i + 1 < count && !host) {
-            host = "descriptor";
-            port = words[++i];
-            understood = understood && descriptor(port, &given);
-        } else
-            understood = understood && !host && split(words[i], &host, &port);
-    }
-    if (!understood || !host || strlen(version) != 1 || !strchr("012", version[0])) {
-        fprintf(stderr, "usage: client (HOST:PORT | --fd N) [--version 0|1|2] [--once] [--json]\n");
+    const char *version = "1";
+    size_t count = read_words(words_count, words, &version);
+    if (!count) {
+        fprintf(stderr, "usage: client (HOST:PORT | --prefer HOST:PORT .. | --fd N)\n"
+                        "              [--version 0|1|2] [--once] [--json]\n");
         return 2;
     }
-    rtr_client_init(&c, (uint8_t)(version[0] - '0'));
-    c.settings.chance = (uint16_t)(now() ^ getpid());
+    rtr_group_init(&group, count);
+    start(0, (uint8_t)(version[0] - '0'));
     signal(SIGINT, once ? SIG_DFL : end);
     signal(SIGTERM, once ? SIG_DFL : end);
-    int status = follow(&c, host, port, given, once, json);
-    rtr_client_free(&c);
+    int status = follow();
+    for (size_t i = 0; i < MOST; i++)
+        stop(&members[i]);
+    free(shown);
     return status;
 }

@@ -93,32 +93,39 @@ def expect(peer, wanted):
 # ---- a cache that is played, and the client beside it
 
 class Run:
-    """What a client said to a cache that plays this script."""
+    """What a client said to a cache that plays this script, or to several, by preference."""
 
-    def __init__(self, script, words=("--once", "--version", "2"), host="127.0.0.1"):
+    def __init__(self, script, words=("--once", "--version", "2"), host="127.0.0.1", caches=1):
         family = socket.AF_INET6 if ":" in host else socket.AF_INET
-        self.listener = socket.create_server((host, 0), family=family)
-        self.listener.settimeout(PATIENCE)
-        port = self.listener.getsockname()[1]
-        address = f"[{host}]:{port}" if ":" in host else f"{host}:{port}"
+        self.listeners = [socket.create_server((host, 0), family=family) for _ in range(caches)]
+        addresses = []
+        for listener in self.listeners:
+            listener.settimeout(PATIENCE)
+            port = listener.getsockname()[1]
+            addresses.append(f"[{host}]:{port}" if ":" in host else f"{host}:{port}")
+        named = addresses if caches == 1 else [w for a in addresses for w in ("--prefer", a)]
         self.failed = None
         thread = threading.Thread(target=self.play, args=(script,))
         began = time.monotonic()
-        self.process = subprocess.Popen([PROGRAM, address, *words], stdout=subprocess.PIPE,
+        self.process = subprocess.Popen([PROGRAM, *named, *words], stdout=subprocess.PIPE,
                                         stderr=subprocess.PIPE)
         thread.start()
         try:
             out, err = self.process.communicate(timeout=PATIENCE)
         finally:
             self.process.kill()
-            self.listener.close()
+            for listener in self.listeners:
+                listener.close()
         self.time = time.monotonic() - began
         thread.join(PATIENCE)
         assert not thread.is_alive()
         if self.failed:
             raise self.failed
         self.status, self.lines = self.process.returncode, out.decode().splitlines()
-        self.said = err.decode().replace(address + ": ", "").splitlines()
+        said = err.decode()
+        for number, address in enumerate(addresses):
+            said = said.replace(address + ": ", f"{number}: " if caches > 1 else "")
+        self.said = said.splitlines()
 
     def play(self, script):
         try:
@@ -127,13 +134,13 @@ class Run:
             self.failed = error
             self.process.kill()
 
-    def accept(self):
-        peer, _ = self.listener.accept()
+    def accept(self, cache=0):
+        peer, _ = self.listeners[cache].accept()
         peer.settimeout(PATIENCE)
         return peer
 
-    def asked(self, query):
-        peer = self.accept()
+    def asked(self, query, cache=0):
+        peer = self.accept(cache)
         expect(peer, query)
         return peer
 
@@ -472,11 +479,89 @@ def test_socat():
     assert out.decode().splitlines() == ["+ " + line for _, line in PAYLOADS], (out, err)
 
 
+def test_preference():
+    """The first of two caches that has data: a change of the cache is one change of data, and the
+    data of the better one stay while they live."""
+    (one, one_line), (two, two_line), (three, three_line) = PAYLOADS[:3]
+
+    def script(run):
+        best = run.asked(reset_query(2))
+        best.sendall(report(2, NO_DATA))
+        other = run.asked(reset_query(2), 1)
+        other.sendall(sequence([one, two], 1))
+        best.sendall(notify(7))
+        expect(best, reset_query(2))
+        best.sendall(sequence([two, three], 7))
+        assert received(other) == b""  # it is left, since the better one has data
+        other.close()
+        best.close()
+        other = run.asked(reset_query(2), 1)  # it is asked again, and those data stay
+        other.sendall(sequence([one], 2) + notify(3))
+        expect(other, serial_query(2, 2))
+        other.sendall(sequence([], 3))
+        best = run.asked(serial_query(2, 7))
+        best.sendall(response(session=8))  # so its data go
+        assert received(best)[1:4] == b"\x0a\0\0"
+        best.close()
+        best = run.asked(reset_query(2))
+        other.sendall(notify(4))
+        expect(other, serial_query(2, 3))
+        other.sendall(sequence([two], 4))
+        best.sendall(sequence([one], 9))
+        assert received(other) == b""
+        best.sendall(notify(10))
+        expect(best, serial_query(2, 9))
+        run.process.kill()
+        for peer in (best, other):
+            peer.close()
+
+    run = Run(script, ("--version", "2"), caches=2)
+    wanted = ["+ " + one_line, "+ " + two_line,  # of the second cache
+              "+ " + three_line, "- " + one_line,  # of the first one, in its place
+              "+ " + one_line, "- " + two_line, "- " + three_line,  # of the second one
+              "+ " + two_line,  # its changes
+              "- " + two_line]  # of the first one
+    assert run.lines == wanted, (run.lines, run.said)
+    failed = [line for line in run.said if not line.startswith("session ")]
+    assert failed == ["0: the cache reports code 2: no", "0: the cache closed the connection",
+                      "0: unit of another session"], run.said
+
+
+def test_preference_once():
+    """All data of the first that has some; where none has, status 1."""
+    first = PAYLOADS[0]
+
+    kept = []  # connections that stay
+
+    def none(run, cache):
+        kept.append(run.asked(reset_query(2), cache))
+        kept[-1].sendall(report(2, NO_DATA))
+
+    def last_has_some(run):
+        none(run, 0)
+        none(run, 1)
+        with run.asked(reset_query(2), 2) as peer:
+            peer.sendall(sequence([first[0]], 1))
+            received(peer)
+
+    def none_has(run):
+        for cache in range(3):
+            none(run, cache)
+
+    run = Run(last_has_some, caches=3)
+    assert (run.status, run.lines) == (0, ["+ " + first[1]]), run.said
+    run = Run(none_has, caches=3)
+    assert (run.status, run.lines) == (1, []), run.said
+    assert [line[:2] for line in run.said] == ["0:", "1:", "2:"], run.said
+
+
 def test_arguments():
     bad = [["--fd"], ["--fd", "x"], ["--fd", "-1"], ["--fd", ""], ["--fd", "3", "a:1"],
-           ["a:1", "--fd", "3"], ["--fd", "3", "--fd", "4"], ["--fd", "9999999999"]]
+           ["a:1", "--fd", "3"], ["--fd", "3", "--fd", "4"], ["--fd", "9999999999"],
+           ["--fd", "3", "--prefer", "a:1"], ["--prefer", "a:1", "--fd", "3"]]
     bad += [[], ["--once"], ["a"], ["a:1", "b:2"], ["a:1", "--version"], ["a:1", "--version", "3"],
-           ["--version", "a:1"], ["a:1", "--other"], ["--help"]]
+           ["--version", "a:1"], ["a:1", "--other"], ["--help"], ["--prefer"], ["--prefer", "a"],
+           ["--prefer", "a:1", "b:2"], ["a:1", "--prefer", "b:2"], ["--prefer", "a:1"] * 17]
     for words in bad:
         done = subprocess.run([PROGRAM, *words], capture_output=True, timeout=PATIENCE)
         assert done.returncode == 2 and done.stderr.startswith(b"usage: client "), words

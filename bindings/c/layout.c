@@ -172,6 +172,19 @@ AT(rtr_action, changes, 37);
 AT(rtr_action, drops, 38);
 AT(rtr_action, reports, 39);
 
+_Static_assert(sizeof(struct rtr_group) == 32, "rtr_group");
+AT(rtr_group, count, 0);
+AT(rtr_group, runs, 8);
+AT(rtr_group, has, 16);
+
+_Static_assert(sizeof(struct rtr_group_answer) == 32, "rtr_group_answer");
+AT(rtr_group_answer, member, 0);
+AT(rtr_group_answer, stop, 8);
+AT(rtr_group_answer, start, 16);
+AT(rtr_group_answer, shown, 24);
+AT(rtr_group_answer, stops, 25);
+AT(rtr_group_answer, starts, 26);
+
 _Static_assert(sizeof(struct rtr_present) == 8, "rtr_present");
 AT(rtr_present, serial, 0);
 AT(rtr_present, session, 4);

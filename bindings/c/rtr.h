@@ -1058,6 +1058,66 @@ static inline const char *rtr_cause_text(uint8_t cause)
     return cause < sizeof texts / sizeof texts[0] ? texts[cause] : "unknown cause";
 }
 
+/* Caches in an order of preference (RFC 8210 section 10): whose data are shown, and who is asked,
+ * without sockets, clock and memory. A group has up to 16 members: each is a router's end with the
+ * cache that it asks, and member 0 is preferred most. It holds no data. A program starts member 0,
+ * calls one of the four calls for each thing that happens to a member, and does what the answer
+ * says, in this order:
+ *
+ *   shown   RTR_GROUP_DATA: the data of `member`, as they are now, are those that are shown, in
+ *           place of those that were (rtr_delta makes the difference). RTR_GROUP_NOTHING: there are
+ *           none any more
+ *   stops   the members from `stop` on are left, if they run, and their data forgotten
+ *   starts  `start` is asked, as one without data
+ *
+ * What is shown are at each time the data of the first member that has some, also while that one's
+ * connection is gone, until they expire. A member runs while each one before it has failed since it
+ * was started, or had a whole answer. What is said of one that doesn't run is passed over. A struct
+ * is plain: it may be copied, and read. */
+
+/* What becomes of what is shown. */
+enum rtr_group_shown {
+    RTR_GROUP_SAME,
+    RTR_GROUP_DATA,
+    RTR_GROUP_NOTHING
+};
+
+struct rtr_group {
+    size_t count; /* how many members it has */
+    size_t runs;  /* how many of them run, from the first on */
+    bool has[16]; /* whether each of those has data */
+};
+
+/* What is to be done. Fields that an answer doesn't have are 0. */
+struct rtr_group_answer {
+    size_t member; /* whose data are shown, for RTR_GROUP_DATA */
+    size_t stop;   /* the first of those that are left, if it `stops` */
+    size_t start;  /* who is asked, if it `starts` */
+    uint8_t shown; /* an rtr_group_shown */
+    bool stops, starts;
+};
+
+/* Begins a group of so many members without data, at most 16, whatever the struct holds. */
+void rtr_group_init(struct rtr_group *group, size_t count);
+
+/* Whether data are shown, and of which member; 0 where there are none. */
+bool rtr_group_best(const struct rtr_group *group, size_t *member);
+
+/* A member shows data, of a whole answer: its first ones, or others than before (RTR_SHOW). */
+void rtr_group_shows(struct rtr_group *group, size_t member, struct rtr_group_answer *answer);
+
+/* It has no data any more: they expired, or were dropped (RTR_DROP; RTR_END that `drops`). This is
+ * a failure, too. */
+void rtr_group_drops(struct rtr_group *group, size_t member, struct rtr_group_answer *answer);
+
+/* It failed, and the data that it has stay (RTR_NO_DATA; RTR_END that doesn't drop them, but for
+ * RTR_CAUSE_LOWER). */
+void rtr_group_fails(struct rtr_group *group, size_t member, struct rtr_group_answer *answer);
+
+/* It has a whole answer again, and its data are what they were: for programs that tell of changes
+ * alone. */
+void rtr_group_well(struct rtr_group *group, size_t member, struct rtr_group_answer *answer);
+
 /* A cache's end of the protocol: what to answer when, without sockets, clock and memory (RFC 8210;
  * docs/SESSIONS.md has its rules). A program has a struct rtr_cache for each connection, tells it
  * what happens and what names its newest data, and does what is answered:

@@ -44,16 +44,16 @@ static struct bytes nothing(const struct rtr_unit *end, uint8_t *at)
     return none;
 }
 
-/* What leads from the client's data to these, of whatever versions and sessions, is its changes;
+/* What leads from old data to new ones, of whatever versions and sessions, is the client's changes;
  * false where there is no memory for them. The forms of both lie behind the changes. */
-static bool tell_changes(struct rtr_client *c, struct bytes new, const struct rtr_unit *end)
+static bool tell_changes(struct rtr_client *c, struct bytes old, const struct rtr_unit *old_end,
+                         struct bytes new, const struct rtr_unit *end)
 {
     uint8_t none[RTR_LONGEST_END];
     struct rtr_data_answer answer;
-    struct bytes old = {c->data, c->data_length};
-    if (!c->data)
+    uint8_t version = old.at && old_end->version > end->version ? old_end->version : end->version;
+    if (!old.at)
         old = nothing(end, none);
-    uint8_t version = c->data && c->end.version > end->version ? c->end.version : end->version;
     size_t from = old.length + RTR_LONGEST_END, to = new.length + RTR_LONGEST_END, size = from + to;
     free(c->changes);
     c->changes = malloc(2 * size);
@@ -66,6 +66,12 @@ static bool tell_changes(struct rtr_client *c, struct bytes new, const struct rt
     }
     c->changes_length = answer.written;
     return c->changes != NULL;
+}
+
+/* What leads from the client's data to these. */
+static bool change_to(struct rtr_client *c, struct bytes new, const struct rtr_unit *end)
+{
+    return tell_changes(c, (struct bytes){c->data, c->data_length}, &c->end, new, end);
 }
 
 /* Takes the data that an answer made. */
@@ -86,7 +92,7 @@ static void show(struct rtr_client *c)
 static void drop(struct rtr_client *c)
 {
     uint8_t none[RTR_LONGEST_END];
-    tell_changes(c, nothing(&c->end, none), &c->end);
+    change_to(c, nothing(&c->end, none), &c->end);
     free(c->data);
     c->data = NULL;
     c->data_length = c->payloads = 0;
@@ -200,7 +206,7 @@ static void apply(struct rtr_client *c, const struct rtr_action *a, struct bytes
                                          c->router.units, made.at, most, &why);
     free(index);
     c->made_length = made.length = why.written;
-    if (can && tell_changes(c, made, &c->next_end))
+    if (can && change_to(c, made, &c->next_end))
         rtr_router_applied(&c->router, c->now, &next);
     else
         rtr_router_not_applied(&c->router, c->now, why.status, &next);
@@ -296,6 +302,13 @@ enum rtr_client_event rtr_client_next(struct rtr_client *c, int64_t now)
     if (event == RTR_CLIENT_CLOSE)
         c->wakes = now + c->report_limit;
     return event;
+}
+
+bool rtr_client_instead(struct rtr_client *c, uint8_t *data, size_t length,
+                        const struct rtr_unit *end)
+{
+    return tell_changes(c, (struct bytes){data, length}, end,
+                        (struct bytes){c->data, c->data_length}, &c->end);
 }
 
 void rtr_client_connected(struct rtr_client *c)

@@ -107,6 +107,12 @@ void rtr_client_free(struct rtr_client *client);
 /* What is to be done next; `now` is the time. */
 enum rtr_client_event rtr_client_next(struct rtr_client *client, int64_t now);
 
+/* Makes `changes` those that lead to the client's data from these, which another client had and
+ * which had this end of data; from none, if `data` is a null pointer. False where there is no
+ * memory: then there are no changes. */
+bool rtr_client_instead(struct rtr_client *client, uint8_t *data, size_t length,
+                        const struct rtr_unit *end);
+
 /* The connection is there. */
 void rtr_client_connected(struct rtr_client *client);
 

@@ -245,6 +245,14 @@ export const Cause: {
 };
 export type Cause = (typeof Cause)[keyof typeof Cause];
 
+/** What becomes of what is shown. */
+export const GroupShown: {
+    readonly SAME: 0;
+    readonly DATA: 1;
+    readonly NOTHING: 2;
+};
+export type GroupShown = (typeof GroupShown)[keyof typeof GroupShown];
+
 export const ServingKind: {
     readonly WAIT: 0;
     readonly ALL: 1;

@@ -172,6 +172,12 @@ export const Cause = Object.freeze({
     LOWER: 14,
 });
 
+export const GroupShown = Object.freeze({
+    SAME: 0,
+    DATA: 1,
+    NOTHING: 2,
+});
+
 export const ServingKind = Object.freeze({
     WAIT: 0,
     ALL: 1,
@@ -360,6 +366,19 @@ export const STRUCTS = Object.freeze({
         ["drops", 38, "bool"],
         ["reports", 39, "bool"],
     ] },
+    group: { size: 32, fields: [
+        ["count", 0, "size"],
+        ["runs", 8, "size"],
+        ["has", 16, "bool", 16],
+    ] },
+    groupAnswer: { size: 32, fields: [
+        ["member", 0, "size"],
+        ["stop", 8, "size"],
+        ["start", 16, "size"],
+        ["shown", 24, "uint8"],
+        ["stops", 25, "bool"],
+        ["starts", 26, "bool"],
+    ] },
     present: { size: 8, fields: [
         ["serial", 0, "uint32"],
         ["session", 4, "uint16"],
@@ -437,6 +456,12 @@ export const FUNCTIONS = Object.freeze({
     rtr_router_read_nonnull: ["void", "*", "uint64", "*", "size", "bool", "*"],
     rtr_router_query_nonnull: ["size", "*", "*", "size"],
     rtr_router_report_nonnull: ["bool", "*", "*", "size", "*", "size", "*"],
+    rtr_group_init: ["void", "*", "size"],
+    rtr_group_best: ["bool", "*", "*"],
+    rtr_group_shows: ["void", "*", "size", "*"],
+    rtr_group_drops: ["void", "*", "size", "*"],
+    rtr_group_fails: ["void", "*", "size", "*"],
+    rtr_group_well: ["void", "*", "size", "*"],
     rtr_cache_settings_usual: ["void", "*"],
     rtr_cache_init: ["void", "*", "uint64", "*"],
     rtr_cache_tick: ["void", "*", "uint64", "*", "*"],

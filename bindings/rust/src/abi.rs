@@ -281,6 +281,13 @@ pub(crate) mod cause {
     pub(crate) const LOWER: u8 = 14;
 }
 
+/// What becomes of what is shown.
+pub(crate) mod group_shown {
+    pub(crate) const SAME: u8 = 0;
+    pub(crate) const DATA: u8 = 1;
+    pub(crate) const NOTHING: u8 = 2;
+}
+
 /// The numbers of enum rtr_serving_kind.
 pub(crate) mod serving {
     pub(crate) const WAIT: u8 = 0;
@@ -531,6 +538,25 @@ pub(crate) struct Action {
     pub(crate) changes: bool,
     pub(crate) drops: bool,
     pub(crate) reports: bool,
+}
+
+#[repr(C)]
+#[derive(Clone, Copy, Debug, Default, PartialEq, Eq, Hash)]
+pub(crate) struct Group {
+    pub(crate) count: usize,
+    pub(crate) runs: usize,
+    pub(crate) has: [bool; 16],
+}
+
+#[repr(C)]
+#[derive(Clone, Copy, Debug, Default, PartialEq, Eq, Hash)]
+pub(crate) struct GroupAnswer {
+    pub(crate) member: usize,
+    pub(crate) stop: usize,
+    pub(crate) start: usize,
+    pub(crate) shown: u8,
+    pub(crate) stops: bool,
+    pub(crate) starts: bool,
 }
 
 #[repr(C)]
@@ -831,6 +857,34 @@ extern "C" {
         output_length: usize,
         written: *mut usize,
     ) -> bool;
+    pub(crate) fn rtr_group_init(
+        group: *mut Group,
+        count: usize,
+    );
+    pub(crate) fn rtr_group_best(
+        group: *const Group,
+        member: *mut usize,
+    ) -> bool;
+    pub(crate) fn rtr_group_shows(
+        group: *mut Group,
+        member: usize,
+        answer: *mut GroupAnswer,
+    );
+    pub(crate) fn rtr_group_drops(
+        group: *mut Group,
+        member: usize,
+        answer: *mut GroupAnswer,
+    );
+    pub(crate) fn rtr_group_fails(
+        group: *mut Group,
+        member: usize,
+        answer: *mut GroupAnswer,
+    );
+    pub(crate) fn rtr_group_well(
+        group: *mut Group,
+        member: usize,
+        answer: *mut GroupAnswer,
+    );
     pub(crate) fn rtr_cache_settings_usual(
         settings: *mut CacheSettings,
     );
@@ -1065,6 +1119,19 @@ mod tests {
         assert_eq!(place!(value.changes), 37);
         assert_eq!(place!(value.drops), 38);
         assert_eq!(place!(value.reports), 39);
+        let value = super::Group::default();
+        assert_eq!(size_of::<super::Group>(), 32);
+        assert_eq!(place!(value.count), 0);
+        assert_eq!(place!(value.runs), 8);
+        assert_eq!(place!(value.has), 16);
+        let value = super::GroupAnswer::default();
+        assert_eq!(size_of::<super::GroupAnswer>(), 32);
+        assert_eq!(place!(value.member), 0);
+        assert_eq!(place!(value.stop), 8);
+        assert_eq!(place!(value.start), 16);
+        assert_eq!(place!(value.shown), 24);
+        assert_eq!(place!(value.stops), 25);
+        assert_eq!(place!(value.starts), 26);
         let value = super::Present::default();
         assert_eq!(size_of::<super::Present>(), 8);
         assert_eq!(place!(value.serial), 0);

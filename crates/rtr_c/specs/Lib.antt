@@ -14,6 +14,7 @@ pub mod PrivateRanges
 pub mod Routes
 pub mod Routers
 pub mod RouterActions
+pub mod GroupsShown
 pub mod Caches
 pub mod Checks
 pub mod Servings

@@ -13,6 +13,8 @@ mod check_calls;
 mod compare;
 mod data_answer;
 mod delta;
+mod group;
+mod group_calls;
 mod in_order;
 mod laws;
 mod lines;
