@@ -44,11 +44,7 @@ fn step(group: &mut RtrGroup, member: usize, event: Event) -> RtrGroupAnswer
 
 /// It shows data, of a whole answer: its first ones, or others than before.
 #[unsafe(no_mangle)]
-pub extern "C" fn rtr_group_shows(
-    group: &mut RtrGroup,
-    member: usize,
-    answer: &mut RtrGroupAnswer,
-)
+pub extern "C" fn rtr_group_shows(group: &mut RtrGroup, member: usize, answer: &mut RtrGroupAnswer)
     ensures { IsGroupStep group.old member events.Shows answer.new group.new }
 {
     *answer = step(group, member, Event::Shows);
@@ -56,11 +52,7 @@ pub extern "C" fn rtr_group_shows(
 
 /// It has no data any more.
 #[unsafe(no_mangle)]
-pub extern "C" fn rtr_group_drops(
-    group: &mut RtrGroup,
-    member: usize,
-    answer: &mut RtrGroupAnswer,
-)
+pub extern "C" fn rtr_group_drops(group: &mut RtrGroup, member: usize, answer: &mut RtrGroupAnswer)
     ensures { IsGroupStep group.old member events.Drops answer.new group.new }
 {
     *answer = step(group, member, Event::Drops);
@@ -68,11 +60,7 @@ pub extern "C" fn rtr_group_drops(
 
 /// It failed, and its data stay.
 #[unsafe(no_mangle)]
-pub extern "C" fn rtr_group_fails(
-    group: &mut RtrGroup,
-    member: usize,
-    answer: &mut RtrGroupAnswer,
-)
+pub extern "C" fn rtr_group_fails(group: &mut RtrGroup, member: usize, answer: &mut RtrGroupAnswer)
     ensures { IsGroupStep group.old member events.Fails answer.new group.new }
 {
     *answer = step(group, member, Event::Fails);
@@ -80,11 +68,7 @@ pub extern "C" fn rtr_group_fails(
 
 /// It has a whole answer again, and its data are what they were.
 #[unsafe(no_mangle)]
-pub extern "C" fn rtr_group_well(
-    group: &mut RtrGroup,
-    member: usize,
-    answer: &mut RtrGroupAnswer,
-)
+pub extern "C" fn rtr_group_well(group: &mut RtrGroup, member: usize, answer: &mut RtrGroupAnswer)
     ensures { IsGroupStep group.old member events.Well answer.new group.new }
 {
     *answer = step(group, member, Event::Well);
