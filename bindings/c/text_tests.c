@@ -212,13 +212,18 @@ static void check_sample(const struct place *place, const struct sample *s)
     }
 }
 
-/* The sample that is checked, for a check that fails. */
+/* The sample that is checked. */
 static struct sample sample;
 
-static void say_sample(void)
+/* The row that is read, or nothing, for a check that fails. */
+static const char *row_read;
+
+static void say_row(void)
 {
     if (sample.rows[UNIT][0])
         fprintf(stderr, "in the sample: %s\n", sample.rows[UNIT]);
+    else if (row_read)
+        fprintf(stderr, "in the row: %s\n", row_read);
 }
 
 /* Checks the sample whose rows came, if there is one, and begins another. */
@@ -266,9 +271,11 @@ static int each_row(const char *path, struct place *place,
         row[strcspn(row, "\n")] = '\0';
         if (row[0] == '\0' || row[0] == '#')
             continue;
+        row_read = row;
         take(place, row);
         rows++;
     }
+    row_read = NULL;
     fclose(file);
     return rows;
 }
@@ -277,9 +284,9 @@ int main(int count, char **arguments)
 {
     CHECK(count == 3);
     struct place place = new_place();
+    atexit(say_row);
     CHECK(each_row(arguments[1], &place, take_text) > 80);
     check_all();
-    atexit(say_sample);
     CHECK(each_row(arguments[2], &place, take_row) > 200);
     end_sample(&place);
     return 0;

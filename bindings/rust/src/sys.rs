@@ -701,12 +701,12 @@ mod tests {
                     text = after;
                     let said =
                         super::status_text(number.try_into().unwrap(), detail.parse().unwrap());
-                    assert_eq!(&*said, text);
+                    assert_eq!(&*said, text, "{row}");
                     rows += 1;
                     continue;
                 }
             };
-            assert_eq!(&*super::name(named, number), text);
+            assert_eq!(&*super::name(named, number), text, "{row}");
             rows += 1;
         }
         assert!(rows > 80);
