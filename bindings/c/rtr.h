@@ -6,7 +6,8 @@
  *
  * The functions are proved to meet their contracts. docs/PROTOCOL.md says in prose what is
  * accepted, in which order faults are checked, and what the written form is. This header is not
- * proved: tests check its layout and run its examples. All lengths are in bytes.
+ * proved: its numbers, structs and prototypes are compared with the proved code, and tests run its
+ * examples. All lengths are in bytes.
  *
  * Preconditions of every call:
  *   - a slice is passed as a pointer and a length: that many bytes can be read there, or written if
