@@ -52,6 +52,18 @@ func NewDataOf(
 	return checkedData(ordered), nil
 }
 
+// VRPs are those of the data, in the order of payloads.
+func (d Data) VRPs() []VRP {
+	vrps := make([]VRP, 0, d.Len())
+	for units := d.Units(); units.Scan(); {
+		switch unit := units.Unit(); unit.Kind {
+		case IPv4Prefix, IPv6Prefix:
+			vrps = append(vrps, VRP{unit.Prefix, unit.MaxLength, unit.ASN})
+		}
+	}
+	return vrps
+}
+
 // plain is the VRP in the one form of all that mean the same.
 func (v VRP) plain() VRP {
 	v.Prefix = v.Prefix.Masked()

@@ -41,6 +41,21 @@ func TestNewDataOf(t *testing.T) {
 		if err != nil || !bytes.Equal(data.Bytes(), one.expected) {
 			t.Errorf("%s: %x %v", name, data.Bytes(), err)
 		}
+		again, err := NewDataOf(data.VRPs(), 1, 7, 9, Timing{3600, 600, 7200})
+		if err != nil || !again.Equal(data) {
+			t.Errorf("%s: %v, and then %x %v", name, data.VRPs(), again.Bytes(), err)
+		}
+	}
+}
+
+// Of data with other payloads the VRPs alone are there, in their order.
+func TestVRPs(t *testing.T) {
+	vrps := parsed(t, join(ipv4, changed(announced6, 0, 1), key, ending(1, 7, 9))).VRPs()
+	if len(vrps) != 2 || vrps[0] != vrp("192.0.2.0/23", 26) || vrps[1].Prefix.Addr().Is4() {
+		t.Fatal(vrps)
+	}
+	if none := (Data{}).VRPs(); len(none) != 0 {
+		t.Fatal(none)
 	}
 }
 

@@ -1,7 +1,9 @@
 //! A router's end of a session.
 
+use crate::asking::Askings;
 use crate::client_error::ClientError;
 use crate::following::{dial, Follower};
+use crate::log::{Log, LogFields, LogLevel};
 use crate::options::ClientOptions;
 use crate::owned_data::Data;
 use crate::router::Event;
@@ -47,6 +49,8 @@ pub struct Client {
     pub(crate) dial: Box<Dial>,
     pub(crate) options: ClientOptions,
     pub(crate) stop: Stop,
+    pub(crate) askings: Askings,
+    pub(crate) log: Option<Box<Log>>,
 }
 
 /// What makes a connection in a time.
@@ -70,6 +74,21 @@ impl Client {
             dial: Box::new(move |time| Ok(Box::new(dial(time)?))),
             options,
             stop: Stop::default(),
+            askings: Askings::default(),
+            log: None,
+        }
+    }
+
+    /// The same with a log, which is told of each connection, change of data and failure: a message,
+    /// and fields by their names.
+    #[must_use]
+    pub fn with_log(
+        self,
+        log: impl Fn(LogLevel, &str, &LogFields<'_>) + Send + Sync + 'static,
+    ) -> Self {
+        Client {
+            log: Some(Box::new(log)),
+            ..self
         }
     }
 
@@ -86,6 +105,12 @@ impl Client {
     /// the data that it then has.
     pub fn run(&self, on: impl FnMut(Event<'_>) -> ControlFlow<()>) -> Option<Data> {
         Follower::new(self).run(on)
+    }
+
+    /// Has [`run`](Client::run) ask the cache now, from any thread, before the refresh time has
+    /// passed: [`Router::ask_now`](crate::Router::ask_now). Where it doesn't run, nothing happens.
+    pub fn ask_now(&self) {
+        self.askings.ask();
     }
 
     /// Has [`run`](Client::run) and [`fetch`](Client::fetch) end, from another thread or a signal's

@@ -1,18 +1,21 @@
 //! A router over a socket, in one thread.
 
+use crate::asking::Asking;
 use crate::client::Client;
 use crate::client_error::ClientError;
+use crate::log::LogLevel;
 use crate::owned_data::Data;
 use crate::router::{Event, Router, Step};
 use crate::socket::Socket;
-use crate::timed::{after, has_to_wait, milliseconds_since, send_last, write};
-use crate::waiting::Awaited;
+use crate::timed::{after, has_to_wait, milliseconds_since, send_last, write, TICK};
+use crate::waiting::{Awaited, Woken};
 use std::boxed::Box;
 use std::collections::hash_map::RandomState;
 use std::hash::{BuildHasher, Hasher};
 use std::io::{self, ErrorKind};
 use std::net::{TcpStream, ToSocketAddrs};
 use std::ops::ControlFlow;
+use std::sync::Arc;
 use std::time::{Duration, Instant};
 use std::vec::Vec;
 
@@ -26,6 +29,9 @@ pub(crate) struct Follower<'c> {
     client: &'c Client,
     begun: Instant,
     router: Router,
+    asking: Arc<Asking>,
+    /// What wakes it when it is to ask, if the system had descriptors for that.
+    woken: Option<Woken>,
     socket: Option<Box<dyn Socket>>,
     /// Whether the socket may hold bytes that it took.
     holds: bool,
@@ -37,8 +43,11 @@ impl<'c> Follower<'c> {
         // A hasher is the one source of random numbers in the standard library.
         let random = RandomState::new().build_hasher().finish().to_be_bytes();
         let random = u16::from_be_bytes([random[0], random[1]]);
+        let (asking, woken) = client.askings.add();
         Follower {
             client,
+            asking,
+            woken,
             begun: Instant::now(),
             router: Router::new(&client.options, random),
             socket: None,
@@ -72,14 +81,40 @@ impl<'c> Follower<'c> {
     /// Runs until there is something to tell, if the client isn't stopped before.
     fn next(&mut self) -> Option<Step> {
         while !self.client.stop.is_set() {
+            if self.asking.take() {
+                self.router.ask_now();
+            }
             match self.router.next(self.now()) {
                 Step::Wait => self.wait(),
                 Step::Connect => self.connect(),
                 Step::Close => self.close(),
-                step => return Some(step),
+                step => {
+                    self.tell_log(&step);
+                    return Some(step);
+                }
             }
         }
         None
+    }
+
+    /// Tells the log of a step.
+    fn tell_log(&self, step: &Step) {
+        if let (Some(log), Some(event)) = (&self.client.log, self.router.event(step)) {
+            event.log(log);
+        }
+    }
+
+    /// Waits for the socket, if there is one, and until it is to ask.
+    fn wait_for(&self, socket: Option<Awaited>, most: Duration) {
+        let most = match &self.woken {
+            Some(_) => most,
+            None => most.min(TICK),
+        };
+        let woken = self.woken.as_ref().map(Woken::awaited);
+        self.client.stop.wait(socket.into_iter().chain(woken), most);
+        if let Some(woken) = &self.woken {
+            woken.clear();
+        }
     }
 
     /// The time by the router's clock.
@@ -98,6 +133,9 @@ impl<'c> Follower<'c> {
             Ok(socket) => {
                 self.socket = Some(socket);
                 self.holds = false;
+                if let Some(log) = &self.client.log {
+                    log(LogLevel::Debug, "connected", &[]);
+                }
                 self.router.connected(self.now());
             }
             Err(_) if self.left().is_zero() => {}
@@ -110,7 +148,7 @@ impl<'c> Follower<'c> {
         let left = self.left();
         let socket = match &mut self.socket {
             Some(socket) => socket,
-            None => return self.client.stop.wait(None, left),
+            None => return self.wait_for(None, left),
         };
         let sends = self.holds || !self.router.output().is_empty();
         let done = match self.router.output() {
@@ -131,7 +169,7 @@ impl<'c> Follower<'c> {
                 } else {
                     Awaited::to_read(&socket.socket())
                 };
-                self.client.stop.wait(Some(awaited), left);
+                self.wait_for(Some(awaited), left);
             }
             Err(error) => self.router.lost(self.now(), error),
             Ok(()) => {}

@@ -77,6 +77,8 @@ use core::{error, net};
 #[cfg(feature = "std")]
 use std::{error, net};
 
+#[cfg(feature = "std")]
+mod asking;
 #[rustfmt::skip]
 #[allow(clippy::pedantic)] // It has the words of `rtr.h`.
 mod abi;
@@ -103,6 +105,8 @@ mod kept;
 mod kind;
 #[cfg(feature = "alloc")]
 mod lines;
+#[cfg(feature = "alloc")]
+mod log;
 #[cfg(feature = "alloc")]
 mod machine;
 #[cfg(feature = "alloc")]
@@ -134,6 +138,8 @@ mod timed;
 mod unit;
 mod units;
 mod validation;
+#[cfg(feature = "alloc")]
+mod vrps;
 #[cfg(feature = "std")]
 mod waiting;
 #[cfg(feature = "std")]
@@ -152,6 +158,8 @@ pub use fault::{ErrorCode, Fault, PrefixRule};
 pub use kind::{Kind, UnknownKind};
 #[cfg(feature = "alloc")]
 pub use lines::{change_json, change_line, unit_line};
+#[cfg(feature = "alloc")]
+pub use log::{Log, LogFields, LogLevel};
 #[cfg(feature = "alloc")]
 pub use options::{ClientOptions, ServerOptions};
 #[cfg(feature = "alloc")]
@@ -180,5 +188,7 @@ pub use unit::{
 };
 pub use units::Units;
 pub use validation::{Covering, LengthError, Mismatch, Route, Tables, Validity, Vrp};
+#[cfg(feature = "alloc")]
+pub use vrps::{RoaPayload, RoaPayloadError};
 #[cfg(feature = "std")]
 pub use writer::Writer;

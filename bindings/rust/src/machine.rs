@@ -5,6 +5,7 @@ pub(crate) use crate::abi::{action, cause, Action, Router as Machine};
 use crate::abi::{self, named, Settings};
 use crate::options::ClientOptions;
 use crate::sys;
+use crate::unit::{SerialNotify, Unit, UnitRef};
 use alloc::string::{String, ToString};
 use alloc::vec::Vec;
 use core::mem::MaybeUninit;
@@ -93,6 +94,25 @@ impl Machine {
             );
         };
         action
+    }
+
+    /// Whether it waits for a notify or for its time, as `rtr.h` numbers phases.
+    pub(crate) fn waits(&self) -> bool {
+        const WAITING: u8 = 5;
+        self.phase == WAITING
+    }
+
+    /// A notify of another serial number than that of the data, of their session and of the version
+    /// of the connection.
+    pub(crate) fn other_serial(&self) -> Vec<u8> {
+        let mut bytes = Vec::new();
+        let notify: UnitRef = Unit::SerialNotify(SerialNotify {
+            version: self.version,
+            session: self.known.session,
+            serial: self.known.serial.wrapping_add(1),
+        });
+        let _ = notify.append(&mut bytes); // each version has this form
+        bytes
     }
 
     /// When a tick is wanted, if nothing comes before.

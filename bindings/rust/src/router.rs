@@ -58,6 +58,8 @@ pub struct Router {
     data: Option<Data>,
     steps: VecDeque<Step>,
     connection: Connection,
+    /// Whether it is to ask before it is time.
+    asks: bool,
 }
 
 /// What there is of a connection, if there is one.
@@ -83,7 +85,17 @@ impl Router {
             data: None,
             steps: VecDeque::new(),
             connection: Connection::default(),
+            asks: false,
         }
+    }
+
+    /// Has it ask the cache at the next call of [`Router::next`], before the refresh time has passed.
+    /// The proved machine is told so by what it always asks at: a notify of another serial number
+    /// than that of its data (RFC 8210 section 8.2). So there is a pause between two queries, and
+    /// while an answer comes it asks again after that. Without a connection nothing comes sooner: on
+    /// the next one it asks anyway.
+    pub fn ask_now(&mut self) {
+        self.asks = true;
     }
 
     /// All data of the cache, whole, if there are some.
@@ -186,7 +198,26 @@ impl Router {
                 return action;
             }
         }
+        if replace(&mut self.asks, false) {
+            if self.machine.waits() {
+                return self.told_to_ask(now);
+            }
+            self.asks = true;
+        }
         self.machine.tick(now)
+    }
+
+    /// Tells the machine, which waits, that it is to ask; nothing of the input is done with then.
+    fn told_to_ask(&mut self, now: u64) -> Action {
+        let action = self.machine.read(now, &self.machine.other_serial(), false);
+        if action.kind == action::WAIT {
+            return self.machine.tick(now);
+        }
+        Action {
+            start: 0,
+            taken: 0,
+            ..action
+        }
     }
 
     /// Does what an action says.
@@ -196,7 +227,10 @@ impl Router {
         match action.kind {
             action::WAIT => {}
             action::CONNECT => self.steps.push_back(Step::Connect),
-            action::ASK => action.append_query(&mut connection.output),
+            action::ASK => {
+                self.asks = false;
+                action.append_query(&mut connection.output);
+            }
             action::BEGIN => connection.kept.clear(),
             action::KEEP => connection.kept.extend_from_slice(&input[..action.taken]),
             action::APPLY => {

@@ -1,6 +1,7 @@
 //! A cache.
 
 use crate::cache::{locked, Cache, Moment};
+use crate::log::{Log, LogFields, LogLevel};
 use crate::options::ServerOptions;
 use crate::owned_data::Data;
 use crate::server_error::{ServerError, UpdateError};
@@ -33,6 +34,7 @@ const PAUSE: u64 = 100;
 struct Shared {
     cache: Cache,
     ended: Box<Ended>,
+    log: Option<Arc<Log>>,
     stop: Stop,
     /// The listeners and the connections that the thread hasn't taken up.
     listeners: Mutex<Vec<Listener>>,
@@ -99,10 +101,34 @@ impl Server {
         options: ServerOptions,
         ended: impl Fn(SocketAddr, &ServerError) + Send + Sync + 'static,
     ) -> Self {
+        Server::of(options, Box::new(ended), None)
+    }
+
+    /// The same, of a server that tells a log of where it listens, of each connection and why it
+    /// ended it, and of new data: a message, and fields by their names. Until that returns it serves
+    /// nobody.
+    pub fn logging(
+        options: ServerOptions,
+        log: impl Fn(LogLevel, &str, &LogFields<'_>) + Send + Sync + 'static,
+    ) -> Self {
+        let log: Arc<Log> = Arc::new(log);
+        let told = Arc::clone(&log);
+        let ended = move |from: SocketAddr, error: &ServerError| {
+            told(
+                LogLevel::Info,
+                "ended",
+                &[("client", &from), ("error", error)],
+            );
+        };
+        Server::of(options, Box::new(ended), Some(log))
+    }
+
+    fn of(options: ServerOptions, ended: Box<Ended>, log: Option<Arc<Log>>) -> Self {
         Server {
             shared: Arc::new(Shared {
                 cache: Cache::new(options),
-                ended: Box::new(ended),
+                ended,
+                log,
                 stop: Stop::default(),
                 listeners: Mutex::default(),
                 given: Mutex::default(),
@@ -119,8 +145,12 @@ impl Server {
     ///
     /// `NewTimings`; `SerialNotAfter`, also for the same payloads under an earlier serial number.
     pub fn update(&self, data: Data) -> Result<bool, UpdateError> {
+        let told = self.shared.log.as_ref().map(|log| (log, data.clone()));
         let is_new = self.shared.cache.update(data)?;
         if is_new {
+            if let Some((log, data)) = told {
+                data.log(&**log, &[]);
+            }
             self.wake();
         }
         Ok(is_new)
@@ -174,6 +204,8 @@ impl Server {
         socket.set_nonblocking(true)?;
         let address = socket.local_addr()?;
         self.start()?;
+        self.shared
+            .tell(LogLevel::Info, "listening", ("address", address));
         locked(&self.shared.listeners).push(Listener {
             socket,
             ready: Box::new(move |stream| Ok(Box::new(ready(stream)?))),
@@ -222,6 +254,15 @@ impl Server {
     fn wake(&self) {
         if let Some((_, waker)) = &*locked(&self.thread) {
             waker.wake();
+        }
+    }
+}
+
+impl Shared {
+    /// Tells the log, if there is one, of something that an address stands for.
+    fn tell(&self, level: LogLevel, message: &str, (name, address): (&str, SocketAddr)) {
+        if let Some(log) = &self.log {
+            log(level, message, &[(name, &address)]);
         }
     }
 }
@@ -346,6 +387,8 @@ impl Host {
     /// Serves a client, or refuses it: where there are as many as there may be, or the system has
     /// no descriptor left beside that of its connection.
     fn serve(&mut self, socket: Box<dyn Socket>, from: SocketAddr, is_last: bool) {
+        self.shared
+            .tell(LogLevel::Debug, "connected", ("client", from));
         let is_full = self.served() >= self.moment.options.connections;
         let mut connection = Connection::new(socket, from, &self.moment);
         if is_last || is_full {

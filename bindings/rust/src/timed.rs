@@ -12,7 +12,7 @@ use std::time::{Duration, Instant};
 use std::vec::Vec;
 
 /// How long a thread waits at most that can't be woken, since the system has no descriptors left.
-const TICK: Duration = Duration::from_millis(100);
+pub(crate) const TICK: Duration = Duration::from_millis(100);
 
 /// Whether threads have to stop, and what wakes them then.
 #[derive(Debug, Default)]
@@ -38,8 +38,8 @@ impl Stop {
         self.is_set.load(Ordering::SeqCst)
     }
 
-    /// Waits for a socket, if there is one, for so long at most, and until threads have to stop.
-    pub(crate) fn wait(&self, socket: Option<Awaited>, most: Duration) {
+    /// Waits for one of these, for so long at most, and until threads have to stop.
+    pub(crate) fn wait(&self, sockets: impl IntoIterator<Item = Awaited>, most: Duration) {
         let woken = {
             let mut ends = locked(&self.ends);
             if ends.is_none() {
@@ -55,7 +55,7 @@ impl Stop {
         } else {
             most.min(TICK)
         };
-        let mut awaited: Vec<Awaited> = socket.into_iter().chain(woken).collect();
+        let mut awaited: Vec<Awaited> = sockets.into_iter().chain(woken).collect();
         wait(&mut awaited, in_milliseconds(most));
     }
 }

@@ -116,14 +116,16 @@ impl fmt::Display for Route {
 }
 
 /// The address with zero after so many bits.
-fn first_bits(address: IpAddr, length: u8) -> IpAddr {
+pub(crate) fn first_bits(address: IpAddr, length: u8) -> IpAddr {
     match address {
         IpAddr::V4(address) => {
-            let mask = u32::MAX.checked_shl(32 - u32::from(length)).unwrap_or(0);
+            let after = 32_u32.saturating_sub(length.into());
+            let mask = u32::MAX.checked_shl(after).unwrap_or(0);
             Ipv4Addr::from(u32::from(address) & mask).into()
         }
         IpAddr::V6(address) => {
-            let mask = u128::MAX.checked_shl(128 - u32::from(length)).unwrap_or(0);
+            let after = 128_u32.saturating_sub(length.into());
+            let mask = u128::MAX.checked_shl(after).unwrap_or(0);
             Ipv6Addr::from(u128::from(address) & mask).into()
         }
     }

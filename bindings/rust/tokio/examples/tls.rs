@@ -8,7 +8,7 @@
 
 use openssl::error::ErrorStack;
 use openssl::ssl::{Ssl, SslAcceptor, SslConnector, SslContextBuilder, SslFiletype};
-use openssl::ssl::{SslMethod, SslVerifyMode};
+use openssl::ssl::{SslMethod, SslOptions, SslVerifyMode};
 use openssl::x509::verify::X509CheckFlags;
 use rtr_wire::{ClientOptions, Data, Event, ServerOptions};
 use rtr_wire_tokio::{AsyncClient, AsyncServer};
@@ -25,6 +25,7 @@ fn identify(
     context: &mut SslContextBuilder,
     [certificate, key, authority]: [&Path; 3],
 ) -> Result<(), ErrorStack> {
+    context.set_options(SslOptions::NO_RENEGOTIATION);
     context.set_certificate_chain_file(certificate)?;
     context.set_private_key_file(key, SslFiletype::PEM)?;
     context.set_ca_file(authority)

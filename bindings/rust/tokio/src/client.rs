@@ -2,6 +2,7 @@
 
 use crate::closing::Closing;
 use rtr_wire::{ClientError, ClientOptions, Data, Event, Router, Step};
+use rtr_wire::{Log, LogFields, LogLevel};
 use std::collections::hash_map::RandomState;
 use std::fmt;
 use std::future::Future;
@@ -56,6 +57,7 @@ pub struct AsyncClient<S> {
     buffer: Box<[u8]>,
     /// What was told last.
     told: Option<Step>,
+    log: Option<Box<Log>>,
 }
 
 /// What there is of a connection.
@@ -125,7 +127,27 @@ impl<S: AsyncRead + AsyncWrite + Unpin> AsyncClient<S> {
             timer: None,
             buffer: vec![0; CHUNK].into(),
             told: None,
+            log: None,
         }
+    }
+
+    /// The same with a log, which is told of each connection, change of data and failure: a message,
+    /// and fields by their names.
+    #[must_use]
+    pub fn with_log(
+        self,
+        log: impl Fn(LogLevel, &str, &LogFields<'_>) + Send + Sync + 'static,
+    ) -> Self {
+        AsyncClient {
+            log: Some(Box::new(log)),
+            ..self
+        }
+    }
+
+    /// Has the next call of [`next`](AsyncClient::next) ask the cache at once, before the refresh
+    /// time has passed: [`Router::ask_now`].
+    pub fn ask_now(&mut self) {
+        self.router.ask_now();
     }
 
     /// All data of the cache, whole, if there are some.
@@ -178,6 +200,9 @@ impl<S: AsyncRead + AsyncWrite + Unpin> AsyncClient<S> {
                 Step::Connect => self.link = Link::Dialed((self.dial)()),
                 Step::Close => self.close(),
                 step => {
+                    if let (Some(log), Some(event)) = (&self.log, self.router.event(&step)) {
+                        event.log(log);
+                    }
                     self.told = Some(step);
                     return Poll::Ready(());
                 }
@@ -231,6 +256,9 @@ impl<S: AsyncRead + AsyncWrite + Unpin> AsyncClient<S> {
     fn dialed(&mut self, made: io::Result<S>, now: u64) {
         self.link = match made {
             Ok(stream) => {
+                if let Some(log) = &self.log {
+                    log(LogLevel::Debug, "connected", &[]);
+                }
                 self.router.connected(now);
                 Link::Open(Open {
                     stream,

@@ -2,7 +2,7 @@
 
 use crate::carrying::{Carried, Wanted};
 use rtr_wire::{Cache, Data, Moment, Served, ServedStep};
-use rtr_wire::{ServerError, ServerOptions, UpdateError};
+use rtr_wire::{Log, LogFields, LogLevel, ServerError, ServerOptions, UpdateError};
 use std::fmt;
 use std::future::{pending, Future};
 use std::io;
@@ -64,6 +64,7 @@ pub struct AsyncServer {
 struct Shared {
     cache: Cache,
     ended: Box<Ended>,
+    log: Option<Arc<Log>>,
     begun: Instant,
     /// Changes with the data; whether the server was stopped.
     changes: watch::Sender<bool>,
@@ -92,10 +93,33 @@ impl AsyncServer {
         options: ServerOptions,
         ended: impl Fn(SocketAddr, &ServerError) + Send + Sync + 'static,
     ) -> Self {
+        AsyncServer::of(options, Box::new(ended), None)
+    }
+
+    /// The same, of a server that tells a log of each connection and why it ended it, and of new
+    /// data: a message, and fields by their names.
+    pub fn logging(
+        options: ServerOptions,
+        log: impl Fn(LogLevel, &str, &LogFields<'_>) + Send + Sync + 'static,
+    ) -> Self {
+        let log: Arc<Log> = Arc::new(log);
+        let told = Arc::clone(&log);
+        let ended = move |from: SocketAddr, error: &ServerError| {
+            told(
+                LogLevel::Info,
+                "ended",
+                &[("client", &from), ("error", error)],
+            );
+        };
+        AsyncServer::of(options, Box::new(ended), Some(log))
+    }
+
+    fn of(options: ServerOptions, ended: Box<Ended>, log: Option<Arc<Log>>) -> Self {
         AsyncServer {
             shared: Arc::new(Shared {
                 cache: Cache::new(options),
-                ended: Box::new(ended),
+                ended,
+                log,
                 begun: Instant::now(),
                 changes: watch::channel(false).0,
                 clients: AtomicUsize::new(0),
@@ -110,8 +134,12 @@ impl AsyncServer {
     ///
     /// `NewTimings`; `SerialNotAfter`, also for the same payloads under an earlier serial number.
     pub fn update(&self, data: Data) -> Result<bool, UpdateError> {
+        let told = self.shared.log.as_ref().map(|log| (log, data.clone()));
         let is_new = self.shared.cache.update(data)?;
         if is_new {
+            if let Some((log, data)) = told {
+                data.log(&**log, &[]);
+            }
             self.shared.changes.send_modify(|_| {});
         }
         Ok(is_new)
@@ -256,6 +284,9 @@ impl Shared {
     ) where
         S: AsyncRead + AsyncWrite + Unpin,
     {
+        if let Some(log) = &self.log {
+            log(LogLevel::Debug, "connected", &[("client", &from)]);
+        }
         let counted = has_room.then(|| self.count()).flatten();
         let mut served = Served::new(&self.moment());
         let most = Instant::now() + self.cache.options().first_query;

@@ -5,11 +5,13 @@ mod certificates;
 #[allow(dead_code)]
 #[path = "../examples/tls.rs"]
 mod example;
+mod openssl;
 #[path = "../../tests/peers/mod.rs"]
 mod peers;
 
 use certificates::{now, paths, Authority, Folder, Names, NAME};
 use example::{accept, acceptor, connect, connector};
+use openssl::OpenSsl;
 use peers::{data, milliseconds, Peer, LATE, PATIENCE};
 use rtr_wire::{ClientError, ClientOptions, Data, ServerOptions};
 use rtr_wire_tokio::{AsyncClient, AsyncServer};
@@ -220,4 +222,56 @@ async fn handshakes_that_stall() {
     assert!(matches!(fetched, Err(ClientError::TooSlow)), "{fetched:?}");
     assert!(began.elapsed() >= milliseconds(400), "it ended early");
     assert!(began.elapsed() < LATE, "it ended late");
+}
+
+/// A cache that renegotiates in place of an answer is left, without data.
+#[tokio::test]
+async fn a_cache_that_renegotiates() {
+    let folder = Folder::new("tls-renegotiates");
+    let [good, router] = good(&folder);
+    let (mut cache, address) = match OpenSsl::cache(&good) {
+        Some(cache) => cache,
+        None => return,
+    };
+    let playing = spawn_blocking(move || {
+        cache.wait(&[0, 2, 0, 0, 0, 0, 0, 8]);
+        cache.takes(b"r\n");
+        cache.wait(b"SSL_do_handshake");
+        let all = data(1).for_version(0).unwrap();
+        cache.takes(&[&peers::response(0, peers::SESSION), all.as_bytes()].concat());
+        cache
+    });
+    let lowest = ClientOptions {
+        version: 0,
+        ..options()
+    };
+    let connector = connector(paths(&router)).unwrap();
+    let mut client = AsyncClient::new(lowest, move || {
+        connect(connector.clone(), address, NAME.to_string())
+    });
+    let fetched = timeout(PATIENCE, client.fetch()).await.expect("it ends");
+    assert!(fetched.is_err() && client.data().is_none(), "{fetched:?}");
+    drop(playing.await.unwrap());
+}
+
+/// A router that renegotiates is left, and others are served on.
+#[tokio::test]
+async fn a_router_that_renegotiates() {
+    let folder = Folder::new("tls-router");
+    let [good, router] = good(&folder);
+    let (server, address, _receiver) = cache(&good, PATIENCE).await;
+    let mut peer = match OpenSsl::router(address, &router) {
+        Some(peer) => peer,
+        None => return,
+    };
+    let ended = spawn_blocking(move || {
+        peer.wait(b"Verify return code: 0");
+        peer.takes(&[2, 2, 0, 0, 0, 0, 0, 8]);
+        peer.wait(data(1).as_bytes());
+        peer.takes(b"R\n");
+        peer.ends()
+    });
+    assert!(ended.await.unwrap(), "the router goes on");
+    assert_eq!(fetched(address, NAME, &router).await.unwrap(), data(1));
+    server.stop();
 }

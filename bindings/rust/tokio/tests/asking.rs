@@ -1,0 +1,103 @@
+//! Clients of tokio that ask before it is time, and what clients and caches tell their logs.
+
+#[path = "../../tests/peers/mod.rs"]
+mod peers;
+
+use peers::*;
+use rtr_wire::*;
+use rtr_wire_tokio::{AsyncClient, AsyncServer};
+use std::fmt::Write;
+use std::sync::{Arc, Mutex};
+use tokio::io::{duplex, AsyncReadExt, AsyncWriteExt, DuplexStream};
+use tokio::net::TcpListener;
+use tokio::time::timeout;
+
+/// A whole answer to a reset query, or to a serial query.
+fn answer(sequence: &[u8]) -> Vec<u8> {
+    [&response(2, SESSION), sequence].concat()
+}
+
+async fn expect(cache: &mut DuplexStream, query: &[u8]) {
+    let mut came = vec![0; query.len()];
+    cache.read_exact(&mut came).await.unwrap();
+    assert_eq!(came, query);
+}
+
+/// It asks while it waits, and not before the pause.
+#[tokio::test(start_paused = true)]
+async fn a_client_that_waits() {
+    let (ours, mut cache) = duplex(1 << 16);
+    let mut ours = Some(ours);
+    let options = ClientOptions {
+        version: 2,
+        ..ClientOptions::default()
+    };
+    let mut client = AsyncClient::new(options, move || {
+        let stream = ours.take().expect("it connects once");
+        async { Ok(stream) }
+    });
+    let playing = tokio::spawn(async move {
+        expect(&mut cache, &reset_query(2)).await;
+        cache.write_all(&answer(data(1).as_bytes())).await.unwrap();
+        expect(&mut cache, &serial_query(2, SESSION, 1)).await;
+        let changes = data(1).delta_to(&data(2)).unwrap();
+        cache.write_all(&answer(changes.as_bytes())).await.unwrap();
+        cache
+    });
+    assert!(matches!(client.next().await, Event::Data { .. }));
+    // The future is dropped, and nothing of it is lost.
+    let minute = milliseconds(60_000);
+    assert!(timeout(minute, client.next()).await.is_err());
+    client.ask_now();
+    let began = tokio::time::Instant::now();
+    assert!(matches!(client.next().await, Event::Data { .. }));
+    assert!(began.elapsed() < minute);
+    assert_eq!(client.data(), Some(&data(2)));
+    drop(playing.await.unwrap());
+}
+
+/// The lines of a log, without addresses.
+#[derive(Clone, Default)]
+struct Lines(Arc<Mutex<Vec<String>>>);
+
+impl Lines {
+    fn add(&self, level: LogLevel, message: &str, fields: &LogFields<'_>) {
+        let mut line = format!("{level:?} {message}");
+        for (name, value) in fields.iter().filter(|(name, _)| *name != "client") {
+            write!(line, " {name}={value}").unwrap();
+        }
+        self.0.lock().unwrap().push(line);
+    }
+}
+
+#[tokio::test]
+async fn logs() {
+    let (ours, theirs) = (Lines::default(), Lines::default());
+    let (to_ours, to_theirs) = (ours.clone(), theirs.clone());
+    let server = AsyncServer::logging(ServerOptions::default(), move |level, message, fields| {
+        to_theirs.add(level, message, fields);
+    });
+    server.update(data(1)).unwrap();
+    let listener = TcpListener::bind("127.0.0.1:0").await.unwrap();
+    let address = listener.local_addr().unwrap().to_string();
+    let serving = server.clone();
+    let serving = tokio::spawn(async move { serving.serve(listener).await });
+    let options = ClientOptions {
+        version: 2,
+        ..ClientOptions::default()
+    };
+    let client = AsyncClient::tcp(address, options);
+    let mut client = client.with_log(move |level, message, fields| {
+        to_ours.add(level, message, fields);
+    });
+    assert_eq!(client.fetch().await.unwrap(), data(1));
+    server.stop();
+    serving.await.unwrap().unwrap();
+    assert!(matches!(client.next().await, Event::Failed(_)));
+    let payloads = data(1).len();
+    let has = format!("Info data session=4660 serial=1 version=2 payloads={payloads}");
+    let gets = format!("{has} changes={payloads}");
+    let failed = "Warn failed error=the cache closed the connection";
+    assert_eq!(*ours.0.lock().unwrap(), ["Debug connected", &gets, failed]);
+    assert_eq!(*theirs.0.lock().unwrap(), [&has, "Debug connected"]);
+}
