@@ -2,31 +2,37 @@
 //! or prints the payloads that it leaves.
 #![tactic(auto)]
 
-use rtr_program::{Front, Manual, Prompt, Shared, hint};
-use rtr_tables::program;
+use rtr_files::{Input, file_after};
+use rtr_listing::form_wanted;
+use rtr_program::{Escaped, Front, Manual, Prompt, Shared, hint, usage, words_after_name};
+use rtr_tables::{program, table_wanted};
 use rtr_units::buffered::BufferedSource;
 use rtr_units::source::Counted;
 use std::cell::{Cell, RefCell};
-use std::io::{BufReader, BufWriter, Stderr, Stdin, Stdout};
+use std::io::{BufReader, BufWriter, Stderr, Stdout, Write};
 use std::process::ExitCode;
 use std::{env, io};
 
-/// How many bytes of standard input are read at once, and of output written at once.
+/// How many bytes of the input are read at once, and of output written at once.
 const BUFFER_SIZE: usize = 65536;
 
 /// The status at a fault of the input.
 const REFUSED: u8 = 1;
 
+/// The status where a file can't be opened.
+const FAILED: u8 = 3;
+
 /// What the program says of itself.
 const MANUAL: Manual = Manual {
     name: "rtr_list",
     version: "rtr_list 0.2.0\n",
-    usage: "usage: rtr_list [--json | --check | --csv | --vrps]\n",
+    usage: "usage: rtr_list [--json | --check | --csv | --vrps] [FILE]\n",
     help: "\
 rtr_list - list the units of a recorded RTR session
-usage: rtr_list [--json | --check | --csv | --vrps]
+usage: rtr_list [--json | --check | --csv | --vrps] [FILE]
 
-It reads units of the RPKI to Router protocol (RFC 8210) from standard input.
+It reads units of the RPKI to Router protocol (RFC 8210) from FILE, or from standard input, for
+which the name - stands too.
 
   (no word)  print a line of each unit, which begins with its offset
   --json     print a JSON object of each unit
@@ -41,8 +47,8 @@ It reads units of the RPKI to Router protocol (RFC 8210) from standard input.
 /// Lines that wait in a buffer.
 type Lines = RefCell<BufWriter<Stdout>>;
 
-/// Standard input.
-type Input<'a> = Prompt<'a, Stdin, BufWriter<Stdout>>;
+/// The input, which flushes the lines before it reads on, and whose front is kept.
+type Prompted<'a> = Prompt<'a, Input, BufWriter<Stdout>>;
 
 /// Standard output, unbuffered if there is no memory for a buffer.
 fn buffered_output(rt: &HostRuntime) -> BufWriter<Stdout> {
@@ -52,24 +58,20 @@ fn buffered_output(rt: &HostRuntime) -> BufWriter<Stdout> {
     }
 }
 
-/// Standard input, which flushes the lines before it reads on, and whose front is kept; unbuffered
-/// if there is no memory for a buffer.
+/// The file of this name behind a buffer, unbuffered if there is no memory for one.
 fn buffered_input<'a>(
     rt: &HostRuntime,
+    name: &str,
     lines: &'a Lines,
     front: &'a Cell<Front>,
-) -> BufReader<Input<'a>> {
-    match BufReader::with_capacity(
-        rt.alloc(),
-        BUFFER_SIZE,
-        Prompt::new(rt.stdin(), lines, front),
-    ) {
-        Ok(reader) => reader,
-        Err(_) => BufReader::with_capacity(
-            rt.alloc(),
-            0,
-            Prompt::new(rt.stdin(), lines, front),
-        ).unwrap(),
+) -> io::Result<BufReader<Prompted<'a>>> {
+    let input = Prompt::new(Input::open(rt, name)?, lines, front);
+    match BufReader::with_capacity(rt.alloc(), BUFFER_SIZE, input) {
+        Ok(reader) => Ok(reader),
+        Err(_) => {
+            let input = Prompt::new(Input::open(rt, name)?, lines, front);
+            BufReader::with_capacity(rt.alloc(), 0, input)
+        }
     }
 }
 
@@ -79,22 +81,55 @@ fn words(rt: &HostRuntime) -> Option<Vec<String>> {
     env::args(rt).ok()?.collect(rt.alloc()).ok()
 }
 
-fn main(rt: HostRuntime) -> ExitCode {
-    let lines = RefCell::new(buffered_output(&rt));
+/// Takes the last word off, if it names a file after words that ask for what is in one.
+fn take_file(words: &mut Vec<String>) -> Option<String> {
+    let has_file = match file_after(words_after_name(words)) {
+        Some((before, _)) => table_wanted(before).is_some() || form_wanted(before).is_some(),
+        None => false,
+    };
+    if has_file { words.pop() } else { None }
+}
+
+/// Says why the file of this name can't be read.
+fn unread(name: &str, error: &io::Error, faults: &mut Stderr) -> u8 {
+    let program = MANUAL.name;
+    let file = Escaped(name);
+    let _ = writeln!(faults, "{program}: {file}: {error}");
+    FAILED
+}
+
+/// Prints what the words ask for of the file of this name, and answers the status. Faults are told
+/// of the name that is shown.
+fn print(rt: &HostRuntime, words: Vec<String>, name: &str, shown: &str, faults: &mut Stderr) -> u8 {
+    let lines = RefCell::new(buffered_output(rt));
     let front = Cell::new(Front::new());
-    let mut input = BufferedSource::new(buffered_input(&rt, &lines, &front));
+    let mut input = match buffered_input(rt, name, &lines, &front) {
+        Ok(input) => BufferedSource::new(input),
+        Err(error) => return unread(shown, &error, faults),
+    };
     let mut output = Counted::new(Shared::new(&lines));
-    let mut faults: Stderr = rt.stderr();
     let status = program(
         rt.alloc(),
         &MANUAL,
-        words(&rt),
+        Some(words),
         &mut input,
         &mut output,
-        &mut faults,
+        faults,
     );
     if status == REFUSED {
-        hint(MANUAL.name, "standard input", front.get(), &mut faults);
+        hint(MANUAL.name, shown, front.get(), faults);
     }
+    status
+}
+
+fn main(rt: HostRuntime) -> ExitCode {
+    let mut faults: Stderr = rt.stderr();
+    let Some(mut words) = words(&rt) else {
+        return ExitCode::from(usage(&MANUAL, &mut faults));
+    };
+    let status = match take_file(&mut words) {
+        Some(name) => print(&rt, words, name.as_str(), name.as_str(), &mut faults),
+        None => print(&rt, words, "-", "standard input", &mut faults),
+    };
     ExitCode::from(status)
 }
