@@ -1,5 +1,5 @@
-//! Reads a session's units from standard input, and writes them to standard output in their
-//! written form.
+//! Reads a session's units from standard input or a file, and writes them to standard output in
+//! their written form.
 #![tactic(auto)]
 
 mod clean;
@@ -7,30 +7,34 @@ mod flushing;
 mod run;
 mod wanted;
 
-use rtr_program::{Front, Manual, Watched, hint};
+use rtr_files::{Input, file_after};
+use rtr_program::{Escaped, Front, Manual, Watched, hint, usage, words_after_name};
 use rtr_units::buffered::{BufferedSink, BufferedSource};
 use std::cell::Cell;
-use std::io::{BufReader, BufWriter, Stderr, Stdin, Stdout};
+use std::io::{BufReader, BufWriter, Stderr, Stdout, Write};
 use std::process::ExitCode;
 use std::{env, io};
 
-/// How many bytes of standard input are read at once, and of output written at once.
+/// How many bytes of the input are read at once, and of output written at once.
 const BUFFER_SIZE: usize = 65536;
 
 /// The status if the input was refused.
 const REFUSED: u8 = 1;
 
+/// The status if a file can't be opened.
+const FAILED: u8 = 3;
+
 /// What the program says of itself.
 const MANUAL: Manual = Manual {
     name: "rtr_clean",
     version: "rtr_clean 0.2.0\n",
-    usage: "usage: rtr_clean [--version 0|1|2]\n",
+    usage: "usage: rtr_clean [--version 0|1|2] [FILE]\n",
     help: "\
 rtr_clean - write the units of an RTR session with zero where they mean nothing
-usage: rtr_clean [--version 0|1|2]
+usage: rtr_clean [--version 0|1|2] [FILE]
 
-It reads units of the RPKI to Router protocol (RFC 8210) from standard input, and writes each one
-with zero wherever its bits mean nothing.
+It reads units of the RPKI to Router protocol (RFC 8210) from FILE, or from standard input, for
+which the name - stands too, and writes each one with zero wherever its bits mean nothing.
 
   (no word)    leave the versions of units as they are
   --version N  write payload units and ends of data in this version, and leave out what it lacks
@@ -47,12 +51,19 @@ fn buffered_output(rt: &HostRuntime) -> BufWriter<Stdout> {
     }
 }
 
-/// Standard input, whose front is kept, unbuffered if there is no memory for a buffer.
-fn buffered_input<'a>(rt: &HostRuntime, front: &'a Cell<Front>) -> BufReader<Watched<'a, Stdin>> {
-    match BufReader::with_capacity(rt.alloc(), BUFFER_SIZE, Watched::new(rt.stdin(), front)) {
-        Ok(reader) => reader,
+/// The file of this name, whose front is kept, behind a buffer, unbuffered if there is no memory for
+/// one.
+fn buffered_input<'a>(
+    rt: &HostRuntime,
+    name: &str,
+    front: &'a Cell<Front>,
+) -> io::Result<BufReader<Watched<'a, Input>>> {
+    let input = Watched::new(Input::open(rt, name)?, front);
+    match BufReader::with_capacity(rt.alloc(), BUFFER_SIZE, input) {
+        Ok(reader) => Ok(reader),
         Err(_) => {
-            BufReader::with_capacity(rt.alloc(), 0, Watched::new(rt.stdin(), front)).unwrap()
+            let input = Watched::new(Input::open(rt, name)?, front);
+            BufReader::with_capacity(rt.alloc(), 0, input)
         }
     }
 }
@@ -63,22 +74,60 @@ fn words(rt: &HostRuntime) -> Option<Vec<String>> {
     env::args(rt).ok()?.collect(rt.alloc()).ok()
 }
 
-fn main(rt: HostRuntime) -> ExitCode {
+/// Takes the last word off, if it names a file after words that ask for units.
+fn take_file(words: &mut Vec<String>) -> Option<String> {
+    let has_file = match file_after(words_after_name(words)) {
+        Some((before, _)) => wanted::form_wanted(before).is_some(),
+        None => false,
+    };
+    if has_file { words.pop() } else { None }
+}
+
+/// Says why the file of this name can't be read.
+fn unread(name: &str, error: &io::Error, faults: &mut Stderr) -> u8 {
+    let program = MANUAL.name;
+    let file = Escaped(name);
+    let _ = writeln!(faults, "{program}: {file}: {error}");
+    FAILED
+}
+
+/// Does what the words ask for with the file of this name, and answers the status. Faults are told
+/// of the name that is shown.
+fn clean_file(
+    rt: &HostRuntime,
+    words: Vec<String>,
+    name: &str,
+    shown: &str,
+    faults: &mut Stderr,
+) -> u8 {
     let front = Cell::new(Front::new());
-    let mut input = BufferedSource::new(buffered_input(&rt, &front));
-    let mut output = BufferedSink::new(buffered_output(&rt));
-    let mut faults: Stderr = rt.stderr();
-    let words = words(&rt);
+    let mut input = match buffered_input(rt, name, &front) {
+        Ok(input) => BufferedSource::new(input),
+        Err(error) => return unread(shown, &error, faults),
+    };
+    let mut output = BufferedSink::new(buffered_output(rt));
     let status = run::program(
         rt.alloc(),
         &MANUAL,
-        words,
+        Some(words),
         &mut input,
         &mut output,
-        &mut faults,
+        faults,
     );
     if status == REFUSED {
-        hint(MANUAL.name, "standard input", front.get(), &mut faults);
+        hint(MANUAL.name, shown, front.get(), faults);
     }
+    status
+}
+
+fn main(rt: HostRuntime) -> ExitCode {
+    let mut faults: Stderr = rt.stderr();
+    let Some(mut words) = words(&rt) else {
+        return ExitCode::from(usage(&MANUAL, &mut faults));
+    };
+    let status = match take_file(&mut words) {
+        Some(name) => clean_file(&rt, words, name.as_str(), name.as_str(), &mut faults),
+        None => clean_file(&rt, words, "-", "standard input", &mut faults),
+    };
     ExitCode::from(status)
 }
