@@ -26,6 +26,7 @@ KEEP, ROOM = 2 * HOUR, 2**26
 
 CUT_OFF = "unexpected end of input"
 OTHER_SESSION = "unit of another session"
+HIGHER_VERSION = "answer of a higher version than the query"
 FULL, NO_DATA, UNKNOWN_SESSION = 1, 2, 0  # codes of reports (RFC 8210 section 12, and 5.1)
 
 
@@ -132,11 +133,13 @@ class Simulation:
         self.expires = time + SECOND * times[2]
 
     def router_sent(self, sent):
-        """The router finds fault with nothing that the cache sent, unless a close cut it off, or
-        the cache had no data before, and then those of another session."""
+        """The router finds fault with nothing that the cache sent, unless a close cut it off, which
+        may leave the highest version alone of the report to a router that is one too many, or the
+        cache had no data before, and then those of another session."""
         for code, text in filter(None, map(report_of, self.link.sent(self.router, sent))):
             self.link.has_report = True
             if not (text == CUT_OFF and not self.link.cache_has
+                    or text == HIGHER_VERSION and self.link.is_one_more and not self.link.cache_has
                     or text == OTHER_SESSION and self.link.had_no_data):
                 raise Wrong(f"the router reports {code}: {text}")
         self.link.to_cache += sent
