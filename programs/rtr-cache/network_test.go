@@ -277,6 +277,55 @@ func TestSystemd(t *testing.T) {
 	hears(t, told, "STOPPING=1")
 }
 
+// Sockets of systemd-socket-activate, where it is installed, are served for the transports that they
+// have as names.
+func TestSocketActivation(t *testing.T) {
+	path, err := exec.LookPath("systemd-socket-activate")
+	if err != nil {
+		t.Skip("no systemd-socket-activate here")
+	}
+	folder := t.TempDir()
+	trial.Write(t, folder+"/f", rows(3))
+	authority := trial.NewAuthority(t)
+	trial.Save(t, authority.Issue("127.0.0.1"), folder+"/cert", folder+"/key")
+	host := trial.ECDSA.Save(t, folder+"/host")
+	trial.Write(t, folder+"/routers", trial.ECDSA.Save(t, folder+"/router"))
+	plain, secured, shelled := unused(t), unused(t), unused(t)
+	trial.Write(t, folder+"/known", "["+strings.Replace(shelled, ":", "]:", 1)+" "+host)
+	process := trial.StartBy(t, folder, nil, exec.Command(path, "-l", plain, "-l", secured, "-l", shelled,
+		"--fdname=rtr-cache.socket:tls:ssh", "-E", "RTR_TRIAL=1", os.Args[0], "--csv", "f",
+		"--tls-cert", "cert", "--tls-key", "key", "--ssh-host-key", "host", "--ssh-routers", "routers"))
+	process.Says("Listening on "+shelled, 1)
+	dialed(t, plain).Close() // at which the cache is started
+	process.Says("3 payloads", 1)
+	if data := fetched(t, plain, 2); data.Len() != 3 {
+		t.Error(data.Len())
+	}
+	if data, err := overTLS(secured, &tls.Config{RootCAs: authority.Pool()}); err != nil || data.Len() != 3 {
+		t.Error(data.Len(), err)
+	}
+	ctx, cancel := context.WithTimeout(context.Background(), trial.Wait)
+	defer cancel()
+	data, err := overSSH(t, shelled, folder+"/router", folder+"/known").Fetch(ctx)
+	if err != nil || data.Len() != 3 {
+		t.Error(data.Len(), err)
+	}
+	if status := process.End(); status != 0 {
+		t.Error(status)
+	}
+}
+
+// unused is an address that nothing listens at.
+func unused(t *testing.T) string {
+	t.Helper()
+	listener, err := net.Listen("tcp", "127.0.0.1:0")
+	if err != nil {
+		t.Fatal(err)
+	}
+	defer listener.Close()
+	return listener.Addr().String()
+}
+
 // hears waits for what systemd is told next.
 func hears(t *testing.T, told *net.UnixConn, text string) {
 	t.Helper()
