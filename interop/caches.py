@@ -9,7 +9,6 @@ import threading
 
 import ours as examples
 import payloads
-import programs
 import recorder
 import trust_anchor
 from processes import READY_SECONDS, Missing, Server, on_port, package_version, program, until
@@ -242,6 +241,8 @@ class RtrCache(Ours):
 
     name = "rtr-cache"
     json = "list.json"
+    # Whether it keeps its state in a folder.
+    kept = False
 
     def write(self, listed):
         """Writes the file that it serves."""
@@ -249,17 +250,23 @@ class RtrCache(Ours):
 
     def serve(self, listed):
         """Starts it with this list."""
-        path = os.path.dirname(programs.path("rtr_make"))
-        words = ["env", f"PATH={path}:{os.environ['PATH']}", self.example.built()]
-        words += ["--json", self.write(listed), "--guard", "100%", "--retry", str(self.retry)]
+        self.write(listed)
+        return self.serve_again()
+
+    def serve_again(self):
+        """Starts it with the list that is there."""
+        words = [*self.example.words(), "--json", os.path.join(self.folder, self.json)]
+        words += ["--guard", "100%", "--retry", str(self.retry)]
+        if self.kept:
+            words += ["--state", os.path.join(self.folder, "state")]
         return self.start(lambda port: [*words, "--listen", f"127.0.0.1:{port}"])
 
 
-def of_programs(folder):
+def of_programs(folder, base=RtrCache, **fields):
     """A maker of rtr-cache, where it can be built here."""
-    program_here = examples.RtrCache(folder)
-    if not program_here.lacks():
-        yield type("RtrCacheHere", (RtrCache,), {"example": program_here})
+    here = examples.Program("rtr-cache", folder)
+    if not here.lacks():
+        yield type(base.__name__, (base,), {"example": here, **fields})
 
 
 def ours(folder):

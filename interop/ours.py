@@ -1,6 +1,7 @@
 """Our clients and caches: the examples in C, Go and Rust, where they are."""
 import collections
 import contextlib
+import glob
 import itertools
 import json
 import os
@@ -96,38 +97,110 @@ class Example:
         return {payloads.as_line(json.loads(line)) for line in done.stdout.splitlines()}
 
 
-class RtrCache:
-    """The program rtr-cache, in Go; RTR_CACHE names one that is built already."""
+class Program:
+    """A program in Go, by its name; RTR_CACHE and RTR_CLIENT name one that is built already."""
 
     lock = threading.Lock()
+    # What of ours it runs.
+    NEEDS = {"rtr-cache": "rtr_make", "rtr-client": "rtr_list"}
 
-    def __init__(self, folder):
+    def __init__(self, name, folder):
+        self.name = name
         self.folder = os.path.join(folder, "programs")
+
+    def named(self):
+        """The program that a setting names."""
+        return os.environ.get(self.name.replace("-", "_").upper())
 
     def lacks(self):
         """Why it can't be built here, or None."""
-        if os.environ.get("RTR_CACHE"):
+        if self.named():
             return None
         if shutil.which("go") is None:
             return "go isn't installed"
-        if not programs.there("rtr_make"):
-            return f"rtr_make isn't in {programs.SHOWN}"
+        if not programs.there(self.NEEDS[self.name]):
+            return f"{self.NEEDS[self.name]} isn't in {programs.SHOWN}"
         said = subprocess.run([BUILD, "--missing"], capture_output=True, text=True, check=True)
         missing = said.stdout.split()
         return f"{missing[0]} isn't installed" if missing else None
 
     def built(self):
         """The path of the program, which is built where it isn't yet."""
-        if os.environ.get("RTR_CACHE"):
-            return os.environ["RTR_CACHE"]
-        path = os.path.join(self.folder, "rtr-cache")
-        with RtrCache.lock:
+        if self.named():
+            return self.named()
+        if self.lacks():
+            raise Missing(self.lacks())
+        path = os.path.join(self.folder, self.name)
+        with Program.lock:
             if not os.path.exists(path):
                 done = subprocess.run([BUILD, self.folder], capture_output=True, text=True,
                                       timeout=480, check=False)
                 if done.returncode:
                     raise OSError(f"programs/build: {done.stderr[-500:]}")
         return path
+
+    def words(self):
+        """How it is called, with our programs in its path."""
+        path = os.path.dirname(programs.path(self.NEEDS[self.name]))
+        return ["env", f"PATH={path}:{os.environ['PATH']}", self.built()]
+
+
+class TokioTLS:
+    """The example `tls` of the crate for tokio, with Debian's crates; RTR_TLS_RUST names one that
+    is built already."""
+
+    lock = threading.Lock()
+    REGISTRY = "/usr/share/cargo/registry"
+    CRATES = ("tokio", "openssl", "tokio-openssl")
+    PARTS = ("Cargo.toml", "build.rs", "src", "tests", "examples", "tokio")
+
+    def __init__(self, folder):
+        self.folder = os.path.join(folder, "tokio")
+
+    def lacks(self):
+        """Why it can't be built here, or None."""
+        if os.environ.get("RTR_TLS_RUST"):
+            return None
+        missing = [tool for tool in ("cargo", "cc") if shutil.which(tool) is None]
+        missing += [f"librust-{crate}-dev" for crate in self.CRATES
+                    if not glob.glob(f"{self.REGISTRY}/{crate}-[0-9]*")]
+        return f"{missing[0]} isn't installed" if missing else None
+
+    def built(self):
+        """The path of the program, which is built where it isn't yet, in a copy: cargo writes into
+        its folder."""
+        if os.environ.get("RTR_TLS_RUST"):
+            return os.environ["RTR_TLS_RUST"]
+        if self.lacks():
+            raise Missing(self.lacks())
+        path = os.path.join(self.folder, "target/debug/examples/tls")
+        with TokioTLS.lock:
+            if not os.path.exists(path):
+                self.build()
+        return path
+
+    def build(self):
+        """Builds it."""
+        copy = os.path.join(self.folder, "bindings/rust")
+        os.makedirs(copy)
+        for name in self.PARTS:
+            source = os.path.join(TOP, "bindings/rust", name)
+            keep = shutil.ignore_patterns("target", "Cargo.lock")
+            if os.path.isdir(source):
+                shutil.copytree(source, os.path.join(copy, name), ignore=keep)
+            else:
+                shutil.copy(source, copy)
+        libraries = os.environ.get("RTR_LIB_DIR", os.path.abspath(os.path.join(
+            TOP, "prebuilt/x86_64")))
+        setting = dict(os.environ, CARGO_TARGET_DIR=os.path.join(self.folder, "target"),
+                       CARGO_PROFILE_DEV_DEBUG="0", RTR_LIB_DIR=libraries)
+        words = ["cargo", "build", "--offline", "--quiet", "--example", "tls", "--config",
+                 'source.crates-io.replace-with="debian"', "--config",
+                 f'source.debian.directory="{self.REGISTRY}"']
+        done = subprocess.run(words, cwd=os.path.join(copy, "tokio"), env=setting, text=True,
+                              capture_output=True, timeout=480, check=False)
+        if done.returncode:
+            raise OSError(f"cargo: {done.stderr[-500:]}")
 
 
 def clients(folder):
@@ -147,8 +220,9 @@ def build_all(folder):
     def build(example):
         with contextlib.suppress(OSError, subprocess.SubprocessError):
             example.built()
-    cache = RtrCache(folder)
-    for example in (*clients(folder), *caches(folder), *([] if cache.lacks() else [cache])):
+    more = [example for example in (Program("rtr-cache", folder), TokioTLS(folder))
+            if not example.lacks()]
+    for example in (*clients(folder), *caches(folder), *more):
         threading.Thread(target=build, args=(example,), daemon=True).start()
 
 
@@ -160,8 +234,9 @@ def say_absent(results, folder):
             if lacks:
                 pair.skip(f"{name} in {language}", lacks)
     with Pair(results, "our side", "our", "programs") as pair:
-        if lacks := RtrCache(folder).lacks():
-            pair.skip("rtr-cache", lacks)
+        for name in Program.NEEDS:
+            if lacks := Program(name, folder).lacks():
+                pair.skip(name, lacks)
         for name in programs.NAMES:
             if not programs.there(name):
                 pair.skip(name, f"it isn't in {programs.SHOWN}")

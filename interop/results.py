@@ -148,5 +148,12 @@ def known():
         text = file.read()
     return {
         (peer, version.strip(), found)
-        for peer, versions, found in KNOWN.findall(text) for version in versions.split(",")
+        for peers, versions, found in KNOWN.findall(text)
+        for peer in each_of(peers) for version in versions.split(",")
     }
+
+
+def each_of(peers):
+    """The peers of a row: several may be at one cache."""
+    names, at, cache = peers.partition(" at ")
+    return [f"{name}{at}{cache}" for name in names.split(", ")]

@@ -289,7 +289,11 @@ class OurClient(Router):
         """Starts it."""
         words = [self.example.built(), f"127.0.0.1:{self.cache}", "--json", "--version", "1"]
         with open(self.path("changes"), "ab") as file:
-            self.run(words, split=file)
+            self.run([*words, *self.more()], split=file)
+
+    def more(self):
+        """More words for it."""
+        return []
 
     def table(self):
         """What it holds: what was announced, without what was withdrawn."""
@@ -312,6 +316,13 @@ def ours(folder):
     for example in examples.clients(folder):
         name = f"our client in {example.name}"
         yield type(f"Our{example.name}", (OurClient,), {"name": name, "example": example})
+
+
+def of_programs(folder):
+    """A maker of rtr-client, where it can be built here."""
+    here = examples.Program("rtr-client", folder)
+    if not here.lacks():
+        yield type("OurProgram", (OurClient,), {"name": here.name, "example": here})
 
 
 ROUTERS = (RtrClient, Bird, FRR, OpenBGPD)

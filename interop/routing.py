@@ -60,6 +60,8 @@ def refused(port, content):
 class Beside:
     """A router beside a cache, with a tap between them."""
 
+    taps = Tap
+
     def __init__(self, results, cache, maker, stack, part=PART):
         names = (f"{maker.name} at {cache.name}", f"v{cache.version}", maker.release())
         self.pair = Pair(results, part, *names)
@@ -67,9 +69,15 @@ class Beside:
         with self.pair:
             folder = os.path.join(cache.folder, maker.__name__.lower())
             os.makedirs(folder, exist_ok=True)
-            self.tap = stack.enter_context(Tap(cache.port, folder, "session"))
-            self.router = stack.enter_context(maker(folder, self.tap.port))
+            self.maker = maker
+            port = self.reach(cache, folder, stack)
+            self.router = stack.enter_context(maker(folder, port))
             self.live = True
+
+    def reach(self, cache, folder, stack):
+        """The port that the router connects to: that of the tap."""
+        self.tap = stack.enter_context(self.taps(cache.port, folder, "session"))
+        return self.tap.port
 
     def holds(self, what, listed, end):
         """Passes once the table holds exactly what the router shows of the list, before a time."""
@@ -128,8 +136,8 @@ def compare_theirs(results, maker, folder):
 
 def compare_ours(results, maker, folder):
     """Runs our clients beside one cache, at its own times."""
-    compare(results, maker, os.path.join(folder, f"clients.{maker.__name__.lower()}"),
-            routers.ours(folder))
+    makers = [*routers.ours(folder), *routers.of_programs(folder)]
+    compare(results, maker, os.path.join(folder, f"clients.{maker.__name__.lower()}"), makers)
 
 
 def compare(results, maker, folder, makers, retry=None):

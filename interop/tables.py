@@ -94,6 +94,16 @@ def replace(text, name, lines):
     return marks.sub(lambda mark: mark[1] + "\n".join(lines) + "\n" + mark[2], text)
 
 
+def write_long(found, lines):
+    """Writes into the page what the long run measured, if none of it failed."""
+    if found.count(FAILED):
+        return
+    with open(PAGE, encoding="utf-8") as file:
+        text = file.read()
+    with open(PAGE, "w", encoding="utf-8") as file:
+        file.write(replace(text, "long", lines))
+
+
 def write(found, parts, more):
     """Writes into the page what this run measured of these parts, each with its mark, and more
     tables with theirs."""
