@@ -42,8 +42,8 @@ byte_clean c h =
     rw (a, b, d, e, f, g, i, j) refl
 
 -- all bytes of the text are so, in a record so that antt reads the list off a goal
-record Clean (xs : List ℕ) : Type 0 where
-  all : All IsClean xs
+pub record Clean (xs : List ℕ) : Type 0 where
+  pub all : All IsClean xs
 
 none : Clean []
 none = record { all = All-nil IsClean }
@@ -100,7 +100,7 @@ ipv6_at false s e h = rw (sym e) (record {
   all = λ k d lt. hex_or_colon _ (All-hex_groups_text s h k d lt);
 })
 
-clean_address : (f : Family) (a : ℕ) → Clean (address_text f a)
+pub clean_address : (f : Family) (a : ℕ) → Clean (address_text f a)
 clean_address v4 a = clean_ipv4 (be a 4) (IsBytes-be a 4)
 clean_address v6 a =
     ipv6_at _ (segments_of (be a 16)) refl (segments_below (be a 16) (IsBytes-be a 16))

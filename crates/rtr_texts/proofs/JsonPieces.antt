@@ -31,13 +31,13 @@ unfolding escape_byte
 clean_family v4 = refl
 clean_family v6 = refl
 
-clean_kind : (f : Fields) → escape (payload_kind f) ≡ payload_kind f
+pub clean_kind : (f : Fields) → escape (payload_kind f) ≡ payload_kind f
 unfolding escape_byte
 clean_kind (prefix_unit u) = clean_family _
 clean_kind (key_unit u) = refl
 clean_kind (aspa_unit u) = refl
 
-clean_action : (a : Action) → escape (action_text a) ≡ action_text a
+pub clean_action : (a : Action) → escape (action_text a) ≡ action_text a
 unfolding escape_byte
 clean_action Announce = refl
 clean_action Withdraw = refl

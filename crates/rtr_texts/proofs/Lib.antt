@@ -4,3 +4,9 @@ pub mod OneMore
 pub mod ReadBack
 mod CleanTexts
 mod JsonPieces
+mod PlainTexts
+pub mod EscapedTexts
+mod EscapedStrings
+mod PlainTokens
+mod UnitPieces
+mod ReportPieces

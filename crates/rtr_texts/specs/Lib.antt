@@ -5,3 +5,4 @@ pub mod TextLines
 pub mod ControlEscapes
 pub mod JsonLines
 pub mod PayloadLines
+pub mod PrivateStrings

@@ -8,9 +8,12 @@ mod listed;
 mod object;
 mod pieces;
 mod reading;
+mod strings;
 mod text;
+mod unit_object;
 
 pub use listed::{Listed, ListedAspa, ListedKey, ListedPayload, ListedReport};
 pub use object::{describe_change_json, describe_payload_json};
 pub use reading::listed_unit;
 pub use text::{describe, describe_change, describe_payload, parts_of};
+pub use unit_object::describe_json;

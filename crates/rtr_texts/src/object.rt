@@ -61,7 +61,7 @@ fn kind_field(unit: &ListedPayload<'_>) -> &'static str
     }
 }
 
-fn action_field(flags: u8) -> &'static str
+pub(crate) fn action_field(flags: u8) -> &'static str
     ensures { result.now ≡ codes ",\"action\":\"" ++ action_text (act flags) ++ codes "\"" }
 {
     match Action::from_flags(flags) {
@@ -71,7 +71,7 @@ fn action_field(flags: u8) -> &'static str
 }
 
 /// Lays the parts of what the unit announces or withdraws, and the end of the object.
-fn last_fields(output: &mut [u8], at: usize, unit: &ListedPayload<'_>) -> usize
+pub(crate) fn last_fields(output: &mut [u8], at: usize, unit: &ListedPayload<'_>) -> usize
     ensures { Lays (print_from true (parts_tokens (payload_listed unit.now) ++ end_object ∷ []))
         at output.old result output.new }
 {

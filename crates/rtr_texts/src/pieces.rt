@@ -39,7 +39,7 @@ pub(crate) fn hex(output: &mut [u8], at: usize, bytes: &[u8]) -> usize
 
 /// The two digits of a byte in hex.
 #[inline(always)]
-fn hex_of(byte: u8) -> [u8; 2]
+pub(crate) fn hex_of(byte: u8) -> [u8; 2]
     ensures { result ≡ encode_lower (byte ∷ []) }
 {
     [DIGITS[(byte / 16) as usize], DIGITS[(byte % 16) as usize]]

@@ -73,7 +73,7 @@ fn sign(flags: u8) -> &'static str
 }
 
 /// The version of the protocol.
-fn version(unit: &Listed<'_>) -> u8
+pub(crate) fn version(unit: &Listed<'_>) -> u8
     ensures { result ≡ fields_version (fields_listed unit.now) }
 {
     match unit {
