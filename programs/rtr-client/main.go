@@ -64,7 +64,7 @@ func follows(ctx context.Context, w *wanted, output io.Writer, asked <-chan os.S
 		}
 	}()
 	shown := &show{
-		wanted: w, ctx: ctx, counts: counts, output: output,
+		wanted: w, ctx: ctx, counts: counts, output: output, colours: coloursOf(output),
 		progress: newProgress(os.Stderr, counts),
 	}
 	defer counts.say(os.Stderr)

@@ -28,8 +28,7 @@ type progress struct {
 // newProgress shows progress, if the file is a terminal, until end is called.
 func newProgress(terminal *os.File, counts *counts) *progress {
 	p := &progress{terminal: terminal, counts: counts, stop: make(chan struct{})}
-	info, err := terminal.Stat()
-	if err != nil || info.Mode()&os.ModeCharDevice == 0 {
+	if !isTerminal(terminal) {
 		return p
 	}
 	p.ended.Add(1)

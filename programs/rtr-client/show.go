@@ -25,6 +25,7 @@ type show struct {
 	ctx      context.Context
 	counts   *counts
 	output   io.Writer
+	colours  colours
 	progress *progress
 	last     rtr.Data
 	said     map[route]string // of the routes, what was printed last
@@ -79,7 +80,7 @@ func (s *show) print(changes []byte) error {
 	}
 	output := bufio.NewWriter(s.output)
 	payloads.Each(changes, func(unit *rtr.Unit, _ []byte) {
-		output.WriteString(words(unit))
+		output.WriteString(s.colours.of(words(unit)))
 		output.WriteByte('\n')
 	})
 	return output.Flush()
