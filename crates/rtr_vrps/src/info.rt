@@ -26,13 +26,14 @@ const VERSION: &str = "rtr_make 0.2.0\n";
 /// How it is called, in a line.
 pub const USAGE: &str =
     "usage: rtr_make --csv | --json [--version 0|1|2] [--session N] [--serial N] \
-[--refresh N] [--retry N] [--expire N] [--drop] [--empty] [--ignore NAME]";
+[--refresh N] [--retry N] [--expire N] [--drop] [--empty] [--ignore NAME] [FILE]";
 
 /// What the program does, and what each word means.
 const HELP: &str = "rtr_make - write the RTR sequence of validated payloads
 
-It reads what a validator prints from standard input, and writes the units that
-announce it, and an end of data, to standard output.
+It reads what a validator prints from FILE, or from standard input, for which
+the name - stands too, and writes the units that announce it, and an end of
+data, to standard output.
 
   --csv            lines of an AS number, a prefix and a max length are read
   --json           a JSON object is read, as validators print it
