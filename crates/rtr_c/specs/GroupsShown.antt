@@ -6,7 +6,7 @@ use Rattle.rtr_group.specs.declared.event.Event.{Event}
 use Rattle.rtr_group.specs.declared.event.Shown.{Shown}
 use Rattle.rtr_group.specs.declared.event.Shown.TheVariants as shows
 use Rattle.rtr_group.specs.declared.group.Group.{Group}
-use Rattle.rtr_group.specs.Groups.{after, answer}
+use Rattle.rtr_group.specs.Groups.{answer, group_after}
 use Rattle.rtr_c.specs.declared.group.RtrGroup.{RtrGroup}
 use Rattle.rtr_c.specs.declared.group.RtrGroupAnswer.{RtrGroupAnswer}
 
@@ -35,5 +35,5 @@ answer_shown a = record {
 -- an event of a member leads from g to g' with this answer
 pub record IsGroupStep (g : RtrGroup) (m : ℕ) (e : Event) (a : RtrGroupAnswer) (g' : RtrGroup) :
     Type 0 where
-  pub group : group_of g' ≡ after (group_of g) m e
+  pub group : group_of g' ≡ group_after (group_of g) m e
   pub answers : a ≡ answer_shown (answer (group_of g) m e)

@@ -3,7 +3,7 @@
 ghost use Rattle.std.specs.Prelude.{◌≡◌, is_some};
 ghost use Rattle.std.specs.Option.{unwrap_or};
 ghost use Rattle.rtr_group.specs.Groups.{best_of};
-ghost use Rattle.rtr_group.specs.Runs.{IsNew};
+ghost use Rattle.rtr_group.specs.Runs.{IsNewGroup};
 ghost use Rattle.rtr_group.specs.declared.event.Event.TheVariants as events;
 ghost use Rattle.rtr_c.specs.GroupsShown.{IsGroupStep, group_of};
 
@@ -15,7 +15,7 @@ use rtr_group::group::Group;
 /// `rtr_group::group::Group::new`.
 #[unsafe(no_mangle)]
 pub extern "C" fn rtr_group_init(group: &mut RtrGroup, count: usize)
-    ensures { IsNew count (group_of group.new) }
+    ensures { IsNewGroup count (group_of group.new) }
 {
     *group = group_to(&Group::new(count));
 }

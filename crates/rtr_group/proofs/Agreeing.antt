@@ -5,16 +5,17 @@ use Rattle.std.specs.Prelude.{min, get_or, is_some, replicate}
 use Rattle.std.proofs.lemmas.Bool.{cases_lt, cases_eq}
 use Rattle.rtr_group.specs.declared.event.Event.{Event}
 use Rattle.rtr_group.specs.declared.group.Group.{Group}
-use Rattle.rtr_group.specs.Groups.{after, answer, heard, is_running}
-use Rattle.rtr_group.specs.Runs.{Caller, IsNew, IsRun, Member, Moment, begun, caller_after}
+use Rattle.rtr_group.specs.Groups.{group_after, answer, once_heard, is_running}
+use Rattle.rtr_group.specs.Runs.{Listener, IsNewGroup, IsGroupRun, Member, GroupMoment, begun}
+use Rattle.rtr_group.specs.Runs.{caller_after}
 use Rattle.rtr_group.specs.Runs.{first_caller}
-use Rattle.rtr_group.specs.Runs.{left, told, told_of}
-use Rattle.rtr_group.specs.Runs.IsRun.{run_begins, run_goes_on}
+use Rattle.rtr_group.specs.Runs.{left, once_told, told_of}
+use Rattle.rtr_group.specs.Runs.IsGroupRun.{group_run_begins, group_run_goes_on}
 use Rattle.rtr_group.proofs.Heard.{Before, Moves, moves}
 use Rattle.rtr_group.proofs.Placed.{begins, gone, no_less, not_less, other_number, placed}
 use Rattle.rtr_group.proofs.Placed.{same_number, stays, yes}
 
-pub record Agrees {D : Type 0} (wanted : ℕ) (g : Group) (c : Caller D) : Type 0 where
+pub record Agrees {D : Type 0} (wanted : ℕ) (g : Group) (c : Listener D) : Type 0 where
   pub count : g.count ≡ min wanted 16
   pub long : length g.has ≡ 16
   pub most : g.runs ≤ g.count
@@ -26,23 +27,23 @@ pub record Agrees {D : Type 0} (wanted : ℕ) (g : Group) (c : Caller D) : Type 
   pub idle : (i : ℕ) → g.runs ≤ i → c.members i ≡ left
 
 -- the caller's members after a step
-abbrev pub members_after : {D : Type 0} → Group → Group → Caller D → ℕ → Event → D → ℕ → Member D
+abbrev pub members_after : {D : Type 0} → Group → Group → Listener D → ℕ → Event → D → ℕ → Member D
 members_after g g' c m e d i = placed g.runs g'.runs i (told_of c m e d i)
 
 -- ---- told of a member
 
 pub told_self :
-    {D : Type 0} (c : Caller D) (m : ℕ) (e : Event) (d : D) → (c.members m).runs ≡ true
-    → told_of c m e d m ≡ told e d (c.members m)
+    {D : Type 0} (c : Listener D) (m : ℕ) (e : Event) (d : D) → (c.members m).runs ≡ true
+    → told_of c m e d m ≡ once_told e d (c.members m)
 told_self c m e d p = rw (same_number m m refl) (rw p refl)
 
 pub told_other :
-    {D : Type 0} (c : Caller D) (m : ℕ) (e : Event) (d : D) (i : ℕ) → i ≢ m
+    {D : Type 0} (c : Listener D) (m : ℕ) (e : Event) (d : D) (i : ℕ) → i ≢ m
     → told_of c m e d i ≡ c.members i
 told_other c m e d i p = rw (other_number i m p) refl
 
 pub told_none :
-    {D : Type 0} (c : Caller D) (m : ℕ) (e : Event) (d : D) (i : ℕ)
+    {D : Type 0} (c : Listener D) (m : ℕ) (e : Event) (d : D) (i : ℕ)
     → (c.members m).runs ≡ false → told_of c m e d i ≡ c.members i
 told_none {D = D} c m e d i p = go (cases_eq i m)
   where
@@ -59,7 +60,7 @@ pub data Kind (r r' m i : ℕ) : Type 0 where
   new : r < r' → i ≡ r → Kind r r' m i
 
 before :
-    {D : Type 0} (wanted : ℕ) (g : Group) (c : Caller D) (m : ℕ) → Agrees wanted g c → m < g.runs
+    {D : Type 0} (wanted : ℕ) (g : Group) (c : Listener D) (m : ℕ) → Agrees wanted g c → m < g.runs
     → Before g m (c.members m)
 before wanted g c m a p = record {
   low = p;
@@ -74,11 +75,11 @@ before wanted g c m a p = record {
     few : (w n : ℕ) → n ≡ min w 16 → n ≤ 16
     few w n e = omega arith
 
-module _ {D : Type 0} (wanted : ℕ) (g g' : Group) (c : Caller D) (m : ℕ) (e : Event) (d : D)
+module _ {D : Type 0} (wanted : ℕ) (g g' : Group) (c : Listener D) (m : ℕ) (e : Event) (d : D)
     (a : Agrees wanted g c) (low : m < g.runs)
-    (v : Moves g g' m (c.members m) (told e d (c.members m))) where
+    (v : Moves g g' m (c.members m) (once_told e d (c.members m))) where
   abbrev y : Member D
-  y = told e d (c.members m)
+  y = once_told e d (c.members m)
 
   self_told : told_of c m e d m ≡ y
   self_told = told_self c m e d (a.runs m low)
@@ -225,7 +226,7 @@ pub not_running : (g : Group) (m : ℕ) → g.runs ≤ m → is_running g m ≡ 
 not_running g m p = rw (no_less m g.runs p) refl
 
 pub few :
-    {D : Type 0} (wanted : ℕ) (g : Group) (c : Caller D) → Agrees wanted g c → g.runs ≤ 16
+    {D : Type 0} (wanted : ℕ) (g : Group) (c : Listener D) → Agrees wanted g c → g.runs ≤ 16
 few wanted g c a = le wanted g.count g.runs a.count a.most
   where
     le : (w n r : ℕ) → n ≡ min w 16 → r ≤ n → r ≤ 16
@@ -233,19 +234,19 @@ few wanted g c a = le wanted g.count g.runs a.count a.most
 
 -- a member that runs is heard
 pub after_heard :
-    {D : Type 0} (wanted : ℕ) (g : Group) (c : Caller D) (m : ℕ) (e : Event)
-    → Agrees wanted g c → m < g.runs → after g m e ≡ heard g m e
+    {D : Type 0} (wanted : ℕ) (g : Group) (c : Listener D) (m : ℕ) (e : Event)
+    → Agrees wanted g c → m < g.runs → group_after g m e ≡ once_heard g m e
 after_heard wanted g c m e a p = rw (running g m p (few wanted g c a)) refl
 
-pub after_passed : (g : Group) (m : ℕ) (e : Event) → g.runs ≤ m → after g m e ≡ g
+pub after_passed : (g : Group) (m : ℕ) (e : Event) → g.runs ≤ m → group_after g m e ≡ g
 after_passed g m e p = rw (not_running g m p) refl
 
 pub moves_then :
-    {D : Type 0} (wanted : ℕ) (g : Group) (c : Caller D) (m : ℕ) (e : Event) (d : D)
+    {D : Type 0} (wanted : ℕ) (g : Group) (c : Listener D) (m : ℕ) (e : Event) (d : D)
     → Agrees wanted g c → m < g.runs
-    → Moves g (after g m e) m (c.members m) (told e d (c.members m))
+    → Moves g (group_after g m e) m (c.members m) (once_told e d (c.members m))
 moves_then wanted g c m e d a p =
-    subst (λ (z : Group). Moves g z m (c.members m) (told e d (c.members m)))
+    subst (λ (z : Group). Moves g z m (c.members m) (once_told e d (c.members m)))
     (sym (after_heard wanted g c m e a p))
     (moves e g m d (c.members m) (before wanted g c m a p))
 
@@ -254,9 +255,9 @@ le_self r = omega arith
 
 -- one that doesn't is passed over
 pub passed_members :
-    {D : Type 0} (wanted : ℕ) (g : Group) (c : Caller D) (m : ℕ) (e : Event) (d : D) (i : ℕ)
+    {D : Type 0} (wanted : ℕ) (g : Group) (c : Listener D) (m : ℕ) (e : Event) (d : D) (i : ℕ)
     → Agrees wanted g c → g.runs ≤ m
-    → members_after g (after g m e) c m e d i ≡ c.members i
+    → members_after g (group_after g m e) c m e d i ≡ c.members i
 passed_members {D = D} wanted g c m e d i a p =
     rw (after_passed g m e p) (rw (told_none c m e d i (ap (λ (z : Member D). z.runs) (a.idle m p)))
     (rw (placed_self g.runs i (c.members i)) refl))
@@ -265,7 +266,7 @@ passed_members {D = D} wanted g c m e d i a p =
     placed_self r i x = rw (not_less r r (le_self r)) refl
 
 agrees_same :
-    {D : Type 0} (wanted : ℕ) (g : Group) (c c' : Caller D) → Agrees wanted g c
+    {D : Type 0} (wanted : ℕ) (g : Group) (c c' : Listener D) → Agrees wanted g c
     → ((i : ℕ) → c'.members i ≡ c.members i) → Agrees wanted g c'
 agrees_same {D = D} wanted g c c' a p = record {
   count = a.count;
@@ -280,14 +281,14 @@ agrees_same {D = D} wanted g c c' a p = record {
 }
 
 agrees_next :
-    {D : Type 0} (wanted : ℕ) (g : Group) (c : Caller D) (m : ℕ) (e : Event) (d : D)
-    → Agrees wanted g c → Agrees wanted (after g m e) (caller_after c m e d (answer g m e))
+    {D : Type 0} (wanted : ℕ) (g : Group) (c : Listener D) (m : ℕ) (e : Event) (d : D)
+    → Agrees wanted g c → Agrees wanted (group_after g m e) (caller_after c m e d (answer g m e))
 agrees_next {D = D} wanted g c m e d a = go (cases_lt m g.runs)
   where
     go : (m < g.runs) ⊎ (g.runs ≤ m)
-        → Agrees wanted (after g m e) (caller_after c m e d (answer g m e))
+        → Agrees wanted (group_after g m e) (caller_after c m e d (answer g m e))
     go (inl p) =
-        agrees_then wanted g (after g m e) c m e d a p (moves_then wanted g c m e d a p)
+        agrees_then wanted g (group_after g m e) c m e d a p (moves_then wanted g c m e d a p)
         (caller_after c m e d (answer g m e)).shown
     go (inr p) =
         subst (λ (z : Group). Agrees wanted z (caller_after c m e d (answer g m e)))
@@ -296,7 +297,7 @@ agrees_next {D = D} wanted g c m e d a = go (cases_lt m g.runs)
         (λ i. passed_members wanted g c m e d i a p))
 
 agrees_first :
-    {D : Type 0} (wanted : ℕ) (g : Group) → IsNew wanted g
+    {D : Type 0} (wanted : ℕ) (g : Group) → IsNewGroup wanted g
     → Agrees wanted g (first_caller {Data = D} wanted)
 agrees_first {D = D} wanted g n = record {
   count = n.count;
@@ -348,8 +349,8 @@ agrees_first {D = D} wanted g n = record {
     is_left i p (inr q) (inl r) = rw (same_number i 0 r) (rw (no_less 0 wanted q) refl)
 
 pub agrees :
-    {D : Type 0} (wanted : ℕ) (ms : List (Moment D)) (g : Group) (c : Caller D)
-    → IsRun wanted ms g c → Agrees wanted g c
-agrees wanted ms g c (run_begins g₀ n) = agrees_first wanted g₀ n
-agrees wanted ms g c (run_goes_on m e d ms₀ g₀ c₀ run) =
+    {D : Type 0} (wanted : ℕ) (ms : List (GroupMoment D)) (g : Group) (c : Listener D)
+    → IsGroupRun wanted ms g c → Agrees wanted g c
+agrees wanted ms g c (group_run_begins g₀ n) = agrees_first wanted g₀ n
+agrees wanted ms g c (group_run_goes_on m e d ms₀ g₀ c₀ run) =
     agrees_next wanted g₀ c₀ m e d (agrees wanted ms₀ g₀ c₀ run)

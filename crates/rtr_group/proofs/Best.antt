@@ -3,14 +3,14 @@ use Rattle.std.proofs.Common.{◌≡◌, ◌-◌, ℕ, zero, suc, Bool, true, fa
 use Rattle.std.proofs.Common.{ap}
 use Rattle.std.proofs.Common.{Option, Some, None, if◌then◌else◌, ◌∙◌, subst, ◌≢◌, ◌⊎◌, inl, inr}
 use Rattle.std.proofs.lemmas.Bool.{cases_eq}
-use Rattle.rtr_group.specs.Groups.{best, or_else}
+use Rattle.rtr_group.specs.Groups.{best, this_or}
 
 next : (n : ℕ) → n + 1 ≡ suc n
 next n = omega arith
 
 at_next :
     (holds : ℕ → Bool) (n : ℕ)
-    → best holds (n + 1) ≡ or_else (best holds n) (if holds n then Some n else None)
+    → best holds (n + 1) ≡ this_or (best holds n) (if holds n then Some n else None)
 unfolding best
 at_next holds n = ap (best holds) (next n)
 
@@ -63,7 +63,7 @@ best_none holds (suc n) p i q =
 
     go : (best holds n ≡ None → i < n → holds i ≡ false)
         → (o : Option ℕ) → best holds n ≡ o → (b : Bool) → holds n ≡ b
-        → or_else o (if b then Some n else None) ≡ None → (i ≡ n) ⊎ (i ≢ n) → holds i ≡ false
+        → this_or o (if b then Some n else None) ≡ None → (i ≡ n) ⊎ (i ≢ n) → holds i ≡ false
     go more (Some m) e b f p r = grind arith
     go more None e true f p r = grind arith
     go more None e false f p (inl r) = ap holds r ∙ f
@@ -91,7 +91,7 @@ best_some holds (suc n) k p =
 
     go : (best holds n ≡ Some k → IsBest holds n k)
         → (o : Option ℕ) → best holds n ≡ o → (b : Bool) → holds n ≡ b
-        → or_else o (if b then Some n else None) ≡ Some k → IsBest holds (suc n) k
+        → this_or o (if b then Some n else None) ≡ Some k → IsBest holds (suc n) k
     go more (Some m) e b f p =
         let r : IsBest holds n k = more (e ∙ p) in
         record { low = wider k n r.low; does = r.does; first = r.first }

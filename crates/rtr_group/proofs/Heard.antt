@@ -8,8 +8,8 @@ use Rattle.std.proofs.lemmas.Grind.{get_or-set_at}
 use Rattle.rtr_group.specs.declared.event.Event.{Event}
 use Rattle.rtr_group.specs.declared.event.Event.TheVariants as events
 use Rattle.rtr_group.specs.declared.group.Group.{Group}
-use Rattle.rtr_group.specs.Groups.{has_failed, heard, news}
-use Rattle.rtr_group.specs.Runs.{Member, told}
+use Rattle.rtr_group.specs.Groups.{has_failed, once_heard, news}
+use Rattle.rtr_group.specs.Runs.{Member, once_told}
 use Rattle.rtr_group.proofs.Placed.{no_less, other_number, same_number, yes}
 
 -- what holds of the group, and of the member before and after
@@ -65,7 +65,7 @@ not_less a p = omega arith
 
 pub shows :
     {D : Type 0} (g : Group) (m : ℕ) (d : D) (x : Member D) → Before g m x
-    → Moves g (heard g m events.Shows) m x (told events.Shows d x)
+    → Moves g (once_heard g m events.Shows) m x (once_told events.Shows d x)
 shows g m d x b = record {
   count = refl;
   long = length-set g.has m true;
@@ -166,13 +166,14 @@ failed_then g₀ g m x y b t (at_end p e) =
 
 pub drops :
     {D : Type 0} (g : Group) (m : ℕ) (d : D) (x : Member D) → Before g m x
-    → Moves g (heard g m events.Drops) m x (told events.Drops d x)
-drops g m d x b = failed_then g dropped m x (told events.Drops d x) b facts (fails_how dropped m)
+    → Moves g (once_heard g m events.Drops) m x (once_told events.Drops d x)
+drops g m d x b = failed_then g dropped m x (once_told events.Drops d x) b facts
+    (fails_how dropped m)
   where
     dropped : Group
     dropped = record g { has = set g.has m false }
 
-    facts : Told g dropped m x (told events.Drops d x)
+    facts : Told g dropped m x (once_told events.Drops d x)
     facts = record {
       count = refl;
       runs = refl;
@@ -186,10 +187,10 @@ drops g m d x b = failed_then g dropped m x (told events.Drops d x) b facts (fai
 
 pub fails :
     {D : Type 0} (g : Group) (m : ℕ) (d : D) (x : Member D) → Before g m x
-    → Moves g (heard g m events.Fails) m x (told events.Fails d x)
-fails g m d x b = failed_then g g m x (told events.Fails d x) b facts (fails_how g m)
+    → Moves g (once_heard g m events.Fails) m x (once_told events.Fails d x)
+fails g m d x b = failed_then g g m x (once_told events.Fails d x) b facts (fails_how g m)
   where
-    facts : Told g g m x (told events.Fails d x)
+    facts : Told g g m x (once_told events.Fails d x)
     facts = record {
       count = refl;
       runs = refl;
@@ -202,11 +203,11 @@ fails g m d x b = failed_then g g m x (told events.Fails d x) b facts (fails_how
 
 pub well :
     {D : Type 0} (g : Group) (m : ℕ) (d : D) (x : Member D) → Before g m x
-    → Moves g (heard g m events.Well) m x (told events.Well d x)
+    → Moves g (once_heard g m events.Well) m x (once_told events.Well d x)
 well {D = D} g m d x b = go (cases_Bool (get_or g.has m false))
   where
     go : (get_or g.has m false ≡ true) ⊎ (get_or g.has m false ≡ false)
-        → Moves g (heard g m events.Well) m x (told events.Well d x)
+        → Moves g (once_heard g m events.Well) m x (once_told events.Well d x)
     go (inl p) = rw p (rw (b.own ∙ p) (record {
       count = refl;
       long = refl;
@@ -242,7 +243,7 @@ well {D = D} g m d x b = go (cases_Bool (get_or g.has m false))
 
 pub moves :
     {D : Type 0} (e : Event) (g : Group) (m : ℕ) (d : D) (x : Member D) → Before g m x
-    → Moves g (heard g m e) m x (told e d x)
+    → Moves g (once_heard g m e) m x (once_told e d x)
 moves events.Shows g m d x b = shows g m d x b
 moves events.Drops g m d x b = drops g m d x b
 moves events.Fails g m d x b = fails g m d x b
@@ -251,7 +252,7 @@ moves events.Well g m d x b = well g m d x b
 -- the data of a member that shows no new ones and has some are what they were
 pub keeps :
     {D : Type 0} (e : Event) (m : ℕ) (d : D) (x : Member D) → news m e ≡ None
-    → is_some (told e d x).has ≡ true → (told e d x).has ≡ x.has
+    → is_some (once_told e d x).has ≡ true → (once_told e d x).has ≡ x.has
 keeps events.Shows m d x p q = grind arith
 keeps events.Drops m d x p q = grind arith
 keeps events.Fails m d x p q = refl

@@ -18,10 +18,10 @@ use Rattle.rtr_router.proofs.WholeAnswers.{whole_answers}
 use Rattle.rtr_group.specs.declared.event.Event.{Event}
 use Rattle.rtr_group.specs.declared.event.Event.TheVariants as events
 use Rattle.rtr_group.specs.declared.group.Group.{Group}
-use Rattle.rtr_group.specs.Groups.{after, answer, if_less}
-use Rattle.rtr_group.specs.Runs.{Caller, IsRun, Member, Moment, begun, caller_after}
-use Rattle.rtr_group.specs.Runs.{told}
-use Rattle.rtr_group.specs.Runs.IsRun.{run_begins, run_goes_on}
+use Rattle.rtr_group.specs.Groups.{group_after, answer, if_less}
+use Rattle.rtr_group.specs.Runs.{Listener, IsGroupRun, Member, GroupMoment, begun, caller_after}
+use Rattle.rtr_group.specs.Runs.{once_told}
+use Rattle.rtr_group.specs.Runs.IsGroupRun.{group_run_begins, group_run_goes_on}
 use Rattle.rtr_group.specs.Runs.ShowsBest.{none_has, of_best}
 use Rattle.rtr_group.specs.Runs.{ShowsBest}
 use Rattle.rtr_group.specs.Ends.{End, IsFresh, IsGroup, ShowsWhole, end_after, tells, with_end}
@@ -80,22 +80,22 @@ told_shown :
     {B D : Type 0} (c : histories.Caller B D) (h : Host B D) (b : B) (a : Action) (t : Event)
     (d : D) (x : Member D) → tells a ≡ Some t
     → (t ≡ events.Shows → (host_after c h b a).shown ≡ Some d)
-    → x.has ≡ h.shown → (told t d x).has ≡ (host_after c h b a).shown
+    → x.has ≡ h.shown → (once_told t d x).has ≡ (host_after c h b a).shown
 told_shown {D = D} c h b actions.Show t d x p q s =
-    subst (λ (y : Event). (told y d x).has ≡ h.made) (inside events.Shows t p)
+    subst (λ (y : Event). (once_told y d x).has ≡ h.made) (inside events.Shows t p)
     (sym (q (sym (inside events.Shows t p))))
 told_shown {D = D} c h b actions.Drop t d x p q s =
-    subst (λ (y : Event). (told y d x).has ≡ None) (inside events.Drops t p) refl
+    subst (λ (y : Event). (once_told y d x).has ≡ None) (inside events.Drops t p) refl
 told_shown {D = D} c h b actions.NoData t d x p q s =
-    subst (λ (y : Event). (told y d x).has ≡ h.shown) (inside events.Fails t p) s
+    subst (λ (y : Event). (once_told y d x).has ≡ h.shown) (inside events.Fails t p) s
 told_shown {D = D} c h b (actions.End x₁) t d x p q s = go x₁.drop refl p
   where
     go : (z : Bool) → x₁.drop ≡ z → tells_at_end z x₁.cause ≡ Some t
-        → (told t d x).has ≡ (host_after c h b (actions.End x₁)).shown
+        → (once_told t d x).has ≡ (host_after c h b (actions.End x₁)).shown
     go true e p =
-        rw e (subst (λ (y : Event). (told y d x).has ≡ None) (inside events.Drops t p) refl)
+        rw e (subst (λ (y : Event). (once_told y d x).has ≡ None) (inside events.Drops t p) refl)
     go false e p =
-        rw e (subst (λ (y : Event). (told y d x).has ≡ h.shown) (failed_at x₁.cause t p) s)
+        rw e (subst (λ (y : Event). (once_told y d x).has ≡ h.shown) (failed_at x₁.cause t p) s)
 told_shown c h b actions.Wait t d x p q s = grind arith
 told_shown c h b actions.Connect t d x p q s = grind arith
 told_shown c h b (actions.Ask y) t d x p q s = grind arith
@@ -160,7 +160,7 @@ clash : (b : Bool) → b ≡ true → b ≡ false → ⊥
 clash b p q = grind arith
 
 runs_low :
-    {D : Type 0} (count : ℕ) (g : Group) (k : Caller D) (m : ℕ) → Agrees count g k
+    {D : Type 0} (count : ℕ) (g : Group) (k : Listener D) (m : ℕ) → Agrees count g k
     → (k.members m).runs ≡ true → m < g.runs
 runs_low {D = D} count g k m a p = go (cases_lt m g.runs)
   where
@@ -194,18 +194,18 @@ silent_runs {B = B} {D = D} c x ends m z w v i p = go (cases_eq i m)
     go (inr q) =
         subst (λ (y : End B D). EndRuns (c i) (x i) y) (sym (end_other ends m z i q)) (w i p)
 
-module _ {B D : Type 0} (c : ℕ → histories.Caller B D) (count : ℕ) (g : Group) (k : Caller D)
+module _ {B D : Type 0} (c : ℕ → histories.Caller B D) (count : ℕ) (g : Group) (k : Listener D)
     (ends : ℕ → End B D) (m : ℕ) (t : Event) (d : D) (z fresh : End B D)
     (a : Agrees count g k) (low : m < g.runs) (w : EndsRun c k.members ends)
-    (own_runs : EndRuns (c m) (told t d (k.members m)) z)
+    (own_runs : EndRuns (c m) (once_told t d (k.members m)) z)
     (is_fresh : (i : ℕ) → (answer g m t).starts ≡ Some i → IsFresh (c i) fresh) where
   abbrev x' : ℕ → Member D
-  x' i = members_after g (after g m t) k m t d i
+  x' i = members_after g (group_after g m t) k m t d i
 
   abbrev ends' : ℕ → End B D
-  ends' i = with_fresh (with_end ends m z) (if_less g.runs (after g m t).runs) fresh i
+  ends' i = with_fresh (with_end ends m z) (if_less g.runs (group_after g m t).runs) fresh i
 
-  v : Moves g (after g m t) m (k.members m) (told t d (k.members m))
+  v : Moves g (group_after g m t) m (k.members m) (once_told t d (k.members m))
   v = moves_then count g k m t d a low
 
   both : (i : ℕ) (x : Member D) (y : End B D) → EndRuns (c i) x y → x' i ≡ x → ends' i ≡ y
@@ -217,43 +217,46 @@ module _ {B D : Type 0} (c : ℕ → histories.Caller B D) (count : ℕ) (g : Gr
   }
 
   at_m : EndRuns (c m) (x' m) (ends' m)
-  at_m = both m (told t d (k.members m)) z own_runs (at_self count g (after g m t) k m t d a low v)
-      (kept_end (with_end ends m z) g.runs (after g m t).runs m fresh low ∙ end_self ends m z)
+  at_m = both m (once_told t d (k.members m)) z own_runs (at_self count g
+      (group_after g m t) k m t d a low v)
+      (kept_end (with_end ends m z) g.runs (group_after g m t).runs m fresh low ∙ end_self ends m z)
 
-  told_kind : (i : ℕ) → i < (after g m t).runs → Kind g.runs (after g m t).runs m i
+  told_kind : (i : ℕ) → i < (group_after g m t).runs → Kind g.runs (group_after g m t).runs m i
       → EndRuns (c i) (x' i) (ends' i)
   told_kind i p (own q) = subst (λ (j : ℕ). EndRuns (c j) (x' j) (ends' j)) (sym q) at_m
   told_kind i p (old q r) =
       both i (k.members i) (ends i) (w i (a.runs i q))
-      (at_other count g (after g m t) k m t d a low v i p q r)
-      (kept_end (with_end ends m z) g.runs (after g m t).runs i fresh q ∙ end_other ends m z i r)
+      (at_other count g (group_after g m t) k m t d a low v i p q r)
+      (kept_end (with_end ends m z) g.runs (group_after g m t).runs i fresh q
+      ∙ end_other ends m z i r)
   told_kind i p (new q r) =
       both i begun fresh
-      (fresh_runs (c i) begun fresh (is_fresh i (less g.runs (after g m t).runs q
+      (fresh_runs (c i) begun fresh (is_fresh i (less g.runs (group_after g m t).runs q
       ∙ ap (λ (j : ℕ). Some j) (sym r))) refl)
-      (at_new count g (after g m t) k m t d a low v i q r)
-      (new_end (with_end ends m z) g.runs (after g m t).runs i fresh q r)
+      (at_new count g (group_after g m t) k m t d a low v i q r)
+      (new_end (with_end ends m z) g.runs (group_after g m t).runs i fresh q r)
 
-  pub told_runs : Agrees count (after g m t) (caller_after k m t d (answer g m t))
+  pub told_runs : Agrees count (group_after g m t) (caller_after k m t d (answer g m t))
       → EndsRun c (caller_after k m t d (answer g m t)).members ends'
   told_runs after_that i p =
-      let q : i < (after g m t).runs =
-      runs_low count (after g m t) (caller_after k m t d (answer g m t)) i after_that p in
-      told_kind i q (kind count g (after g m t) k m t d a low v i q)
+      let q : i < (group_after g m t).runs =
+      runs_low count (group_after g m t) (caller_after k m t d (answer g m t)) i after_that p in
+      told_kind i q (kind count g (group_after g m t) k m t d a low v i q)
 
 -- ---- any run
 
-record Joined {B D : Type 0} (c : ℕ → histories.Caller B D) (count : ℕ) (ms : List (Moment D))
-    (g : Group) (k : Caller D) (ends : ℕ → End B D) : Type 0 where
-  run : IsRun count ms g k
+record Joined {B D : Type 0} (c : ℕ → histories.Caller B D) (count : ℕ) (ms : List (GroupMoment D))
+    (g : Group) (k : Listener D) (ends : ℕ → End B D) : Type 0 where
+  run : IsGroupRun count ms g k
   ends_run : EndsRun c k.members ends
 
 joined :
-    {B D : Type 0} (c : ℕ → histories.Caller B D) (count : ℕ) (ms : List (Moment D)) (g : Group)
-    (k : Caller D) (ends : ℕ → End B D) → IsGroup c count ms g k ends
+    {B D : Type 0} (c : ℕ → histories.Caller B D) (count : ℕ) (ms : List (GroupMoment D))
+    (g : Group)
+    (k : Listener D) (ends : ℕ → End B D) → IsGroup c count ms g k ends
     → Joined c count ms g k ends
 joined c count ms g k ends (group_begins g₀ ends₀ n f) = record {
-  run = run_begins g₀ n;
+  run = group_run_begins g₀ n;
   ends_run = λ i p. fresh_runs (c i) (k.members i) (ends i) (f i) (first_none count (Some i));
 }
 joined c count ms g k ends (goes_on_silently m n e b a r' ms₀ g₀ k₀ ends₀ x p may is silent) =
@@ -270,20 +273,21 @@ joined c count ms g k ends (goes_on m n e b a r' t d fresh ms₀ g₀ k₀ ends�
     let j : Joined c count ms₀ g₀ k₀ ends₀ = joined c count ms₀ g₀ k₀ ends₀ x in
     let y : EndRuns (c m) (k₀.members m) (ends₀ m) = j.ends_run m p in
     let agree : Agrees count g₀ k₀ = agrees count ms₀ g₀ k₀ j.run in
-    let run : IsRun count ms g k = run_goes_on m t d ms₀ g₀ k₀ j.run in
+    let run : IsGroupRun count ms g k = group_run_goes_on m t d ms₀ g₀ k₀ j.run in
     record {
       run = run;
       ends_run =
           told_runs c count g₀ k₀ ends₀ m t d (end_after (c m) (ends₀ m) n e b a r') fresh agree
           (runs_low count g₀ k₀ m agree p) j.ends_run
-          (stepped (c m) (ends₀ m) n e b a r' (k₀.members m) (told t d (k₀.members m)) y may is
+          (stepped (c m) (ends₀ m) n e b a r' (k₀.members m) (once_told t d (k₀.members m)) y may is
           (told_shown (c m) (ends₀ m).host b a t d (k₀.members m) tell came y.has))
           f (agrees count ms g k run);
     }
 
 pub shows_whole :
-    {B D : Type 0} (c : ℕ → histories.Caller B D) (count : ℕ) (ms : List (Moment D)) (g : Group)
-    (k : Caller D) (ends : ℕ → End B D) → IsGroup c count ms g k ends → ShowsWhole c k ends
+    {B D : Type 0} (c : ℕ → histories.Caller B D) (count : ℕ) (ms : List (GroupMoment D))
+    (g : Group)
+    (k : Listener D) (ends : ℕ → End B D) → IsGroup c count ms g k ends → ShowsWhole c k ends
 shows_whole {B = B} {D = D} c count ms g k ends x =
     let j : Joined c count ms g k ends = joined c count ms g k ends x in
     go j (shows_best count ms g k j.run)
@@ -291,7 +295,7 @@ shows_whole {B = B} {D = D} c count ms g k ends x =
     not_none : (o : Option D) (d : D) → o ≡ Some d → o ≡ None → ⊥
     not_none o d p q = grind arith
 
-    is_running : IsRun count ms g k → (m : ℕ) (d : D) → (k.members m).has ≡ Some d
+    is_running : IsGroupRun count ms g k → (m : ℕ) (d : D) → (k.members m).has ≡ Some d
         → (k.members m).runs ≡ true
     is_running run m d p = by_cases (cases_Bool (k.members m).runs)
       where

@@ -14,8 +14,8 @@ use Rattle.rtr_router.specs.Step.{IsStep}
 use Rattle.rtr_group.specs.declared.event.Event.{Event}
 use Rattle.rtr_group.specs.declared.event.Event.TheVariants as events
 use Rattle.rtr_group.specs.declared.group.Group.{Group}
-use Rattle.rtr_group.specs.Groups.{after, answer}
-use Rattle.rtr_group.specs.Runs.{Caller, IsNew, Moment, caller_after, first_caller}
+use Rattle.rtr_group.specs.Groups.{group_after, answer}
+use Rattle.rtr_group.specs.Runs.{Listener, IsNewGroup, GroupMoment, caller_after, first_caller}
 
 -- ---- what a group is told
 
@@ -73,15 +73,15 @@ with_fresh ends (Some k) x i = if i == k then x else ends i
 -- Any run of a group of so many routers' ends, whatever comes to each, and whenever: with the
 -- history of the group, its caller, and the ends.
 pub data IsGroup {Body Data : Type 0} (c : ℕ → histories.Caller Body Data) (count : ℕ) :
-    List (Moment Data) → Group → Caller Data → (ℕ → End Body Data) → Type 0 where
+    List (GroupMoment Data) → Group → Listener Data → (ℕ → End Body Data) → Type 0 where
   group_begins :
       (g : Group) (ends : ℕ → End Body Data)
-      → IsNew count g → ((i : ℕ) → IsFresh (c i) (ends i))
+      → IsNewGroup count g → ((i : ℕ) → IsFresh (c i) (ends i))
       → IsGroup c count [] g (first_caller count) ends
   -- a router's step that the group isn't told of
   goes_on_silently :
       (m n : ℕ) (e : router_event.Event) (b : Body) (a : Action) (r' : Router)
-      (ms : List (Moment Data)) (g : Group) (k : Caller Data) (ends : ℕ → End Body Data)
+      (ms : List (GroupMoment Data)) (g : Group) (k : Listener Data) (ends : ℕ → End Body Data)
       → IsGroup c count ms g k ends
       → (k.members m).runs ≡ true
       → MaySay (ends m).router (ends m).host e → IsStep (ends m).router n e a r'
@@ -91,7 +91,7 @@ pub data IsGroup {Body Data : Type 0} (c : ℕ → histories.Caller Body Data) (
   goes_on :
       (m n : ℕ) (e : router_event.Event) (b : Body) (a : Action) (r' : Router) (told : Event)
       (d : Data) (fresh : End Body Data)
-      (ms : List (Moment Data)) (g : Group) (k : Caller Data) (ends : ℕ → End Body Data)
+      (ms : List (GroupMoment Data)) (g : Group) (k : Listener Data) (ends : ℕ → End Body Data)
       → IsGroup c count ms g k ends
       → (k.members m).runs ≡ true
       → MaySay (ends m).router (ends m).host e → IsStep (ends m).router n e a r'
@@ -100,7 +100,7 @@ pub data IsGroup {Body Data : Type 0} (c : ℕ → histories.Caller Body Data) (
       → ((i : ℕ) → (answer g m told).starts ≡ Some i → IsFresh (c i) fresh)
       → IsGroup c count
       (record { member = m; event = told; came = d; answer = answer g m told } ∷ ms)
-      (after g m told)
+      (group_after g m told)
       (caller_after k m told d (answer g m told))
       (with_fresh
       (with_end ends m (end_after (c m) (ends m) n e b a r')) (answer g m told).starts fresh)
@@ -108,7 +108,7 @@ pub data IsGroup {Body Data : Type 0} (c : ℕ → histories.Caller Body Data) (
 -- What is shown is nothing where no end that runs shows data; else the data that the first of those
 -- shows that show some, and one whole answer of its cache made them, of no data or of that end's
 -- data before it. They haven't expired.
-pub data ShowsWhole {Body Data : Type 0} (c : ℕ → histories.Caller Body Data) (k : Caller Data)
+pub data ShowsWhole {Body Data : Type 0} (c : ℕ → histories.Caller Body Data) (k : Listener Data)
     (ends : ℕ → End Body Data) : Type 0 where
   none_shows :
       k.shown ≡ None

@@ -10,14 +10,14 @@ use Rattle.rtr_group.specs.declared.group.Group.{Group}
 
 -- ---- the most preferred
 
-abbrev pub or_else : Option ℕ → Option ℕ → Option ℕ
-or_else (Some m) _ = Some m
-or_else None o = o
+abbrev pub this_or : Option ℕ → Option ℕ → Option ℕ
+this_or (Some m) _ = Some m
+this_or None o = o
 
 -- the least of the first n members of which this holds
 unfoldable pub best : (holds : ℕ → Bool) → (n : ℕ) → Option ℕ
 best holds zero = None
-best holds (suc n) = or_else (best holds n) (if holds n then Some n else None)
+best holds (suc n) = this_or (best holds n) (if holds n then Some n else None)
 
 -- ---- a group
 
@@ -45,25 +45,25 @@ has_failed g m =
     then record g { runs = g.runs + 1; has = set g.has g.runs false }
     else g
 
-abbrev pub heard : Group → ℕ → Event → Group
-heard g m events.Shows = up_to (record g { has = set g.has m true }) m
-heard g m events.Drops = has_failed (record g { has = set g.has m false }) m
-heard g m events.Fails = has_failed g m
-heard g m events.Well = if get_or g.has m false then up_to g m else g
+abbrev pub once_heard : Group → ℕ → Event → Group
+once_heard g m events.Shows = up_to (record g { has = set g.has m true }) m
+once_heard g m events.Drops = has_failed (record g { has = set g.has m false }) m
+once_heard g m events.Fails = has_failed g m
+once_heard g m events.Well = if get_or g.has m false then up_to g m else g
 
 -- what is said of a member that doesn't run is passed over
-abbrev pub after : Group → ℕ → Event → Group
-after g m e = if is_running g m then heard g m e else g
+abbrev pub group_after : Group → ℕ → Event → Group
+group_after g m e = if is_running g m then once_heard g m e else g
 
 -- ---- what its caller does
 
 -- other data are shown where the best member is another one, or has new data
-abbrev pub change : (before now news : Option ℕ) → Shown
-change None None news = shows.Same
-change (Some b) None news = shows.Nothing
-change None (Some k) news = shows.Data k
-change (Some b) (Some k) None = if k == b then shows.Same else shows.Data k
-change (Some b) (Some k) (Some m) =
+abbrev pub change_shown : (before now news : Option ℕ) → Shown
+change_shown None None news = shows.Same
+change_shown (Some b) None news = shows.Nothing
+change_shown None (Some k) news = shows.Data k
+change_shown (Some b) (Some k) None = if k == b then shows.Same else shows.Data k
+change_shown (Some b) (Some k) (Some m) =
     if (k == b) && not (k == m) then shows.Same else shows.Data k
 
 -- the member that has new data
@@ -76,7 +76,7 @@ if_less a b = if nat_lt a b then Some a else None
 
 abbrev pub answer : Group → ℕ → Event → Answer
 answer g m e = record {
-  shown = change (best_of g) (best_of (after g m e)) (news m e);
-  stops = if_less (after g m e).runs g.runs;
-  starts = if_less g.runs (after g m e).runs;
+  shown = change_shown (best_of g) (best_of (group_after g m e)) (news m e);
+  stops = if_less (group_after g m e).runs g.runs;
+  starts = if_less g.runs (group_after g m e).runs;
 }

@@ -1,9 +1,9 @@
 //! A group of members by preference.
 
 ghost use Rattle.std.specs.Prelude.{◌≡◌, true};
-ghost use Rattle.rtr_group.specs.Groups.{after, answer, best_of, change, has_data, has_failed};
-ghost use Rattle.rtr_group.specs.Groups.{heard, if_less, is_running, news};
-ghost use Rattle.rtr_group.specs.Runs.{IsNew};
+ghost use Rattle.rtr_group.specs.Groups.{answer, best_of, change_shown, group_after, has_data};
+ghost use Rattle.rtr_group.specs.Groups.{has_failed, if_less, is_running, news, once_heard};
+ghost use Rattle.rtr_group.specs.Runs.{IsNewGroup};
 
 use crate::event::{Answer, Event, Shown};
 
@@ -24,7 +24,7 @@ pub struct Group {
 impl Group {
     /// A group of so many members, at most 16, without data. Its caller starts the first member.
     pub fn new(count: usize) -> Group
-        ensures { IsNew count result }
+        ensures { IsNewGroup count result }
     {
         Group {
             count: count.min(MOST),
@@ -55,7 +55,7 @@ impl Group {
     /// The next step: this happened to a member. What is said of one that doesn't run is passed
     /// over.
     pub fn step(&mut self, member: usize, event: Event) -> Answer
-        ensures group { self.new ≡ after self.old member event }
+        ensures group { self.new ≡ group_after self.old member event }
         ensures answer { result ≡ answer self.old member event }
     {
         let shown = self.best();
@@ -73,7 +73,7 @@ impl Group {
     /// What a member that runs makes of the group.
     fn hear(&mut self, member: usize, event: Event)
         requires running { is_running self.old member ≡ true }
-        ensures { self.new ≡ heard self.old member event }
+        ensures { self.new ≡ once_heard self.old member event }
     {
         match event {
             Event::Shows => {
@@ -108,7 +108,7 @@ impl Group {
 /// What becomes of what is shown, where the best member was and is this one, and that one has new
 /// data.
 fn change(before: Option<usize>, now: Option<usize>, news: Option<usize>) -> Shown
-    ensures { result ≡ change before now news }
+    ensures { result ≡ change_shown before now news }
 {
     match (before, now) {
         (None, None) => Shown::Same,
