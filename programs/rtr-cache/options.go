@@ -11,6 +11,7 @@ import (
 	"fishreef/programs/internal/payloads"
 	"fishreef/programs/internal/transport"
 	"fishreef/programs/internal/words"
+	"fishreef/rtr"
 )
 
 // ofFiles are the options about files and data.
@@ -86,12 +87,13 @@ func (w *wanted) ofData() []words.Option {
 
 // ofTimings are the options about the times of data.
 func (w *wanted) ofTimings() []words.Option {
-	s := &w.settings
+	s, usual := &w.settings, rtr.RecommendedTiming
 	return []words.Option{
 		{
 			Name: "refresh", Argument: "N",
-			Help: "the timings of the data in seconds: 3600, 600 and 7200",
-			Set:  words.Seconds(&s.Timing.Refresh),
+			Help: fmt.Sprintf("the timings of the data in seconds: %d, %d and %d", usual.Refresh,
+				usual.Retry, usual.Expire),
+			Set: words.Seconds(&s.Timing.Refresh),
 		},
 		{
 			Name: "retry", Argument: "N",
