@@ -3,10 +3,9 @@ use Rattle.std.proofs.Common.{◌≡◌, ℕ, Bool, false, List, [], Option}
 use Rattle.std.proofs.Common.{MatchResult, Result, Ok, Err, inr, refl, sym, subst}
 use Rattle.std.specs.Bool.{MatchBool}
 use Rattle.json.specs.Json.{Json}
-use Rattle.rtr_payload.specs.declared.payload.Payload.{Payload}
 use Rattle.rtr_vrps.specs.JsonNames.{holding_named, is_family}
 use Rattle.rtr_vrps.specs.JsonPayloads.{AreFamilyPayloads, AreNoPayloads, ArePayloadsBy}
-use Rattle.rtr_vrps.specs.JsonPayloads.{ArePayloadsIn, AreTopPayloads, HasPayloads}
+use Rattle.rtr_vrps.specs.JsonPayloads.{ArePayloadsIn, AreTopPayloads, Dated, HasPayloads}
 use Rattle.rtr_vrps.specs.JsonRefusals.{OrMemory, RefusesBy, RefusesFamily, RefusesPayloads}
 use Rattle.rtr_vrps.specs.JsonRefusals.{RefusesTop, RefusesUnknown}
 use Rattle.rtr_vrps.specs.MakeWords.{is_one_of}
@@ -19,7 +18,7 @@ use Rattle.rtr_vrps.specs.declared.json_names.Kind.TheVariants.{Aspas}
 use Rattle.rtr_vrps.proofs.JsonSoFar.{nothing}
 
 -- payloads of this kind come, or this is why not
-abbrev pub Reads : {T : Type 0} → (List Payload → Type 0) → (Reason → Type 0) →
+abbrev pub Reads : {T : Type 0} → (List Dated → Type 0) → (Reason → Type 0) →
     Result T Refusal → List Item → List Item → Type 0
 Reads Are Refuses r old new =
     MatchResult r (λ _. AddsPayloads Are old new) (λ e. OrMemory Refuses e.reason)
@@ -32,7 +31,7 @@ pub top_by : {T : Type 0} (ignored : List (List ℕ)) (name : List ℕ) (j : Jso
     Reads (AreTopPayloads ignored name j) (RefusesTop ignored (name, j)) r old new
 top_by ignored name j h r old new e f reads =
     subst
-    (λ b. Reads (λ ps. MatchBool b (◌≡◌ {A = List Payload} ps [])
+    (λ b. Reads (λ ps. MatchBool b (◌≡◌ {A = List Dated} ps [])
     (ArePayloadsBy (holding_named name) j ps))
     (λ why. MatchBool b ⊥ (RefusesBy (holding_named name) j why)) r old new) (sym e)
     (subst (λ k. Reads (ArePayloadsBy k j) (RefusesBy k j) r old new) (sym f) reads)

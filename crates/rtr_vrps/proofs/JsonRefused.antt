@@ -7,9 +7,8 @@ use Rattle.std.specs.List.{AllByRecursion}
 use Rattle.json.specs.Json.{Json}
 use Rattle.json.specs.Value.{items_view, members_view, value_view}
 use Rattle.json.specs.declared.value.Value.{Value}
-use Rattle.rtr_payload.specs.declared.payload.Payload.{Payload}
 use Rattle.rtr_vrps.specs.JsonPayloads.{AreCustomerAspas, AreItemPayloads, ArePayloadsOfEach}
-use Rattle.rtr_vrps.specs.JsonPayloads.{AreTopPayloads}
+use Rattle.rtr_vrps.specs.JsonPayloads.{AreTopPayloads, Dated}
 use Rattle.rtr_vrps.specs.JsonRefusals.{IsSomeCustomer, IsSomeItem, OrMemory}
 use Rattle.rtr_vrps.specs.JsonRefusals.{HasTopPayloads, RefusesArrayItem, RefusesAsn}
 use Rattle.rtr_vrps.specs.JsonRefusals.{RefusesCustomer, RefusesFirst, RefusesMembers, RefusesTop}
@@ -41,21 +40,21 @@ fine_asns [] ns h = tt
 fine_asns (j ∷ js) [] h = absurd h
 fine_asns (j ∷ js) (n ∷ ns) h = ((n, h.0), fine_asns js ns h.1)
 
-fine_items : (kind : Kind) (js : List Json) (ps : List Payload) → AreItemPayloads kind js ps →
+fine_items : (kind : Kind) (js : List Json) (ps : List Dated) → AreItemPayloads kind js ps →
     AllByRecursion (IsSomeItem kind) js
 fine_items kind [] ps h = tt
 fine_items kind (j ∷ js) [] h = absurd h
-fine_items kind (j ∷ js) (p ∷ ps) h = ((p, h.0), fine_items kind js ps h.1)
+fine_items kind (j ∷ js) (p ∷ ps) h = ((p.0, h.0.0), fine_items kind js ps h.1)
 
-fine_customers : (ms : List (List ℕ × Json)) (ps : List Payload) → AreCustomerAspas ms ps →
+fine_customers : (ms : List (List ℕ × Json)) (ps : List Dated) → AreCustomerAspas ms ps →
     AllByRecursion IsSomeCustomer ms
 fine_customers [] ps h = tt
 fine_customers (m ∷ ms) [] h = absurd h
-fine_customers (m ∷ ms) (p ∷ ps) h = ((p, h.0), fine_customers ms ps h.1)
+fine_customers (m ∷ ms) (p ∷ ps) h = ((p.0, h.0.0), fine_customers ms ps h.1)
 
-pub fine_each : (Each : List ℕ → Json → List Payload → Type 0) (ms : List (List ℕ × Json))
-    (ps : List Payload) → ArePayloadsOfEach Each ms ps →
-    AllByRecursion (λ m. (qs : List Payload) × Each m.0 m.1 qs) ms
+pub fine_each : (Each : List ℕ → Json → List Dated → Type 0) (ms : List (List ℕ × Json))
+    (ps : List Dated) → ArePayloadsOfEach Each ms ps →
+    AllByRecursion (λ m. (qs : List Dated) × Each m.0 m.1 qs) ms
 fine_each Each [] ps h = tt
 fine_each Each (m ∷ ms) ps (here, later, is, means, rest) =
     ((here, means), fine_each Each ms later rest)
@@ -149,18 +148,18 @@ module _ {A : Type 0} where
       (λ w k. members_refused IsSomeCustomer RefusesCustomer ms i x w small is
       (fine_customers _ _ a.payloads) k) r
 
-  pub each_refused : (Each : List ℕ → Json → List Payload → Type 0)
+  pub each_refused : (Each : List ℕ → Json → List Dated → Type 0)
       (Refuses : List ℕ × Json → Reason → Type 0) (ms : List (Member A)) (i : ℕ) (x : Member A)
       (old mid : List Item) (why : Reason) → i < length ms → x ≡ get_or ms i x →
       AddsPayloads (ArePayloadsOfEach Each (members_list (members_view (take i ms)))) old mid →
       OrMemory (Refuses (x.0.now, value_view x.1)) why →
-      OrMemory (RefusesFirst (λ m. (ps : List Payload) × Each m.0 m.1 ps) Refuses
+      OrMemory (RefusesFirst (λ m. (ps : List Dated) × Each m.0 m.1 ps) Refuses
       (members_list (members_view ms))) why
   each_refused Each Refuses ms i x old mid why small is a r =
       or_memory (Refuses (x.0.now, value_view x.1))
-      (RefusesFirst (λ m. (ps : List Payload) × Each m.0 m.1 ps) Refuses
+      (RefusesFirst (λ m. (ps : List Dated) × Each m.0 m.1 ps) Refuses
       (members_list (members_view ms))) why
-      (λ w k. members_refused (λ m. (ps : List Payload) × Each m.0 m.1 ps) Refuses ms i x w small is
+      (λ w k. members_refused (λ m. (ps : List Dated) × Each m.0 m.1 ps) Refuses ms i x w small is
       (fine_each Each _ _ a.payloads) k) r
 
   -- a member of the object at the top is refused, or none has payloads by its name

@@ -1,7 +1,7 @@
 -- What items have of a document of which some was read.
 use Rattle.std.proofs.Common.{◌≡◌, ℕ, ◌+◌, ◌<◌, ◌≤◌, List, [], ◌∷◌, ◌++◌, take, length, get_or}
 use Rattle.std.proofs.Common.{refl, sym, ap, subst, ◌∙◌, append_assoc, Vec, Some, Bool, false}
-use Rattle.std.proofs.Common.{rules}
+use Rattle.std.proofs.Common.{rules, inl, MatchResult, Result, Ok, Err}
 use Rattle.std.proofs.lemmas.List.{append-nil, take_all, take_more}
 use Rattle.std.specs.Bool.{MatchBool}
 use Rattle.std.specs.Borrow.{Bor}
@@ -10,16 +10,21 @@ use Rattle.json.specs.Json.{Json, array, number, object}
 use Rattle.json.specs.Value.{items_view, members_view, value_view}
 use Rattle.json.proofs.Trees.{view-Array, view-Object}
 use Rattle.json.specs.declared.value.Value.{Array, Number, Object, Value, the_lemmas}
-use Rattle.rtr_payload.specs.declared.payload.Payload.{Payload}
 use Rattle.rtr_vrps.specs.JsonPayloads.{AreCustomerAspas, AreItemPayloads, ArePayloadsOfEach}
 use Rattle.rtr_vrps.specs.JsonNames.{holding_named}
 use Rattle.rtr_vrps.specs.JsonPayloads.{ArePayloadsBy, AreTopPayloads, holds_part, is_array}
-use Rattle.rtr_vrps.specs.JsonPayloads.{IsCustomerAspa, IsItemPayload}
+use Rattle.rtr_vrps.specs.JsonPayloads.{Dated, IsDatedCustomer, IsDatedItem, dated}
 use Rattle.rtr_vrps.specs.MakeWords.{is_one_of}
 use Rattle.rtr_vrps.specs.declared.json_names.Holding.TheVariants.{Metadata}
 use Rattle.rtr_vrps.specs.JsonValues.{AreAsnValues, IsAsnValue, items_list, members_list}
 use Rattle.rtr_vrps.specs.PrivateJson.{AddsOne, AddsPayloads, payloads_of}
+use Rattle.rtr_payload.specs.declared.payload.Payload.{Payload}
+use Rattle.rtr_vrps.specs.JsonRefusals.{OrMemory}
+use Rattle.rtr_vrps.specs.declared.item.Expiry.{Expiry}
 use Rattle.rtr_vrps.specs.declared.item.Item.{Item}
+use Rattle.rtr_vrps.specs.declared.item.Reason.{Reason}
+use Rattle.rtr_vrps.specs.declared.item.Reason.TheVariants.{Memory}
+use Rattle.rtr_vrps.specs.declared.item.Refusal.{Refusal}
 use Rattle.rtr_vrps.specs.declared.json_names.Kind.{Kind}
 use Rattle.rtr_vrps.specs.declared.json_names.Part.{Part}
 
@@ -64,24 +69,24 @@ asns_more [] (m ∷ ns) j n h k = absurd h
 asns_more (i ∷ js) [] j n h k = absurd h
 asns_more (i ∷ js) (m ∷ ns) j n h k = (h.0, asns_more js ns j n h.1 k)
 
-pub item_more : (kind : Kind) (js : List Json) (ps : List Payload) (j : Json) (p : Payload) →
-    AreItemPayloads kind js ps → IsItemPayload kind j p →
+pub item_more : (kind : Kind) (js : List Json) (ps : List Dated) (j : Json) (p : Dated) →
+    AreItemPayloads kind js ps → IsDatedItem kind j p →
     AreItemPayloads kind (js ++ j ∷ []) (ps ++ p ∷ [])
 item_more kind [] [] j p h k = (k, tt)
 item_more kind [] (q ∷ ps) j p h k = absurd h
 item_more kind (i ∷ js) [] j p h k = absurd h
 item_more kind (i ∷ js) (q ∷ ps) j p h k = (h.0, item_more kind js ps j p h.1 k)
 
-pub customer_more : (ms : List (List ℕ × Json)) (ps : List Payload) (m : List ℕ × Json)
-    (p : Payload) → AreCustomerAspas ms ps → IsCustomerAspa m.0 m.1 p →
+pub customer_more : (ms : List (List ℕ × Json)) (ps : List Dated) (m : List ℕ × Json)
+    (p : Dated) → AreCustomerAspas ms ps → IsDatedCustomer m.0 m.1 p →
     AreCustomerAspas (ms ++ m ∷ []) (ps ++ p ∷ [])
 customer_more [] [] m p h k = (k, tt)
 customer_more [] (q ∷ ps) m p h k = absurd h
 customer_more (n ∷ ms) [] m p h k = absurd h
 customer_more (n ∷ ms) (q ∷ ps) m p h k = (h.0, customer_more ms ps m p h.1 k)
 
-pub each_more : (Each : List ℕ → Json → List Payload → Type 0) (ms : List (List ℕ × Json))
-    (ps : List Payload) (m : List ℕ × Json) (more : List Payload) →
+pub each_more : (Each : List ℕ → Json → List Dated → Type 0) (ms : List (List ℕ × Json))
+    (ps : List Dated) (m : List ℕ × Json) (more : List Dated) →
     ArePayloadsOfEach Each ms ps → Each m.0 m.1 more →
     ArePayloadsOfEach Each (ms ++ m ∷ []) (ps ++ more)
 each_more Each [] ps m more h k =
@@ -98,15 +103,15 @@ each_more Each (n ∷ ms) ps m more (first, later, is, here, rest) k = (
 
 map_append : (xs ys : List Item) → payloads_of (xs ++ ys) ≡ payloads_of xs ++ payloads_of ys
 map_append [] ys = refl
-map_append (x ∷ xs) ys = ap (λ l. x.payload ∷ l) (map_append xs ys)
+map_append (x ∷ xs) ys = ap (λ l. dated x ∷ l) (map_append xs ys)
 
-pub nothing : (Holds : List Payload → Type 0) (old : List Item) → Holds [] →
+pub nothing : (Holds : List Dated → Type 0) (old : List Item) → Holds [] →
     AddsPayloads Holds old old
 nothing Holds old h = record { more = []; added = sym (append-nil old); payloads = h }
 
 -- first these, and then those
-pub both : (First Second Whole : List Payload → Type 0) (old mid new : List Item) →
-    ((ps qs : List Payload) → First ps → Second qs → Whole (ps ++ qs)) →
+pub both : (First Second Whole : List Dated → Type 0) (old mid new : List Item) →
+    ((ps qs : List Dated) → First ps → Second qs → Whole (ps ++ qs)) →
     AddsPayloads First old mid → AddsPayloads Second mid new → AddsPayloads Whole old new
 both First Second Whole old mid new whole a b = record {
   more = a.more ++ b.more;
@@ -116,15 +121,15 @@ both First Second Whole old mid new whole a b = record {
 }
 
 -- an item more
-pub one : (First Whole : List Payload → Type 0) (Means : Payload → Type 0)
+pub one : (First Whole : List Dated → Type 0) (Means : Dated → Type 0)
     (old mid new : List Item) →
-    ((ps : List Payload) (p : Payload) → First ps → Means p → Whole (ps ++ p ∷ [])) →
+    ((ps : List Dated) (p : Dated) → First ps → Means p → Whole (ps ++ p ∷ [])) →
     AddsPayloads First old mid → AddsOne Means mid new → AddsPayloads Whole old new
 one First Whole Means old mid new whole a b = record {
   more = a.more ++ b.item ∷ [];
   added = b.added ∙ ap (λ l. l ++ b.item ∷ []) a.added ∙ append_assoc old a.more (b.item ∷ []);
   payloads = subst Whole (sym (map_append a.more (b.item ∷ [])))
-      (whole (payloads_of a.more) b.item.payload a.payloads b.meant);
+      (whole (payloads_of a.more) (dated b.item) a.payloads b.meant);
 }
 
 -- ---- after the first elements
@@ -148,13 +153,13 @@ module _ {A : Type 0} where
   pub list_step : (kind : Kind) (vs : List (Value A)) (i : ℕ) (x : Value A)
       (old mid new : List Item) → i < length vs → x ≡ get_or vs i x →
       AddsPayloads (AreItemPayloads kind (items_list (items_view (take i vs)))) old mid →
-      AddsOne (IsItemPayload kind (value_view x)) mid new →
+      AddsOne (IsDatedItem kind (value_view x)) mid new →
       AddsPayloads (AreItemPayloads kind (items_list (items_view (take (i + 1) vs)))) old new
   list_step kind vs i x old mid new small is a b =
       one _ _ _ old mid new
       (λ ps p h k.
       subst (λ js. AreItemPayloads kind js (ps ++ p ∷ [])) (sym (values_to vs i x small))
-      (item_more kind _ ps _ p h (subst (λ v. IsItemPayload kind (value_view v) p) is k))) a b
+      (item_more kind _ ps _ p h (subst (λ v. IsDatedItem kind (value_view v) p) is k))) a b
 
   pub list_all : (kind : Kind) (vs : List (Value A)) (i : ℕ) (old new : List Item) →
       length vs ≤ i →
@@ -167,13 +172,13 @@ module _ {A : Type 0} where
   pub customer_step : (ms : List (Member A)) (i : ℕ) (x : Member A) (old mid new : List Item) →
       i < length ms → x ≡ get_or ms i x →
       AddsPayloads (AreCustomerAspas (members_list (members_view (take i ms)))) old mid →
-      AddsOne (IsCustomerAspa x.0.now (value_view x.1)) mid new →
+      AddsOne (IsDatedCustomer x.0.now (value_view x.1)) mid new →
       AddsPayloads (AreCustomerAspas (members_list (members_view (take (i + 1) ms)))) old new
   customer_step ms i x old mid new small is a b =
       one _ _ _ old mid new
       (λ ps p h k. subst (λ l. AreCustomerAspas l (ps ++ p ∷ [])) (sym (members_to ms i x small))
       (customer_more _ ps _ p h
-      (subst (λ (m : Member A). IsCustomerAspa m.0.now (value_view m.1) p) is k))) a b
+      (subst (λ (m : Member A). IsDatedCustomer m.0.now (value_view m.1) p) is k))) a b
 
   pub customer_all : (ms : List (Member A)) (i : ℕ) (old new : List Item) → length ms ≤ i →
       AddsPayloads (AreCustomerAspas (members_list (members_view (take i ms)))) old new →
@@ -182,7 +187,7 @@ module _ {A : Type 0} where
       subst (λ l. AddsPayloads (AreCustomerAspas (members_list (members_view l))) old new)
       (take_all i ms large) h
 
-  pub each_step : (Each : List ℕ → Json → List Payload → Type 0) (ms : List (Member A)) (i : ℕ)
+  pub each_step : (Each : List ℕ → Json → List Dated → Type 0) (ms : List (Member A)) (i : ℕ)
       (x : Member A) (old mid new : List Item) → i < length ms → x ≡ get_or ms i x →
       AddsPayloads (ArePayloadsOfEach Each (members_list (members_view (take i ms)))) old mid →
       AddsPayloads (Each x.0.now (value_view x.1)) mid new →
@@ -193,7 +198,7 @@ module _ {A : Type 0} where
       (each_more Each _ ps _ qs h
       (subst (λ (m : Member A). Each m.0.now (value_view m.1) qs) is k))) a b
 
-  pub each_all : (Each : List ℕ → Json → List Payload → Type 0) (ms : List (Member A)) (i : ℕ)
+  pub each_all : (Each : List ℕ → Json → List Dated → Type 0) (ms : List (Member A)) (i : ℕ)
       (old new : List Item) → length ms ≤ i →
       AddsPayloads (ArePayloadsOfEach Each (members_list (members_view (take i ms)))) old new →
       AddsPayloads (ArePayloadsOfEach Each (members_list (members_view ms))) old new
@@ -201,8 +206,17 @@ module _ {A : Type 0} where
       subst (λ l. AddsPayloads (ArePayloadsOfEach Each (members_list (members_view l))) old new)
       (take_all i ms large) h
 
+-- an item more, by what its payload and its expiry mean; or memory ran out
+pub pushed : {T : Type 0} (r : Result T Refusal) (p : Payload) (e : Expiry)
+    (Means : Dated → Type 0) (Refuses : Reason → Type 0) (old new : List Item) → Means (p, e) →
+    MatchResult r (λ _. AddsOne (λ q. q ≡ (p, e)) old new) (λ x. x.reason ≡ Memory) →
+    MatchResult r (λ _. AddsOne Means old new) (λ x. OrMemory Refuses x.reason)
+pushed (Ok t) p e Means Refuses old new m a =
+    record { item = a.item; meant = subst Means (sym a.meant) m; added = a.added }
+pushed (Err x) p e Means Refuses old new m a = inl a
+
 -- all items there are, where there was none
-pub from_none : (Holds : List Payload → Type 0) (items : List Item) →
+pub from_none : (Holds : List Dated → Type 0) (items : List Item) →
     AddsPayloads Holds [] items → Holds (payloads_of items)
 from_none Holds items h = subst (λ l. Holds (payloads_of l)) (sym h.added) h.payloads
 
@@ -229,7 +243,7 @@ pub top_none : (ignored : List (List ℕ)) (name : List ℕ) (j : Json) →
     is_one_of ignored name ≡ false → holding_named name ≡ Some Metadata →
     AreTopPayloads ignored name j []
 top_none ignored name j e f =
-    subst (λ b. MatchBool b (◌≡◌ {A = List Payload} [] [])
+    subst (λ b. MatchBool b (◌≡◌ {A = List Dated} [] [])
     (ArePayloadsBy (holding_named name) j [])) (sym e)
     (subst (λ h. ArePayloadsBy h j []) (sym f) refl)
 

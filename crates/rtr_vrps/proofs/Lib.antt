@@ -6,6 +6,8 @@ pub mod JsonSoFar
 pub mod Lacking
 pub mod SeenSoFar
 pub mod SoFar
+pub mod TimesSoFar
+pub mod ManyTimes
 pub mod AnySoFar
 pub mod AskedFor
 pub mod Origins

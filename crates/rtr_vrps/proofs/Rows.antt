@@ -17,9 +17,9 @@ use Rattle.csv.specs.Records.{AllText}
 use Rattle.csv.specs.declared.parser.State.{State}
 use Rattle.csv.specs.declared.parser.State.TheVariants.{StartRecord}
 use Rattle.rtr_base.proofs.Parsing.{refuses_len}
-use Rattle.rtr_vrps.specs.CsvItems.{AreItemsOf, HasNoOrigin, HasNoText, HasItems}
+use Rattle.rtr_vrps.specs.CsvItems.{AreItemsOf, HasNoOrigin, HasNoText, HasItems, IsItemOf}
 use Rattle.rtr_vrps.specs.CsvItems.{RefusesRows, without_header}
-use Rattle.rtr_vrps.specs.CsvRows.{IsMaxLengthField, IsPayloadRow, RefusesRow, is_header}
+use Rattle.rtr_vrps.specs.CsvRows.{IsMaxLengthField, RefusesRow, is_header}
 use Rattle.rtr_vrps.specs.PrivateCsv.{AddsItem, RefusesItem, reason_of}
 use Rattle.rtr_vrps.specs.declared.item.Item.{Item}
 use Rattle.rtr_vrps.specs.declared.item.Reason.{Reason}
@@ -41,7 +41,7 @@ all_text [] row h t = (t, tt)
 all_text (r ∷ rows) row h t = (h.0, all_text rows row h.1 t)
 
 one_item : (rows : List (List (List ℕ))) (items : List Item) (row : List (List ℕ)) (i : Item) →
-    AreItemsOf rows items → IsPayloadRow row i.payload →
+    AreItemsOf rows items → IsItemOf row i →
     AreItemsOf (rows ++ row ∷ []) (items ++ i ∷ [])
 one_item [] [] row i h is = (is, tt)
 one_item [] (j ∷ items) row i h is = absurd h

@@ -9,6 +9,7 @@ use Rattle.csv.specs.declared.parser.State.{State}
 use Rattle.csv.specs.declared.parser.State.TheVariants.{StartRecord}
 use Rattle.rtr_vrps.specs.CsvQuotes.{AreQuotesWell, RefusesQuotes}
 use Rattle.rtr_vrps.specs.CsvRows.{IsPayloadRow, RefusesRow, is_header}
+use Rattle.rtr_vrps.specs.declared.item.Expiry.TheVariants.{Never}
 use Rattle.rtr_vrps.specs.declared.item.Item.{Item}
 use Rattle.rtr_vrps.specs.declared.item.Reason.{Reason}
 use Rattle.rtr_vrps.specs.declared.item.Reason.TheVariants.{NotText, Memory}
@@ -27,10 +28,13 @@ abbrev pub without_header : List (List (List ℕ)) → List (List (List ℕ))
 without_header [] = []
 without_header (row ∷ rows) = if is_header row then rows else row ∷ rows
 
--- an item of each row, in order, with its origin
+abbrev pub IsItemOf : List (List ℕ) → Item → Type 0
+IsItemOf row i = IsPayloadRow row i.payload × (i.expiry ≡ Never)
+
+-- an item of each row, in order, with its origin; nothing says when it expires
 abbrev pub AreItemsOf : List (List (List ℕ)) → List Item → Type 0
 AreItemsOf [] [] = ⊤
-AreItemsOf (row ∷ rows) (i ∷ items) = IsPayloadRow row i.payload × AreItemsOf rows items
+AreItemsOf (row ∷ rows) (i ∷ items) = IsItemOf row i × AreItemsOf rows items
 AreItemsOf rows others = ⊥
 
 -- all rows are text, and all but a header are origins: those of the items

@@ -56,6 +56,8 @@ part_names parts.KeyInfo = codes "pubkey" ∷ codes "routerpublickey" ∷ codes 
 -- Routinator `customer`, rpki-client and stayrtr `customer_asid`
 part_names parts.Customer = codes "customer" ∷ codes "customerasid" ∷ []
 part_names parts.Providers = codes "providers" ∷ []
+-- rpki-client, stayrtr
+part_names parts.Expires = codes "expires" ∷ []
 
 -- what a refusal calls a part that is missing: as rpki-client prints it, and the customer as
 -- Routinator does
@@ -67,6 +69,7 @@ usual_name parts.KeyIdentifier = codes "ski"
 usual_name parts.KeyInfo = codes "pubkey"
 usual_name parts.Customer = codes "customer"
 usual_name parts.Providers = codes "providers"
+usual_name parts.Expires = codes "expires"
 
 -- ---- a name against the table
 

@@ -18,9 +18,12 @@ use Rattle.rtr_base.specs.ReadTexts.{IsAsnText}
 use Rattle.rtr_vrps.specs.JsonNames.{holding_named, is_family, is_part}
 use Rattle.rtr_vrps.specs.JsonValues.{IsAsnValue, IsPrefixValue, IsMaxLengthValue, IsKeyInfoValue}
 use Rattle.rtr_vrps.specs.JsonValues.{IsKeyIdentifierValue, AreProviderValues, items_list}
+use Rattle.rtr_vrps.specs.JsonValues.{expiry_of_value}
 use Rattle.rtr_vrps.specs.JsonValues.{IsAsnArray, IsSomeAsn, IsSomeAsnText, IsSomePrefix, SomeIs}
 use Rattle.rtr_vrps.specs.JsonValues.{members_list}
 use Rattle.rtr_vrps.specs.MakeWords.{is_one_of}
+use Rattle.rtr_vrps.specs.declared.item.Expiry.{Expiry}
+use Rattle.rtr_vrps.specs.declared.item.Expiry.TheVariants.{Never, Twice}
 use Rattle.rtr_vrps.specs.declared.item.Item.{Item}
 use Rattle.rtr_vrps.specs.declared.json_names.Holding.{Holding}
 use Rattle.rtr_vrps.specs.declared.json_names.Holding.TheVariants as holdings
@@ -65,6 +68,25 @@ abbrev pub IsPayloadObject : Kind → List (List ℕ × Json) → Payload → Ty
 IsPayloadObject Origins ms p = (o : RouteOrigin) × (p ≡ payloads.Origin o) × IsOriginObject ms o
 IsPayloadObject RouterKeys ms p = (k : RouterKey) × (p ≡ payloads.RouterKey k) × IsKeyObject ms k
 IsPayloadObject Aspas ms p = (a : Aspa) × (p ≡ payloads.Aspa a) × IsAspaObject ms a
+
+-- ---- when an item expires
+
+abbrev pub expiry_of_values : List Json → Expiry
+expiry_of_values [] = Never
+expiry_of_values (j ∷ []) = expiry_of_value j
+expiry_of_values (j ∷ k ∷ js) = Twice
+
+-- by the member that says it, if one does
+abbrev pub object_expiry : List (List ℕ × Json) → Expiry
+object_expiry ms = expiry_of_values (values_of parts.Expires ms)
+
+abbrev pub item_expiry : Json → Expiry
+item_expiry (object ms) = object_expiry (members_list ms)
+item_expiry other = Never
+
+-- a payload, and when it expires
+abbrev pub Dated : Type 0
+Dated = Payload × Expiry
 
 -- ---- what is refused under names that aren't known
 
@@ -117,10 +139,13 @@ abbrev pub IsItemPayload : Kind → Json → Payload → Type 0
 IsItemPayload kind (object ms) p = IsPayloadObject kind (members_list ms) p
 IsItemPayload kind other p = ⊥
 
+abbrev pub IsDatedItem : Kind → Json → Dated → Type 0
+IsDatedItem kind j p = IsItemPayload kind j p.0 × (p.1 ≡ item_expiry j)
+
 -- a payload of each item, in order
-abbrev pub AreItemPayloads : Kind → List Json → List Payload → Type 0
+abbrev pub AreItemPayloads : Kind → List Json → List Dated → Type 0
 AreItemPayloads kind [] [] = ⊤
-AreItemPayloads kind (j ∷ js) (p ∷ ps) = IsItemPayload kind j p × AreItemPayloads kind js ps
+AreItemPayloads kind (j ∷ js) (p ∷ ps) = IsDatedItem kind j p × AreItemPayloads kind js ps
 AreItemPayloads kind js ps = ⊥
 
 -- the ASPA of the customer that a name is, with the providers in its value
@@ -128,47 +153,51 @@ abbrev pub IsCustomerAspa : List ℕ → Json → Payload → Type 0
 IsCustomerAspa name j p = (a : Aspa) × (p ≡ payloads.Aspa a) × IsAsnText name a.customer
     × AreProviderValues j a.providers
 
+-- nothing says when it expires
+abbrev pub IsDatedCustomer : List ℕ → Json → Dated → Type 0
+IsDatedCustomer name j p = IsCustomerAspa name j p.0 × (p.1 ≡ Never)
+
 -- one of each member, in order
-abbrev pub AreCustomerAspas : List (List ℕ × Json) → List Payload → Type 0
+abbrev pub AreCustomerAspas : List (List ℕ × Json) → List Dated → Type 0
 AreCustomerAspas [] [] = ⊤
-AreCustomerAspas (m ∷ ms) (p ∷ ps) = IsCustomerAspa m.0 m.1 p × AreCustomerAspas ms ps
+AreCustomerAspas (m ∷ ms) (p ∷ ps) = IsDatedCustomer m.0 m.1 p × AreCustomerAspas ms ps
 AreCustomerAspas ms ps = ⊥
 
 -- the payloads of this kind in a value: an array of them, none in `null`, or ASPAs by customers
-abbrev pub ArePayloadsIn : Kind → Json → List Payload → Type 0
+abbrev pub ArePayloadsIn : Kind → Json → List Dated → Type 0
 ArePayloadsIn kind null ps = ps ≡ []
 ArePayloadsIn kind (array js) ps = AreItemPayloads kind (items_list js) ps
 ArePayloadsIn Aspas (object ms) ps = AreCustomerAspas (members_list ms) ps
 ArePayloadsIn kind other ps = ⊥
 
 -- what lies under a name that isn't known: nothing that looks like payloads, and so none
-abbrev pub AreNoPayloads : Json → List Payload → Type 0
+abbrev pub AreNoPayloads : Json → List Dated → Type 0
 AreNoPayloads j ps = (¬ HasPayloads j) × (ps ≡ [])
 
 -- the payloads in the values of members one after the other, by what each has
-abbrev pub ArePayloadsOfEach : (List ℕ → Json → List Payload → Type 0) → List (List ℕ × Json) →
-    List Payload → Type 0
+abbrev pub ArePayloadsOfEach : (List ℕ → Json → List Dated → Type 0) → List (List ℕ × Json) →
+    List Dated → Type 0
 ArePayloadsOfEach Each [] ps = ps ≡ []
-ArePayloadsOfEach Each (m ∷ ms) ps = (first : List Payload) × (later : List Payload)
+ArePayloadsOfEach Each (m ∷ ms) ps = (first : List Dated) × (later : List Dated)
     × (ps ≡ first ++ later) × Each m.0 m.1 first × ArePayloadsOfEach Each ms later
 
 -- of a member for a family of addresses the ASPAs
-abbrev pub AreFamilyPayloads : List ℕ → Json → List Payload → Type 0
+abbrev pub AreFamilyPayloads : List ℕ → Json → List Dated → Type 0
 AreFamilyPayloads name j ps =
     MatchBool (is_family name) (ArePayloadsIn Aspas j ps) (AreNoPayloads j ps)
 
-abbrev pub AreAuthorizations : Json → List Payload → Type 0
+abbrev pub AreAuthorizations : Json → List Dated → Type 0
 AreAuthorizations (object ms) ps = ArePayloadsOfEach AreFamilyPayloads (members_list ms) ps
 AreAuthorizations other ps = ⊥
 
-abbrev pub ArePayloadsBy : Option Holding → Json → List Payload → Type 0
+abbrev pub ArePayloadsBy : Option Holding → Json → List Dated → Type 0
 ArePayloadsBy (Some (holdings.Payloads kind)) j ps = ArePayloadsIn kind j ps
 ArePayloadsBy (Some holdings.Authorizations) j ps = AreAuthorizations j ps
 ArePayloadsBy (Some holdings.Metadata) j ps = ps ≡ []
 ArePayloadsBy None j ps = AreNoPayloads j ps
 
 -- of a member of the object at the top, unless its name is one to ignore
-abbrev pub AreTopPayloads : List (List ℕ) → List ℕ → Json → List Payload → Type 0
+abbrev pub AreTopPayloads : List (List ℕ) → List ℕ → Json → List Dated → Type 0
 AreTopPayloads ignored name j ps =
     MatchBool (is_one_of ignored name) (ps ≡ []) (ArePayloadsBy (holding_named name) j ps)
 
@@ -182,12 +211,15 @@ holds_payloads None = false
 abbrev pub is_array : List (List ℕ) → List ℕ → Bool
 is_array ignored name = not (is_one_of ignored name) && holds_payloads (holding_named name)
 
+abbrev pub dated : Item → Dated
+dated i = (i.payload, i.expiry)
+
 -- payloads stand under some name of these members, and the items have the payloads of all of them,
--- in order
+-- in order, each with when it expires
 pub record HasTopItems (ignored : List (List ℕ)) (ms : List (List ℕ × Json)) (items : List Item) :
     Type 0 where
   pub some : list_any (λ m. is_array ignored m.0) ms ≡ true
-  pub payloads : ArePayloadsOfEach (AreTopPayloads ignored) ms (map (λ i. i.payload) items)
+  pub payloads : ArePayloadsOfEach (AreTopPayloads ignored) ms (map dated items)
 
 -- a value is an object with these items
 abbrev pub HasItemsOf : List (List ℕ) → Json → List Item → Type 0

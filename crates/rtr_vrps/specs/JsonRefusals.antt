@@ -16,7 +16,8 @@ use Rattle.rtr_data.specs.declared.change_error.ChangeError.TheVariants.{KeyTooL
 use Rattle.rtr_payload.specs.declared.payload.Payload.{Payload}
 use Rattle.rtr_vrps.specs.JsonNames.{holding_named, is_family}
 use Rattle.rtr_vrps.specs.JsonPayloads.{AreFamilyPayloads, AreTopPayloads, Has, IsCustomerAspa}
-use Rattle.rtr_vrps.specs.JsonPayloads.{HasPayloads, IsItemPayload, MayHave, is_array, values_of}
+use Rattle.rtr_vrps.specs.JsonPayloads.{Dated, HasPayloads, IsItemPayload, MayHave, is_array}
+use Rattle.rtr_vrps.specs.JsonPayloads.{values_of}
 use Rattle.rtr_vrps.specs.JsonValues.{AreAsnValues, IsAsnValue, IsBase64, IsKeyIdentifierValue}
 use Rattle.rtr_vrps.specs.JsonValues.{IsSomeAsn}
 use Rattle.rtr_vrps.specs.JsonValues.{IsMaxLengthValue, IsPrefixValue, IsSetOf, items_list}
@@ -178,7 +179,7 @@ RefusesFamily m why =
     MatchBool (is_family m.0) (RefusesPayloads Aspas m.1 why) (RefusesUnknown m.1 why)
 
 abbrev pub HasFamilyPayloads : List ℕ × Json → Type 0
-HasFamilyPayloads m = (ps : List Payload) × AreFamilyPayloads m.0 m.1 ps
+HasFamilyPayloads m = (ps : List Dated) × AreFamilyPayloads m.0 m.1 ps
 
 abbrev pub RefusesAuthorizations : Json → Reason → Type 0
 RefusesAuthorizations (object ms) why =
@@ -199,7 +200,7 @@ RefusesTop ignored m why =
     MatchBool (is_one_of ignored m.0) ⊥ (RefusesBy (holding_named m.0) m.1 why)
 
 abbrev pub HasTopPayloads : List (List ℕ) → List ℕ × Json → Type 0
-HasTopPayloads ignored m = (ps : List Payload) × AreTopPayloads ignored m.0 m.1 ps
+HasTopPayloads ignored m = (ps : List Dated) × AreTopPayloads ignored m.0 m.1 ps
 
 -- no member is refused, and payloads stand under none of the names
 pub record LacksArrays (ignored : List (List ℕ)) (ms : List (List ℕ × Json)) : Type 0 where

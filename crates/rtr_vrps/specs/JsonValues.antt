@@ -1,7 +1,7 @@
 -- What values of JSON mean as parts of payloads: this library's own, after what validators print;
 -- base64 by RFC 4648.
 use Rattle.std.specs.Prelude.{◌≡◌, ◌⊎◌, ◌↔◌, ◌<◌, ◌≤◌, ◌+◌, ◌^◌, ⊤, ℕ, List, [], ◌∷◌}
-use Rattle.std.specs.Prelude.{length, Ok, Err, Contains}
+use Rattle.std.specs.Prelude.{length, Option, Some, None, Ok, Err, Contains}
 use Rattle.std.specs.List.{AllByRecursion}
 use Rattle.std.specs.List.Sorted.{IsStrictlyIncreasing}
 use Rattle.base64.specs.Engines.{standard_pad_indifferent, url_safe_pad_indifferent}
@@ -12,6 +12,9 @@ use Rattle.json.specs.Json.{Members, no_members, member}
 use Rattle.rtr_base.specs.Addresses.{PrefixParts}
 use Rattle.rtr_base.specs.Numerals.{IsSerialText}
 use Rattle.rtr_base.specs.ReadTexts.{IsAsnText, IsLenText, IsPrefixText, ParsesKey}
+use Rattle.rtr_vrps.specs.MakeWords.{number_of}
+use Rattle.rtr_vrps.specs.declared.item.Expiry.{Expiry}
+use Rattle.rtr_vrps.specs.declared.item.Expiry.TheVariants.{At, Invalid}
 
 -- the items of an array, and the names and values of an object's members, as lists
 abbrev pub items_list : Items → List Json
@@ -55,6 +58,15 @@ SomeIs Is (x ∷ xs) = Is x ⊎ SomeIs Is xs
 abbrev pub IsMaxLengthValue : Json → ℕ → Type 0
 IsMaxLengthValue (number s) n = IsLenText s n
 IsMaxLengthValue other n = ⊥
+
+-- a time, in seconds: a number of 64 bits
+abbrev pub expiry_by_number : Option ℕ → Expiry
+expiry_by_number (Some t) = At t
+expiry_by_number None = Invalid
+
+abbrev pub expiry_of_value : Json → Expiry
+expiry_of_value (number s) = expiry_by_number (number_of 64 s)
+expiry_of_value other = Invalid
 
 -- base64 of these bytes, padded or not: in the usual alphabet (RFC 4648 section 4), or, where it is
 -- none, in that for URLs (section 5)

@@ -1,6 +1,7 @@
 pub mod CsvItems
 pub mod CsvQuotes
 pub mod CsvRows
+pub mod Expiries
 pub mod Gathering
 pub mod JsonNames
 pub mod JsonPayloads
@@ -12,5 +13,6 @@ pub mod MakeStatus
 pub mod MakeWords
 pub mod PrivateAdding
 pub mod PrivateCsv
+pub mod PrivateExpiring
 pub mod PrivateJson
 pub mod PrivateWords

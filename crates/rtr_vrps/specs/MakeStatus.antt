@@ -1,13 +1,16 @@
 -- How the program ends: this program's own.
-use Rattle.std.specs.Prelude.{◌≡◌, ◌⊎◌, ℕ, Bool, true, false, List, Result, Ok, Err}
-use Rattle.std.specs.Prelude.{Option, IfSome}
-use Rattle.std.specs.Io.KnownBytes.{IsAtEnd}
+use Rattle.std.specs.Prelude.{◌≡◌, ◌⊎◌, ◌==◌, ℕ, Bool, true, false, List, [], ◌∷◌, ◌++◌}
+use Rattle.std.specs.Prelude.{Result, Ok, Err, Option, Some, None, IfSome, codes, if◌then◌else◌}
+use Rattle.std.specs.Fmt.{decimal}
+use Rattle.std.specs.Io.KnownBytes.{Appends, IsAtEnd}
 use Rattle.rtr_units.specs.Stream.{Flushes}
 use Rattle.rtr_units.specs.StopCauses.{WriterState}
 use Rattle.rtr_vrps.specs.CsvItems.{IsCsvOf, RefusesCsv}
+use Rattle.rtr_vrps.specs.Expiries.{LeavesAsked}
 use Rattle.rtr_vrps.specs.JsonPayloads.{IsJsonOf}
 use Rattle.rtr_vrps.specs.JsonRefusals.{OrMemory, RefusesJson}
-use Rattle.rtr_vrps.specs.Making.{MakesSequence}
+use Rattle.rtr_vrps.specs.Making.{MakesSequence, version_number}
+use Rattle.rtr_vrps.specs.declared.expiring.Expired.{Expired}
 use Rattle.rtr_vrps.specs.declared.item.Item.{Item}
 use Rattle.rtr_vrps.specs.declared.item.Reason.{Reason}
 use Rattle.rtr_vrps.specs.declared.item.Reason.TheVariants.{Memory}
@@ -29,12 +32,49 @@ make_status (Ok n) false = 3
 make_status (Err (Input r)) flushed = refusal_status r.reason
 make_status (Err (Output f)) flushed = 3
 
+-- ---- the lines on what was left out
+
+abbrev pub line_end : List ℕ
+line_end = 10 ∷ []
+
+-- so many that the version lacks, if there are some
+abbrev pub lacking_line : (version left_out : ℕ) → List ℕ
+lacking_line v n = if n == 0 then [] else
+    codes "left out " ++ (decimal n ++ (codes " that version " ++ (decimal v
+    ++ (codes " lacks" ++ line_end))))
+
+-- so many that have expired, and when the next does
+abbrev pub next_words : Option ℕ → List ℕ
+next_words None = codes "none of the others will" ++ line_end
+next_words (Some t) = codes "the next expires at " ++ (decimal t ++ line_end)
+
+abbrev pub expired_line : Expired → List ℕ
+expired_line e = codes "left out " ++ (decimal e.left_out
+    ++ (codes " that have expired; " ++ next_words e.next))
+
+-- Where a time was asked for, the lines are printed, or else the status is 3. Where none was, the
+-- status is 0, even if a line can't be printed. What was printed is known if `old` and `new` are.
+abbrev pub TellsMade :
+    (version left_out : ℕ) → Option Expired → ℕ → (old new : Option (List ℕ)) → Type 0
+TellsMade v n None status old new = status ≡ 0
+TellsMade v n (Some e) status old new =
+    ((status ≡ 0) × Appends old new (lacking_line v n ++ expired_line e)) ⊎ (status ≡ 3)
+
+-- ---- a run
+
+-- the end, by the answer and by whether the flush after it succeeded
+abbrev pub EndsMaking : (version : ℕ) → Option Expired → Result ℕ Trouble → Bool → ℕ →
+    (old new : Option (List ℕ)) → Type 0
+EndsMaking v e (Ok n) true status old new = TellsMade v n e status old new
+EndsMaking v e answer flushed status old new = status ≡ make_status answer flushed
+
 -- the sequence of these items is made, then the output flushed once, and both decide the status
-abbrev pub MakesOf : Request → List Item → ℕ → WriterState → WriterState → Type 0
-MakesOf a items status before after =
+abbrev pub MakesOf : Request → Option Expired → List Item → ℕ → WriterState → WriterState →
+    (old new : Option (List ℕ)) → Type 0
+MakesOf a e items status before after old new =
     (answer : Result ℕ Trouble) × (flushed : Bool) × (mid : WriterState)
     × MakesSequence a items answer before mid × Flushes flushed mid after
-    × (status ≡ make_status answer flushed)
+    × EndsMaking (version_number a.version) e answer flushed status old new
 
 -- what is read of a text in this format, where names are passed over: of comma-separated values the
 -- items of its rows, or why one is refused; of JSON the items of its arrays, or why it is refused
@@ -44,27 +84,45 @@ ReadsItems Csv ignored text (Err r) = RefusesCsv text r.reason
 ReadsItems Json ignored text (Ok items) = IsJsonOf ignored text items
 ReadsItems Json ignored text (Err r) = OrMemory (RefusesJson ignored text) r.reason
 
--- the sequence of the items; or, where the text is refused or memory runs out, nothing is written,
--- and the reason decides the status
-abbrev pub MakesRead : Request → Result (List Item) Refusal → ℕ → WriterState → WriterState → Type 0
-MakesRead a (Ok items) status before after = MakesOf a items status before after
-MakesRead a (Err r) status before after = (after ≡ before) × (status ≡ refusal_status r.reason)
+-- nothing is written, and the reason decides the status
+abbrev pub EndsRefused : Refusal → ℕ → WriterState → WriterState → Type 0
+EndsRefused r status before after = (after ≡ before) × (status ≡ refusal_status r.reason)
+
+-- the sequence of the items that are left, or an expiry has no meaning
+abbrev pub MakesLeft : Request → List Item → Result (Option Expired) Refusal → ℕ → WriterState →
+    WriterState → (old new : Option (List ℕ)) → Type 0
+MakesLeft a left (Ok e) status before after old new = MakesOf a e left status before after old new
+MakesLeft a left (Err r) status before after old new = EndsRefused r status before after
+
+-- of the items those are left that have not expired, where a time is asked for
+abbrev pub MakesItems : Request → List Item → ℕ → WriterState → WriterState →
+    (old new : Option (List ℕ)) → Type 0
+MakesItems a items status before after old new =
+    (left : List Item) × (r : Result (Option Expired) Refusal)
+    × LeavesAsked a.at items left r × MakesLeft a left r status before after old new
+
+-- the sequence of the items; or the text is refused, or memory ran out
+abbrev pub MakesRead : Request → Result (List Item) Refusal → ℕ → WriterState → WriterState →
+    (old new : Option (List ℕ)) → Type 0
+MakesRead a (Ok items) status before after old new =
+    MakesItems a items status before after old new
+MakesRead a (Err r) status before after old new = EndsRefused r status before after
 
 -- what is made of a text in this format, where names are passed over
 abbrev pub MakesText : Format → Request → List (List ℕ) → List ℕ → ℕ → WriterState →
-    WriterState → Type 0
-MakesText format a ignored text status before after = (read : Result (List Item) Refusal)
-    × ReadsItems format ignored text read × MakesRead a read status before after
+    WriterState → (old new : Option (List ℕ)) → Type 0
+MakesText format a ignored text status before after old new = (read : Result (List Item) Refusal)
+    × ReadsItems format ignored text read × MakesRead a read status before after old new
 
 -- the text is all that the reader had left, where that is known, and the reader is at its end
 abbrev pub IsWholeInput : Option (List ℕ) → Option (List ℕ) → List ℕ → Type 0
 IsWholeInput left rest text = IfSome left (λ all. text ≡ all) × IsAtEnd rest
 
 -- What a run leaves: what is made of the whole input; or, where that couldn't be read, nothing was
--- written, and the status is 3.
+-- written, and the status is 3. `old` and `new` are what was printed, if that is known.
 abbrev pub RunsMaking : Request → List (List ℕ) → Option (List ℕ) → Option (List ℕ) → ℕ →
-    WriterState → WriterState → Type 0
-RunsMaking a ignored left rest status before after =
+    WriterState → WriterState → (old new : Option (List ℕ)) → Type 0
+RunsMaking a ignored left rest status before after old new =
     ((text : List ℕ) × IsWholeInput left rest text
-    × MakesText a.format a ignored text status before after)
+    × MakesText a.format a ignored text status before after old new)
     ⊎ ((after ≡ before) × (status ≡ 3))

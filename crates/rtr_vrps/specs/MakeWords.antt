@@ -55,6 +55,7 @@ nothing_said = record {
   expire = None;
   leaves_out = None;
   takes_empty = None;
+  at = None;
   ignores = false;
 }
 
@@ -89,7 +90,8 @@ setting_named word =
     if bytes_eq word (codes "--serial") then Some settings.Serial else
     if bytes_eq word (codes "--refresh") then Some settings.Refresh else
     if bytes_eq word (codes "--retry") then Some settings.Retry else
-    if bytes_eq word (codes "--expire") then Some settings.Expire else None
+    if bytes_eq word (codes "--expire") then Some settings.Expire else
+    if bytes_eq word (codes "--at") then Some settings.At else None
 
 -- an option with the text after it; names to ignore may be any, and several
 abbrev pub said_with : Setting → List ℕ → Said → Option Said
@@ -106,6 +108,8 @@ said_with settings.Retry text s =
     option_map (λ x. record s { retry = Some x }) (given s.retry (number_of 32 text))
 said_with settings.Expire text s =
     option_map (λ x. record s { expire = Some x }) (given s.expire (number_of 32 text))
+said_with settings.At text s =
+    option_map (λ x. record s { at = Some x }) (given s.at (number_of 64 text))
 
 -- where a word is the name of such an option, what that says, and else what it says alone
 abbrev pub by_name : Option Setting → (Setting → Option Said) → Option Said → Option Said
@@ -145,15 +149,20 @@ request_in s format = record {
   };
   leaves_out = unwrap_or s.leaves_out false;
   takes_empty = unwrap_or s.takes_empty false;
+  at = s.at;
 }
 
 abbrev pub is_csv : Format → Bool
 is_csv Csv = true
 is_csv Json = false
 
--- comma-separated values have no names that could be ignored
+-- names to ignore, and a time: comma-separated values have no names, and none of their columns is
+-- read as a time
+abbrev pub wants_json : Said → Bool
+wants_json s = s.ignores || is_some s.at
+
 abbrev pub allowed_in : Said → Format → Option Request
-allowed_in s format = if s.ignores && is_csv format then None else Some (request_in s format)
+allowed_in s format = if wants_json s && is_csv format then None else Some (request_in s format)
 
 -- a format has to be said, and version 0 has no timings (RFC 6810 section 5.8)
 abbrev pub request_of : Said → Option Request

@@ -4,7 +4,8 @@ use Rattle.std.specs.Prelude.{get_or, ◌++◌, List, [], ◌∷◌, Result, Ok,
 use Rattle.csv.specs.Reading.{is_bom}
 use Rattle.csv.specs.declared.error.ErrorKind.{ErrorKind}
 use Rattle.csv.specs.declared.error.ErrorKind.TheVariants.{Utf8}
-use Rattle.rtr_vrps.specs.CsvRows.{IsPayloadRow, RefusesRow}
+use Rattle.rtr_vrps.specs.CsvItems.{IsItemOf}
+use Rattle.rtr_vrps.specs.CsvRows.{RefusesRow}
 use Rattle.rtr_vrps.specs.declared.item.Item.{Item}
 use Rattle.rtr_vrps.specs.declared.item.Reason.{Reason}
 use Rattle.rtr_vrps.specs.declared.item.Reason.TheVariants.{NotText, Memory}
@@ -23,7 +24,7 @@ reason_of other = Memory
 -- a row that is passed over adds no item, and any other adds its own
 abbrev pub AddsItem : Bool → List (List ℕ) → List Item → List Item → Type 0
 AddsItem true row old new = new ≡ old
-AddsItem false row old new = (i : Item) × (new ≡ old ++ i ∷ []) × IsPayloadRow row i.payload
+AddsItem false row old new = (i : Item) × (new ≡ old ++ i ∷ []) × IsItemOf row i
 
 -- a row that isn't passed over is no origin, or memory ran out
 abbrev pub RefusesItem : Bool → List (List ℕ) → Reason → Type 0

@@ -7,8 +7,7 @@ use Rattle.base64.specs.declared.engine.general_purpose.GeneralPurpose.{GeneralP
 use Rattle.json.specs.Json.{Json, string}
 use Rattle.json.specs.Value.{value_view}
 use Rattle.rtr_base.specs.declared.parse.ParseKeyIdentifierError.{ParseKeyIdentifierError}
-use Rattle.rtr_payload.specs.declared.payload.Payload.{Payload}
-use Rattle.rtr_vrps.specs.JsonPayloads.{values_of}
+use Rattle.rtr_vrps.specs.JsonPayloads.{Dated, dated, values_of}
 use Rattle.rtr_vrps.specs.JsonRefusals.{IsNoBase64, has_base64_length}
 use Rattle.rtr_vrps.specs.JsonValues.{IsBase64}
 use Rattle.rtr_vrps.specs.declared.item.Item.{Item}
@@ -52,17 +51,17 @@ IsTwice p ms why = (why ≡ Twice) × (1 < length (values_of p ms))
 abbrev pub LacksPart : Part → List (List ℕ × Json) → Reason → Type 0
 LacksPart p ms why = ((why ≡ Missing) × (values_of p ms ≡ [])) ⊎ IsTwice p ms why
 
-abbrev pub payloads_of : List Item → List Payload
-payloads_of items = map (λ i. i.payload) items
+abbrev pub payloads_of : List Item → List Dated
+payloads_of items = map dated items
 
 -- items came, of which this holds
-pub record AddsPayloads (Holds : List Payload → Type 0) (old new : List Item) : Type 0 where
+pub record AddsPayloads (Holds : List Dated → Type 0) (old new : List Item) : Type 0 where
   pub more : List Item
   pub added : new ≡ old ++ more
   pub payloads : Holds (payloads_of more)
 
--- one item came, whose payload means this
-pub record AddsOne (Means : Payload → Type 0) (old new : List Item) : Type 0 where
+-- one item came, whose payload and expiry mean this
+pub record AddsOne (Means : Dated → Type 0) (old new : List Item) : Type 0 where
   pub item : Item
-  pub meant : Means item.payload
+  pub meant : Means (dated item)
   pub added : new ≡ old ++ item ∷ []

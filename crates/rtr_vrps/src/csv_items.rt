@@ -7,7 +7,7 @@ ghost use Rattle.rtr_vrps.specs.CsvItems.{HasItems, IsCsvOf, RefusesCsv, Refuses
 ghost use Rattle.rtr_vrps.specs.CsvRows.{ReadsMaxLength, ReadsRow, field, is_header, is_uri};
 ghost use Rattle.rtr_vrps.specs.PrivateCsv.{AddsRow, reason_of};
 
-use crate::item::{Item, Place, Reason, Refusal};
+use crate::item::{Expiry, Item, Place, Reason, Refusal};
 use crate::quotes::{check_quotes, without_mark};
 use csv::{Error, ErrorKind, Position, ReaderBuilder, StringRecord};
 use rtr_base::addr::{MaxLenPrefix, Prefix};
@@ -71,11 +71,22 @@ fn add_row<'a>(
     }
     let place = Place::Line(line_of(text, row));
     match origin(row) {
-        Ok(payload) => match items.push(Item { place, payload }) {
+        Ok(payload) => match items.push(undated(place, payload)) {
             Ok(()) => Ok(()),
             Err(_) => Err(out_of_memory()),
         },
         Err(reason) => Err(Refusal { place, reason }),
+    }
+}
+
+/// The origin as an item. Nothing says when it expires.
+fn undated<'a>(place: Place<'a>, payload: Payload) -> Item<'a>
+    ensures { result ≡ record { place = place.entry; payload = payload; expiry = Expiry.Never } }
+{
+    Item {
+        place,
+        payload,
+        expiry: Expiry::Never,
     }
 }
 

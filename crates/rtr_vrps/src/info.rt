@@ -26,7 +26,7 @@ const VERSION: &str = "rtr_make 0.2.0\n";
 /// How it is called, in a line.
 pub const USAGE: &str =
     "usage: rtr_make --csv | --json [--version 0|1|2] [--session N] [--serial N] \
-[--refresh N] [--retry N] [--expire N] [--drop] [--empty] [--ignore NAME] [FILE]";
+[--refresh N] [--retry N] [--expire N] [--drop] [--empty] [--ignore NAME] [--at N] [FILE]";
 
 /// What the program does, and what each word means.
 const HELP: &str = "rtr_make - write the RTR sequence of validated payloads
@@ -46,6 +46,8 @@ data, to standard output.
   --drop           payloads that the version lacks are left out, and counted
   --empty          a sequence without payloads is written, too
   --ignore NAME    what the JSON has under this name is passed over
+  --at N           items of the JSON that have expired at this time, in
+                   seconds since 1970, are left out, and counted
 
 Alone: --help prints this, and --version the program's version.
 ";

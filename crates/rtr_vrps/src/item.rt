@@ -13,6 +13,21 @@ pub struct Item<'a> {
     pub place: Place<'a>,
     /// The payload.
     pub payload: Payload,
+    /// When it expires.
+    pub expiry: Expiry,
+}
+
+/// When a payload expires, as its item says under `expires`.
+#[derive(Clone, Copy, Debug, PartialEq, Eq)]
+pub enum Expiry {
+    /// The item says nothing of it.
+    Never,
+    /// So many seconds after the epoch, the first second of 1970.
+    At(u64),
+    /// What it says is no number of 64 bits.
+    Invalid,
+    /// It says it twice.
+    Twice,
 }
 
 /// Where something stands in the input.
@@ -126,6 +141,9 @@ pub enum Reason {
     /// It isn't base64.
     #[error("invalid base64")]
     Base64,
+    /// It isn't a time: a number of seconds, of at most 64 bits.
+    #[error("invalid time")]
+    Time,
     /// An ASPA has more providers than its unit has room for.
     #[error("more than 16380 providers")]
     TooManyProviders,

@@ -7,7 +7,8 @@ ghost use Rattle.rtr_vrps.specs.JsonPayloads.{AreAuthorizations, AreCustomerAspa
 ghost use Rattle.rtr_vrps.specs.JsonPayloads.{AreFamilyPayloads};
 ghost use Rattle.rtr_vrps.specs.JsonPayloads.{AreItemPayloads, ArePayloadsIn, ArePayloadsOfEach};
 ghost use Rattle.rtr_vrps.specs.JsonPayloads.{AreTopPayloads, HasItemsOf, HasTopItems};
-ghost use Rattle.rtr_vrps.specs.JsonPayloads.{IsCustomerAspa, IsItemPayload, IsJsonOf};
+ghost use Rattle.rtr_vrps.specs.JsonPayloads.{IsCustomerAspa, IsDatedCustomer, IsDatedItem};
+ghost use Rattle.rtr_vrps.specs.JsonPayloads.{IsItemPayload, IsJsonOf, item_expiry};
 ghost use Rattle.rtr_vrps.specs.JsonPayloads.{HasPayloads, holds_payloads, is_array};
 ghost use Rattle.rtr_vrps.specs.JsonRefusals.{HasFamilyPayloads, IsNoDocument, IsSomeCustomer};
 ghost use Rattle.rtr_vrps.specs.JsonRefusals.{IsSomeItem};
@@ -20,7 +21,7 @@ ghost use Rattle.rtr_vrps.specs.JsonValues.{items_list, members_list};
 ghost use Rattle.rtr_vrps.specs.MakeWords.{ignored_by_words};
 ghost use Rattle.rtr_vrps.specs.PrivateJson.{AddsOne, AddsPayloads};
 
-use crate::item::{Item, Place, Reason, Refusal};
+use crate::item::{Expiry, Item, Place, Reason, Refusal};
 use crate::json_looks::has_payloads;
 use crate::json_names::{Holding, Kind, family_named, holding_named};
 use crate::json_objects::Spot;
@@ -341,12 +342,22 @@ fn add_item<'a>(
     items: &mut Vec<Item<'a>>,
 ) -> Result<(), Refusal<'a>>
     ensures { MatchResult result
-        (λ _. AddsOne (IsItemPayload kind (value_view item.now)) items.old.items items.new.items)
+        (λ _. AddsOne (IsDatedItem kind (value_view item.now)) items.old.items items.new.items)
         (λ r. OrMemory (RefusesArrayItem kind (value_view item.now)) r.reason) }
 {
     match payload_of(alloc, spot, kind, item) {
-        Ok(payload) => push(items, spot.place(), payload),
+        Ok(payload) => push(items, spot.place(), payload, expiry_of(spot, item)),
         Err(refusal) => Err(refusal),
+    }
+}
+
+/// When an item of an array expires.
+fn expiry_of<'a>(spot: Spot<'a>, item: &Value<'a>) -> Expiry
+    ensures { result ≡ item_expiry (value_view item.now) }
+{
+    match item {
+        Value::Object(members) => spot.expiry(members),
+        _ => Expiry::Never,
     }
 }
 
@@ -370,12 +381,18 @@ fn push<'a>(
     items: &mut Vec<Item<'a>>,
     place: Place<'a>,
     payload: Payload,
+    expiry: Expiry,
 ) -> Result<(), Refusal<'a>>
     ensures { MatchResult result
-        (λ _. AddsOne (λ p. p ≡ payload) items.old.items items.new.items)
+        (λ _. AddsOne (λ p. p ≡ (payload, expiry)) items.old.items items.new.items)
         (λ r. r.reason ≡ Reason.Memory) }
 {
-    match items.push(Item { place, payload }) {
+    let item = Item {
+        place,
+        payload,
+        expiry,
+    };
+    match items.push(item) {
         Ok(()) => Ok(()),
         Err(_) => Err(refusal(Place::Input, Reason::Memory)),
     }
@@ -412,13 +429,13 @@ fn add_customer<'a>(
     items: &mut Vec<Item<'a>>,
 ) -> Result<(), Refusal<'a>>
     ensures { MatchResult result
-        (λ _. AddsOne (IsCustomerAspa name.now (value_view value.now))
+        (λ _. AddsOne (IsDatedCustomer name.now (value_view value.now))
         items.old.items items.new.items)
         (λ r. OrMemory (RefusesCustomer (name.now, value_view value.now)) r.reason) }
 {
     let place = Place::Entry(array, name);
     match aspa_of(alloc, name, value) {
-        Ok(payload) => push(items, place, payload),
+        Ok(payload) => push(items, place, payload, Expiry::Never),
         Err(reason) => Err(refusal(place, reason)),
     }
 }

@@ -44,6 +44,8 @@ pub enum Part {
     Customer,
     /// Its providers.
     Providers,
+    /// When it expires.
+    Expires,
 }
 
 impl Part {
@@ -59,6 +61,7 @@ impl Part {
             Part::KeyInfo => is_key_info(name),
             Part::Customer => is_plainly(name, "customer") || is_plainly(name, "customerasid"),
             Part::Providers => is_plainly(name, "providers"),
+            Part::Expires => is_plainly(name, "expires"),
         }
     }
 
@@ -74,6 +77,7 @@ impl Part {
             Part::KeyInfo => "pubkey",
             Part::Customer => "customer",
             Part::Providers => "providers",
+            Part::Expires => "expires",
         }
     }
 }

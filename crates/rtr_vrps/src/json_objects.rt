@@ -2,7 +2,8 @@
 
 ghost use Rattle.std.specs.Prelude.{◌≡◌, ◌∷◌, ◌<◌, [], MatchResult, codes, length};
 ghost use Rattle.json.specs.Value.{members_view, value_view};
-ghost use Rattle.rtr_vrps.specs.JsonPayloads.{Has, IsPayloadObject, MayHave, values_of};
+ghost use Rattle.rtr_vrps.specs.JsonPayloads.{Has, IsPayloadObject, MayHave, object_expiry};
+ghost use Rattle.rtr_vrps.specs.JsonPayloads.{values_of};
 ghost use Rattle.rtr_vrps.specs.JsonRefusals.{OrMemory, RefusesAny, RefusesAsn, RefusesAspa};
 ghost use Rattle.rtr_vrps.specs.JsonRefusals.{RefusesMaxLength, RefusesOrigin, RefusesPart};
 ghost use Rattle.rtr_vrps.specs.JsonRefusals.{RefusesPayloadObject, RefusesPrefixValue};
@@ -11,10 +12,10 @@ ghost use Rattle.rtr_vrps.specs.JsonValues.{IsAsnValue, IsMaxLengthValue, IsPref
 ghost use Rattle.rtr_vrps.specs.JsonValues.{members_list};
 ghost use Rattle.rtr_vrps.specs.PrivateJson.{IsOnly, LacksPart, IsTwice};
 
-use crate::item::{Place, Reason, Refusal};
+use crate::item::{Expiry, Place, Reason, Refusal};
 use crate::json_names::{Kind, Part};
 use crate::json_values::{
-    asn_of, key_identifier_of, key_info_of, max_length_of, prefix_of, providers_of,
+    asn_of, expiry_of, key_identifier_of, key_info_of, max_length_of, prefix_of, providers_of,
 };
 use json::Value;
 use rtr_base::addr::{MaxLenPrefix, Prefix};
@@ -66,6 +67,17 @@ impl<'a> Spot<'a> {
             Kind::Origins => self.origin(members),
             Kind::RouterKeys => self.router_key(alloc, members),
             Kind::Aspas => self.aspa(alloc, members),
+        }
+    }
+
+    /// When an item of these members expires.
+    pub fn expiry(self, members: &[(&'a str, Value<'a>)]) -> Expiry
+        ensures { result ≡ object_expiry (members_list (members_view members.now)) }
+    {
+        match self.part(Part::Expires, members) {
+            Ok(Some(member)) => expiry_of(member.value),
+            Ok(None) => Expiry::Never,
+            Err(_) => Expiry::Twice,
         }
     }
 

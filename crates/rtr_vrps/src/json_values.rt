@@ -12,12 +12,15 @@ ghost use Rattle.rtr_vrps.specs.JsonRefusals.{RefusesFirst, RefusesKeyIdentifier
 ghost use Rattle.rtr_vrps.specs.JsonRefusals.{RefusesKeyInfo, RefusesMaxLength};
 ghost use Rattle.rtr_vrps.specs.JsonRefusals.{RefusesPrefixValue, RefusesProviders};
 ghost use Rattle.rtr_vrps.specs.JsonRefusals.{has_base64_length};
+ghost use Rattle.rtr_vrps.specs.JsonValues.{expiry_by_number, expiry_of_value};
+ghost use Rattle.rtr_vrps.specs.MakeWords.{number_of};
 ghost use Rattle.rtr_vrps.specs.PrivateJson.{IsNoIdentifier, IsNoText, IsUndecoded};
 ghost use Rattle.rtr_vrps.specs.JsonValues.{AreAsnValues, AreProviderValues, IsAsnValue};
 ghost use Rattle.rtr_vrps.specs.JsonValues.{IsBase64, IsKeyIdentifierValue, IsKeyInfoValue};
 ghost use Rattle.rtr_vrps.specs.JsonValues.{IsMaxLengthValue, IsPrefixValue, IsSomeAsn, items_list};
 
-use crate::item::Reason;
+use crate::item::{Expiry, Reason};
+use crate::words::long_number;
 use base64::DecodeAllocError;
 use base64::engine::general_purpose::{STANDARD_PAD_INDIFFERENT, URL_SAFE_PAD_INDIFFERENT};
 use json::Value;
@@ -92,6 +95,25 @@ fn length_of_number(text: &str) -> Result<u8, Reason>
     match text.parse::<u8>() {
         Ok(length) => Ok(length),
         Err(_) => Err(Reason::MaxLength),
+    }
+}
+
+/// When something expires for which this value is given: at a number of seconds.
+pub fn expiry_of(value: &Value<'_>) -> Expiry
+    ensures { result ≡ expiry_of_value (value_view value.now) }
+{
+    match value {
+        Value::Number(text) => expiry_of_number(*text),
+        _ => Expiry::Invalid,
+    }
+}
+
+fn expiry_of_number(text: &str) -> Expiry
+    ensures { result ≡ expiry_by_number (number_of 64 text.now) }
+{
+    match long_number(text) {
+        Some(time) => Expiry::At(time),
+        None => Expiry::Invalid,
     }
 }
 

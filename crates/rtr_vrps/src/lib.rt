@@ -3,6 +3,7 @@
 #![tactic(auto)]
 
 mod csv_items;
+mod expiring;
 mod gathering;
 mod info;
 mod item;
@@ -17,9 +18,10 @@ mod sequence;
 mod words;
 
 pub use csv_items::read_csv;
+pub use expiring::{Expired, leave_out};
 pub use gathering::{Gathered, gather};
 pub use info::{Info, info_asked};
-pub use item::{Item, Place, Reason, Refusal};
+pub use item::{Expiry, Item, Place, Reason, Refusal};
 pub use json_items::read_json;
 pub use json_names::{Holding, Kind, Part};
 pub use make::{program, run};

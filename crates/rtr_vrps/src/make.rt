@@ -1,12 +1,15 @@
 //! One run of the program, over any reader and writers.
 
-ghost use Rattle.std.specs.Prelude.{◌≡◌, drop, IfSome, IsNone, None, []};
+ghost use Rattle.std.specs.Prelude.{◌≡◌, drop, IfSome, IsNone, None, OnOk, []};
+ghost use Rattle.std.specs.Io.KnownBytes.{Appends};
 ghost use Rattle.std.specs.Process.{exit_status};
-ghost use Rattle.rtr_vrps.specs.MakeStatus.{MakesOf, MakesText, RunsMaking, refusal_status};
+ghost use Rattle.rtr_vrps.specs.MakeStatus.{MakesItems, MakesOf, MakesText, RunsMaking, TellsMade};
+ghost use Rattle.rtr_vrps.specs.MakeStatus.{expired_line, lacking_line, refusal_status};
 ghost use Rattle.rtr_vrps.specs.MakeInfo.{TellsText, info_by_words};
 ghost use Rattle.rtr_vrps.specs.MakeWords.{ignored_by_words, request_by_words};
 
 use crate::csv_items::read_csv;
+use crate::expiring::{Expired, leave_out_asked};
 use crate::info::{USAGE, info_asked, tell_info};
 use crate::item::{Item, Reason, Refusal};
 use crate::json_items::read_json;
@@ -15,6 +18,7 @@ use crate::words::{Format, Request, asked};
 use json::Scratch;
 use rtr_units::source::Sink;
 use std::alloc::Global;
+use std::io;
 use std::io::{ErrorKind, Read, Write};
 use std::process::ExitCode;
 
@@ -52,8 +56,8 @@ pub fn program<R: Read, W: Sink, F: Write>(
     ensures makes { IfSome words (λ all. info_by_words (drop 1 all.items) ≡ None →
         IfSome (request_by_words (drop 1 all.items)) (λ what.
         RunsMaking what (ignored_by_words (drop 1 all.items)) (R.remaining input.old)
-        (R.remaining input.new) (exit_status result) (W.state output.old)
-        (W.state output.new))) }
+        (R.remaining input.new) (exit_status result) (W.state output.old) (W.state output.new)
+        (F.contents faults.old) (F.contents faults.new))) }
 {
     let Some(words) = words else {
         return ExitCode::from(usage(faults));
@@ -84,7 +88,8 @@ fn run_words<R: Read, W: Sink, F: Write>(
         × TellsText result (W.state output.old) (W.state output.new)) }
     ensures makes { info_by_words words.now ≡ None → IfSome (request_by_words words.now) (λ what.
         RunsMaking what (ignored_by_words words.now) (R.remaining input.old)
-        (R.remaining input.new) result (W.state output.old) (W.state output.new)) }
+        (R.remaining input.new) result (W.state output.old) (W.state output.new)
+        (F.contents faults.old) (F.contents faults.new)) }
 {
     match info_asked(words) {
         Some(info) => tell_info(info, output, faults),
@@ -104,7 +109,8 @@ fn run_asked<R: Read, W: Sink, F: Write>(
         (result ≡ 2) × (input.new ≡ input.old) × (output.new ≡ output.old) }
     ensures makes { IfSome (request_by_words words.now) (λ what. RunsMaking what
         (ignored_by_words words.now) (R.remaining input.old) (R.remaining input.new) result
-        (W.state output.old) (W.state output.new)) }
+        (W.state output.old) (W.state output.new) (F.contents faults.old)
+        (F.contents faults.new)) }
 {
     match asked(words) {
         Some(asked) => run(alloc, &asked, words, input, output, faults),
@@ -114,10 +120,12 @@ fn run_asked<R: Read, W: Sink, F: Write>(
 
 /// Reads all of the input, writes the sequence of its payloads, flushes the output once, and
 /// answers the exit status. What JSON has under a name that stands after an `--ignore` of the words
-/// is passed over. The status is
-/// - 0 if that succeeded, with a line on `faults` if payloads were left out;
+/// is passed over. At a time that is asked for `leave_out` leaves out what has expired. The status is
+/// - 0 if that succeeded, with a line on `faults` if payloads were left out that the version lacks,
+///   and one on those that have expired where a time is asked for;
 /// - 1 if the input was refused;
-/// - 3 if reading, writing, flushing or memory failed.
+/// - 3 if reading, writing, flushing or memory failed, or one of these lines where a time is asked
+///   for.
 ///
 /// Statuses other than 0 come with a line on `faults`. If that can't be written, nothing else
 /// changes.
@@ -130,7 +138,8 @@ pub fn run<R: Read, W: Sink, F: Write>(
     faults: &mut F,
 ) -> u8
     ensures { RunsMaking asked.now (ignored_by_words words.now) (R.remaining input.old)
-        (R.remaining input.new) result (W.state output.old) (W.state output.new) }
+        (R.remaining input.new) result (W.state output.old) (W.state output.new)
+        (F.contents faults.old) (F.contents faults.new) }
 {
     let mut text: Vec<u8> = Vec::new(alloc);
     if let Err(error) = input.read_to_end(&mut text) {
@@ -156,11 +165,11 @@ fn make_of_csv<W: Sink, F: Write>(
     output: &mut W,
     faults: &mut F,
 ) -> u8
-    ensures { MakesText Format.Csv asked.now [] text.now result
-        (W.state output.old) (W.state output.new) }
+    ensures { MakesText Format.Csv asked.now [] text.now result (W.state output.old)
+        (W.state output.new) (F.contents faults.old) (F.contents faults.new) }
 {
     match read_csv(alloc, text) {
-        Ok(items) => write(alloc, asked, &items, output, faults),
+        Ok(items) => make_of_items(alloc, asked, items, output, faults),
         Err(refusal) => tell_refusal(&refusal, faults),
     }
 }
@@ -175,11 +184,29 @@ fn make_of_json<W: Sink, F: Write>(
     faults: &mut F,
 ) -> u8
     ensures { MakesText Format.Json asked.now (ignored_by_words words.now) text.now result
-        (W.state output.old) (W.state output.new) }
+        (W.state output.old) (W.state output.new) (F.contents faults.old)
+        (F.contents faults.new) }
 {
     let mut scratch = Scratch::new(alloc);
     match read_json(alloc, text, words, &mut scratch) {
-        Ok(items) => write(alloc, asked, &items, output, faults),
+        Ok(items) => make_of_items(alloc, asked, items, output, faults),
+        Err(refusal) => tell_refusal(&refusal, faults),
+    }
+}
+
+/// Writes the sequence of the items that are left at the time that is asked for, if one is.
+fn make_of_items<W: Sink, F: Write>(
+    alloc: Global,
+    asked: &Request,
+    mut items: Vec<Item<'_>>,
+    output: &mut W,
+    faults: &mut F,
+) -> u8
+    ensures { MakesItems asked.now items.entry.items result (W.state output.old)
+        (W.state output.new) (F.contents faults.old) (F.contents faults.new) }
+{
+    match leave_out_asked(asked.at, &mut items) {
+        Ok(expired) => write(alloc, asked, expired, &items, output, faults),
         Err(refusal) => tell_refusal(&refusal, faults),
     }
 }
@@ -188,22 +215,18 @@ fn make_of_json<W: Sink, F: Write>(
 fn write<W: Sink, F: Write>(
     alloc: Global,
     asked: &Request,
+    expired: Option<Expired>,
     items: &[Item<'_>],
     output: &mut W,
     faults: &mut F,
 ) -> u8
-    ensures { MakesOf asked.now items.now result (W.state output.old) (W.state output.new) }
+    ensures { MakesOf asked.now expired items.now result (W.state output.old) (W.state output.new)
+        (F.contents faults.old) (F.contents faults.new) }
 {
     let answer = write_sequence(alloc, asked, items, output);
     let flushed = output.flush().is_ok();
     match answer {
-        Ok(left_out) if flushed => {
-            if left_out > 0 {
-                let version = asked.version.number();
-                let _ = writeln!(faults, "left out {left_out} that version {version} lacks");
-            }
-            0
-        }
+        Ok(left_out) if flushed => tell_made(asked.version.number(), left_out, expired, faults),
         Ok(_) => {
             let _ = writeln!(faults, "write failed");
             FAILED
@@ -213,6 +236,49 @@ fn write<W: Sink, F: Write>(
             let _ = writeln!(faults, "{fault}");
             FAILED
         }
+    }
+}
+
+/// Prints what was left out, and answers the status: where a time was asked for 3 if it can't be
+/// printed.
+fn tell_made<F: Write>(version: u8, left_out: usize, expired: Option<Expired>, faults: &mut F) -> u8
+    ensures { TellsMade version left_out expired result (F.contents faults.old)
+        (F.contents faults.new) }
+{
+    let told = tell_lacking(version, left_out, faults).is_ok();
+    match expired {
+        None => 0,
+        Some(expired) if told && tell_expired(expired, faults).is_ok() => 0,
+        Some(_) => FAILED,
+    }
+}
+
+/// Prints how many payloads were left out that the version lacks, if there are some.
+fn tell_lacking<F: Write>(version: u8, left_out: usize, faults: &mut F) -> io::Result<()>
+    ensures { OnOk result (Appends (F.contents faults.old) (F.contents faults.new)
+        (lacking_line version left_out)) }
+{
+    if left_out == 0 {
+        return Ok(());
+    }
+    writeln!(faults, "left out {left_out} that version {version} lacks")
+}
+
+/// Prints how many items had expired, and when the next of the others does.
+fn tell_expired<F: Write>(expired: Expired, faults: &mut F) -> io::Result<()>
+    ensures { OnOk result (Appends (F.contents faults.old) (F.contents faults.new)
+        (expired_line expired)) }
+{
+    let left_out = expired.left_out;
+    match expired.next {
+        Some(time) => writeln!(
+            faults,
+            "left out {left_out} that have expired; the next expires at {time}"
+        ),
+        None => writeln!(
+            faults,
+            "left out {left_out} that have expired; none of the others will"
+        ),
     }
 }
 

@@ -5,7 +5,7 @@ ghost use Rattle.rtr_vrps.specs.MakeWords.{has_timing, ignored_by_words, is_csv}
 ghost use Rattle.rtr_vrps.specs.MakeWords.{is_one_of, nothing_said};
 ghost use Rattle.rtr_vrps.specs.MakeWords.{number_of, once};
 ghost use Rattle.rtr_vrps.specs.MakeWords.{request_by_words, request_of, said_alone, said_with};
-ghost use Rattle.rtr_vrps.specs.MakeWords.{setting_named, version_of};
+ghost use Rattle.rtr_vrps.specs.MakeWords.{setting_named, version_of, wants_json};
 ghost use Rattle.rtr_vrps.specs.Making.{version_number};
 ghost use Rattle.rtr_vrps.specs.PrivateWords.{word_taken};
 
@@ -71,6 +71,9 @@ pub struct Request {
     pub leaves_out: bool,
     /// Whether a sequence without payloads is written. Otherwise it is refused.
     pub takes_empty: bool,
+    /// The time at which items have to be good, if expired ones are left out: seconds after the
+    /// epoch, the first second of 1970.
+    pub at: Option<u64>,
 }
 
 /// An option that a text follows.
@@ -83,6 +86,7 @@ enum Setting {
     Refresh,
     Retry,
     Expire,
+    At,
 }
 
 /// What the words said so far.
@@ -97,14 +101,15 @@ struct Said {
     expire: Option<u32>,
     leaves_out: Option<bool>,
     takes_empty: Option<bool>,
+    at: Option<u64>,
     ignores: bool,
 }
 
 /// What the words after the program's name ask for, if they ask for something: `--csv` or `--json`,
 /// and each of the options at most once, in any order, but for `--ignore`, which may come again
-/// with `--json`. Without `--version` it is 2. The session and the serial number are 0 and the
-/// timings those of RFC 8210 section 6, if they aren't given. Version 0 has no timings: none may be
-/// given with it.
+/// with `--json`, and `--at`, which goes with `--json` alone. Without `--version` it is 2. The
+/// session and the serial number are 0 and the timings those of RFC 8210 section 6, if they aren't
+/// given. Version 0 has no timings: none may be given with it.
 pub fn asked(words: &[String]) -> Option<Request>
     ensures { result ≡ request_by_words words.now }
 {
@@ -162,6 +167,7 @@ fn setting_named(word: &str) -> Option<Setting>
         "--refresh" => Some(Setting::Refresh),
         "--retry" => Some(Setting::Retry),
         "--expire" => Some(Setting::Expire),
+        "--at" => Some(Setting::At),
         _ => None,
     }
 }
@@ -198,6 +204,16 @@ fn number(text: &str) -> Option<u32>
     }
 }
 
+/// The number of 64 bits that the text is.
+pub fn long_number(text: &str) -> Option<u64>
+    ensures { result ≡ number_of 64 text.now }
+{
+    match text.parse::<u64>() {
+        Ok(number) => Some(number),
+        Err(_) => None,
+    }
+}
+
 impl Said {
     /// What no words say.
     fn nothing() -> Self
@@ -213,6 +229,7 @@ impl Said {
             expire: None,
             leaves_out: None,
             takes_empty: None,
+            at: None,
             ignores: false,
         }
     }
@@ -259,6 +276,7 @@ impl Said {
             Setting::Refresh => said.refresh = Some(once(self.refresh, number(text)?)?),
             Setting::Retry => said.retry = Some(once(self.retry, number(text)?)?),
             Setting::Expire => said.expire = Some(once(self.expire, number(text)?)?),
+            Setting::At => said.at = Some(once(self.at, long_number(text)?)?),
         }
         Some(said)
     }
@@ -270,6 +288,13 @@ impl Said {
         self.refresh.is_some() || self.retry.is_some() || self.expire.is_some()
     }
 
+    /// Whether something was said that goes with JSON alone.
+    fn wants_json(&self) -> bool
+        ensures { result ≡ wants_json self.now }
+    {
+        self.ignores || self.at.is_some()
+    }
+
     /// What all words ask for.
     fn request(self) -> Option<Request>
         ensures { result ≡ request_of self }
@@ -279,7 +304,7 @@ impl Said {
             return None;
         }
         let format = self.format?;
-        if self.ignores && format.is_csv() {
+        if self.wants_json() && format.is_csv() {
             return None;
         }
         let timing = Timing::default();
@@ -294,6 +319,7 @@ impl Said {
             },
             leaves_out: self.leaves_out.unwrap_or(false),
             takes_empty: self.takes_empty.unwrap_or(false),
+            at: self.at,
         })
     }
 }

@@ -2,11 +2,7 @@ use Rattle.std.proofs.Common.{Err, Ok, refl}
 use Rattle.rtr_vrps.proofs.make.make_of_csv.Goals as goal
 
 pub returns-in-Ok : goal.returns-in-Ok
-returns-in-Ok g c = (
-  Ok c.in-Ok.items.items,
-  c.in-Ok.ensures.items,
-  rw c.deref.ensures.value at c.write.ensures,
-)
+returns-in-Ok g c = (Ok c.in-Ok.items.items, c.in-Ok.ensures.items, c.make_of_items.ensures)
 
 pub returns-in-Err : goal.returns-in-Err
 returns-in-Err g c =
