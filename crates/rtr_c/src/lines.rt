@@ -4,6 +4,7 @@ ghost use Rattle.std.specs.Prelude.{◌≡◌, ◌≤◌, ℕ, List, Option, Som
 ghost use Rattle.std.specs.Prelude.{length, take};
 ghost use Rattle.rtr_views.specs.declared.fault.ViewFault.{ViewFault};
 ghost use Rattle.rtr_session.specs.Lengths.{SaysLength};
+ghost use Rattle.rtr_texts.specs.JsonLines.{unit_json};
 ghost use Rattle.rtr_texts.specs.PayloadLines.{change_json};
 ghost use Rattle.rtr_texts.specs.TextLines.{change_text, unit_text};
 ghost use Rattle.rtr_c.specs.LineAnswers.{TellsLine, line_status, no_line};
@@ -11,7 +12,7 @@ ghost use Rattle.rtr_c.specs.PrivateLines.{IsUnitOf, TellsRefusal};
 
 use crate::answer::{ACCEPTED, NO_ROOM, SHORT, fault_detail, fault_status};
 use rtr_session::length::unit_length;
-use rtr_texts::{describe, describe_change, describe_change_json, listed_unit};
+use rtr_texts::{describe, describe_change, describe_change_json, describe_json, listed_unit};
 
 /// The bytes of a header.
 const HEADER: usize = 8;
@@ -61,6 +62,31 @@ pub extern "C" fn rtr_line_nonnull(
     };
     let room = output.len();
     let length = describe(output, 0, offset, &listed_unit(unit));
+    *answer = written(unit.len(), length, room);
+    answer.status
+}
+
+/// The JSON object of the unit that the input begins with, as `rtr_list --json` prints it of one
+/// that stands after so many bytes, without its end. Otherwise as `rtr_line_nonnull`.
+#[unsafe(no_mangle)]
+pub extern "C" fn rtr_json_nonnull(
+    input: &[u8],
+    offset: u64,
+    output: &mut [u8],
+    answer: &mut RtrLine,
+) -> u8
+    ensures { (r : Result (Option ℕ) ViewFault) × SaysLength input.now r
+        × TellsLine (unit_json offset) r input.now output.old output.new answer.new result }
+{
+    let unit = match first_unit(input) {
+        Ok(unit) => unit,
+        Err(refusal) => {
+            *answer = refusal;
+            return answer.status;
+        }
+    };
+    let room = output.len();
+    let length = describe_json(output, 0, offset, &listed_unit(unit));
     *answer = written(unit.len(), length, room);
     answer.status
 }

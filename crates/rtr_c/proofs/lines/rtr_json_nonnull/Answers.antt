@@ -1,0 +1,17 @@
+use Rattle.std.proofs.Common.{ap, rules}
+use Rattle.rtr_texts.specs.JsonLines.{unit_json}
+use Rattle.rtr_texts.proofs.Laid.{lays_said}
+use Rattle.rtr_c.proofs.LinesTold.{line_told, refusal_told}
+use Rattle.rtr_c.proofs.lines.rtr_json_nonnull.Goals as goal
+
+pub returns-in-Err : goal.returns-in-Err
+returns-in-Err c =
+    refusal_told (unit_json c.args.offset) c.args.input.now c.args.output.now _ (search rules)
+
+pub returns : goal.returns
+returns c =
+    line_told (unit_json c.args.offset) c.args.input.now c.in-Ok.unit.now c.args.output.now _
+    c.describe_json-length.result _
+    c.written.ensures (search rules)
+    (lays_said _ _ _ _ _ _ (ap (unit_json c.args.offset) c.listed_unit.ensures)
+    c.describe_json-length.ensures)
