@@ -277,6 +277,49 @@ func TestSystemd(t *testing.T) {
 	hears(t, told, "STOPPING=1")
 }
 
+// everywhere is where a cache is reached over each transport, in a folder with its certificate and
+// its keys.
+type everywhere struct {
+	folder                  string
+	authority               *trial.Authority
+	plain, secured, shelled string
+}
+
+// reachable writes what a cache wants for all transports into a folder.
+func reachable(t *testing.T, folder string) everywhere {
+	t.Helper()
+	e := everywhere{folder, trial.NewAuthority(t), unused(t), unused(t), unused(t)}
+	trial.Save(t, e.authority.Issue("127.0.0.1"), folder+"/cert", folder+"/key")
+	trial.Write(t, folder+"/routers", trial.ECDSA.Save(t, folder+"/router"))
+	host := trial.ECDSA.Save(t, folder+"/host")
+	trial.Write(t, folder+"/known", "["+strings.Replace(e.shelled, ":", "]:", 1)+" "+host)
+	return e
+}
+
+// secrets are the words that name them.
+var secrets = []string{
+	"--tls-cert", "cert", "--tls-key", "key", "--ssh-host-key", "host", "--ssh-routers", "routers",
+}
+
+// gives compares how many payloads come over each transport.
+func (e everywhere) gives(t *testing.T, count int) {
+	t.Helper()
+	ctx, cancel := context.WithTimeout(context.Background(), trial.Wait)
+	defer cancel()
+	plain := fetched(t, e.plain, 2)
+	secured, err := overTLS(e.secured, &tls.Config{RootCAs: e.authority.Pool()})
+	if err != nil {
+		t.Error(err)
+	}
+	shelled, err := overSSH(t, e.shelled, e.folder+"/router", e.folder+"/known").Fetch(ctx)
+	if err != nil {
+		t.Error(err)
+	}
+	if plain.Len() != count || secured.Len() != count || shelled.Len() != count {
+		t.Error(plain.Len(), secured.Len(), shelled.Len())
+	}
+}
+
 // Sockets of systemd-socket-activate, where it is installed, are served for the transports that they
 // have as names.
 func TestSocketActivation(t *testing.T) {
@@ -286,30 +329,14 @@ func TestSocketActivation(t *testing.T) {
 	}
 	folder := t.TempDir()
 	trial.Write(t, folder+"/f", rows(3))
-	authority := trial.NewAuthority(t)
-	trial.Save(t, authority.Issue("127.0.0.1"), folder+"/cert", folder+"/key")
-	host := trial.ECDSA.Save(t, folder+"/host")
-	trial.Write(t, folder+"/routers", trial.ECDSA.Save(t, folder+"/router"))
-	plain, secured, shelled := unused(t), unused(t), unused(t)
-	trial.Write(t, folder+"/known", "["+strings.Replace(shelled, ":", "]:", 1)+" "+host)
-	process := trial.StartBy(t, folder, nil, exec.Command(path, "-l", plain, "-l", secured, "-l", shelled,
-		"--fdname=rtr-cache.socket:tls:ssh", "-E", "RTR_TRIAL=1", os.Args[0], "--csv", "f",
-		"--tls-cert", "cert", "--tls-key", "key", "--ssh-host-key", "host", "--ssh-routers", "routers"))
-	process.Says("Listening on "+shelled, 1)
-	dialed(t, plain).Close() // at which the cache is started
+	e := reachable(t, folder)
+	line := append([]string{"-l", e.plain, "-l", e.secured, "-l", e.shelled,
+		"--fdname=rtr-cache.socket:tls:ssh", "-E", "RTR_TRIAL=1", os.Args[0], "--csv", "f"}, secrets...)
+	process := trial.StartBy(t, folder, nil, exec.Command(path, line...))
+	process.Says("Listening on "+e.shelled, 1)
+	dialed(t, e.plain).Close() // at which the cache is started
 	process.Says("3 payloads", 1)
-	if data := fetched(t, plain, 2); data.Len() != 3 {
-		t.Error(data.Len())
-	}
-	if data, err := overTLS(secured, &tls.Config{RootCAs: authority.Pool()}); err != nil || data.Len() != 3 {
-		t.Error(data.Len(), err)
-	}
-	ctx, cancel := context.WithTimeout(context.Background(), trial.Wait)
-	defer cancel()
-	data, err := overSSH(t, shelled, folder+"/router", folder+"/known").Fetch(ctx)
-	if err != nil || data.Len() != 3 {
-		t.Error(data.Len(), err)
-	}
+	e.gives(t, 3)
 	if status := process.End(); status != 0 {
 		t.Error(status)
 	}
