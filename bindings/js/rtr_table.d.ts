@@ -281,6 +281,73 @@ export const Reason: {
 };
 export type Reason = (typeof Reason)[keyof typeof Reason];
 
+/** What a router may set: rtr.h says what each is. Times are in milliseconds. */
+export interface Settings {
+    mostBytes: number;
+    pause: number;
+    connectLimit: number;
+    responseLimit: number;
+    refresh: number;
+    retry: number;
+    expire: number;
+    mostUnits: number;
+    chance: number;
+    highest: number;
+}
+
+/** What names data, with their times in seconds. */
+export interface Known {
+    serial: number;
+    refresh: number;
+    retry: number;
+    expire: number;
+    session: number;
+    version: number;
+}
+
+/** The fields of a struct rtr_router. */
+export interface RouterState {
+    settings: Settings;
+    expires: number;
+    asked: number;
+    due: number;
+    bytes: number;
+    known: Known;
+    answer: Known;
+    wait: number;
+    units: number;
+    note: number;
+    session: number;
+    phase: number;
+    version: number;
+    floor: number;
+    agreed: boolean;
+    fell: boolean;
+    changes: boolean;
+    resync: boolean;
+    answered: boolean;
+    noted: boolean;
+    hasData: boolean;
+}
+
+/** What is to be done: rtr.h says what each field is. */
+export interface Action {
+    start: number;
+    taken: number;
+    wanted: number;
+    serial: number;
+    session: number;
+    code: number;
+    kind: ActionKind;
+    version: number;
+    cause: Cause;
+    status: Status;
+    detail: number;
+    changes: boolean;
+    drops: boolean;
+    reports: boolean;
+}
+
 export function statusText(number: number): string;
 export function kindText(number: number): string;
 export function causeText(number: number): string;

@@ -1,10 +1,11 @@
 /** The RTR wire layer in JavaScript, over the proved module rtr_wire.wasm. */
 
-import type { ActionKind, Cause, Kind, Mismatch, Named, Rule, SerialOrder, Status, Validity }
-    from "./rtr_table.js";
+import type { Action, Kind, Mismatch, Named, RouterState, Rule, SerialOrder, Settings, Status,
+    Validity } from "./rtr_table.js";
 
 export { ActionKind, Cause, ErrorCode, Kind, Mismatch, Named, PrefixRule, Rule, SerialOrder, Side,
     Status, VERSION, VERSION_NUMBER, Validity, causeText, kindText, statusText } from "./rtr_table.js";
+export type { Action, Known, RouterState, Settings } from "./rtr_table.js";
 
 /** What each unit has. */
 interface AnyUnit {
@@ -150,73 +151,6 @@ export class Data {
     covering(route: Route): Generator<Covering, void, undefined>;
     /** Gives back the memory that looking up took. */
     drop(): void;
-}
-
-/** What a router may set: rtr.h says what each is. Times are in milliseconds. */
-export interface Settings {
-    mostBytes: number;
-    pause: number;
-    connectLimit: number;
-    responseLimit: number;
-    refresh: number;
-    retry: number;
-    expire: number;
-    mostUnits: number;
-    chance: number;
-    highest: number;
-}
-
-/** What is to be done: rtr.h says what each field is. */
-export interface Action {
-    start: number;
-    taken: number;
-    wanted: number;
-    serial: number;
-    session: number;
-    code: number;
-    kind: ActionKind;
-    version: number;
-    cause: Cause;
-    status: Status;
-    detail: number;
-    changes: boolean;
-    drops: boolean;
-    reports: boolean;
-}
-
-/** What names data, with their times in seconds. */
-export interface Known {
-    serial: number;
-    refresh: number;
-    retry: number;
-    expire: number;
-    session: number;
-    version: number;
-}
-
-/** The fields of a struct rtr_router. */
-export interface RouterState {
-    settings: Settings;
-    expires: number;
-    asked: number;
-    due: number;
-    bytes: number;
-    known: Known;
-    answer: Known;
-    wait: number;
-    units: number;
-    note: number;
-    session: number;
-    phase: number;
-    version: number;
-    floor: number;
-    agreed: boolean;
-    fell: boolean;
-    changes: boolean;
-    resync: boolean;
-    answered: boolean;
-    noted: boolean;
-    hasData: boolean;
 }
 
 /** A router's end of the protocol, without sockets and clock: rtr.h says what is to be done for
