@@ -7,7 +7,8 @@ use Rattle.std.proofs.lemmas.Bool.{cases_lt, eqb-true}
 use Rattle.std.specs.Prelude.{min}
 use Rattle.std.specs.List.{AllByRecursion}
 use Rattle.rtr_vrps.specs.JsonValues.{SomeIs}
-use Rattle.rtr_vrps.specs.Expiries.{IsNext, earlier, fault_of, first_fault, times_of, with_time}
+use Rattle.rtr_vrps.specs.Expiries.{IsNextExpiry, earlier_fault, expiry_fault}
+use Rattle.rtr_vrps.specs.Expiries.{first_expiry_fault, times_of, with_time}
 use Rattle.rtr_vrps.specs.MakeStatus.{lacking_line, line_end}
 use Rattle.std.specs.Fmt.{decimal}
 use Rattle.std.specs.Prelude.{codes, ◌==◌}
@@ -30,11 +31,12 @@ next_left items i x small is =
 
 -- the first fault is that of the next item, or that of the others
 pub fault_here : (items : List Item) (i : ℕ) (x : Item) (o all : Option Reason) →
-    i < length items → x ≡ get_or items i x → o ≡ fault_of x.expiry →
-    first_fault (drop i items) ≡ all → all ≡ earlier o (first_fault (drop (i + 1) items))
+    i < length items → x ≡ get_or items i x → o ≡ expiry_fault x.expiry →
+    first_expiry_fault (drop i items) ≡ all →
+    all ≡ earlier_fault o (first_expiry_fault (drop (i + 1) items))
 fault_here items i x o all small is f h =
-    sym h ∙ ap first_fault (next_left items i x small is)
-    ∙ ap (λ p. earlier p (first_fault (drop (i + 1) items))) (sym f)
+    sym h ∙ ap first_expiry_fault (next_left items i x small is)
+    ∙ ap (λ p. earlier_fault p (first_expiry_fault (drop (i + 1) items))) (sym f)
 
 -- ---- times
 
@@ -71,41 +73,41 @@ last_there : (times : List ℕ) (u : ℕ) → SomeIs (λ v. v ≡ u) (times ++ u
 last_there [] u = inl refl
 last_there (v ∷ times) u = inr (last_there times u)
 
-earlier_next : (s t : ℕ) (times : List ℕ) → IsNext (Some s) times → (s < t) ⊎ (t ≤ s) →
-    IsNext (Some (min s t)) (times ++ t ∷ [])
+earlier_next : (s t : ℕ) (times : List ℕ) → IsNextExpiry (Some s) times → (s < t) ⊎ (t ≤ s) →
+    IsNextExpiry (Some (min s t)) (times ++ t ∷ [])
 earlier_next s t times h (inl small) =
     let e : min s t ≡ s = omega (arith, small) in
-    subst (λ r. IsNext (Some r) (times ++ t ∷ [])) (sym e)
+    subst (λ r. IsNextExpiry (Some r) (times ++ t ∷ [])) (sym e)
     (still_there s times t h.0, later_all s times t h.1 (omega (arith, small)))
 earlier_next s t times h (inr large) =
     let e : min s t ≡ t = omega (arith, large) in
-    subst (λ r. IsNext (Some r) (times ++ t ∷ [])) (sym e)
+    subst (λ r. IsNextExpiry (Some r) (times ++ t ∷ [])) (sym e)
     (last_there times t, later_all t times t (all_lower t s times large h.1) (omega arith))
 
--- the earlier of the two is next
-pub sooner_next : (o : Option ℕ) (e : Expiry) (times : List ℕ) → IsNext o times →
-    IsNext (sooner o e) (times ++ with_time e [])
+-- the earlier_fault of the two is next
+pub sooner_next : (o : Option ℕ) (e : Expiry) (times : List ℕ) → IsNextExpiry o times →
+    IsNextExpiry (sooner o e) (times ++ with_time e [])
 sooner_next None (At t) times h =
-    subst (λ l. IsNext (Some t) (l ++ t ∷ [])) (sym h) (inl refl, (omega arith, tt))
+    subst (λ l. IsNextExpiry (Some t) (l ++ t ∷ [])) (sym h) (inl refl, (omega arith, tt))
 sooner_next (Some u) (At t) times h = earlier_next u t times h (cases_lt u t)
-sooner_next None Never times h = subst (IsNext None) (sym (append-nil times)) h
-sooner_next None Invalid times h = subst (IsNext None) (sym (append-nil times)) h
-sooner_next None Twice times h = subst (IsNext None) (sym (append-nil times)) h
-sooner_next (Some u) Never times h = subst (IsNext (Some u)) (sym (append-nil times)) h
-sooner_next (Some u) Invalid times h = subst (IsNext (Some u)) (sym (append-nil times)) h
-sooner_next (Some u) Twice times h = subst (IsNext (Some u)) (sym (append-nil times)) h
+sooner_next None Never times h = subst (IsNextExpiry None) (sym (append-nil times)) h
+sooner_next None Invalid times h = subst (IsNextExpiry None) (sym (append-nil times)) h
+sooner_next None Twice times h = subst (IsNextExpiry None) (sym (append-nil times)) h
+sooner_next (Some u) Never times h = subst (IsNextExpiry (Some u)) (sym (append-nil times)) h
+sooner_next (Some u) Invalid times h = subst (IsNextExpiry (Some u)) (sym (append-nil times)) h
+sooner_next (Some u) Twice times h = subst (IsNextExpiry (Some u)) (sym (append-nil times)) h
 
 -- of the items one more was looked at
 pub times_step : (items : List Item) (i : ℕ) (x : Item) (o new : Option ℕ) → i < length items →
-    x ≡ get_or items i x → new ≡ sooner o x.expiry → IsNext o (times_of (take i items)) →
-    IsNext new (times_of (take (i + 1) items))
+    x ≡ get_or items i x → new ≡ sooner o x.expiry → IsNextExpiry o (times_of (take i items)) →
+    IsNextExpiry new (times_of (take (i + 1) items))
 times_step items i x o new small is e h =
     let more : times_of (take (i + 1) items) ≡ times_of (take i items) ++ with_time x.expiry [] =
     ap times_of (take_more items i x small)
     ∙ times_more (take i items) (get_or items i x)
     ∙ ap (λ y. times_of (take i items) ++ with_time y.expiry []) (sym is) in
-    subst (λ p. IsNext p (times_of (take (i + 1) items))) (sym e)
-    (subst (IsNext (sooner o x.expiry)) (sym more) (sooner_next o x.expiry _ h))
+    subst (λ p. IsNextExpiry p (times_of (take (i + 1) items))) (sym e)
+    (subst (IsNextExpiry (sooner o x.expiry)) (sym more) (sooner_next o x.expiry _ h))
 
 -- ---- lines
 

@@ -16,20 +16,20 @@ use Rattle.rtr_vrps.specs.declared.item.Refusal.{Refusal}
 -- ---- items whose expiry has no meaning
 
 -- what is wrong with an expiry, if something is
-abbrev pub fault_of : Expiry → Option Reason
-fault_of Never = None
-fault_of (At t) = None
-fault_of Invalid = Some reasons.Time
-fault_of Twice = Some reasons.Twice
+abbrev pub expiry_fault : Expiry → Option Reason
+expiry_fault Never = None
+expiry_fault (At t) = None
+expiry_fault Invalid = Some reasons.Time
+expiry_fault Twice = Some reasons.Twice
 
-abbrev pub earlier : Option Reason → Option Reason → Option Reason
-earlier (Some r) later = Some r
-earlier None later = later
+abbrev pub earlier_fault : Option Reason → Option Reason → Option Reason
+earlier_fault (Some r) later = Some r
+earlier_fault None later = later
 
 -- that of the first item with which something is wrong
-abbrev pub first_fault : List Item → Option Reason
-first_fault [] = None
-first_fault (i ∷ items) = earlier (fault_of i.expiry) (first_fault items)
+abbrev pub first_expiry_fault : List Item → Option Reason
+first_expiry_fault [] = None
+first_expiry_fault (i ∷ items) = earlier_fault (expiry_fault i.expiry) (first_expiry_fault items)
 
 -- ---- items that stay
 
@@ -53,23 +53,23 @@ times_of [] = []
 times_of (i ∷ items) = with_time i.expiry (times_of items)
 
 -- the least of the times, if there is one: it is one of them, and none comes before it
-abbrev pub IsNext : Option ℕ → List ℕ → Type 0
-IsNext None times = times ≡ []
-IsNext (Some t) times = SomeIs (λ u. u ≡ t) times × AllByRecursion (λ u. t ≤ u) times
+abbrev pub IsNextExpiry : Option ℕ → List ℕ → Type 0
+IsNextExpiry None times = times ≡ []
+IsNextExpiry (Some t) times = SomeIs (λ u. u ≡ t) times × AllByRecursion (λ u. t ≤ u) times
 
 -- ---- leaving out what has expired
 
 -- just the items that stay are left, so many are gone, and the next time is that of those
-pub record IsLeft (now : ℕ) (old new : List Item) (e : Expired) : Type 0 where
-  pub clear : first_fault old ≡ None
+pub record LeavesUnexpired (now : ℕ) (old new : List Item) (e : Expired) : Type 0 where
+  pub clear : first_expiry_fault old ≡ None
   pub left : new ≡ filter (stays now) old
   pub gone : length new + e.left_out ≡ length old
-  pub next : IsNext e.next (times_of new)
+  pub next : IsNextExpiry e.next (times_of new)
 
 -- or the expiry of an item has no meaning, and all items are left
 abbrev pub LeavesOut : ℕ → List Item → List Item → Result Expired Refusal → Type 0
-LeavesOut now old new (Ok e) = IsLeft now old new e
-LeavesOut now old new (Err r) = (first_fault old ≡ Some r.reason) × (new ≡ old)
+LeavesOut now old new (Ok e) = LeavesUnexpired now old new e
+LeavesOut now old new (Err r) = (first_expiry_fault old ≡ Some r.reason) × (new ≡ old)
 
 -- the same at a time that is asked for; without one all items are left
 abbrev pub LeavesAsked :

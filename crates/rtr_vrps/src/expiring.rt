@@ -1,8 +1,8 @@
 //! Leaving out what has expired.
 
 ghost use Rattle.std.specs.Prelude.{◌≡◌, None, Some, MatchResult};
-ghost use Rattle.rtr_vrps.specs.Expiries.{IsNext, LeavesAsked, LeavesOut, fault_of, first_fault};
-ghost use Rattle.rtr_vrps.specs.Expiries.{lasts, times_of};
+ghost use Rattle.rtr_vrps.specs.Expiries.{IsNextExpiry, LeavesAsked, LeavesOut, expiry_fault};
+ghost use Rattle.rtr_vrps.specs.Expiries.{first_expiry_fault, lasts, times_of};
 ghost use Rattle.rtr_vrps.specs.PrivateExpiring.{sooner};
 
 use crate::item::{Expiry, Item, Place, Reason, Refusal};
@@ -55,11 +55,11 @@ pub fn leave_out<'a>(now: u64, items: &mut Vec<Item<'a>>) -> Result<Expired, Ref
 
 /// Refuses the first item whose expiry has no meaning.
 fn check_times<'a>(items: &[Item<'a>]) -> Result<(), Refusal<'a>>
-    ensures { MatchResult result (λ _. first_fault items.now ≡ None)
-        (λ r. first_fault items.now ≡ Some r.reason) }
+    ensures { MatchResult result (λ _. first_expiry_fault items.now ≡ None)
+        (λ r. first_expiry_fault items.now ≡ Some r.reason) }
 {
     for item in items {
-        if let Some(reason) = fault_of(item.expiry) {
+        if let Some(reason) = expiry_fault(item.expiry) {
             let place = time_place(item.place);
             return Err(Refusal { place, reason });
         }
@@ -68,8 +68,8 @@ fn check_times<'a>(items: &[Item<'a>]) -> Result<(), Refusal<'a>>
 }
 
 /// What is wrong with an expiry, if something is.
-fn fault_of(expiry: Expiry) -> Option<Reason>
-    ensures { result ≡ fault_of expiry }
+fn expiry_fault(expiry: Expiry) -> Option<Reason>
+    ensures { result ≡ expiry_fault expiry }
 {
     match expiry {
         Expiry::Never | Expiry::At(_) => None,
@@ -98,7 +98,7 @@ fn lasts(now: u64, expiry: Expiry) -> bool
 
 /// When the first of the items expires, if one does.
 fn next_time(items: &[Item<'_>]) -> Option<u64>
-    ensures { IsNext result (times_of items.now) }
+    ensures { IsNextExpiry result (times_of items.now) }
 {
     let mut next: Option<u64> = None;
     for item in items {
