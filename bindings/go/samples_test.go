@@ -8,6 +8,8 @@ import (
 	"errors"
 	"fmt"
 	"os"
+	"path/filepath"
+	"runtime"
 	"strings"
 	"testing"
 )
@@ -22,10 +24,12 @@ type sample struct {
 }
 
 // samples are all of them.
-var samples = readSamples("../../tests/samples")
+var samples = readSamples()
 
-func readSamples(path string) []sample {
-	file, err := os.ReadFile(path)
+func readSamples() []sample {
+	// The program of the tests may run in another folder than that of this file.
+	_, here, _, _ := runtime.Caller(0)
+	file, err := os.ReadFile(filepath.Join(filepath.Dir(here), "../../tests/samples"))
 	if err != nil {
 		panic(err)
 	}
