@@ -64,11 +64,10 @@ func TestServesFiles(t *testing.T) {
 	folder := t.TempDir()
 	trial.Write(t, folder+"/a.json", validators)
 	trial.Write(t, folder+"/b.csv", "ASN,IP Prefix,Max Length\nAS64496,192.0.2.0/24,24\nAS64497,198.51.100.0/24,26\n")
-	one, err := rtr.NewDataOf([]rtr.VRP{{ASN: 64499}}, 1, 7, 9, rtr.RecommendedTiming)
-	if err == nil {
+	if _, err := rtr.NewDataOf([]rtr.VRP{{ASN: 64499}}, 1, 7, 9, rtr.RecommendedTiming); err == nil {
 		t.Fatal("a VRP without a prefix")
 	}
-	one, err = rtr.NewData(0, 7, 9, rtr.RecommendedTiming)
+	one, err := rtr.NewData(0, 7, 9, rtr.RecommendedTiming)
 	if err != nil {
 		t.Fatal(err)
 	}

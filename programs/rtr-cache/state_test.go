@@ -23,7 +23,7 @@ func TestRestart(t *testing.T) {
 	for count := 1; count < 4; count++ {
 		trial.Write(t, file, rows(count))
 		process, address := started(t, folder, "--csv", "f", "--state", "state")
-		process.Says(fmt.Sprintf("f: session"), 1)
+		process.Says("f: session", 1)
 		data := fetched(t, address, 2)
 		if count > 1 && (data.Session() != before.Session() || data.Serial() != before.Serial()+1) {
 			t.Errorf("session %d serial %d", data.Session(), data.Serial())
