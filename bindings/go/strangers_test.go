@@ -129,7 +129,7 @@ func TestStalledHandshake(t *testing.T) {
 func TestStalledRouters(t *testing.T) {
 	trusted := newAuthority(t)
 	server := rtr.NewServer()
-	server.Limits.First = 2 * time.Second
+	server.Limits.First = 5 * time.Second
 	ended := endings(server)
 	address := servedTLS(t, server, trusted.issue(cacheName, time.Hour), trusted.pool())
 	for _, front := range [][]byte{nil, {22, 3, 1, 2, 0, 1, 0}} {

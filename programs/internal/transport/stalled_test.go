@@ -24,7 +24,7 @@ var stalls = []string{"", "SSH-2.0-x", "SSH-2.0-x\r\n", "SSH-2.0-x\r\n\x00\x00\x
 func TestStalledRouters(t *testing.T) {
 	folder := t.TempDir()
 	server := rtr.NewServer()
-	server.Limits.First = 2 * time.Second
+	server.Limits.First = 5 * time.Second
 	slow := make(chan error, 100)
 	server.Ended = func(_ net.Addr, err error) {
 		if errors.Is(err, rtr.ErrTooSlow) {

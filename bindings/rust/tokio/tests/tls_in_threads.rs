@@ -87,10 +87,18 @@ fn client_in(version: u8, address: SocketAddr, name: &'static str, files: &[Path
 
 /// A cache with data over TLS, and why it ended connections.
 fn cache(files: &[PathBuf; 3]) -> (Server, SocketAddr, Receiver<String>) {
+    cache_until(PATIENCE, files)
+}
+
+/// The same with this time for a first query.
+fn cache_until(
+    first_query: Duration,
+    files: &[PathBuf; 3],
+) -> (Server, SocketAddr, Receiver<String>) {
     let (sender, told) = channel();
     let sender = Mutex::new(sender);
     let options = ServerOptions {
-        first_query: milliseconds(1500),
+        first_query,
         notify: milliseconds(1),
         ..ServerOptions::default()
     };
@@ -116,7 +124,7 @@ fn handshakes_that_stall() {
     let (lately, by) = (now() - 60, Some(&folder.authority));
     let good = folder.files("cache", &Names::Host(NAME), lately, by);
     let router = folder.files("router", &Names::Address("127.0.0.1"), lately, by);
-    let (server, address, told) = cache(&good);
+    let (server, address, told) = cache_until(milliseconds(1500), &good);
     let began = Instant::now();
     let mut stalled = [Peer::connect(address), Peer::connect(address)];
     stalled[1].send(&[22, 3, 1, 2, 0, 1, 0]);
