@@ -51,8 +51,8 @@ fn buffered_output(rt: &HostRuntime) -> BufWriter<Stdout> {
     }
 }
 
-/// The file of this name, whose front is kept, behind a buffer, unbuffered if there is no memory for
-/// one.
+/// The file of this name, whose front is kept, behind a buffer, unbuffered if there is no memory
+/// for one.
 fn buffered_input<'a>(
     rt: &HostRuntime,
     name: &str,

@@ -381,9 +381,9 @@ impl Simulation {
         self.finds(wrong.as_str())
     }
 
-    /// The router finds fault with nothing that the cache sent, unless a close cut it off, which may
-    /// leave the highest version alone of the report to a router that is one too many, or they are
-    /// of another session where the cache had no data before.
+    /// The router finds fault with nothing that the cache sent, unless a close cut it off, which
+    /// may leave the highest version alone of the report to a router that is one too many, or they
+    /// are of another session where the cache had no data before.
     fn check_router(&mut self, bytes: &[u8]) -> Result<(), Fail> {
         match report_of(bytes) {
             None => Ok(()),
