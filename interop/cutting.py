@@ -289,8 +289,9 @@ PHASES = (
 )
 # Where a kill comes after the writes of the new file, each of these is slowed by so many
 # microseconds, so that routers would get what were served too early. In the phase without a call
-# the kill comes once the file has so many bytes, which come before its first unit.
-SLOWED, HEAD = 50000, 32
+# the kill comes once the file has so many bytes, which come before its first unit; the call after
+# the writes waits for it.
+SLOWED, STOPPED, HEAD = 50000, 60_000_000, 32
 
 DIES_SECONDS = 30
 
@@ -303,11 +304,11 @@ class Injected:
         state = os.path.join(cache.folder, "state")
         path = os.path.normpath(os.path.join(state, phase.name))
         words = [program("strace"), "-f", "-p", str(cache.server.process.pid), "-P", path]
-        words += ["-e", f"trace=write,{phase.call}".rstrip(",")]
+        call = phase.call or "pwrite64"
+        harm = "signal=SIGKILL" if phase.call else f"delay_enter={STOPPED}"
+        words += ["-e", f"trace=write,{call}", "-e", f"inject={call}:{harm}"]
         if phase.name == NEW and phase.call not in ("openat", "write"):
             words += ["-e", f"inject=write:delay_enter={SLOWED}"]
-        if phase.call:
-            words += ["-e", f"inject={phase.call}:signal=SIGKILL"]
         self.file = os.path.join(state, NEW)
         log = os.path.join(cache.folder, f"strace.{PHASES.index(phase)}")
         self.server = Server(words, log)
