@@ -885,9 +885,17 @@ static inline size_t rtr_finding_line(const struct rtr_finding *finding, uint64_
  * After each action but RTR_WAIT it calls rtr_router_tick, and rtr_router_read with what is left of
  * the input behind `taken`, until both answer RTR_WAIT with nothing taken. After RTR_END nothing
  * more of that connection is told. Times are in milliseconds, by a clock that doesn't go back, and
- * below 2^63. A struct is plain: it may be copied, and read. Its `phase` is 0 without a connection,
- * 1 while one is made, 2 while an answer is awaited, 3 in a response, 4 while its changes are made,
- * and 5 while the router waits. */
+ * below 2^63. A struct is plain: it may be copied, and read. */
+
+/* Where a router is: the `phase` of its struct. */
+enum rtr_phase {
+    RTR_PHASE_OFFLINE = 0,    /* there is no connection */
+    RTR_PHASE_CONNECTING = 1, /* one is made */
+    RTR_PHASE_ASKED = 2,      /* an answer is awaited */
+    RTR_PHASE_READING = 3,    /* in a response */
+    RTR_PHASE_APPLYING = 4,   /* its changes are made */
+    RTR_PHASE_WAITING = 5     /* it waits for a notify, or for its time */
+};
 
 /* What a program may set. Times are in milliseconds. */
 struct rtr_settings {

@@ -165,12 +165,9 @@ func (m *machine) wakes() uint64 {
 	return uint64(C.rtr_router_wakes(&m.router))
 }
 
-// phaseWaiting is the phase of rtr.h in which a router waits for a notify, or for its time.
-const phaseWaiting = 5
-
-// waits says whether the machine is in that phase.
+// waits says whether the machine waits for a notify, or for its time.
 func (m *machine) waits() bool {
-	return m.router.phase == phaseWaiting
+	return m.router.phase == C.RTR_PHASE_WAITING
 }
 
 // otherSerial is a notify of another serial number than that of the data, of their session and of

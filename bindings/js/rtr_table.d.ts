@@ -207,6 +207,23 @@ export const Rule: {
 };
 export type Rule = (typeof Rule)[keyof typeof Rule];
 
+/** Where a router is: the `phase` of its struct. */
+export const Phase: {
+    /** there is no connection */
+    readonly OFFLINE: 0;
+    /** one is made */
+    readonly CONNECTING: 1;
+    /** an answer is awaited */
+    readonly ASKED: 2;
+    /** in a response */
+    readonly READING: 3;
+    /** its changes are made */
+    readonly APPLYING: 4;
+    /** it waits for a notify, or for its time */
+    readonly WAITING: 5;
+};
+export type Phase = (typeof Phase)[keyof typeof Phase];
+
 export const ActionKind: {
     readonly WAIT: 0;
     readonly CONNECT: 1;

@@ -141,6 +141,15 @@ export const Rule = Object.freeze({
     REPORT_OF_REPORT: 17,
 });
 
+export const Phase = Object.freeze({
+    OFFLINE: 0,
+    CONNECTING: 1,
+    ASKED: 2,
+    READING: 3,
+    APPLYING: 4,
+    WAITING: 5,
+});
+
 export const ActionKind = Object.freeze({
     WAIT: 0,
     CONNECT: 1,

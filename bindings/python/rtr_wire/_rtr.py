@@ -243,6 +243,23 @@ class Rule(enum.IntEnum):
     REPORT_OF_REPORT = 17
 
 
+class Phase(enum.IntEnum):
+    """Where a router is: the `phase` of its struct."""
+
+    # there is no connection
+    OFFLINE = 0
+    # one is made
+    CONNECTING = 1
+    # an answer is awaited
+    ASKED = 2
+    # in a response
+    READING = 3
+    # its changes are made
+    APPLYING = 4
+    # it waits for a notify, or for its time
+    WAITING = 5
+
+
 class ActionKind(enum.IntEnum):
     """enum rtr_action_kind of rtr.h."""
 
@@ -280,6 +297,14 @@ class Cause(enum.IntEnum):
     EXPIRED = 13
     # no failure: it connects again at once, in a lower version
     LOWER = 14
+
+
+class GroupShown(enum.IntEnum):
+    """What becomes of what is shown."""
+
+    SAME = 0
+    DATA = 1
+    NOTHING = 2
 
 
 class ServingKind(enum.IntEnum):
@@ -671,6 +696,36 @@ class rtr_action(Structure):
     ]
 
 
+class rtr_group(Structure):
+    count: int
+    runs: int
+    has: Any
+
+    _fields_ = [
+        ("count", c_size_t),
+        ("runs", c_size_t),
+        ("has", c_bool * 16),
+    ]
+
+
+class rtr_group_answer(Structure):
+    member: int
+    stop: int
+    start: int
+    shown: int
+    stops: bool
+    starts: bool
+
+    _fields_ = [
+        ("member", c_size_t),
+        ("stop", c_size_t),
+        ("start", c_size_t),
+        ("shown", c_uint8),
+        ("stops", c_bool),
+        ("starts", c_bool),
+    ]
+
+
 class rtr_present(Structure):
     serial: int
     session: int
@@ -812,6 +867,12 @@ PROTOTYPES: dict[str, tuple[Any, list[Any]]] = {
     "rtr_router_query_nonnull": (c_size_t, [POINTER(rtr_action), c_void_p, c_size_t]),
     "rtr_router_report_nonnull": (c_bool, [POINTER(rtr_action), c_void_p, c_size_t, c_void_p,
         c_size_t, c_void_p]),
+    "rtr_group_init": (None, [POINTER(rtr_group), c_size_t]),
+    "rtr_group_best": (c_bool, [POINTER(rtr_group), c_void_p]),
+    "rtr_group_shows": (None, [POINTER(rtr_group), c_size_t, POINTER(rtr_group_answer)]),
+    "rtr_group_drops": (None, [POINTER(rtr_group), c_size_t, POINTER(rtr_group_answer)]),
+    "rtr_group_fails": (None, [POINTER(rtr_group), c_size_t, POINTER(rtr_group_answer)]),
+    "rtr_group_well": (None, [POINTER(rtr_group), c_size_t, POINTER(rtr_group_answer)]),
     "rtr_cache_settings_usual": (None, [POINTER(rtr_cache_settings)]),
     "rtr_cache_init": (None, [POINTER(rtr_cache), c_uint64, POINTER(rtr_cache_settings)]),
     "rtr_cache_tick": (None, [POINTER(rtr_cache), c_uint64, POINTER(rtr_present),

@@ -244,6 +244,22 @@ pub(crate) mod rule {
     pub(crate) const RULE_REPORT_OF_REPORT: u8 = 17;
 }
 
+/// Where a router is: the `phase` of its struct.
+pub(crate) mod phase {
+    /// there is no connection
+    pub(crate) const OFFLINE: u8 = 0;
+    /// one is made
+    pub(crate) const CONNECTING: u8 = 1;
+    /// an answer is awaited
+    pub(crate) const ASKED: u8 = 2;
+    /// in a response
+    pub(crate) const READING: u8 = 3;
+    /// its changes are made
+    pub(crate) const APPLYING: u8 = 4;
+    /// it waits for a notify, or for its time
+    pub(crate) const WAITING: u8 = 5;
+}
+
 /// The numbers of enum rtr_action_kind.
 pub(crate) mod action {
     pub(crate) const WAIT: u8 = 0;

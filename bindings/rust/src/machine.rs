@@ -2,7 +2,7 @@
 
 pub(crate) use crate::abi::{action, cause, Action, Router as Machine};
 
-use crate::abi::{self, named, Settings};
+use crate::abi::{self, named, phase, Settings};
 use crate::options::ClientOptions;
 use crate::sys;
 use crate::unit::{SerialNotify, Unit, UnitRef};
@@ -96,10 +96,9 @@ impl Machine {
         action
     }
 
-    /// Whether it waits for a notify or for its time, as `rtr.h` numbers phases.
+    /// Whether it waits for a notify or for its time.
     pub(crate) fn waits(&self) -> bool {
-        const WAITING: u8 = 5;
-        self.phase == WAITING
+        self.phase == phase::WAITING
     }
 
     /// A notify of another serial number than that of the data, of their session and of the version
