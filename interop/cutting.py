@@ -314,7 +314,7 @@ class Injected:
         self.server = Server(words, log)
 
     def __enter__(self):
-        until(self.attached, END_SECONDS, "strace attaches")
+        until(self.attached, DIES_SECONDS, "strace attaches")
         return self
 
     def __exit__(self, *_):
@@ -333,6 +333,7 @@ class Injected:
         if not self.phase.call:
             until(self.is_half, DIES_SECONDS, "half of the file")
             self.cache.server.process.kill()
+            self.server.end()  # while it has a call wait, nobody sees the end
         return self.cache.server.process.wait(DIES_SECONDS) == -signal.SIGKILL
 
     def is_half(self):
