@@ -22,7 +22,7 @@
 #include <unistd.h>
 #include "rtr_client.h"
 
-enum { MOST = 16, NONE = -1 };
+enum { MOST = sizeof(((struct rtr_group *)0)->has), NONE = -1 };
 
 /* A cache, and the client that asks it. */
 static struct member {

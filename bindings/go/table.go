@@ -177,6 +177,13 @@ const (
 	Longer Mismatch = 3
 )
 
+// What becomes of what a Group shows.
+const (
+	GroupSame    Shown = 0
+	GroupData    Shown = 1
+	GroupNothing Shown = 2
+)
+
 // No index but 0 may stand here: sizes of structs, and places of fields.
 var _ = [...]struct{}{
 	[1]struct{}{}[unsafe.Sizeof(C.struct_rtr_answer{})-48],

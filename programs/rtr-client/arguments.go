@@ -12,6 +12,7 @@ import (
 	"fishreef/programs/internal/beside"
 	"fishreef/programs/internal/transport"
 	"fishreef/programs/internal/words"
+	"fishreef/rtr"
 )
 
 // route is a route whose validity is asked for.
@@ -101,6 +102,8 @@ func (w *wanted) check() (err error) {
 	switch t := w.tls; {
 	case len(w.addresses) == 0:
 		return errors.New("no HOST:PORT is named")
+	case len(w.addresses) > rtr.MostMembers:
+		return fmt.Errorf("more than %d caches are named", rtr.MostMembers)
 	case (t.certificate == "") != (t.key == ""):
 		return errors.New("--tls-cert and --tls-key come together")
 	case !t.use && t != (tlsWords{}):

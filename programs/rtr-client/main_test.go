@@ -219,22 +219,27 @@ func lists(t *testing.T, folder, file string, lines ...string) {
 	}
 }
 
-// The first cache that has data is followed. While it fails the next one is, and it is left again.
+// The first cache that has data is followed. While it fails the next one is asked, and it is left
+// again; data that were shown stay while they live.
 func TestPreference(t *testing.T) {
-	one, first := cached(t, "127.0.0.1:0", data(t, 1, vrp("192.0.2.0/24", 24)))
+	gone, first := cached(t, "127.0.0.1:0", data(t, 1, vrp("192.0.2.0/24", 24)))
+	gone.Close()
 	_, second := cached(t, "127.0.0.1:0", data(t, 5, vrp("198.51.100.0/24", 24)))
 	process := trial.Start(t, t.TempDir(), first, second)
-	process.Says(first+": session 7 serial 1", 1)
-	one.Close()
 	process.Says(second+": session 7 serial 5", 1)
-	cached(t, first, data(t, 1, vrp("192.0.2.0/24", 24)))
-	process.Says(first+": session 7 serial 1", 2)
-	want := "+ IPv4 prefix 192.0.2.0/24-24 AS64496\n" +
-		"+ IPv4 prefix 198.51.100.0/24-24 AS64496\n- IPv4 prefix 192.0.2.0/24-24 AS64496\n" +
-		"+ IPv4 prefix 192.0.2.0/24-24 AS64496\n- IPv4 prefix 198.51.100.0/24-24 AS64496\n"
+	one, _ := cached(t, first, data(t, 1, vrp("192.0.2.0/24", 24)))
+	process.Says(first+": session 7 serial 1", 1)
+	failures := process.Lines(first + ": ")
+	one.Close()
+	process.Says(first+": ", failures+1)
+	cached(t, first, data(t, 2, vrp("192.0.2.0/24", 25)))
+	process.Says(first+": session 7 serial 2", 1)
+	want := "+ IPv4 prefix 198.51.100.0/24-24 AS64496\n" +
+		"+ IPv4 prefix 192.0.2.0/24-24 AS64496\n- IPv4 prefix 198.51.100.0/24-24 AS64496\n" +
+		"+ IPv4 prefix 192.0.2.0/24-25 AS64496\n- IPv4 prefix 192.0.2.0/24-24 AS64496\n"
 	process.Await("the way back", func() bool { return process.Output() == want })
 	process.End()
-	if process.Lines(first+": connections 2") != 1 || process.Lines(second+": connections 1,") != 1 {
+	if process.Lines(second+": session") != 1 {
 		t.Error(process.Said())
 	}
 }
@@ -287,6 +292,8 @@ func TestWrongWords(t *testing.T) {
 		{"", 2, "no HOST:PORT is named"},
 		{"localhost", 2, `"localhost" is no HOST:PORT`},
 		{"a:1 a:1", 2, "a:1 is named twice"},
+		{"a:1 a:2 a:3 a:4 a:5 a:6 a:7 a:8 a:9 b:1 b:2 b:3 b:4 b:5 b:6 b:7 b:8", 2,
+			"more than 16 caches are named"},
 		{"a:1 --version 3", 2, `--version: "3" is no version`},
 		{"a:1 --version", 2, "--version lacks its 0|1|2"},
 		{"a:1 --nothing", 2, `no option "--nothing"`},

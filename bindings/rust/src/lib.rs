@@ -98,6 +98,7 @@ mod editions;
 mod fault;
 #[cfg(feature = "std")]
 mod following;
+mod group;
 #[cfg(feature = "alloc")]
 mod input;
 #[cfg(feature = "std")]
@@ -155,6 +156,7 @@ pub use client::Client;
 pub use client_error::{Breach, ClientError};
 pub use data::{apply_in_order, apply_into, delta_into, order_into, DataError, Place, Side};
 pub use fault::{ErrorCode, Fault, PrefixRule};
+pub use group::{Decision, Group, Shown};
 pub use kind::{Kind, UnknownKind};
 #[cfg(feature = "alloc")]
 pub use lines::{change_json, change_line, unit_line};

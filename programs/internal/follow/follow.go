@@ -23,38 +23,40 @@ type Listener interface {
 	Failed(Source, error) error
 }
 
-// none is the place of no source.
-const none = -1
-
-// follower follows the sources.
+// follower follows the sources as a Group decides.
 type follower struct {
 	sources  []Source
 	listener Listener
+	group    *rtr.Group
 	events   chan event
-	stops    []context.CancelFunc // of the sources that run; nil for the others
-	turns    []int                // how often each was started
-	active   int                  // whose data were shown last
+	members  []member
 	running  sync.WaitGroup
 }
 
-// event is what a source has: data, or a failure.
+// member is what a source has.
+type member struct {
+	stop context.CancelFunc // of one that runs; nil for the others
+	turn int                // how often it was started
+	data rtr.Data
+}
+
+// event is what a source has now: data, or a failure.
 type event struct {
 	place, turn int
 	data        rtr.Data
 	failed      error
 }
 
-// Follow follows the first of the sources that has data, until the context ends or the listener
-// answers an error. Where it fails, those after it are asked one after the other; they are left as
-// soon as one before them has data again.
+// Follow follows the first of the sources, at most rtr.MostMembers, that has data, until the context ends or the
+// listener answers an error. Where it fails, those after it are asked one after the other, and its
+// data stay until they expire; those are left as soon as one before them has a whole answer.
 //
 // Errors: that of the listener, or of the context.
 func Follow(ctx context.Context, sources []Source, listener Listener) error {
 	ctx, cancel := context.WithCancel(ctx)
 	f := &follower{
-		sources: sources, listener: listener, events: make(chan event),
-		stops: make([]context.CancelFunc, len(sources)), turns: make([]int, len(sources)),
-		active: none,
+		sources: sources, listener: listener, group: rtr.NewGroup(len(sources)),
+		events: make(chan event), members: make([]member, len(sources)),
 	}
 	defer f.running.Wait()
 	defer cancel()
@@ -64,7 +66,7 @@ func Follow(ctx context.Context, sources []Source, listener Listener) error {
 		case <-ctx.Done():
 			return ctx.Err()
 		case e := <-f.events:
-			if e.turn != f.turns[e.place] {
+			if e.turn != f.members[e.place].turn {
 				continue // of a source that was left
 			}
 			if err := f.happens(ctx, e); err != nil {
@@ -74,41 +76,47 @@ func Follow(ctx context.Context, sources []Source, listener Listener) error {
 	}
 }
 
-// happens does what an event asks for.
+// happens tells the group of an event, and does what that decides.
 func (f *follower) happens(ctx context.Context, e event) error {
-	source := f.sources[e.place]
 	if e.failed != nil {
-		if err := f.listener.Failed(source, e.failed); err != nil {
+		if err := f.listener.Failed(f.sources[e.place], e.failed); err != nil {
 			return err
 		}
-		next := e.place + 1
-		if next < len(f.sources) && f.stops[next] == nil && f.active <= e.place {
-			f.start(ctx, next)
+		return f.obey(ctx, e, f.group.Fails(e.place))
+	}
+	f.members[e.place].data = e.data
+	if e.data.IsZero() {
+		return f.obey(ctx, e, f.group.Drops(e.place))
+	}
+	return f.obey(ctx, e, f.group.Shows(e.place))
+}
+
+// obey does what the group decides after an event.
+func (f *follower) obey(ctx context.Context, e event, decided rtr.Decision) error {
+	var err error
+	switch decided.Shown {
+	case rtr.GroupData:
+		err = f.listener.Data(f.sources[decided.Member], f.members[decided.Member].data)
+	case rtr.GroupNothing:
+		err = f.listener.Data(f.sources[e.place], rtr.Data{})
+	}
+	if decided.Stop >= 0 {
+		for place := decided.Stop; place < len(f.sources); place++ {
+			f.stop(place)
 		}
-		return nil
 	}
-	if e.data.IsZero() && e.place != f.active {
-		return nil
+	if decided.Start >= 0 {
+		f.start(ctx, decided.Start)
 	}
-	if before := f.active; before != none && before < e.place && !e.data.IsZero() {
-		// It failed: what it has next is to be seen, also if it is the same.
-		f.stop(before)
-		f.start(ctx, before)
-	}
-	if !e.data.IsZero() {
-		f.active = e.place
-		for after := e.place + 1; after < len(f.sources); after++ {
-			f.stop(after)
-		}
-	}
-	return f.listener.Data(source, e.data)
+	return err
 }
 
 // start has a source be asked.
 func (f *follower) start(ctx context.Context, place int) {
-	ctx, f.stops[place] = context.WithCancel(ctx)
-	f.turns[place]++
-	turn, client := f.turns[place], f.sources[place].Client
+	m := &f.members[place]
+	ctx, m.stop = context.WithCancel(ctx)
+	m.turn++
+	turn, client := m.turn, f.sources[place].Client
 	give := func(e event) {
 		e.place, e.turn = place, turn
 		select {
@@ -127,11 +135,10 @@ func (f *follower) start(ctx context.Context, place int) {
 	}()
 }
 
-// stop leaves a source.
+// stop leaves a source, and forgets its data.
 func (f *follower) stop(place int) {
-	if f.stops[place] != nil {
-		f.stops[place]()
-		f.stops[place] = nil
-		f.turns[place]++
+	if m := &f.members[place]; m.stop != nil {
+		m.stop()
+		*m = member{turn: m.turn + 1}
 	}
 }
