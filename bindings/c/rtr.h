@@ -202,7 +202,7 @@ struct rtr_comparison {
     bool same;      /* whether both inputs mean the same; false unless the status is RTR_OK */
 };
 
-/* The answer of rtr_line, rtr_change_line and rtr_change_json. */
+/* The answer of rtr_line, rtr_json, rtr_change_line and rtr_change_json. */
 struct rtr_line {
     size_t size;    /* bytes of the unit in the input */
     size_t length;  /* bytes of what is written, also where the output is shorter */
@@ -305,6 +305,8 @@ uint8_t rtr_next_many_nonnull(const uint8_t *input, size_t input_length,
                               struct rtr_unit *units, size_t units_length,
                               size_t *count, size_t *taken);
 uint8_t rtr_line_nonnull(const uint8_t *input, size_t input_length, uint64_t offset,
+                         uint8_t *output, size_t output_length, struct rtr_line *answer);
+uint8_t rtr_json_nonnull(const uint8_t *input, size_t input_length, uint64_t offset,
                          uint8_t *output, size_t output_length, struct rtr_line *answer);
 uint8_t rtr_change_line_nonnull(const uint8_t *input, size_t input_length,
                                 uint8_t *output, size_t output_length, struct rtr_line *answer);
@@ -458,6 +460,14 @@ static inline uint8_t rtr_line(const uint8_t *input, size_t input_length, uint64
                                uint8_t *output, size_t output_length, struct rtr_line *answer)
 {
     return rtr_line_nonnull(rtr_readable(input), input_length, offset, rtr_writable(output),
+                            output_length, answer);
+}
+
+/* The JSON object of the same unit, as rtr_list --json prints it, in UTF-8. Else as rtr_line. */
+static inline uint8_t rtr_json(const uint8_t *input, size_t input_length, uint64_t offset,
+                               uint8_t *output, size_t output_length, struct rtr_line *answer)
+{
+    return rtr_json_nonnull(rtr_readable(input), input_length, offset, rtr_writable(output),
                             output_length, answer);
 }
 

@@ -119,7 +119,13 @@ static uint8_t unit_line(const uint8_t *input, size_t length, uint8_t *output, s
     return rtr_line(input, length, 24, output, room, answer);
 }
 
-static line_call *const line_calls[] = {unit_line, rtr_change_line, rtr_change_json};
+static uint8_t unit_json(const uint8_t *input, size_t length, uint8_t *output, size_t room,
+                         struct rtr_line *answer)
+{
+    return rtr_json(input, length, 24, output, room, answer);
+}
+
+static line_call *const line_calls[] = {unit_line, rtr_change_line, rtr_change_json, unit_json};
 
 /* Calls one of them with this room. */
 static struct rtr_line line_of(const struct place *place, size_t call, const uint8_t *input,
@@ -179,15 +185,18 @@ static void check_unit(const struct place *place, const struct sample *s, const 
 static void check_lines(const struct place *place, const struct sample *s, const uint8_t *bytes,
                         size_t size)
 {
-    char line[400];
+    char line[400], object[400];
     snprintf(line, sizeof line, "24%s", s->rows[LINE] + 1); /* it stands after 24 bytes */
+    snprintf(object, sizeof object, "{\"offset\":24%s",
+             s->rows[OBJECT_LISTED] + strlen("{\"offset\":0"));
     const uint8_t *input = copied(place, place->input, bytes, size);
     check_line(place, 0, input, size, line);
     check_line(place, 1, input, size, s->rows[CHANGE]);
     check_line(place, 2, input, size, s->rows[OBJECT]);
+    check_line(place, 3, input, size, object);
     for (size_t there = 0; there < size; there++) {
         input = copied(place, place->input, bytes, there);
-        struct rtr_line told = line_of(place, there % 3, input, there, 9);
+        struct rtr_line told = line_of(place, there % 4, input, there, 9);
         CHECK(told.status == RTR_SHORT && told.wanted == (there < 8 ? 8 : size));
         CHECK(told.size == 0 && told.length == 0 && told.detail == 0);
     }
@@ -203,7 +212,7 @@ static void check_sample(const struct place *place, const struct sample *s)
         check_lines(place, s, bytes, size);
         return;
     }
-    for (size_t call = 0; call < 3; call++) {
+    for (size_t call = 0; call < 4; call++) {
         const uint8_t *input = copied(place, place->input, bytes, size);
         struct rtr_line told = line_of(place, call, input, size, 9);
         check_refused(told.status, told.detail, s->rows[REFUSED]);

@@ -7,10 +7,23 @@ package rtr
 // shows a prefix whose lengths break their rule, which Next refuses. The errors are those of
 // UnitSize, and Short if not all of the unit is there; then nothing is appended.
 func UnitLine(b, input []byte, offset uint64) ([]byte, int, error) {
+	return unitBy(line, b, input, offset)
+}
+
+// UnitJSON is UnitLine of the object in JSON, as rtr_list --json prints it.
+func UnitJSON(b, input []byte, offset uint64) ([]byte, int, error) {
+	return unitBy(object, b, input, offset)
+}
+
+// unitCall writes what is said of the unit that input begins with.
+type unitCall func(input []byte, offset uint64, output []byte) (int, int, Status, uint8)
+
+// unitBy appends what a call writes.
+func unitBy(call unitCall, b, input []byte, offset uint64) ([]byte, int, error) {
 	room := lineRoom
 	for {
 		b = grown(b, room)
-		length, size, status, detail := line(input, offset, b[len(b):len(b)+room])
+		length, size, status, detail := call(input, offset, b[len(b):len(b)+room])
 		switch status {
 		case OK:
 			return b[:len(b)+length], size, nil

@@ -151,6 +151,14 @@ static size_t finding_line(struct rtr_finding finding, uint64_t offset,
 	return rtr_finding_line(&finding, offset, output, output_length);
 }
 
+static struct rtr_line object(const uint8_t *input, size_t length, uint64_t offset,
+                              uint8_t *output, size_t output_length)
+{
+	struct rtr_line answer;
+	rtr_json(input, length, offset, output, output_length, &answer);
+	return answer;
+}
+
 static struct rtr_line change_line(const uint8_t *input, size_t length,
                                    uint8_t *output, size_t output_length)
 {
@@ -264,6 +272,14 @@ func line(input []byte, offset uint64, output []byte) (length, size int, status 
 	in, n := place(input)
 	out, room := place(output)
 	a := C.line(in, n, C.uint64_t(offset), out, room)
+	return int(a.length), int(a.size), Status(a.status), uint8(a.detail)
+}
+
+// object is line of the object in JSON.
+func object(input []byte, offset uint64, output []byte) (length, size int, status Status, detail uint8) {
+	in, n := place(input)
+	out, room := place(output)
+	a := C.object(in, n, C.uint64_t(offset), out, room)
 	return int(a.length), int(a.size), Status(a.status), uint8(a.detail)
 }
 

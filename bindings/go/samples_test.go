@@ -16,11 +16,12 @@ import (
 
 // sample is a unit of the file tests/samples, which says what it has.
 type sample struct {
-	unit         string
-	bytes, form  []byte
-	refused      string
-	line, change string
-	object       string
+	unit        string
+	bytes, form []byte
+	refused     string
+	line, json  string
+	change      string
+	object      string
 }
 
 // samples are all of them.
@@ -57,7 +58,8 @@ func readSamples() []sample {
 			last.change = rest
 		case "object":
 			last.object = rest
-		case "json": // of rtr_list alone
+		case "json":
+			last.json = rest
 		default:
 			panic("a sample has no " + word)
 		}
@@ -101,6 +103,10 @@ func (s sample) check(t *testing.T) {
 		t.Errorf("%s, %d", line, size)
 	case s.line != "" && (err != nil || size != len(s.bytes) || string(line) != wanted):
 		t.Errorf("%s, %d, %v, but expected is %s", line, size, err, wanted)
+	}
+	object, size, err := UnitJSON(nil, s.bytes, 0)
+	if string(object) != s.json || s.json != "" && (err != nil || size != len(s.bytes)) {
+		t.Errorf("%s, %d, %v, but expected is %s", object, size, err, s.json)
 	}
 	unit, rest, err := Next(s.bytes)
 	if s.refused != "" {

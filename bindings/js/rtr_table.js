@@ -432,6 +432,7 @@ export const FUNCTIONS = Object.freeze({
     rtr_next_nonnull: ["uint8", "*", "size", "*"],
     rtr_next_many_nonnull: ["uint8", "*", "size", "*", "size", "*", "*"],
     rtr_line_nonnull: ["uint8", "*", "size", "uint64", "*", "size", "*"],
+    rtr_json_nonnull: ["uint8", "*", "size", "uint64", "*", "size", "*"],
     rtr_change_line_nonnull: ["uint8", "*", "size", "*", "size", "*"],
     rtr_change_json_nonnull: ["uint8", "*", "size", "*", "size", "*"],
     rtr_text_nonnull: ["uint8", "uint8", "uint8", "*", "size", "*"],

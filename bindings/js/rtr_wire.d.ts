@@ -246,6 +246,8 @@ export class Session {
     /** The line that rtr_list prints of the unit that the bytes begin with, of one that stands
      * after `offset` bytes. */
     unitLine(bytes: Uint8Array, offset?: number | bigint): string;
+    /** The same as an object in JSON, as rtr_list --json prints it. */
+    unitJson(bytes: Uint8Array, offset?: number | bigint): string;
     /** The change that a payload unit makes, as rtr_diff prints it; of another unit "". */
     changeLine(unit: Written): string;
     /** The same as an object in JSON, as rtr_diff --json prints it. */

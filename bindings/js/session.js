@@ -364,6 +364,11 @@ export class Session {
         return this.#line("rtr_line_nonnull", bytes, offset);
     }
 
+    /** The same as an object in JSON, as rtr_list --json prints it. */
+    unitJson(bytes, offset = 0) {
+        return this.#line("rtr_json_nonnull", bytes, offset);
+    }
+
     /** The change that a payload unit makes, as rtr_diff prints it; of another unit "". */
     changeLine(unit) {
         return this.#line("rtr_change_line_nonnull", this.writeUnit(unit));

@@ -18,7 +18,7 @@ function read(text) {
         if (word === "unit") {
             all.push({ unit: rest });
         } else if (word) {
-            const parsed = { bytes: unspaced, form: unspaced, json: JSON.parse }[word];
+            const parsed = { bytes: unspaced, form: unspaced }[word];
             all[all.length - 1][word] = parsed ? parsed(rest) : rest;
         }
     }
@@ -52,6 +52,7 @@ function check(rtr, sample) {
     const { bytes, form = bytes, refused, line } = sample;
     if (line !== undefined) {
         assert.equal(rtr.unitLine(bytes, 24), `24${line.slice(1)}`);
+        assert.equal(rtr.unitJson(bytes), sample.json);
     } else {
         refuses(() => rtr.unitLine(bytes, 24), refused);
     }
@@ -66,7 +67,7 @@ function check(rtr, sample) {
     }
     assert.equal(rtr.changeLine(unit), sample.change ?? "");
     assert.equal(rtr.changeJson(unit), sample.object ?? "");
-    const { flags, zero, error_text: text, ...fields } = sample.json;
+    const { flags, zero, error_text: text, ...fields } = JSON.parse(sample.json);
     assert.deepEqual(shown(unit), fields);
     assert.ok(text === undefined || text === null || unit.text === text);
 }

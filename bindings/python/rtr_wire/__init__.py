@@ -12,7 +12,7 @@ Units
         for unit in units(open("recording", "rb")):
             print(unit)
 
-    `unit_lines` and `check` say of a recording what the program rtr_list says.
+    `unit_lines`, `unit_objects` and `check` say of a recording what the program rtr_list says.
 
 Data
     `Data` is what a cache has, or a router has of it: a collection of payloads that never changes.
@@ -52,7 +52,7 @@ from .faults import (DuplicateError, EmptyProvidersError, Fault, NoFormError, No
                      NoRoomError, NotCanonicalError, OtherSessionError, PrefixError, ShortError,
                      TooLongError, TooManyError, UndecidedError, UnitLengthError, UnitTypeError,
                      UnitVersionError, UnknownError)
-from .lines import change_json, change_line, unit_lines
+from .lines import change_json, change_line, unit_lines, unit_objects
 from .reading import Normalised, Units, normalise, same_meaning, units
 from .router import Close, Connect, Failed, NoData, Router, SessionError, Settings, Update
 from .units import (AnyUnit, Aspa, CacheReset, CacheResponse, EndOfData, ErrorReport, IPv4Prefix,
@@ -70,5 +70,5 @@ __all__ = [
     "TooManyError", "UndecidedError", "Unit", "UnitLengthError", "UnitTypeError",
     "UnitVersionError", "Units", "UnknownError", "Update", "Validity", "Vrp", "__version__",
     "change_json", "change_line", "check", "normalise", "same_meaning", "serial_order",
-    "unit_lines", "units", "version_has",
+    "unit_lines", "unit_objects", "units", "version_has",
 ]

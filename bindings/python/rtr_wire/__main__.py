@@ -1,14 +1,14 @@
 """What the package does from a command line.
 
 usage: python -m rtr_wire fetch HOST:PORT [--version 0|1|2] [--tls] [--ca FILE] [--output FILE]
-       python -m rtr_wire list FILE
+       python -m rtr_wire list [--json] FILE
        python -m rtr_wire check FILE
        python -m rtr_wire validate FILE PREFIX ASN
 
 fetch asks a cache for all of its data, and writes them as a sequence, in canonical form, on
 standard output or to a file. --tls speaks TLS, and --ca names a file of certificates that are
 trusted in the place of the system's. list prints a line of each unit of a recording, as rtr_list
-does, or of standard input where it is -. check prints what the units of such a file break of the
+does, or of standard input where it is -; with --json each is an object. check prints what the units of such a file break of the
 protocol's rules, as rtr_list does with --check. validate says whether a route is valid by such a
 file (RFC 6811), or standard input where it is -, and which VRPs cover it, each with why it doesn't
 match.
@@ -24,7 +24,7 @@ import ssl
 import sys
 from typing import List, Optional, Tuple
 
-from . import Client, Data, Fault, SessionError, Settings, check, unit_lines
+from . import Client, Data, Fault, SessionError, Settings, check, unit_lines, unit_objects
 from ._rtr import VERSION
 
 
@@ -57,6 +57,7 @@ def _arguments(words: Optional[List[str]]) -> argparse.Namespace:
     fetch.add_argument("--ca", metavar="FILE")
     fetch.add_argument("--output", metavar="FILE", type=pathlib.Path)
     listed = commands.add_parser("list", allow_abbrev=False)
+    listed.add_argument("--json", action="store_true")
     listed.add_argument("file", metavar="FILE")
     checked = commands.add_parser("check", allow_abbrev=False)
     checked.add_argument("file", metavar="FILE")
@@ -92,8 +93,9 @@ def _input(name: str) -> bytes:
 
 
 def _list(asked: argparse.Namespace) -> None:
-    """Prints the line of each unit."""
-    for line in unit_lines(_input(asked.file)):
+    """Prints the line of each unit, or its object."""
+    said = unit_objects if asked.json else unit_lines
+    for line in said(_input(asked.file)):
         print(line)
 
 

@@ -820,6 +820,8 @@ PROTOTYPES: dict[str, tuple[Any, list[Any]]] = {
         c_void_p]),
     "rtr_line_nonnull": (c_uint8, [c_void_p, c_size_t, c_uint64, c_void_p, c_size_t,
         POINTER(rtr_line)]),
+    "rtr_json_nonnull": (c_uint8, [c_void_p, c_size_t, c_uint64, c_void_p, c_size_t,
+        POINTER(rtr_line)]),
     "rtr_change_line_nonnull": (c_uint8, [c_void_p, c_size_t, c_void_p, c_size_t,
         POINTER(rtr_line)]),
     "rtr_change_json_nonnull": (c_uint8, [c_void_p, c_size_t, c_void_p, c_size_t,

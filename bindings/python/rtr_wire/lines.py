@@ -17,17 +17,26 @@ def unit_lines(data: Buffer) -> Iterator[str]:
 
     Raises, at the unit that is next, what Units raises, but no PrefixError.
     """
-    data, at = bytes(data), 0
-    output, told = ctypes.create_string_buffer(LINE_ROOM), _rtr.rtr_line()
+    return _each(CALLS.rtr_line_nonnull, bytes(data))
+
+
+def unit_objects(data: Buffer) -> Iterator[str]:
+    """The same as objects in JSON, as rtr_list --json prints them."""
+    return _each(CALLS.rtr_json_nonnull, bytes(data))
+
+
+def _each(call: Any, data: bytes) -> Iterator[str]:
+    """What a call writes of each unit."""
+    at, output, told = 0, ctypes.create_string_buffer(LINE_ROOM), _rtr.rtr_line()
     while at < len(data):
-        status = CALLS.rtr_line_nonnull(address_of(data) + at, len(data) - at, at, output,
-                                        len(output), ctypes.byref(told))
+        status = call(address_of(data) + at, len(data) - at, at, output, len(output),
+                      ctypes.byref(told))
         if status == Status.NO_ROOM:
             output = ctypes.create_string_buffer(told.length)
         elif status != Status.OK:
             raise refusal(status, told.detail, data, at)
         else:
-            yield ctypes.string_at(output, told.length).decode("ascii")
+            yield ctypes.string_at(output, told.length).decode()
             at += told.size
 
 

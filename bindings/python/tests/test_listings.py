@@ -6,7 +6,7 @@ import unittest
 from importlib.machinery import SourceFileLoader
 from importlib.util import module_from_spec, spec_from_loader
 
-from rtr_wire import Fault, unit_lines, units
+from rtr_wire import Fault, unit_lines, unit_objects, units
 from rtr_wire._library import CALLS
 from rtr_wire.lines import _change, change_json, change_line
 
@@ -83,13 +83,14 @@ class Listings(unittest.TestCase):
         """Each sample is shown and written as the file says, or refused."""
         for sample in samples.SAMPLES:
             with self.subTest(sample.unit):
-                for call in (units, unit_lines) if not sample.line else \
+                for call in (units, unit_lines, unit_objects) if not sample.line else \
                         (units,) if sample.refused else ():
                     with self.assertRaises(Fault) as caught:
                         list(call(sample.bytes))
                     self.assertEqual(str(caught.exception), f"{sample.refused}, at byte 0")
                 if sample.line:
                     self.assertEqual(list(unit_lines(sample.bytes)), [sample.line])
+                    self.assertEqual(list(unit_objects(sample.bytes)), [sample.json])
                     for call, text in ((CALLS.rtr_change_line_nonnull, sample.change),
                                        (CALLS.rtr_change_json_nonnull, sample.object)):
                         self.assertEqual(_change(call, sample.bytes), text or "")
@@ -101,6 +102,18 @@ class Listings(unittest.TestCase):
                     self.assertEqual(change_line(unit), sample.change or "")
                     self.assertEqual(change_json(unit), sample.object or "")
                     self.assertEqual(_shown(unit), _told(sample))
+
+    def test_objects(self):
+        random_units = random.Random(9)
+        forms = [LISTINGS.some_unit(random_units) for _ in range(2000)]
+        forms = [form for form in forms if form[1] != 11 or len(form) > 12 or form[2] % 2 == 0]
+        objects, offset = list(unit_objects(b"".join(forms))), 0
+        self.assertEqual(len(objects), len(forms))
+        for text, form in zip(objects, forms):
+            wanted = LISTINGS.object_of(offset, form)
+            self.assertEqual(list(json.loads(text).items()), list(wanted.items()), form.hex())
+            self.assertFalse(any("\x7f" <= char <= "\x9f" for char in text), form.hex())
+            offset += len(form)
 
     def test_changes(self):
         random_units = random.Random(7)

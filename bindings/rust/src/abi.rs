@@ -667,6 +667,14 @@ extern "C" {
         output_length: usize,
         answer: *mut Line,
     ) -> u8;
+    pub(crate) fn rtr_json_nonnull(
+        input: *const u8,
+        input_length: usize,
+        offset: u64,
+        output: *mut u8,
+        output_length: usize,
+        answer: *mut Line,
+    ) -> u8;
     pub(crate) fn rtr_change_line_nonnull(
         input: *const u8,
         input_length: usize,

@@ -159,7 +159,7 @@ pub use fault::{ErrorCode, Fault, PrefixRule};
 pub use group::{Decision, Group, Shown};
 pub use kind::{Kind, UnknownKind};
 #[cfg(feature = "alloc")]
-pub use lines::{change_json, change_line, unit_line};
+pub use lines::{change_json, change_line, unit_json, unit_line};
 #[cfg(feature = "alloc")]
 pub use log::{Log, LogFields, LogLevel};
 #[cfg(feature = "alloc")]

@@ -28,6 +28,23 @@ pub fn unit_line(input: &[u8], offset: u64) -> Result<(String, usize), Fault> {
     line_by(|output| sys::line(input, offset, output))
 }
 
+/// The same as an object in JSON, as `rtr_list --json` prints it.
+///
+/// ```
+/// // The ASPA of AS65552 is withdrawn.
+/// let bytes = [2, 11, 0, 0, 0, 0, 0, 12, 0, 1, 0, 16];
+/// let (object, _) = rtr_wire::unit_json(&bytes, 0)?;
+/// assert!(object.starts_with(r#"{"offset":0,"length":12,"kind":"aspa","version":2,"flags":0,"#));
+/// # Ok::<(), rtr_wire::Fault>(())
+/// ```
+///
+/// # Errors
+///
+/// As of [`unit_line`].
+pub fn unit_json(input: &[u8], offset: u64) -> Result<(String, usize), Fault> {
+    line_by(|output| sys::json(input, offset, output))
+}
+
 /// A change as a line of text, as `rtr_diff` prints it, without its end; none for a unit that has no
 /// payload, and for one that has no form. Key info is in base64 (RFC 4648 section 5), unpadded.
 ///
@@ -58,7 +75,7 @@ fn line_by(
         length = call(&mut line)?.0;
     }
     line.truncate(length);
-    // A line is ASCII.
+    // A line is ASCII, an object UTF-8.
     Ok((String::from_utf8_lossy(&line).into_owned(), size))
 }
 

@@ -171,6 +171,24 @@ pub(crate) fn line(input: &[u8], offset: u64, output: &mut [u8]) -> Result<(usiz
     lined(answer)
 }
 
+/// As `line`, of the JSON object.
+#[cfg(feature = "alloc")]
+pub(crate) fn json(input: &[u8], offset: u64, output: &mut [u8]) -> Result<(usize, usize), Fault> {
+    let mut answer = abi::Line::default();
+    // SAFETY: as in `normalise`.
+    unsafe {
+        abi::rtr_json_nonnull(
+            input.as_ptr(),
+            input.len(),
+            offset,
+            output.as_mut_ptr(),
+            output.len(),
+            &mut answer,
+        )
+    };
+    lined(answer)
+}
+
 /// As `line`, of the change that the unit makes.
 #[cfg(feature = "alloc")]
 pub(crate) fn change_line(input: &[u8], output: &mut [u8]) -> Result<(usize, usize), Fault> {

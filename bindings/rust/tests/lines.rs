@@ -20,6 +20,8 @@ fn check(sample: &common::Sample) {
     if let Some(line) = sample.line {
         let line = line.replacen('0', "24", 1);
         assert_eq!(unit_line(bytes, 24), Ok((line, bytes.len())), "{name}");
+        let object = sample.json.expect(name).to_owned();
+        assert_eq!(unit_json(bytes, 0), Ok((object, bytes.len())), "{name}");
     }
     if let Some(text) = sample.refused {
         let said = Unit::first(bytes).map_err(|fault| fault.to_string());

@@ -20,6 +20,7 @@ pub struct Sample {
     pub line: Option<&'static str>,
     pub change: Option<&'static str>,
     pub object: Option<&'static str>,
+    pub json: Option<&'static str>,
 }
 
 /// All samples.
@@ -39,7 +40,7 @@ pub fn samples() -> Vec<Sample> {
             "line" => last.line = Some(rest),
             "change" => last.change = Some(rest),
             "object" => last.object = Some(rest),
-            "json" => {} // of rtr_list alone
+            "json" => last.json = Some(rest),
             _ => panic!("a sample has no {word}"),
         }
     }
