@@ -88,7 +88,7 @@ func (s *show) print(changes []byte) error {
 
 // keep writes data into the file, by another one beside it, which then gets its name.
 func (s *show) keep(data rtr.Data) error {
-	text, err := s.wanted.lister.Run(s.ctx, bytes.NewReader(data.Bytes()), s.wanted.format)
+	text, _, err := s.wanted.lister.Run(s.ctx, bytes.NewReader(data.Bytes()), s.wanted.format)
 	if err != nil {
 		return err
 	}
@@ -124,7 +124,7 @@ func (s *show) validate(data rtr.Data) error {
 		if s.wanted.json {
 			line = append([]string{"--json"}, line...)
 		}
-		text, err := s.wanted.validator.Run(s.ctx, bytes.NewReader(data.Bytes()), line...)
+		text, _, err := s.wanted.validator.Run(s.ctx, bytes.NewReader(data.Bytes()), line...)
 		if err != nil {
 			return err
 		}

@@ -36,26 +36,27 @@ func Find(name string) (Program, error) {
 	return Program(path), nil
 }
 
-// Run runs the program with this command line, and gives what it writes.
+// Run runs the program with this command line, and gives what it writes, and what it says on
+// standard error.
 //
 // Errors: what it says on standard error, if it ends with another status than 0; else those of the
 // system, and of the context.
-func (p Program) Run(ctx context.Context, input io.Reader, line ...string) ([]byte, error) {
+func (p Program) Run(ctx context.Context, input io.Reader, line ...string) (written, told []byte, err error) {
 	ctx, cancel := context.WithTimeout(ctx, patience)
 	defer cancel()
 	var output, said bytes.Buffer
 	run := exec.CommandContext(ctx, string(p), line...)
 	run.Stdin, run.Stdout, run.Stderr = input, &output, &said
-	err := run.Run()
+	err = run.Run()
 	text := strings.TrimSpace(said.String())
 	name := filepath.Base(string(p))
 	switch {
 	case ctx.Err() != nil:
-		return nil, fmt.Errorf("%s: %w", name, ctx.Err())
+		return nil, nil, fmt.Errorf("%s: %w", name, ctx.Err())
 	case err != nil && text != "":
-		return nil, errors.New(strings.ReplaceAll(text, "\n", "; "))
+		return nil, nil, errors.New(strings.ReplaceAll(text, "\n", "; "))
 	case err != nil:
-		return nil, fmt.Errorf("%s: %w", name, err)
+		return nil, nil, fmt.Errorf("%s: %w", name, err)
 	}
-	return output.Bytes(), nil
+	return output.Bytes(), said.Bytes(), nil
 }

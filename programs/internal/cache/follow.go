@@ -20,16 +20,24 @@ type followed struct {
 	data    rtr.Data       // its payloads, as they were taken last
 	too     payloads.Stamp // its state that would have withdrawn too much; zero for none
 	problem error          // why it wasn't taken the last time
+	expired payloads.Expired
+}
+
+// expires says whether the file is as it was taken, and more of it has expired.
+func (f *followed) expires(state payloads.Stamp, now time.Time) bool {
+	return f.looked && f.problem == nil && f.seen == state && f.expired.Has(now)
 }
 
 // look takes the files that are in another state than before, or where that was asked for all of
 // them, and says whether one was changed while it was read.
 func (c *Cache) look(ctx context.Context, asked bool) (changing bool) {
 	for _, file := range c.files {
-		if file.looked && !file.again && !asked && payloads.StampOf(file.Path) == file.seen {
+		now := payloads.StampOf(file.Path)
+		expires := file.expires(now, time.Now())
+		if file.looked && !file.again && !asked && !expires && now == file.seen {
 			continue
 		}
-		data, state, err := c.settings.Reader.Read(ctx, file.File)
+		data, state, expired, err := c.settings.Reader.Read(ctx, file.File, expires)
 		if errors.Is(err, payloads.ErrChanged) {
 			changing = true
 			continue
@@ -38,15 +46,31 @@ func (c *Cache) look(ctx context.Context, asked bool) (changing bool) {
 			return false
 		}
 		if err == nil {
-			err = c.take(file, data, state)
+			err = c.take(file, data, state, expires && now == state)
+		}
+		if err == nil {
+			file.expired = expired
+			c.metrics.Expired(file.Path, expired.LeftOut)
 		}
 		c.note(file, state, err, asked)
 	}
 	return changing
 }
 
-// take serves what changes by a file, unless it would withdraw too much.
-func (c *Cache) take(file *followed, data rtr.Data, state payloads.Stamp) error {
+// nextExpiry is when the next item of a file expires, as it was taken; zero for none.
+func (c *Cache) nextExpiry() (next time.Time) {
+	for _, file := range c.files {
+		at := file.expired.Next
+		if file.problem == nil && !at.IsZero() && (next.IsZero() || at.Before(next)) {
+			next = at
+		}
+	}
+	return next
+}
+
+// take serves what changes by a file, unless it would withdraw too much. What has expired may be
+// any share.
+func (c *Cache) take(file *followed, data rtr.Data, state payloads.Stamp, expires bool) error {
 	var all []rtr.Data
 	for _, other := range c.files {
 		switch {
@@ -67,7 +91,7 @@ func (c *Cache) take(file *followed, data rtr.Data, state payloads.Stamp) error 
 	if c.same(merged) {
 		c.log.Infof("%s: nothing changed", file.Path)
 	} else {
-		if err := c.guarded(file, merged, state); err != nil {
+		if err := c.guarded(file, merged, state); err != nil && !expires {
 			return err
 		}
 		if err := c.update(merged, file.Path); err != nil {

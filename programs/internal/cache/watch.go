@@ -13,8 +13,24 @@ import (
 // Writers write in pieces: a file is looked at once nothing was written for this time.
 const quiet = 100 * time.Millisecond
 
-// follow looks at the files when something is written in their folders, when it is told to, and by
-// time, until the context ends or a listener fails, and answers the listener's error.
+// The system's clock may be set: the next expiry is looked for again after this time.
+const longest = time.Hour
+
+// untilExpiry is how long it takes until the next item of a file expires.
+func (c *Cache) untilExpiry() time.Duration {
+	next := c.nextExpiry()
+	switch wait := time.Until(next); {
+	case next.IsZero() || wait > longest:
+		return longest
+	case wait < quiet:
+		return quiet
+	default:
+		return wait
+	}
+}
+
+// follow looks at the files when something is written in their folders, when it is told to, when an
+// item expires, and by time, until the context ends or a listener fails, and answers the listener's error.
 func (c *Cache) follow(ctx context.Context, hup <-chan os.Signal, s *sockets) error {
 	events, stop := c.watch()
 	defer stop()
@@ -23,6 +39,8 @@ func (c *Cache) follow(ctx context.Context, hup <-chan os.Signal, s *sockets) er
 	soon := time.NewTimer(0)
 	defer soon.Stop()
 	ready := false
+	expiry := time.NewTimer(longest)
+	defer expiry.Stop()
 	for {
 		select {
 		case <-ctx.Done():
@@ -40,14 +58,17 @@ func (c *Cache) follow(ctx context.Context, hup <-chan os.Signal, s *sockets) er
 			if c.look(ctx, true) {
 				soon.Reset(quiet)
 			}
+			expiry.Reset(c.untilExpiry())
 			c.notify(daemon.SdNotifyReady)
 			continue
 		case <-soon.C:
 		case <-ticks.C:
+		case <-expiry.C:
 		}
 		if c.look(ctx, false) {
 			soon.Reset(quiet)
 		}
+		expiry.Reset(c.untilExpiry())
 		if !ready && ctx.Err() == nil {
 			ready = true
 			c.notify(daemon.SdNotifyReady)

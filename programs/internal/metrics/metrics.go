@@ -19,7 +19,7 @@ type Metrics struct {
 	registry *prometheus.Registry
 
 	connections, bytes, reports, ended, refusals *prometheus.CounterVec
-	clients, served, read, written               *prometheus.GaugeVec
+	clients, served, read, written, expired      *prometheus.GaugeVec
 	session, serial, changed                     prometheus.Gauge
 	unsaved                                      prometheus.Counter
 }
@@ -47,6 +47,8 @@ func New() *Metrics {
 			"When a file was taken last.", "file"),
 		written: gauges("file_modified_timestamp_seconds",
 			"When the file that was taken last was written.", "file"),
+		expired: gauges("expired_items",
+			"Items of the file that was taken last that had expired.", "file"),
 		session: gauge("session", "Session of the data."),
 		serial:  gauge("serial", "Serial number of the data."),
 		changed: gauge("changed_timestamp_seconds", "When the data changed last."),
@@ -60,7 +62,7 @@ func New() *Metrics {
 	}, func() float64 { return 1 })
 	m.registry.MustRegister(
 		m.connections, m.bytes, m.reports, m.ended, m.refusals, m.clients, m.served, m.read,
-		m.written, m.session, m.serial, m.changed, m.unsaved, version,
+		m.written, m.expired, m.session, m.serial, m.changed, m.unsaved, version,
 		collectors.NewGoCollector(),
 		collectors.NewProcessCollector(collectors.ProcessCollectorOpts{}),
 	)
@@ -139,6 +141,11 @@ func (m *Metrics) Follows(path string) { m.refusals.WithLabelValues(path) }
 func (m *Metrics) Took(path string, written time.Time) {
 	m.read.WithLabelValues(path).Set(seconds(time.Now()))
 	m.written.WithLabelValues(path).Set(seconds(written))
+}
+
+// Expired notes how many items of a file had expired when it was taken.
+func (m *Metrics) Expired(path string, count int) {
+	m.expired.WithLabelValues(path).Set(float64(count))
 }
 
 // Refused counts the refusal of a file.

@@ -5,6 +5,8 @@ import (
 	"errors"
 	"fmt"
 	"os"
+	"strconv"
+	"strings"
 	"syscall"
 	"time"
 
@@ -59,65 +61,91 @@ type Reader struct {
 // ErrChanged is of a file that was changed while it was read.
 var ErrChanged = errors.New("the file was changed while it was read")
 
-// Read reads the payloads of a file, and says which state of the file it was.
+// Expired says what a file had of expired items when it was read.
+type Expired struct {
+	LeftOut int       // so many were left out
+	Next    time.Time // when the next of the others expires; zero for none
+}
+
+// Has says whether more of the file has expired since.
+func (e Expired) Has(now time.Time) bool { return !e.Next.IsZero() && !now.Before(e.Next) }
+
+// Read reads the payloads of a file, without those that have expired, and says which state of the
+// file it was. Where it is read again since items expire, there may be none left.
 //
 // Errors: ErrChanged; those of the system; what rtr_make says of a file, or the library of a
 // sequence.
-func (r *Reader) Read(ctx context.Context, file File) (data rtr.Data, state Stamp, err error) {
+func (r *Reader) Read(ctx context.Context, file File, expires bool) (
+	data rtr.Data, state Stamp, expired Expired, err error,
+) {
 	state = StampOf(file.Path)
-	if data, err = r.read(ctx, file); err == nil {
+	if data, expired, err = r.read(ctx, file, expires); err == nil {
 		data, err = plain(data)
 	}
 	if StampOf(file.Path) != state {
-		return rtr.Data{}, state, ErrChanged
+		return rtr.Data{}, state, Expired{}, ErrChanged
 	}
-	return data, state, err
+	return data, state, expired, err
 }
 
 // read reads a file of any format.
-func (r *Reader) read(ctx context.Context, file File) (rtr.Data, error) {
+func (r *Reader) read(ctx context.Context, file File, expires bool) (rtr.Data, Expired, error) {
 	info, err := os.Stat(file.Path)
 	var failed *os.PathError
 	switch {
 	case errors.As(err, &failed):
-		return rtr.Data{}, failed.Err
+		return rtr.Data{}, Expired{}, failed.Err
 	case !info.Mode().IsRegular():
-		return rtr.Data{}, errors.New("it is no regular file")
+		return rtr.Data{}, Expired{}, errors.New("it is no regular file")
 	case info.Size() > rtr.MostDataBytes:
-		return rtr.Data{}, fmt.Errorf("it has more than %d bytes", rtr.MostDataBytes)
+		return rtr.Data{}, Expired{}, fmt.Errorf("it has more than %d bytes", rtr.MostDataBytes)
 	case file.Format == Sequence:
 		data, err := rtr.LoadData(file.Path)
 		if why := errors.Unwrap(err); why != nil {
 			err = why // without the path, which the caller names
 		}
-		return data, err
+		return data, Expired{}, err
 	}
-	return r.made(ctx, file)
+	return r.made(ctx, file, expires)
 }
 
-// made are the data that rtr_make makes of a file.
-func (r *Reader) made(ctx context.Context, file File) (rtr.Data, error) {
+// made are the data that rtr_make makes of a file now.
+func (r *Reader) made(ctx context.Context, file File, expires bool) (rtr.Data, Expired, error) {
 	input, err := os.Open(file.Path)
 	if err != nil {
-		return rtr.Data{}, err
+		return rtr.Data{}, Expired{}, err
 	}
 	defer input.Close()
-	output, err := r.Maker.Run(ctx, input, r.words(file.Format)...)
+	output, told, err := r.Maker.Run(ctx, input, r.words(file.Format, time.Now(), expires)...)
 	if err != nil {
-		return rtr.Data{}, err
+		return rtr.Data{}, Expired{}, err
 	}
-	return rtr.ParseData(output)
+	data, err := rtr.ParseData(output)
+	return data, expiredOf(string(told)), err
 }
 
-// words is the command line of rtr_make for a format.
-func (r *Reader) words(format Format) []string {
+// expiredOf reads what rtr_make says of items that have expired: its last line.
+func expiredOf(told string) (expired Expired) {
+	lines := strings.Split(strings.TrimSpace(told), "\n")
+	var next int64
+	found, _ := fmt.Sscanf(lines[len(lines)-1],
+		"left out %d that have expired; the next expires at %d", &expired.LeftOut, &next)
+	if found == 2 {
+		expired.Next = time.Unix(next, 0)
+	}
+	return expired
+}
+
+// words is the command line of rtr_make for a format, at a time.
+func (r *Reader) words(format Format, now time.Time, expires bool) []string {
 	line := []string{"--" + string(format)}
-	if r.Empty {
+	if r.Empty || expires {
 		line = append(line, "--empty")
 	}
 	if format != JSON {
 		return line
 	}
+	line = append(line, "--at", strconv.FormatInt(now.Unix(), 10))
 	for _, name := range r.Ignored {
 		line = append(line, "--ignore", name)
 	}
