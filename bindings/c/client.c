@@ -252,12 +252,13 @@ static void stop(struct member *m)
     m->runs = false;
 }
 
-/* Prints what leads from the data that are shown to those of a member, which are shown then. */
+/* Prints what leads from the data that are shown to those of a member, which are shown then. Its own
+ * changes do, where it is the source, or none is: then it had no data either. */
 static void show(size_t number)
 {
     struct rtr_client *c = &members[number].client;
     uint8_t *copy = malloc(c->data_length);
-    bool same = source == (int)number;
+    bool same = source == NONE || source == (int)number;
     if (!copy || (!same && !rtr_client_instead(c, shown, shown_length, &shown_end))) {
         fprintf(stderr, "no memory\n");
         _exit(1);
