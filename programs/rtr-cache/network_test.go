@@ -320,8 +320,8 @@ func (e everywhere) gives(t *testing.T, count int) {
 	}
 }
 
-// Sockets of systemd-socket-activate, where it is installed, are served for the transports that they
-// have as names.
+// Sockets of systemd-socket-activate, where it is installed, are served for the transports that
+// their names say.
 func TestSocketActivation(t *testing.T) {
 	path, err := exec.LookPath("systemd-socket-activate")
 	if err != nil {

@@ -30,7 +30,7 @@ func arguments(line []string) (*wanted, error) {
 		Calls:    []string{"FILE [OPTION]..", "--help | --version"},
 		Help: `It lists the units of each connection of a pcap or pcapng file, of both sides in the
 order in which they came. tshark puts the connections together, and rtr_list lists
-the units: it says on standard error what it runs.`,
+the units. Standard error has each call of tshark.`,
 		Options: words.Join(w.ofConnections(), w.ofForms()),
 		Operand: w.file,
 	}

@@ -41,7 +41,9 @@ func Find(name string) (Program, error) {
 //
 // Errors: what it says on standard error, if it ends with another status than 0; else those of the
 // system, and of the context.
-func (p Program) Run(ctx context.Context, input io.Reader, line ...string) (written, told []byte, err error) {
+func (p Program) Run(
+	ctx context.Context, input io.Reader, line ...string,
+) (written, told []byte, err error) {
 	ctx, cancel := context.WithTimeout(ctx, patience)
 	defer cancel()
 	var output, said bytes.Buffer

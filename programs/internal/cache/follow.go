@@ -32,9 +32,9 @@ func (f *followed) expires(state payloads.Stamp, now time.Time) bool {
 // them, and says whether one was changed while it was read.
 func (c *Cache) look(ctx context.Context, asked bool) (changing bool) {
 	for _, file := range c.files {
-		now := payloads.StampOf(file.Path)
-		expires := file.expires(now, time.Now())
-		if file.looked && !file.again && !asked && !expires && now == file.seen {
+		present := payloads.StampOf(file.Path)
+		expires := file.expires(present, time.Now())
+		if file.looked && !file.again && !asked && !expires && present == file.seen {
 			continue
 		}
 		data, state, expired, err := c.settings.Reader.Read(ctx, file.File, expires)
@@ -46,7 +46,7 @@ func (c *Cache) look(ctx context.Context, asked bool) (changing bool) {
 			return false
 		}
 		if err == nil {
-			err = c.take(file, data, state, expires && now == state)
+			err = c.take(file, data, state, expires && present == state)
 		}
 		if err == nil {
 			file.expired = expired

@@ -30,7 +30,8 @@ func (c *Cache) untilExpiry() time.Duration {
 }
 
 // follow looks at the files when something is written in their folders, when it is told to, when an
-// item expires, and by time, until the context ends or a listener fails, and answers the listener's error.
+// item expires, and by time, until the context ends or a listener fails. It answers the listener's
+// error.
 func (c *Cache) follow(ctx context.Context, hup <-chan os.Signal, s *sockets) error {
 	events, stop := c.watch()
 	defer stop()
@@ -55,25 +56,28 @@ func (c *Cache) follow(ctx context.Context, hup <-chan os.Signal, s *sockets) er
 		case <-hup:
 			c.notify(daemon.SdNotifyReloading)
 			c.reload(s)
-			if c.look(ctx, true) {
-				soon.Reset(quiet)
-			}
-			expiry.Reset(c.untilExpiry())
+			c.lookAndWait(ctx, true, soon, expiry)
 			c.notify(daemon.SdNotifyReady)
 			continue
 		case <-soon.C:
 		case <-ticks.C:
 		case <-expiry.C:
 		}
-		if c.look(ctx, false) {
-			soon.Reset(quiet)
-		}
-		expiry.Reset(c.untilExpiry())
+		c.lookAndWait(ctx, false, soon, expiry)
 		if !ready && ctx.Err() == nil {
 			ready = true
 			c.notify(daemon.SdNotifyReady)
 		}
 	}
+}
+
+// lookAndWait looks at the files, and sets when they are looked at again: soon after a change, and
+// when the next item expires.
+func (c *Cache) lookAndWait(ctx context.Context, asked bool, soon, expiry *time.Timer) {
+	if c.look(ctx, asked) {
+		soon.Reset(quiet)
+	}
+	expiry.Reset(c.untilExpiry())
 }
 
 // follows says whether this is the path of a file that the cache follows.

@@ -47,9 +47,10 @@ type event struct {
 	failed      error
 }
 
-// Follow follows the first of the sources, at most rtr.MostMembers, that has data, until the context ends or the
-// listener answers an error. Where it fails, those after it are asked one after the other, and its
-// data stay until they expire; those are left as soon as one before them has a whole answer.
+// Follow follows the first of the sources, at most rtr.MostMembers, that has data, until the context
+// ends or the listener answers an error. Where a source fails, its data stay until they expire, and
+// those after it are asked, one after the other; they are left as soon as one before them has a
+// whole answer.
 //
 // Errors: that of the listener, or of the context.
 func Follow(ctx context.Context, sources []Source, listener Listener) error {

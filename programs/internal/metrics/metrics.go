@@ -56,6 +56,12 @@ func New() *Metrics {
 			Namespace: namespace, Name: "unsaved_total", Help: "Data that couldn't be saved.",
 		}),
 	}
+	m.register()
+	return m
+}
+
+// register has the registry know all of them, the version, and what is usual of a process in Go.
+func (m *Metrics) register() {
 	version := prometheus.NewGaugeFunc(prometheus.GaugeOpts{
 		Namespace: namespace, Name: "info", Help: "The version of the program.",
 		ConstLabels: prometheus.Labels{"version": words.Version},
@@ -66,7 +72,6 @@ func New() *Metrics {
 		collectors.NewGoCollector(),
 		collectors.NewProcessCollector(collectors.ProcessCollectorOpts{}),
 	)
-	return m
 }
 
 // namespace is what the names of all metrics begin with.
