@@ -405,8 +405,7 @@ def test_following():
 
 
 def given(words, play):
-    """What a client prints, and its status, whose connection is there already; this plays the cache.
-    """
+    """What a client on a connection that is there prints, and its status; this plays the cache."""
     ours, theirs = socket.socketpair()
     with ours, theirs:
         ours.settimeout(PATIENCE)

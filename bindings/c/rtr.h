@@ -41,7 +41,7 @@
 /* The same as a number: 10000 times the first number, 100 times the second, and the third. */
 #define RTR_WIRE_VERSION_NUMBER 200
 
-/* Numbers of the protocol, as rtr_c is proved to have them. Sizes are in bytes. */
+/* Numbers of the protocol, which are compared with the proved code. Sizes are in bytes. */
 #define RTR_HIGHEST_VERSION 2         /* versions are 0 to this one */
 #define RTR_HEADER_SIZE 8             /* of a header alone, as a reset query is */
 #define RTR_SERIAL_SIZE 12            /* of a serial notify or a serial query */
@@ -1089,10 +1089,10 @@ static inline const char *rtr_cause_text(uint8_t cause)
  *   stops   the members from `stop` on are left, if they run, and their data forgotten
  *   starts  `start` is asked, as one without data
  *
- * What is shown are at each time the data of the first member that has some, also while that one's
- * connection is gone, until they expire. A member runs while each one before it has failed since it
- * was started, or had a whole answer. What is said of one that doesn't run is passed over. A struct
- * is plain: it may be copied, and read. */
+ * At each time the data of the first member that has some are shown, also while its connection is
+ * gone, until they expire. A member runs while each one before it has failed since it was started,
+ * or had a whole answer. What is said of one that doesn't run is passed over. A struct is plain: it
+ * may be copied, and read. */
 
 /* What becomes of what is shown. */
 enum rtr_group_shown {

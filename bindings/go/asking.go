@@ -7,11 +7,11 @@ import (
 	"time"
 )
 
-// AskNow has the client ask its cache now, before the refresh time has passed (which is the field
-// Refresh). The proved machine is told so by what it always asks at: a notify of another serial
-// number than that of its data (RFC 8210 section 8.2). So there is a pause between two queries, and
-// while an answer comes it asks again after that. Without a connection nothing comes sooner: on the
-// next one it asks anyway.
+// AskNow has the client ask its cache now, before the time of the field Refresh has passed. The
+// proved machine is told of a notify with another serial number than that of its data, after which
+// it always asks (RFC 8210 section 8.2). So there is a pause between two queries, and after an
+// answer that is coming it asks again. Without a connection nothing comes sooner: on the next one
+// it asks anyway.
 //
 // Any goroutine may call at any time. Where neither Run nor Fetch runs, nothing happens.
 func (c *Client) AskNow() {

@@ -10,8 +10,8 @@ import (
 	"time"
 )
 
-// quiet is a cache that plays scenes, fails the test where a query comes after them within a moment,
-// and then closes the connection.
+// quiet is a cache that plays scenes, fails the test where a query comes soon after them, and then
+// closes the connection.
 func quiet(t *testing.T, scenes ...scene) func(*net.TCPConn) {
 	return func(cache *net.TCPConn) {
 		reader := NewReader(cache)

@@ -41,9 +41,9 @@ import "C"
 // has no data. Its caller starts member 0, calls a method for each thing that happens to a member,
 // and does what is decided. What is said of a member that doesn't run is passed over.
 //
-// What is shown are at each time the data of the first member that has some, also while that one's
-// connection is gone, until they expire. A member runs while each one before it has failed since it
-// was started, or had a whole answer.
+// At each time the data of the first member that has some are shown, also while its connection is
+// gone, until they expire. A member runs while each one before it has failed since it was started,
+// or had a whole answer.
 type Group struct{ group C.struct_rtr_group }
 
 // Decision is what the caller of a Group does, in this order.

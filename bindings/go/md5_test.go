@@ -15,7 +15,7 @@ import (
 	"fishreef/rtr"
 )
 
-// md5Signed has a socket sign what it sends to this peer by a key, and take nothing of it that isn't
+// md5Signed has a socket sign by a key what it sends to this peer, and take from it only what is
 // signed so (RFC 2385; RFC 8210 section 9.3). It is a Control of net.Dialer and net.ListenConfig.
 func md5Signed(peer netip.Addr, key string) func(string, string, syscall.RawConn) error {
 	return func(_, _ string, socket syscall.RawConn) (err error) {
@@ -73,7 +73,8 @@ func TestOverMD5(t *testing.T) {
 		if data, err := overMD5(cache, "a key").Fetch(ctx); err != nil || data.Len() != 2 {
 			t.Errorf("%v: %d payloads, %v", cache, data.Len(), err)
 		}
-		for _, other := range []*rtr.Client{overMD5(cache, "another key"), rtr.NewClient(cache.String())} {
+		without := rtr.NewClient(cache.String())
+		for _, other := range []*rtr.Client{overMD5(cache, "another key"), without} {
 			other.Limits.Dial = 300 * time.Millisecond
 			if data, err := other.Fetch(ctx); !errors.Is(err, rtr.ErrTooSlow) || !data.IsZero() {
 				t.Errorf("%v: %d payloads, %v", cache, data.Len(), err)

@@ -276,7 +276,9 @@ func line(input []byte, offset uint64, output []byte) (length, size int, status 
 }
 
 // object is line of the object in JSON.
-func object(input []byte, offset uint64, output []byte) (length, size int, status Status, detail uint8) {
+func object(
+	input []byte, offset uint64, output []byte,
+) (length, size int, status Status, detail uint8) {
 	in, n := place(input)
 	out, room := place(output)
 	a := C.object(in, n, C.uint64_t(offset), out, room)

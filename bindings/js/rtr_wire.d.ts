@@ -4,7 +4,8 @@ import type { Action, Kind, Mismatch, Named, RouterState, Rule, SerialOrder, Set
     Validity } from "./rtr_table.js";
 
 export { ActionKind, Cause, ErrorCode, Kind, Mismatch, Named, PrefixRule, Rule, SerialOrder, Side,
-    Status, VERSION, VERSION_NUMBER, Validity, causeText, kindText, statusText } from "./rtr_table.js";
+    Status, VERSION, VERSION_NUMBER, Validity, causeText, kindText, statusText }
+    from "./rtr_table.js";
 export type { Action, Known, RouterState, Settings } from "./rtr_table.js";
 
 /** What each unit has. */

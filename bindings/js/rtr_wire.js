@@ -9,7 +9,8 @@ import { Session } from "./session.js";
 import { VERSION_NUMBER } from "./rtr_table.js";
 
 export { ActionKind, Cause, ErrorCode, Kind, Mismatch, Named, PrefixRule, Rule, SerialOrder, Side,
-    Status, VERSION, VERSION_NUMBER, Validity, causeText, kindText, statusText } from "./rtr_table.js";
+    Status, VERSION, VERSION_NUMBER, Validity, causeText, kindText, statusText }
+    from "./rtr_table.js";
 export { OutOfMemory } from "./memory.js";
 export { Fault } from "./fault.js";
 export { Dropped, Held, Session } from "./session.js";

@@ -8,10 +8,10 @@ usage: python -m rtr_wire fetch HOST:PORT [--version 0|1|2] [--tls] [--ca FILE] 
 fetch asks a cache for all of its data, and writes them as a sequence, in canonical form, on
 standard output or to a file. --tls speaks TLS, and --ca names a file of certificates that are
 trusted in the place of the system's. list prints a line of each unit of a recording, as rtr_list
-does, or of standard input where it is -; with --json each is an object. check prints what the units of such a file break of the
-protocol's rules, as rtr_list does with --check. validate says whether a route is valid by such a
-file (RFC 6811), or standard input where it is -, and which VRPs cover it, each with why it doesn't
-match.
+does, or of standard input where it is -; with --json each is an object. check prints what the units
+of such a file break of the protocol's rules, as rtr_list does with --check. validate says whether a
+route is valid by such a file (RFC 6811), or standard input where it is -, and which VRPs cover it,
+each with why it doesn't match.
 
 Statuses: 0 if all went well, 1 if the data didn't come or aren't data, a unit is refused or breaks
 a rule, 2 for other arguments.

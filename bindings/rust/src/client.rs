@@ -79,8 +79,8 @@ impl Client {
         }
     }
 
-    /// The same with a log, which is told of each connection, change of data and failure: a message,
-    /// and fields by their names.
+    /// The same with a log, which is told of each connection, change of data and failure: a
+    /// message, and fields by their names.
     #[must_use]
     pub fn with_log(
         self,

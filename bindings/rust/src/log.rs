@@ -8,7 +8,7 @@ use core::fmt::Display;
 #[derive(Clone, Copy, Debug, PartialEq, Eq, PartialOrd, Ord, Hash)]
 #[non_exhaustive]
 pub enum LogLevel {
-    /// For who looks for a fault.
+    /// For those who look for a fault.
     Debug,
     /// What goes as it should.
     Info,

@@ -89,11 +89,11 @@ impl Router {
         }
     }
 
-    /// Has it ask the cache at the next call of [`Router::next`], before the refresh time has passed.
-    /// The proved machine is told so by what it always asks at: a notify of another serial number
-    /// than that of its data (RFC 8210 section 8.2). So there is a pause between two queries, and
-    /// while an answer comes it asks again after that. Without a connection nothing comes sooner: on
-    /// the next one it asks anyway.
+    /// Has it ask the cache at the next call of [`Router::next`], before the refresh time has
+    /// passed. The proved machine is told of a notify with another serial number than that of its
+    /// data, after which it always asks (RFC 8210 section 8.2). So there is a pause between two
+    /// queries, and after an answer that is coming it asks again. Without a connection nothing
+    /// comes sooner: on the next one it asks anyway.
     pub fn ask_now(&mut self) {
         self.asks = true;
     }

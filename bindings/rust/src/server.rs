@@ -104,9 +104,8 @@ impl Server {
         Server::of(options, Box::new(ended), None)
     }
 
-    /// The same, of a server that tells a log of where it listens, of each connection and why it
-    /// ended it, and of new data: a message, and fields by their names. Until that returns it serves
-    /// nobody.
+    /// A server that tells a log where it listens, each connection and why it ended, and new data:
+    /// a message, and fields by their names. Until the log returns it serves nobody.
     pub fn logging(
         options: ServerOptions,
         log: impl Fn(LogLevel, &str, &LogFields<'_>) + Send + Sync + 'static,

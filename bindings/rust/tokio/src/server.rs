@@ -96,8 +96,8 @@ impl AsyncServer {
         AsyncServer::of(options, Box::new(ended), None)
     }
 
-    /// The same, of a server that tells a log of each connection and why it ended it, and of new
-    /// data: a message, and fields by their names.
+    /// A server that tells a log each connection and why it ended, and new data: a message, and
+    /// fields by their names.
     pub fn logging(
         options: ServerOptions,
         log: impl Fn(LogLevel, &str, &LogFields<'_>) + Send + Sync + 'static,
