@@ -252,8 +252,8 @@ static void stop(struct member *m)
     m->runs = false;
 }
 
-/* Prints what leads from the data that are shown to those of a member, which are shown then. Its own
- * changes do, where it is the source, or none is: then it had no data either. */
+/* Prints what leads from the data that are shown to those of a member, shown from then on: its own
+ * changes, where it is the source, or none is and it had no data either. */
 static void show(size_t number)
 {
     struct rtr_client *c = &members[number].client;
