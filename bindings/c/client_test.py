@@ -505,7 +505,8 @@ def test_preference():
         best = run.asked(reset_query(2))
         other.sendall(notify(4))
         expect(other, serial_query(2, 3))
-        other.sendall(sequence([two], 4))
+        other.sendall(sequence([two], 4) + notify(5))
+        expect(other, serial_query(2, 4))  # the client has those data
         best.sendall(sequence([one], 9))
         assert received(other) == b""
         best.sendall(notify(10))

@@ -222,11 +222,14 @@ func (l smallBuffers) Accept() (net.Conn, error) {
 	return connection, err
 }
 
+// slowWrite is what a write to a slowConn has, of which 256 reads take more.
+const slowWrite = 2 * time.Second
+
 // slowConn reads little at a time, with pauses.
 type slowConn struct{ net.Conn }
 
 func (c slowConn) Read(buffer []byte) (int, error) {
-	time.Sleep(2 * time.Millisecond)
+	time.Sleep(slowWrite / 200)
 	if len(buffer) > 1<<14 {
 		buffer = buffer[:1<<14]
 	}
@@ -243,7 +246,7 @@ func TestSlowRouterOverTLS(t *testing.T) {
 	}
 	data := manyPayloads(t, 1<<22)
 	server := rtr.NewServer()
-	server.Limits.Write = 500 * time.Millisecond
+	server.Limits.Write = slowWrite
 	if err := server.Update(data); err != nil {
 		t.Fatal(err)
 	}
