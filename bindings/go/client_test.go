@@ -353,6 +353,12 @@ var clientFailures = map[string]struct {
 			{asked(1, 7, 1), full(7, 0xffffffff)},
 		}, {{reset1, full(7, 3)}}}, []uint32{1, 3}, []error{ErrSerialBack},
 	},
+	"changes at the serial number that it has": {
+		[][]scene{{
+			{reset1, join(full(7, 1, ipv4), numbered(1, 0, 7, 2))},
+			{asked(1, 7, 1), full(7, 1, otherIPv4)},
+		}, {{reset1, full(7, 3)}}}, []uint32{1, 3}, []error{ErrOtherData},
+	},
 	"a delta that doesn't fit": {
 		[][]scene{{
 			{reset1, join(full(7, 1, ipv4), numbered(1, 0, 7, 2))},

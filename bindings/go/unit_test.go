@@ -11,6 +11,7 @@ import (
 	"net/netip"
 	"os"
 	"reflect"
+	"runtime"
 	"strconv"
 	"strings"
 	"testing"
@@ -424,6 +425,22 @@ func TestNextMany(t *testing.T) {
 	}
 }
 
+// A table costs few calls of C: Go takes longer for one than the library does for a unit.
+func TestNextManyCrossings(t *testing.T) {
+	input := bytes.Repeat(ipv4, 64000)
+	units := make([]Unit, 256)
+	before := runtime.NumCgoCall()
+	for rest := input; len(rest) > 0; {
+		var err error
+		if _, rest, err = NextMany(rest, units); err != nil {
+			t.Fatal(err)
+		}
+	}
+	if calls := runtime.NumCgoCall() - before; calls > 6400 {
+		t.Errorf("%d calls for 64000 units", calls)
+	}
+}
+
 // A table of 100,000 prefixes.
 func BenchmarkNextMany(b *testing.B) {
 	b.ReportAllocs()
@@ -583,6 +600,27 @@ func TestStatus(t *testing.T) {
 		if errors.Is(fault, io.ErrUnexpectedEOF) != (Status(status) == Short) ||
 			errors.Is(fault, io.EOF) {
 			t.Fatalf("%v", fault)
+		}
+	}
+}
+
+// Each reason of a breach is found in it, and no other; one of a cause has the text of the cause.
+func TestBreaches(t *testing.T) {
+	reasons := []error{
+		ErrOtherVersion, ErrHigherVersion, ErrNoVersion, ErrOtherSession, ErrSerialBack,
+		ErrOtherData, ErrNoQuery, ErrMisplaced, ErrNoPayload,
+	}
+	for _, reason := range reasons {
+		breach := fmt.Errorf("wrapped: %w", &Breach{Reason: reason})
+		for _, other := range reasons {
+			if errors.Is(breach, other) != (other == reason) {
+				t.Errorf("%v: %v", breach, other)
+			}
+		}
+	}
+	for cause, reason := range breaches {
+		if reason.Error() != cause.String() {
+			t.Errorf("%v: %v", cause, reason)
 		}
 	}
 }
