@@ -37,7 +37,7 @@ func NewClient(address string) *Client {
 	return &Client{Address: address, Version: 1, Limits: usualClientLimits()}
 }
 
-// Update is a change of the data that a Client has.
+// Update is what a Client has after an answer, or after it dropped its data.
 type Update struct {
 	Data    Data // all of them now; the zero Data if the client had to drop them
 	changes []byte
@@ -74,8 +74,9 @@ func (c *Client) Fetch(ctx context.Context) (Data, error) {
 }
 
 // Run follows the data of the cache until the context ends or changed answers an error, and
-// answers that error. It calls changed when there are other data than before; these are whole
-// data of the cache at one serial number. It connects again when a connection ends.
+// answers that error. It calls changed after each whole answer, also one without changes, and where
+// it has to drop the data; they are whole data of the cache at one serial number. It connects again
+// when a connection ends.
 func (c *Client) Run(ctx context.Context, changed func(Update) error) error {
 	return unlessEnded(ctx, c.follower(ctx, changed).runFor(c))
 }

@@ -16,8 +16,8 @@ type Source struct {
 
 // Listener is told what comes of the sources. One call comes at a time.
 type Listener interface {
-	// Data are other data than before, and the source that has them; the zero Data where the source
-	// had to drop those of before, and no other has some.
+	// Data are those after an answer, which may be what they were, and the source that has them; the
+	// zero Data where the source had to drop those of before, and no other has some.
 	Data(Source, rtr.Data) error
 	// Failed says why a connection to a source ended, or that it has no data yet.
 	Failed(Source, error) error

@@ -85,7 +85,8 @@ fn client_in(version: u8, address: SocketAddr, name: &'static str, files: &[Path
     })
 }
 
-/// A cache with data over TLS, and why it ended connections.
+/// A cache with data over TLS, and why it ended connections. It takes each router of the authority;
+/// a cache in use compares the address in the certificate, too, as `accept` of the example does.
 fn cache(files: &[PathBuf; 3]) -> (Server, SocketAddr, Receiver<String>) {
     cache_until(PATIENCE, files)
 }
