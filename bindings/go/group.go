@@ -38,8 +38,8 @@ import "C"
 
 // Group decides whose data are shown, and who is asked, of some members by preference (RFC 8210
 // section 10): each is a Client, or what else follows a cache, and member 0 is preferred most. It
-// has no data. Its caller starts member 0, calls a method for each thing that happens to a member,
-// and does what is decided. What is said of a member that doesn't run is passed over.
+// has no data. Its caller, as Follow, starts member 0, calls a method for each thing that happens
+// to a member, and does what is decided. What is said of a member that doesn't run is passed over.
 //
 // At each time the data of the first member that has some are shown, also while its connection is
 // gone, until they expire. A member runs while each one before it has failed since it was started,

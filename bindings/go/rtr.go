@@ -37,8 +37,9 @@
 //
 // # Clients and caches
 //
-// A Client follows the data of a cache over TCP, and a Server is a cache. docs/SESSIONS.md says
-// what they do in each state, by the sections of RFC 8210.
+// A Client follows the data of a cache over TCP, and a Server is a cache. Follow follows the first
+// of several caches that has data. docs/SESSIONS.md says what they do in each state, by the
+// sections of RFC 8210.
 //
 // # Errors
 //

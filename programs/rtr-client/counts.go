@@ -9,7 +9,6 @@ import (
 	"sync"
 	"sync/atomic"
 
-	"fishreef/programs/internal/payloads"
 	"fishreef/programs/internal/transport"
 	"fishreef/rtr"
 )
@@ -51,19 +50,19 @@ func (c *counts) failed(name string) {
 	c.failures[name]++
 }
 
-// changed counts changes that led to these data.
-func (c *counts) changed(changes []byte, data rtr.Data) {
+// changed counts the changes of an update.
+func (c *counts) changed(update rtr.Update) {
 	c.lock.Lock()
 	defer c.lock.Unlock()
 	c.changes++
-	c.present = data
-	payloads.Each(changes, func(unit *rtr.Unit, _ []byte) {
-		if unit.Announce {
+	c.present = update.Data
+	for changes := update.Changes(); changes.Scan(); {
+		if changes.Unit().Announce {
 			c.announced++
 		} else {
 			c.withdrawn++
 		}
-	})
+	}
 }
 
 // say writes the statistics.

@@ -11,8 +11,8 @@ import (
 	"os/signal"
 	"syscall"
 
-	"fishreef/programs/internal/follow"
 	"fishreef/programs/internal/words"
+	"fishreef/rtr"
 )
 
 // The statuses of the program.
@@ -69,7 +69,7 @@ func follows(ctx context.Context, w *wanted, output io.Writer, asked <-chan os.S
 	}
 	defer counts.say(os.Stderr)
 	defer shown.progress.end()
-	err = follow.Follow(ctx, sources, shown)
+	err = rtr.Follow(ctx, sources, shown)
 	if errors.Is(err, errEnough) || errors.Is(err, context.Canceled) && !w.once {
 		return nil
 	}

@@ -11,8 +11,6 @@ import (
 	"path/filepath"
 	"strings"
 
-	"fishreef/programs/internal/follow"
-	"fishreef/programs/internal/payloads"
 	"fishreef/rtr"
 )
 
@@ -27,12 +25,11 @@ type show struct {
 	output   io.Writer
 	colours  colours
 	progress *progress
-	last     rtr.Data
 	said     map[route]string // of the routes, what was printed last
 }
 
 // Failed says why a connection ended. With --once it ends the program after the last cache.
-func (s *show) Failed(source follow.Source, err error) error {
+func (s *show) Failed(source rtr.Source, err error) error {
 	s.progress.clear()
 	s.counts.failed(source.Name)
 	say(source.Name+":", strings.ReplaceAll(err.Error(), "rtr: ", ""))
@@ -43,25 +40,22 @@ func (s *show) Failed(source follow.Source, err error) error {
 }
 
 // Data shows other data than before.
-func (s *show) Data(source follow.Source, data rtr.Data) error {
+func (s *show) Data(source rtr.Source, update rtr.Update) error {
 	s.progress.clear()
-	changes, err := payloads.Changes(s.last, data)
-	if err != nil {
-		return err
-	}
-	s.counts.changed(changes, data)
-	s.last = data
+	s.counts.changed(update)
+	data := update.Data
 	if data.IsZero() {
 		say(source.Name + ": there are no data any more")
 	} else {
 		say(fmt.Sprintf("%s: session %d serial %d version %d: %d payloads",
 			source.Name, data.Session(), data.Serial(), data.Version(), data.Len()))
 	}
+	var err error
 	switch {
 	case len(s.wanted.routes) > 0:
 		err = s.validate(data)
 	case s.wanted.out == "":
-		err = s.print(changes)
+		err = s.print(update.Changes())
 	}
 	if err == nil && s.wanted.out != "" && !data.IsZero() {
 		err = s.keep(data)
@@ -73,16 +67,16 @@ func (s *show) Data(source follow.Source, data rtr.Data) error {
 }
 
 // print prints changes.
-func (s *show) print(changes []byte) error {
+func (s *show) print(changes *rtr.Units) error {
 	words := rtr.ChangeLine
 	if s.wanted.json {
 		words = rtr.ChangeJSON
 	}
 	output := bufio.NewWriter(s.output)
-	payloads.Each(changes, func(unit *rtr.Unit, _ []byte) {
-		output.WriteString(s.colours.of(words(unit)))
+	for changes.Scan() {
+		output.WriteString(s.colours.of(words(changes.Unit())))
 		output.WriteByte('\n')
-	})
+	}
 	return output.Flush()
 }
 

@@ -8,14 +8,13 @@ import (
 	"net"
 	"os"
 
-	"fishreef/programs/internal/follow"
 	"fishreef/programs/internal/record"
 	"fishreef/programs/internal/transport"
 	"fishreef/rtr"
 )
 
 // sources are the caches, whose connections are counted and recorded.
-func (w *wanted) sources(counts *counts) ([]follow.Source, error) {
+func (w *wanted) sources(counts *counts) ([]rtr.Source, error) {
 	connect, err := w.connect()
 	if err != nil {
 		return nil, err
@@ -27,12 +26,12 @@ func (w *wanted) sources(counts *counts) ([]follow.Source, error) {
 		}
 		connect = recorded(connect, recorder)
 	}
-	var sources []follow.Source
+	var sources []rtr.Source
 	for _, address := range w.addresses {
 		client := rtr.NewClient(address)
 		client.Version = uint8(w.version)
 		client.Dial = counts.counted(connect)
-		sources = append(sources, follow.Source{Name: address, Client: *client})
+		sources = append(sources, rtr.Source{Name: address, Client: client})
 	}
 	return sources, nil
 }

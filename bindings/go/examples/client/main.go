@@ -1,4 +1,5 @@
-// Client follows the data of an RTR cache, and prints what is announced and withdrawn.
+// Client follows the data of an RTR cache, and prints what is announced and withdrawn. With
+// --prefer it has the data of the first of several caches that has some.
 package main
 
 import (
@@ -7,6 +8,7 @@ import (
 	"errors"
 	"fmt"
 	"io"
+	"net"
 	"os"
 	"os/signal"
 	"strconv"
@@ -15,11 +17,12 @@ import (
 	"fishreef/rtr"
 )
 
-const usage = "usage: client HOST:PORT [--version 0|1|2] [--once] [--json]"
+const usage = "usage: client (HOST:PORT | --prefer HOST:PORT ..) " +
+	"[--version 0|1|2] [--once] [--json]"
 
 // options are what the command line asks for.
 type options struct {
-	address    string
+	addresses  []string // by preference
 	version    uint8
 	once, json bool
 }
@@ -34,7 +37,7 @@ func main() {
 	defer stop()
 	err := run(ctx, wanted, os.Stdout)
 	if err != nil && (wanted.once || !errors.Is(err, context.Canceled)) {
-		say(wanted.address, err)
+		fmt.Fprintln(os.Stderr, err)
 		os.Exit(1)
 	}
 }
@@ -42,7 +45,7 @@ func main() {
 // arguments are the options of a command line.
 func arguments(words []string) (wanted options, ok bool) {
 	wanted.version = 1
-	for ; len(words) > 0; words = words[1:] {
+	for alone := false; len(words) > 0; words = words[1:] {
 		switch word := words[0]; {
 		case word == "--once":
 			wanted.once = true
@@ -55,49 +58,78 @@ func arguments(words []string) (wanted options, ok bool) {
 			}
 			wanted.version = uint8(version)
 			words = words[1:]
-		case wanted.address == "" && word != "" && word[0] != '-':
-			wanted.address = word
+		case word == "--prefer" && len(words) > 1 && !alone && isAddress(words[1]):
+			wanted.addresses = append(wanted.addresses, words[1])
+			words = words[1:]
+		case len(wanted.addresses) == 0 && isAddress(word):
+			wanted.addresses = append(wanted.addresses, word)
+			alone = true
 		default:
 			return options{}, false
 		}
 	}
-	return wanted, wanted.address != ""
+	return wanted, len(wanted.addresses) > 0 && len(wanted.addresses) <= rtr.MostMembers
 }
+
+// isAddress says whether a word is a host and a port.
+func isAddress(word string) bool {
+	_, _, err := net.SplitHostPort(word)
+	return err == nil && word[0] != '-'
+}
+
+// errEnough ends a client that was to have the first data.
+var errEnough = errors.New("enough")
 
 // run prints changes until the context ends or the output fails, or after the first data.
 func run(ctx context.Context, wanted options, output io.Writer) error {
-	client := rtr.NewClient(wanted.address)
-	client.Version = wanted.version
-	client.Failed = func(err error) { say(wanted.address, err) }
-	words := rtr.ChangeLine
+	shown := &show{once: wanted.once, line: rtr.ChangeLine, output: bufio.NewWriter(output)}
 	if wanted.json {
-		words = rtr.ChangeJSON
+		shown.line = rtr.ChangeJSON
 	}
-	buffered := bufio.NewWriter(output)
-	show := func(data rtr.Data, units *rtr.Units) error {
-		if !data.IsZero() {
-			fmt.Fprintf(os.Stderr, "session %d serial %d version %d: %d payloads\n",
-				data.Session(), data.Serial(), data.Version(), data.Len())
-		}
-		for units.Scan() {
-			buffered.WriteString(words(units.Unit()))
-			buffered.WriteByte('\n')
-		}
-		return buffered.Flush()
+	var sources []rtr.Source
+	for _, address := range wanted.addresses {
+		client := rtr.NewClient(address)
+		client.Version = wanted.version
+		sources = append(sources, rtr.Source{Name: address, Client: client})
+		shown.last = client
 	}
-	if wanted.once {
-		data, err := client.Fetch(ctx)
-		if err != nil {
-			return err
-		}
-		return show(data, data.Units())
+	if err := rtr.Follow(ctx, sources, shown); err != errEnough {
+		return err
 	}
-	return client.Run(ctx, func(update rtr.Update) error {
-		return show(update.Data, update.Changes())
-	})
+	return nil
 }
 
-// say writes a line on standard error.
-func say(address string, what any) {
-	fmt.Fprintf(os.Stderr, "%s: %v\n", address, what)
+// show prints what comes of the caches.
+type show struct {
+	once   bool
+	line   func(*rtr.Unit) string
+	output *bufio.Writer
+	last   *rtr.Client // the one that is preferred least
+}
+
+// Data prints what leads from the data before to these.
+func (s *show) Data(_ rtr.Source, update rtr.Update) error {
+	if data := update.Data; !data.IsZero() {
+		fmt.Fprintf(os.Stderr, "session %d serial %d version %d: %d payloads\n",
+			data.Session(), data.Serial(), data.Version(), data.Len())
+	}
+	for changes := update.Changes(); changes.Scan(); {
+		s.output.WriteString(s.line(changes.Unit()))
+		s.output.WriteByte('\n')
+	}
+	if err := s.output.Flush(); err != nil || !s.once {
+		return err
+	}
+	return errEnough
+}
+
+// Failed says why a connection ended. Where data are wanted once, it ends the client after the last
+// cache.
+func (s *show) Failed(source rtr.Source, err error) error {
+	err = fmt.Errorf("%s: %w", source.Name, err)
+	if s.once && source.Client == s.last {
+		return err
+	}
+	fmt.Fprintln(os.Stderr, err)
+	return nil
 }

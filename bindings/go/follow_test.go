@@ -1,4 +1,6 @@
-package follow
+//go:build cgo && linux && (amd64 || arm64)
+
+package rtr
 
 import (
 	"context"
@@ -8,19 +10,16 @@ import (
 	"net/netip"
 	"testing"
 	"time"
-
-	"fishreef/programs/internal/trial"
-	"fishreef/rtr"
 )
 
 // told is a listener that passes on which data it is told of.
 type told chan string
 
-func (t told) Data(source Source, data rtr.Data) error {
-	if data.IsZero() {
+func (t told) Data(source Source, update Update) error {
+	if update.Data.IsZero() {
 		t <- source.Name + ": none"
 	} else {
-		t <- fmt.Sprintf("%s: %d", source.Name, data.Serial())
+		t <- fmt.Sprintf("%s: %d", source.Name, update.Data.Serial())
 	}
 	return nil
 }
@@ -35,19 +34,19 @@ func (t told) says(test *testing.T, want string) {
 		if got != want {
 			test.Fatalf("%s, not %s", got, want)
 		}
-	case <-time.After(trial.Wait):
+	case <-time.After(patience):
 		test.Fatalf("%s doesn't come", want)
 	}
 }
 
 // cache is one at this address, with data of this serial number.
-func cache(t *testing.T, address string, serial uint32) (*rtr.Server, string) {
+func cache(t *testing.T, address string, serial uint32) (*Server, string) {
 	t.Helper()
 	listener, err := net.Listen("tcp", address)
 	if err != nil {
 		t.Fatal(err)
 	}
-	server := rtr.NewServer()
+	server := NewServer()
 	server.Limits.Notify = 0
 	update(t, server, serial)
 	go server.Serve(listener)
@@ -56,10 +55,10 @@ func cache(t *testing.T, address string, serial uint32) (*rtr.Server, string) {
 }
 
 // update gives a cache data of this serial number.
-func update(t *testing.T, server *rtr.Server, serial uint32) {
+func update(t *testing.T, server *Server, serial uint32) {
 	t.Helper()
-	vrp := rtr.VRP{Prefix: netip.MustParsePrefix("192.0.2.0/24"), MaxLength: 24, ASN: serial}
-	data, err := rtr.NewDataOf([]rtr.VRP{vrp}, 1, 7, serial, rtr.RecommendedTiming)
+	vrp := VRP{Prefix: netip.MustParsePrefix("192.0.2.0/24"), MaxLength: 24, ASN: serial}
+	data, err := NewDataOf([]VRP{vrp}, 1, 7, serial, RecommendedTiming)
 	if err == nil {
 		err = server.Update(data)
 	}
@@ -72,9 +71,9 @@ func update(t *testing.T, server *rtr.Server, serial uint32) {
 func following(t *testing.T, expire time.Duration, addresses ...string) told {
 	var sources []Source
 	for number, address := range addresses {
-		client := rtr.NewClient(address)
+		client := NewClient(address)
 		client.Expire = expire
-		sources = append(sources, Source{Name: fmt.Sprint(number), Client: *client})
+		sources = append(sources, Source{Name: fmt.Sprint(number), Client: client})
 	}
 	ctx, cancel := context.WithCancel(context.Background())
 	listener, ended := make(told, 100), make(chan error)
