@@ -1,6 +1,9 @@
 //! A router's end: asks a cache for its data, and prints what changes as it comes (RFC 8210).
 //!
-//! usage: client HOST:PORT [--version 0|1|2] [--once] [--json]
+//! usage: client (HOST:PORT | --prefer HOST:PORT ..) [--version 0|1|2] [--once] [--json]
+//!
+//! With `--prefer`, up to 16 times, it has the data of the first of these caches that has some
+//! (section 10), and prints what leads from one's data to another's.
 //!
 //! The lines are those of `rtr_diff`, with `--json` those of `rtr_diff --json`. On standard error
 //! it says what data it has at each end of data, and what fails. With `--once` it ends after all
@@ -9,22 +12,26 @@
 //! Ends with status 0 where that succeeds, or without it at SIGINT or SIGTERM, 1 where it or
 //! writing fails, 2 for other arguments.
 
-use rtr_wire::{change_json, change_line, Client, ClientOptions, Data, Event, UnitRef};
+use rtr_wire::{
+    change_json, change_line, follow, Client, ClientOptions, Data, Event, Group, UnitRef,
+};
 use std::io::{self, Write};
 use std::ops::ControlFlow;
 use std::process::ExitCode;
 use std::ptr;
 use std::sync::atomic::{AtomicPtr, Ordering};
+use std::sync::Arc;
 
 struct Arguments {
-    address: String,
+    addresses: Vec<String>,
     version: u8,
     once: bool,
     json: bool,
 }
 
 fn arguments(mut words: impl Iterator<Item = String>) -> Option<Arguments> {
-    let (mut address, mut version, mut once, mut json) = (None, 1, false, false);
+    let (mut addresses, mut prefers) = (Vec::new(), false);
+    let (mut version, mut once, mut json) = (1, false, false);
     while let Some(word) = words.next() {
         match word.as_str() {
             "--once" => once = true,
@@ -32,12 +39,16 @@ fn arguments(mut words: impl Iterator<Item = String>) -> Option<Arguments> {
             "--version" => {
                 version = words.next()?.parse().ok().filter(|number| *number <= 2)?;
             }
-            _ if word.starts_with("--") || address.is_some() => return None,
-            _ => address = Some(word),
+            "--prefer" if (prefers || addresses.is_empty()) && addresses.len() < Group::MOST => {
+                prefers = true;
+                addresses.push(words.next()?);
+            }
+            _ if word.starts_with("--") || !addresses.is_empty() => return None,
+            _ => addresses.push(word),
         }
     }
-    Some(Arguments {
-        address: address?,
+    (!addresses.is_empty()).then_some(Arguments {
+        addresses,
         version,
         once,
         json,
@@ -63,7 +74,8 @@ fn say(data: &Data) {
     eprintln!("session {session} serial {serial} version {version}: {count} payloads");
 }
 
-/// The client that a signal stops, once there is one. It is never freed, nor changed through this.
+/// The client of the first cache, which a signal stops, once there is one. It is never freed, nor
+/// changed through this.
 static CLIENT: AtomicPtr<Client> = AtomicPtr::new(ptr::null_mut());
 
 mod signals {
@@ -92,8 +104,8 @@ mod signals {
     }
 }
 
-/// What is printed of an event, and whether it is a failure.
-fn tell(event: &Event<'_>, arguments: &Arguments) -> io::Result<bool> {
+/// What is printed of an event of a cache, and whether it is a failure.
+fn tell(address: &str, event: &Event<'_>, arguments: &Arguments) -> io::Result<bool> {
     match event {
         Event::Data { data, changes, .. } => {
             say(data);
@@ -101,7 +113,7 @@ fn tell(event: &Event<'_>, arguments: &Arguments) -> io::Result<bool> {
         }
         Event::Dropped { changes } => print(changes.units(), arguments.json)?,
         Event::Failed(error) => {
-            eprintln!("{}: {error}", arguments.address);
+            eprintln!("{address}: {error}");
             return Ok(true);
         }
         _ => {}
@@ -109,40 +121,63 @@ fn tell(event: &Event<'_>, arguments: &Arguments) -> io::Result<bool> {
     Ok(false)
 }
 
-#[allow(clippy::single_match_else)] // `let else` came with Rust 1.65.
-fn main() -> ExitCode {
-    let arguments = match arguments(std::env::args().skip(1)) {
-        Some(arguments) => arguments,
-        None => {
-            eprintln!("usage: client HOST:PORT [--version 0|1|2] [--once] [--json]");
-            return ExitCode::from(2);
-        }
-    };
+/// The client of a cache. The first one is never left, and a signal stops it.
+fn client(member: usize, arguments: &Arguments) -> Arc<Client> {
     let options = ClientOptions {
         version: arguments.version,
         ..ClientOptions::default()
     };
-    let mut status = ExitCode::SUCCESS;
-    let client = Client::new(arguments.address.as_str(), options);
-    let client: &Client = Box::leak(Box::new(client));
-    if !arguments.once {
-        CLIENT.store(client as *const Client as *mut Client, Ordering::Release);
+    let client = Arc::new(Client::new(arguments.addresses[member].as_str(), options));
+    if member == 0 && !arguments.once {
+        CLIENT.store(
+            Arc::into_raw(Arc::clone(&client)) as *mut Client,
+            Ordering::Release,
+        );
         signals::catch();
     }
-    client.run(|event| {
-        let told = tell(&event, &arguments);
+    client
+}
+
+/// Follows the caches until a signal comes; with `--once` until there are data, or the last one
+/// has failed. Whether it, or writing, has.
+fn run(arguments: &Arguments) -> io::Result<bool> {
+    let (addresses, once) = (&arguments.addresses, arguments.once);
+    let mut fails = false;
+    let clients = |member| client(member, arguments);
+    follow(addresses.len(), clients, |member, event| {
+        let told = tell(&addresses[member], &event, arguments);
         if let Err(error) = &told {
             eprintln!("standard output: {error}");
         }
-        let failed = told.map_or(true, |failed| failed && arguments.once);
-        if failed {
-            status = ExitCode::FAILURE;
-        }
-        if failed || arguments.once {
+        let is_last = member + 1 == addresses.len();
+        fails = told.map_or(true, |failed| failed && once && is_last);
+        if fails || (once && matches!(event, Event::Data { .. })) {
             ControlFlow::Break(())
         } else {
             ControlFlow::Continue(())
         }
-    });
-    status
+    })?;
+    Ok(fails)
+}
+
+#[allow(clippy::single_match_else)] // `let else` came with Rust 1.65.
+fn main() -> ExitCode {
+    let failed = match arguments(std::env::args().skip(1)) {
+        Some(arguments) => run(&arguments),
+        None => {
+            eprintln!(
+                "usage: client (HOST:PORT | --prefer HOST:PORT ..) \
+                 [--version 0|1|2] [--once] [--json]"
+            );
+            return ExitCode::from(2);
+        }
+    };
+    match failed {
+        Ok(false) => ExitCode::SUCCESS,
+        Ok(true) => ExitCode::FAILURE,
+        Err(error) => {
+            eprintln!("thread: {error}");
+            ExitCode::FAILURE
+        }
+    }
 }

@@ -78,6 +78,16 @@ impl<'c> Follower<'c> {
         self.router.into_data()
     }
 
+    /// Runs until the client is stopped, or the caller breaks off, who is given each step and the
+    /// data after it.
+    pub(crate) fn steps(mut self, mut on: impl FnMut(Step, Option<&Data>) -> ControlFlow<()>) {
+        while let Some(step) = self.next() {
+            if on(step, self.router.data()).is_break() {
+                break;
+            }
+        }
+    }
+
     /// Runs until there is something to tell, if the client isn't stopped before.
     fn next(&mut self) -> Option<Step> {
         while !self.client.stop.is_set() {

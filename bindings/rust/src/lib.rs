@@ -55,7 +55,7 @@
 //! # Sessions
 //!
 //! `Client` follows a cache, and `Server` is one, each in a thread, over TCP or what else is a
-//! `Socket`. `Router` and `Served` are their ends of a connection without sockets and clock, for
+//! `Socket`; `follow` has several caches by preference. `Router` and `Served` are their ends of a connection without sockets and clock, for
 //! programs with a loop of their own; the crate `rtr-wire-tokio` has one.
 //!
 //! # Features
@@ -96,6 +96,8 @@ mod data;
 #[cfg(feature = "std")]
 mod editions;
 mod fault;
+#[cfg(feature = "std")]
+mod follow;
 #[cfg(feature = "std")]
 mod following;
 mod group;
@@ -156,6 +158,8 @@ pub use client::Client;
 pub use client_error::{Breach, ClientError};
 pub use data::{apply_in_order, apply_into, delta_into, order_into, DataError, Place, Side};
 pub use fault::{ErrorCode, Fault, PrefixRule};
+#[cfg(feature = "std")]
+pub use follow::follow;
 pub use group::{Decision, Group, Shown};
 pub use kind::{Kind, UnknownKind};
 #[cfg(feature = "alloc")]

@@ -278,6 +278,28 @@ fn cache_and_client() {
     assert_eq!(none.status.code(), Some(1));
 }
 
+/// With several caches, nothing listens at the first address.
+#[test]
+fn by_preference() {
+    let file = std::env::temp_dir().join(format!("rtr-cache-6-{}", std::process::id()));
+    std::fs::write(&file, data(1).as_bytes()).unwrap();
+    let cache = Cache::start(file);
+    let listening = cache.line();
+    cache.line();
+    let address = listening.strip_prefix("listening on ").unwrap();
+    let absent = ["--prefer", "127.0.0.1:1", "--once", "--version", "2"];
+    let got = client(&[&absent[..], &["--prefer", address]].concat());
+    let wanted = lines(&data(1), change_line);
+    assert_eq!(String::from_utf8(got.stdout).unwrap(), wanted);
+    assert!(got.stderr.starts_with(b"127.0.0.1:1: "));
+    assert_eq!(got.status.code(), Some(0));
+    let got = client(&[absent, absent].concat());
+    assert_eq!((got.status.code(), got.stdout), (Some(1), Vec::new()));
+    let got = client(&["--prefer", address].repeat(17));
+    assert_eq!(got.status.code(), Some(2));
+    assert_eq!(cache.end("TERM"), Some(0));
+}
+
 /// A client that goes on prints each change, and a cache ends by SIGINT too.
 #[test]
 fn changes_as_they_come() {
@@ -309,9 +331,12 @@ fn changes_as_they_come() {
 
 #[test]
 fn arguments() {
-    let rows: [&[&str]; 6] = [
+    let rows: [&[&str]; 9] = [
         &[],
         &["--once"],
+        &["--prefer"],
+        &["--prefer", "127.0.0.1:1", "127.0.0.1:1"],
+        &["127.0.0.1:1", "--prefer", "127.0.0.1:1"],
         &["127.0.0.1:1", "--version", "3"],
         &["127.0.0.1:1", "--version"],
         &["127.0.0.1:1", "other"],
@@ -320,7 +345,7 @@ fn arguments() {
     for words in rows {
         let got = client(words);
         assert_eq!(got.status.code(), Some(2), "{words:?}");
-        assert!(got.stderr.starts_with(b"usage: client HOST:PORT"));
+        assert!(got.stderr.starts_with(b"usage: client (HOST:PORT"));
     }
     for words in [
         &[][..],
