@@ -12,25 +12,32 @@ import (
 	"time"
 )
 
-// told is a listener that passes on which data it is told of.
-type told chan string
+// told is a listener that passes on which data it is told of, where they are others than before:
+// it is told of each answer.
+type told struct {
+	changes chan string
+	last    string
+}
 
-func (t told) Data(source Source, update Update) error {
-	if update.Data.IsZero() {
-		t <- source.Name + ": none"
-	} else {
-		t <- fmt.Sprintf("%s: %d", source.Name, update.Data.Serial())
+func (t *told) Data(source Source, update Update) error {
+	data := source.Name + ": none"
+	if !update.Data.IsZero() {
+		data = fmt.Sprintf("%s: %d", source.Name, update.Data.Serial())
 	}
+	if data != t.last {
+		t.changes <- data
+	}
+	t.last = data
 	return nil
 }
 
-func (t told) Failed(Source, error) error { return nil }
+func (t *told) Failed(Source, error) error { return nil }
 
 // says waits for what a listener is told next.
-func (t told) says(test *testing.T, want string) {
+func (t *told) says(test *testing.T, want string) {
 	test.Helper()
 	select {
-	case got := <-t:
+	case got := <-t.changes:
 		if got != want {
 			test.Fatalf("%s, not %s", got, want)
 		}
@@ -68,7 +75,7 @@ func update(t *testing.T, server *Server, serial uint32) {
 }
 
 // following follows caches at these addresses, whose data expire after this time.
-func following(t *testing.T, expire time.Duration, addresses ...string) told {
+func following(t *testing.T, expire time.Duration, addresses ...string) *told {
 	var sources []Source
 	for number, address := range addresses {
 		client := NewClient(address)
@@ -76,7 +83,7 @@ func following(t *testing.T, expire time.Duration, addresses ...string) told {
 		sources = append(sources, Source{Name: fmt.Sprint(number), Client: client})
 	}
 	ctx, cancel := context.WithCancel(context.Background())
-	listener, ended := make(told, 100), make(chan error)
+	listener, ended := &told{changes: make(chan string, 100)}, make(chan error)
 	go func() { ended <- Follow(ctx, sources, listener) }()
 	t.Cleanup(func() {
 		cancel()
@@ -106,7 +113,7 @@ func TestExpired(t *testing.T) {
 	listener.says(t, "0: 2")
 	update(t, second, 7) // it is left
 	select {
-	case got := <-listener:
+	case got := <-listener.changes:
 		t.Error(got)
 	case <-time.After(expire / 3):
 	}
