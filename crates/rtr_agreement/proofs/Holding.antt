@@ -11,8 +11,8 @@ use Rattle.rtr_wire.specs.Sequences.{AreUnits}
 use Rattle.rtr_wire.proofs.Push.{units_push}
 use Rattle.rtr_data.specs.Data.{Change}
 use Rattle.rtr_data.specs.Deltas.{unit_of}
-use Rattle.rtr_deltas.specs.Canonical.{HoldsData}
-use Rattle.rtr_deltas.specs.Order.{Sends}
+use Rattle.rtr_slices.specs.Canonical.{HoldsData}
+use Rattle.rtr_slices.specs.Order.{Sends}
 use Rattle.rtr_router.specs.declared.event.Action.{Action}
 use Rattle.rtr_router.specs.declared.event.Action.TheVariants as actions
 use Rattle.rtr_router.specs.declared.event.Ending.{Ending}

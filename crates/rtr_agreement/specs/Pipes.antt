@@ -7,7 +7,7 @@ use Rattle.rtr_payload.specs.Units.{IsUnit}
 use Rattle.rtr_units.specs.End.{EndMeaning}
 use Rattle.rtr_data.specs.Data.{Change}
 use Rattle.rtr_data.specs.Deltas.{data_for, unit_of}
-use Rattle.rtr_deltas.specs.Canonical.{HoldsData}
+use Rattle.rtr_slices.specs.Canonical.{HoldsData}
 use Rattle.rtr_router.specs.declared.event.Action.{Action}
 use Rattle.rtr_router.specs.declared.event.Event.{Event}
 use Rattle.rtr_router.specs.declared.event.Event.TheVariants as events

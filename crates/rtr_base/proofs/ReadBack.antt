@@ -49,7 +49,7 @@ no_plus ds rest all some e =
     not_in_digits own ds 43 all (λ r. omega (arith, r)) 0 some (ap (λ (t : List ℕ). get_or t 0 0) e)
 
 -- a text is one number at most
-numeral_unique : (text : List ℕ) (m n : ℕ) → IsNumeral text m → IsNumeral text n → m ≡ n
+pub numeral_unique : (text : List ℕ) (m n : ℕ) → IsNumeral text m → IsNumeral text n → m ≡ n
 numeral_unique text m n a b =
     let same : a.digits ≡ b.digits → m ≡ n = λ e. sym a.number ∙ ap (number_after 0) e ∙ b.number in
     elim a.form [
@@ -105,7 +105,7 @@ same_cut c (x ∷ f) b (y ∷ g) d e hf hg =
     (λ i h. hf (suc i) (omega arith)) (λ i h. hg (suc i) (omega arith)) in
     (λ i. head i ∷ rest.0 i, rest.1)
 
-split_unique : (c : ℕ) (text f b g d : List ℕ) → SplitsAt c text f b → SplitsAt c text g d →
+pub split_unique : (c : ℕ) (text f b g d : List ℕ) → SplitsAt c text f b → SplitsAt c text g d →
     (f ≡ g) × (b ≡ d)
 split_unique c text f b g d s t = same_cut c f b g d (sym s.parts ∙ t.parts) s.first t.first
 
@@ -113,7 +113,7 @@ at_cut : (c : ℕ) (f b : List ℕ) → get_or (f ++ (c ∷ b)) (length f) 0 ≡
 at_cut c [] b = refl
 at_cut c (x ∷ f) b = at_cut c f b
 
-split_not_lacks : (c : ℕ) (text f b : List ℕ) → SplitsAt c text f b → ¬ Lacks c text
+pub split_not_lacks : (c : ℕ) (text f b : List ℕ) → SplitsAt c text f b → ¬ Lacks c text
 split_not_lacks c text f b s none =
     let long : length text ≡ length f + suc (length b) =
     ap length s.parts ∙ length-append f (c ∷ b) in

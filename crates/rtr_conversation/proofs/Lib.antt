@@ -6,3 +6,4 @@ pub mod OneList
 pub mod Sending
 mod Heard
 mod Connected
+mod ShortTexts

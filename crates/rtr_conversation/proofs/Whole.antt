@@ -19,13 +19,13 @@ use Rattle.rtr_data.specs.Data.{Change}
 use Rattle.rtr_data.specs.Deltas.{unit_of}
 use Rattle.rtr_data.specs.Sequences.{change_of}
 use Rattle.rtr_data.proofs.Versions.{no_data}
-use Rattle.rtr_deltas.specs.Apply.{data_form}
-use Rattle.rtr_deltas.specs.Canonical.{HoldsData}
-use Rattle.rtr_deltas.specs.InOrder.{AppliesInOrder}
-use Rattle.rtr_deltas.specs.Order.{Sends}
-use Rattle.rtr_deltas.proofs.AsTheyCame.{holds_made}
-use Rattle.rtr_deltas.proofs.OneData.{one_data}
-use Rattle.rtr_deltas.proofs.Ordering.{one_sequence}
+use Rattle.rtr_slices.specs.Apply.{data_form}
+use Rattle.rtr_slices.specs.Canonical.{HoldsData}
+use Rattle.rtr_slices.specs.InOrder.{AppliesInOrder}
+use Rattle.rtr_slices.specs.Order.{Sends}
+use Rattle.rtr_slices.proofs.AsTheyCame.{holds_made}
+use Rattle.rtr_slices.proofs.OneData.{one_data}
+use Rattle.rtr_slices.proofs.Ordering.{one_sequence}
 use Rattle.rtr_session.specs.AnyFields.{AnyFields, HasAnyFields, serial_notify, serial_query}
 use Rattle.rtr_session.specs.AnyFields.{reset_query, cache_response, payload, end_of_data}
 use Rattle.rtr_session.specs.AnyFields.{cache_reset, error_report}

@@ -3,7 +3,7 @@
 use Rattle.std.specs.Prelude.{◌≡◌, ℕ, List, [], Option, Some, None, codes}
 use Rattle.rtr_units.specs.Queries.{bare_list, serial_list}
 use Rattle.rtr_views.specs.Placing.{Places}
-use Rattle.rtr_session.specs.Placed.{held_report}
+use Rattle.rtr_session.specs.HeldReports.{held_report}
 use Rattle.rtr_cache.specs.ReasonTexts.{reason_text}
 use Rattle.rtr_cache.specs.declared.event.Answer.{Answer}
 use Rattle.rtr_cache.specs.declared.event.Answer.TheVariants as answers

@@ -4,7 +4,7 @@ use Rattle.std.specs.Prelude.{Option, drop}
 use Rattle.rtr_payload.specs.FirstFault.{BeginsUnit}
 use Rattle.rtr_units.specs.Codes.{code_of}
 use Rattle.rtr_units.specs.Header.{version_field, type_field}
-use Rattle.rtr_views.specs.Owed.{owed, read_fault}
+use Rattle.rtr_views.specs.OwedCodes.{owed, read_fault}
 use Rattle.rtr_views.specs.declared.fault.ViewFault.{ViewFault}
 use Rattle.rtr_views.specs.declared.fault.ViewFault.TheVariants.{Short}
 use Rattle.rtr_session.specs.SessionViews.{IsSessionFault}

@@ -1,5 +1,5 @@
 -- What a router shows whose caller makes the changes of an answer by `apply_in_order` of
--- `rtr_deltas`: data that whole answers made, whatever bytes come (RFC 8210 sections 8.1 and 8.2).
+-- `rtr_slices`: data that whole answers made, whatever bytes come (RFC 8210 sections 8.1 and 8.2).
 use Rattle.std.specs.Prelude.{◌≡◌, ℕ, ⊤, List, [], ◌∷◌, ◌++◌, map, take, Option, Some, None}
 use Rattle.std.specs.Prelude.{Ok, unwrap_or}
 use Rattle.std.specs.List.{concat}
@@ -9,8 +9,8 @@ use Rattle.rtr_wire.specs.Sequences.{AreUnits}
 use Rattle.rtr_data.specs.Changes.{after_all}
 use Rattle.rtr_data.specs.Data.{Change}
 use Rattle.rtr_data.specs.Deltas.{unit_of}
-use Rattle.rtr_deltas.specs.Canonical.{HoldsData}
-use Rattle.rtr_deltas.specs.InOrder.{AppliesInOrder}
+use Rattle.rtr_slices.specs.Canonical.{HoldsData}
+use Rattle.rtr_slices.specs.InOrder.{AppliesInOrder}
 use Rattle.rtr_router.specs.declared.event.Action.{Action}
 use Rattle.rtr_router.specs.declared.event.Event.{Event}
 use Rattle.rtr_router.specs.declared.event.Event.TheVariants as events

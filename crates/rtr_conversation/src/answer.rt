@@ -3,8 +3,11 @@
 ghost use Rattle.std.specs.Prelude.{◌≡◌};
 ghost use Rattle.rtr_conversation.specs.Answered.{PlacesOpening, PlacesServed, about_reason};
 ghost use Rattle.rtr_conversation.specs.Answered.{closing_text};
+ghost use Rattle.rtr_session.specs.HeldReports.{held_report};
+ghost use Rattle.rtr_views.specs.Placing.{Places};
 
 use crate::refusal::{Refusal, part, unit_of};
+use crate::saying::place_refusal;
 use rtr_base::error_code::ErrorCode;
 use rtr_base::state::{Serial, State};
 use rtr_cache::event::{Answer, OwedReport, Present, Reason};
@@ -63,28 +66,33 @@ pub fn place_owed(
             output,
         ),
         Answer::End(closing) => {
-            let Some(OwedReport { version, code }) = closing.report else {
+            let Some(owed) = closing.report else {
                 return None;
             };
-            place_report(
-                version,
-                ErrorCode(code),
-                about_reason(closing.reason, refusal, about),
-                closing_text(closing.reason, refusal).as_bytes(),
-                output,
-            )
+            place_closing(owed, closing.reason, refusal, about, output)
         }
         _ => None,
     }
 }
 
-/// What to say of an end for this reason, of a unit that is refused for this one.
-pub fn closing_text(reason: Reason, refusal: Option<Refusal>) -> &'static str
-    ensures { result.now ≡ closing_text reason refusal }
+/// Writes the report that an end for this reason owes, about a unit that is refused for this one.
+fn place_closing(
+    owed: OwedReport,
+    reason: Reason,
+    refusal: Option<Refusal>,
+    about: &[u8],
+    output: &mut [u8],
+) -> Option<usize>
+    ensures { Places result
+        (held_report owed.version owed.code (about_reason reason refusal about.now)
+        (closing_text reason refusal)) output.old output.new }
 {
+    let OwedReport { version, code } = owed;
+    let code = ErrorCode(code);
+    let unit = about_reason(reason, refusal, about);
     match (reason, refusal) {
-        (Reason::Faulty, Some(refusal)) => refusal.text(),
-        _ => reason.text(),
+        (Reason::Faulty, Some(refusal)) => place_refusal(version, code, unit, refusal, output),
+        _ => place_report(version, code, unit, reason.text().as_bytes(), output),
     }
 }
 

@@ -3,7 +3,7 @@
 ghost use Rattle.std.specs.Prelude.{◌≡◌, ◌<◌, [], length};
 ghost use Rattle.rtr_units.specs.Codes.{code_of};
 ghost use Rattle.rtr_units.specs.Header.{type_field};
-ghost use Rattle.rtr_views.specs.Owed.{owed, read_fault};
+ghost use Rattle.rtr_views.specs.OwedCodes.{owed, read_fault};
 ghost use Rattle.rtr_conversation.specs.Reading.{fault_of};
 
 use rtr_router::head::Fault;

@@ -18,7 +18,7 @@ ghost use Rattle.rtr_router.specs.declared.event.Action.{Action};
 ghost use Rattle.rtr_router.specs.declared.router.Router.{Router};
 
 /// Whatever bytes come to a router, and whenever: a caller that tells it of units by their bytes,
-/// and makes changes by `apply_in_order` of `rtr_deltas`, shows no data, or those that one whole
+/// and makes changes by `apply_in_order` of `rtr_slices`, shows no data, or those that one whole
 /// answer made, by the rules of `Data::apply`, of the data before it or of none. They are in
 /// canonical form, each payload in a unit of the version of the answer, and none are shown after
 /// they have expired.

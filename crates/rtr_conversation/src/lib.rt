@@ -10,6 +10,7 @@ pub mod laws;
 pub mod query;
 pub mod refusal;
 pub mod report;
+pub mod saying;
 pub mod serving;
 pub mod telling;
 

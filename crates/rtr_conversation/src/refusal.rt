@@ -1,27 +1,31 @@
 //! Why a unit or a change is refused.
 
 ghost use Rattle.std.specs.Prelude.{◌≡◌, take};
-ghost use Rattle.rtr_conversation.specs.Sent.{refusal_code, refusal_of, refusal_part, refusal_text};
+ghost use Rattle.rtr_conversation.specs.Sent.{refusal_code, refusal_of, refusal_part};
 ghost use Rattle.rtr_conversation.specs.Sent.{about, unit_part};
 
 use rtr_base::error_code::ErrorCode;
+use rtr_payload::pdu::prefix_rule::PrefixRule;
 use rtr_units::numbers::u32_at;
 use rtr_views::fault::ViewFault;
 
 /// The bytes of a header.
 const HEADER: usize = 8;
 
-/// Why a unit or a change is refused, without the number that a `ViewFault` has beside it.
+/// Why a unit or a change is refused.
 #[derive(Clone, Copy, Debug, PartialEq, Eq)]
 pub enum Refusal {
     /// The peer closed inside the unit.
     Short,
-    UnitType,
-    UnitVersion,
+    /// The type that is not allowed.
+    UnitType(u8),
+    /// The version that is not supported.
+    UnitVersion(u8),
     TooLong,
     UnitLength,
     EmptyProviders,
-    Prefix,
+    /// The part of the rule that the lengths of a prefix break, if it is known.
+    Prefix(Option<PrefixRule>),
     /// The unit announces what is there already.
     Duplicate,
     /// The unit withdraws what isn't there.
@@ -35,12 +39,12 @@ impl Refusal {
     {
         match fault {
             ViewFault::Short => Some(Refusal::Short),
-            ViewFault::UnitType(_) => Some(Refusal::UnitType),
-            ViewFault::UnitVersion(_) => Some(Refusal::UnitVersion),
+            ViewFault::UnitType(kind) => Some(Refusal::UnitType(*kind)),
+            ViewFault::UnitVersion(version) => Some(Refusal::UnitVersion(*version)),
             ViewFault::TooLong => Some(Refusal::TooLong),
             ViewFault::UnitLength => Some(Refusal::UnitLength),
             ViewFault::EmptyProviders => Some(Refusal::EmptyProviders),
-            ViewFault::Prefix(_) => Some(Refusal::Prefix),
+            ViewFault::Prefix(rule) => Some(Refusal::Prefix(Some(*rule))),
             ViewFault::Writer(_) | ViewFault::TooMany => None,
         }
     }
@@ -50,33 +54,16 @@ impl Refusal {
         ensures { result ≡ refusal_code self }
     {
         let code = match self {
-            Refusal::Short | Refusal::TooLong | Refusal::UnitLength | Refusal::Prefix => {
+            Refusal::Short | Refusal::TooLong | Refusal::UnitLength | Refusal::Prefix(_) => {
                 ErrorCode::CORRUPT_DATA
             }
-            Refusal::UnitType => ErrorCode::UNSUPPORTED_PDU_TYPE,
-            Refusal::UnitVersion => ErrorCode::UNSUPPORTED_PROTOCOL_VERSION,
+            Refusal::UnitType(_) => ErrorCode::UNSUPPORTED_PDU_TYPE,
+            Refusal::UnitVersion(_) => ErrorCode::UNSUPPORTED_PROTOCOL_VERSION,
             Refusal::EmptyProviders => ErrorCode::ASPA_PROVIDER_LIST_ERROR,
             Refusal::Duplicate => ErrorCode::DUPLICATE_ANNOUNCEMENT_RECEIVED,
             Refusal::Unknown => ErrorCode::WITHDRAWAL_OF_UNKNOWN_RECORD,
         };
         code.0
-    }
-
-    /// What to say of it, in a report too.
-    pub fn text(self) -> &'static str
-        ensures { result.now ≡ refusal_text self }
-    {
-        match self {
-            Refusal::Short => "unexpected end of input",
-            Refusal::UnitType => "unit type is not allowed here",
-            Refusal::UnitVersion => "version is not supported here",
-            Refusal::TooLong => "unit is longer than 65535 bytes",
-            Refusal::UnitLength => "invalid unit length",
-            Refusal::EmptyProviders => "ASPA unit has no providers",
-            Refusal::Prefix => "prefix fields are not allowed",
-            Refusal::Duplicate => "duplicate announcement",
-            Refusal::Unknown => "withdrawal of an unknown record",
-        }
     }
 
     /// How much of the input a report about the unit at its front holds: the header alone where
@@ -87,7 +74,7 @@ impl Refusal {
     {
         match self {
             Refusal::Short => input,
-            Refusal::Prefix | Refusal::Duplicate | Refusal::Unknown => unit_of(input),
+            Refusal::Prefix(_) | Refusal::Duplicate | Refusal::Unknown => unit_of(input),
             _ => front(input, HEADER),
         }
     }

@@ -1,9 +1,11 @@
 //! The report that the end of a connection owes the cache.
 
-ghost use Rattle.std.specs.Prelude.{◌≡◌};
+ghost use Rattle.rtr_views.specs.Placing.{Places};
+ghost use Rattle.rtr_session.specs.HeldReports.{held_report};
 ghost use Rattle.rtr_conversation.specs.Sent.{PlacesEnding, ending_text};
 
 use crate::refusal::{Refusal, part};
+use crate::saying::place_refusal;
 use rtr_base::error_code::ErrorCode;
 use rtr_router::event::{Cause, Ending};
 use rtr_session::placing::place_report;
@@ -27,22 +29,34 @@ pub fn place_ending(
     let Some(code) = ending.report else {
         return None;
     };
-    let text = ending_text(ending.cause, refusal);
-    place_report(
+    let unit = part(refusal, about);
+    place_cause(
         version,
         ErrorCode(code),
-        part(refusal, about),
-        text.as_bytes(),
+        unit,
+        ending.cause,
+        refusal,
         output,
     )
 }
 
-/// What to say of an end for this cause, of a unit or a change that is refused for this reason.
-pub fn ending_text(cause: Cause, refusal: Option<Refusal>) -> &'static str
-    ensures { result.now ≡ ending_text cause refusal }
+/// Writes the report with this version and error code about this part of a unit, for this cause,
+/// of a unit or a change that is refused for this reason.
+fn place_cause(
+    version: u8,
+    code: ErrorCode,
+    unit: &[u8],
+    cause: Cause,
+    refusal: Option<Refusal>,
+    output: &mut [u8],
+) -> Option<usize>
+    ensures { Places result (held_report version code.0 unit.now (ending_text cause refusal))
+        output.old output.new }
 {
     match (cause, refusal) {
-        (Cause::Faulty | Cause::NotApplied, Some(refusal)) => refusal.text(),
-        _ => cause.text(),
+        (Cause::Faulty | Cause::NotApplied, Some(refusal)) => {
+            place_refusal(version, code, unit, refusal, output)
+        }
+        _ => place_report(version, code, unit, cause.text().as_bytes(), output),
     }
 }

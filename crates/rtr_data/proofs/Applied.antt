@@ -34,7 +34,8 @@ use Rattle.rtr_wire.proofs.Push.{units_push}
 use Rattle.rtr_wire.specs.PrivateSteps.{StepTells, Steps}
 use Rattle.rtr_wire.specs.Run.{Counts, Ends}
 use Rattle.rtr_wire.specs.Sequences.{AreUnits, everything}
-use Rattle.rtr_data.specs.Applying.{Applies, CountsUnits, ReadsChange, StopsApplying, StopsChange}
+use Rattle.rtr_data.specs.Applying.{Applies, CountsUnits, StopsApplying, StopsChange}
+use Rattle.rtr_data.specs.PrivateApplying.{ReadsChange}
 use Rattle.rtr_data.specs.Applying.{cause_count}
 use Rattle.rtr_data.specs.Changes.{after_all}
 use Rattle.rtr_data.specs.Contents.{IsFit, Leaves, announcing, entry_of, joined, unfit}

@@ -8,18 +8,13 @@ use Rattle.std.specs.Prelude.{◌≡◌, ◌≢◌, ◌⊎◌, ℕ, ◌<◌, ◌
 use Rattle.std.specs.Prelude.{Some, Result, Ok, Err, IfSome, IsOk}
 use Rattle.std.specs.Io.KnownBytes.{Consumes}
 use Rattle.std.specs.declared.io.Error.{Error}
-use Rattle.rtr_base.specs.declared.action.Action.{Action}
 use Rattle.rtr_units.specs.declared.end.EndOfData.{EndOfData}
-use Rattle.rtr_units.specs.declared.fault.Fault.{Fault}
 use Rattle.rtr_units.specs.AnyEnd.{end_bytes, end_meaning}
 use Rattle.rtr_units.specs.End.{EndMeaning, IsEnd}
 use Rattle.rtr_units.specs.StopCauses.{by_writer, cause_of, reader_count, HoldsReadError}
 use Rattle.rtr_units.specs.StopCauses.{ReaderState}
-use Rattle.rtr_payload.specs.Meanings.{payload_of}
 use Rattle.rtr_payload.specs.Payloads.{Meaning, Payload}
 use Rattle.rtr_payload.specs.Units.{IsUnit}
-use Rattle.rtr_payload.specs.declared.payload.Payload.{Payload as Value}
-use Rattle.rtr_wire.specs.PrivateSteps.{StepTells}
 use Rattle.rtr_wire.specs.Run.{BlamesNobody, Counts, Ends}
 use Rattle.rtr_wire.specs.Sequences.{Accepts, AreUnits, everything}
 use Rattle.rtr_data.specs.Changes.{after_all}
@@ -99,19 +94,6 @@ HoldsCauseError fails (Change e) = ⊤
 
 abbrev pub HoldsApplyError : (Error → Type 0) → ApplyError → Type 0
 HoldsApplyError fails e = HoldsCauseError fails e.cause
-
--- ---- one unit
-
--- What reading one unit leaves: its bytes were taken, and this is the change that it is for; or
--- those of an end of data; or reading stopped as a step of a run does.
-abbrev pub ReadsChange : Result (Result (Action × Value) EndOfData) Fault →
-    (old left : Option (List ℕ)) → Type 0
-ReadsChange (Ok (Ok c)) old left = (t : List ℕ) × (m : Meaning) × Consumes old left t × IsUnit t m
-    × (change_of m ≡ record { action = c.0; payload = payload_of c.1 })
-ReadsChange (Ok (Err d)) old left =
-    Consumes old left (end_bytes d) × IsEnd (end_bytes d) (end_meaning d)
-ReadsChange (Err f) old left = (t : List ℕ) × Consumes old left t × (cause_of f ≢ by_writer)
-    × StepTells everything (Err (cause_of f)) t [] left
 
 -- ---- what follows, where the input is known
 

@@ -6,3 +6,4 @@ pub mod Deltas
 pub mod PrivateForms
 pub mod Sequences
 pub mod Applying
+pub mod PrivateApplying

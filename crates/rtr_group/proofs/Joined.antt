@@ -9,7 +9,7 @@ use Rattle.rtr_router.specs.declared.event.Action.TheVariants as actions
 use Rattle.rtr_router.specs.declared.event.Cause.{Cause}
 use Rattle.rtr_router.specs.declared.event.Cause.TheVariants as causes
 use Rattle.rtr_router.specs.Histories as histories
-use Rattle.rtr_router.specs.Histories.{Host, IsAnswered, IsHistory, MaySay, at, empty_host}
+use Rattle.rtr_router.specs.Histories.{Host, IsAnswered, IsHistory, MaySay, empty_host}
 use Rattle.rtr_router.specs.Histories.{host_after}
 use Rattle.rtr_router.specs.Histories.IsHistory.{run_begins as router_begins}
 use Rattle.rtr_router.specs.Histories.IsHistory.{run_goes_on as router_goes_on}

@@ -8,7 +8,7 @@ use Rattle.rtr_router.specs.declared.event.Action.TheVariants as actions
 use Rattle.rtr_router.specs.declared.event.Cause.{Cause}
 use Rattle.rtr_router.specs.declared.event.Cause.TheVariants as causes
 use Rattle.rtr_router.specs.Histories as histories
-use Rattle.rtr_router.specs.Histories.{Host, IsAnswered, IsHistory, MaySay, at, empty_host}
+use Rattle.rtr_router.specs.Histories.{Host, IsAnswered, MaySay, at, empty_host}
 use Rattle.rtr_router.specs.Histories.{host_after}
 use Rattle.rtr_router.specs.Step.{IsStep}
 use Rattle.rtr_group.specs.declared.event.Event.{Event}

@@ -26,8 +26,8 @@ pub fn changes_with_it()
         → ChangesRightly c m e (answer g m e) (caller_after c m e d (answer g m e)) }
 {}
 
-/// Whatever comes: a member runs exactly where all before it have failed since they began, or had a
-/// whole answer; and one that doesn't run has no data.
+/// Whatever comes: a member runs exactly where each one before it has failed since it began, and
+/// had no whole answer after that. One that doesn't run has no data.
 pub fn asked_in_order()
     ensures runs { (count : ℕ) (history : List (GroupMoment ℕ)) (g : Group) (c : Listener ℕ)
         → IsGroupRun count history g c → RunsInOrder count c }

@@ -1,7 +1,7 @@
 -- Units of a recording that were taken one after the other, and how reading them ends.
 use Rattle.std.proofs.Common.{◌≡◌, ℕ, ◌+◌, ◌-◌, ◌^◌, List, [], ◌∷◌, ◌++◌, length, min}
 use Rattle.std.proofs.Common.{Option, Result, Ok, Err, refl, ap, sym, ◌∙◌, subst, arith, inl, inr}
-use Rattle.std.specs.List.{AllByRecursion}
+use Rattle.std.specs.List.{AllByRecursion, flat_map}
 use Rattle.std.proofs.lemmas.List.{length-append, flat_map_more}
 use Rattle.std.specs.Io.KnownBytes.{Consumes}
 use Rattle.std.proofs.KnownBytes.{Consumes-trans}
@@ -14,7 +14,6 @@ use Rattle.rtr_session.specs.AnyUnits.{any_bytes, any_fields}
 use Rattle.rtr_session.specs.declared.any_unit.AnyUnit.{AnyUnit}
 use Rattle.rtr_recordings.specs.PrivateRecordings.{FinishesAt, TakesUnit}
 use Rattle.rtr_recordings.specs.RecordingRead.{IsRecorded, KeepsPrefixRule, ReadsRecording}
-use Rattle.rtr_recordings.specs.RecordingRead.{recorded_bytes}
 use Rattle.rtr_recordings.specs.Recordings.{SoMuch, held_after, nothing, step}
 use Rattle.rtr_recordings.specs.declared.recording.Recording.{Recording}
 use Rattle.rtr_recordings.specs.declared.stop.Refusal.{Refusal}
@@ -28,9 +27,9 @@ pub record SoFar (count offset : ℕ) (old new : Option (List ℕ)) (held : SoMu
   pub units : List AnyFields
   pub are_recorded : AllByRecursion IsRecorded units
   pub counted : length units ≡ count
-  pub took : Consumes old new (recorded_bytes units)
+  pub took : Consumes old new (flat_map any_list units)
   pub makes : held_after units (Ok nothing) ≡ Ok held
-  pub counts : offset ≡ min (length (recorded_bytes units)) (2 ^ 64 - 1)
+  pub counts : offset ≡ min (length (flat_map any_list units)) (2 ^ 64 - 1)
 
 -- ---- one unit more
 
@@ -61,7 +60,7 @@ goes_on n o p a b c h g u s took has (rule, so) moves =
       are_recorded = all_push IsRecorded s.units f s.are_recorded (is_recorded u has rule);
       counted = omega (arith, s.counted, length-append s.units (f ∷ []));
       took = subst (Consumes a c) grows
-          (Consumes-trans a b c (recorded_bytes s.units) (any_list f) s.took
+          (Consumes-trans a b c (flat_map any_list s.units) (any_list f) s.took
           (subst (Consumes b c) has.bytes took));
       makes = held_more s.units (Ok nothing) h f s.makes ∙ so;
       counts = moves ∙ omega (
@@ -69,7 +68,7 @@ goes_on n o p a b c h g u s took has (rule, so) moves =
         s.counts,
         ap length has.bytes,
         ap length grows,
-        length-append (recorded_bytes s.units) (any_list f),
+        length-append (flat_map any_list s.units) (any_list f),
       );
     }
 
@@ -84,7 +83,7 @@ module _ (n o : ℕ) (old new : ReaderState) (h : SoMuch) (b : Option (List ℕ)
     units = s.units;
     last = [];
     are_recorded = s.are_recorded;
-    takes = Consumes-trans old.left b new.left (recorded_bytes s.units) [] s.took took;
+    takes = Consumes-trans old.left b new.left (flat_map any_list s.units) [] s.took took;
     held = h;
     makes = s.makes;
     ends = (refl, end, left);
@@ -96,7 +95,7 @@ module _ (n o : ℕ) (old new : ReaderState) (h : SoMuch) (b : Option (List ℕ)
         units = s.units;
         last = [];
         are_recorded = s.are_recorded;
-        takes = Consumes-trans old.left b new.left (recorded_bytes s.units) [] s.took took;
+        takes = Consumes-trans old.left b new.left (flat_map any_list s.units) [] s.took took;
         held = h;
         makes = s.makes;
         ends = inr (refl, end, not_whole);
@@ -111,7 +110,7 @@ module _ (n o : ℕ) (old new : ReaderState) (h : SoMuch) (b : Option (List ℕ)
     units = s.units;
     last = t;
     are_recorded = s.are_recorded;
-    takes = Consumes-trans old.left b new.left (recorded_bytes s.units) t s.took took;
+    takes = Consumes-trans old.left b new.left (flat_map any_list s.units) t s.took took;
     held = h;
     makes = s.makes;
     ends = stops_reading (cause_of f) (length s.units) h t new.left (inl stops);
@@ -127,7 +126,8 @@ module _ (n o : ℕ) (old new : ReaderState) (h : SoMuch) (b : Option (List ℕ)
     units = s.units;
     last = any_bytes u;
     are_recorded = s.are_recorded;
-    takes = Consumes-trans old.left b new.left (recorded_bytes s.units) (any_bytes u) s.took took;
+    takes =
+        Consumes-trans old.left b new.left (flat_map any_list s.units) (any_bytes u) s.took took;
     held = h;
     makes = s.makes;
     ends =
@@ -140,7 +140,8 @@ module _ (n o : ℕ) (old new : ReaderState) (h : SoMuch) (b : Option (List ℕ)
     units = s.units;
     last = any_bytes u;
     are_recorded = s.are_recorded;
-    takes = Consumes-trans old.left b new.left (recorded_bytes s.units) (any_bytes u) s.took took;
+    takes =
+        Consumes-trans old.left b new.left (flat_map any_list s.units) (any_bytes u) s.took took;
     held = h;
     makes = s.makes;
     ends = (any_fields u, has.bytes, is_recorded u has rule, refused);

@@ -31,14 +31,7 @@ TakesUnit (Err (Refused e)) unit old new =
 
 -- the same with no answer open
 abbrev pub without_pending : SoMuch → SoMuch
-without_pending m = record {
-  kept = m.kept;
-  pending = None;
-  session = m.session;
-  was_reset = m.was_reset;
-  end = m.end;
-  has_cut = m.has_cut;
-}
+without_pending m = record m { pending = None }
 
 -- what the next payload unit changes was taken out, or memory ran out for a copy of it
 abbrev pub TakesCurrent : Result (List Payload) ChangeError → (old new : SoMuch) → Type 0

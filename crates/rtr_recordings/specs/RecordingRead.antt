@@ -4,6 +4,7 @@
 -- or the first change that is refused, or where the reader or memory fails.
 use Rattle.std.specs.Prelude.{◌≡◌, ◌⊎◌, ⊤, ℕ, ◌-◌, ◌^◌, false, min, List, [], ◌++◌, length}
 use Rattle.std.specs.Prelude.{Option, Some, None, Result, Ok, Err, IfErr, IsOk}
+use Rattle.std.specs.Prelude.{MatchResult}
 use Rattle.std.specs.List.{flat_map, AllByRecursion}
 use Rattle.std.specs.Io.KnownBytes.{Consumes, IsAtEnd}
 use Rattle.std.specs.declared.io.Error.{Error}
@@ -33,10 +34,6 @@ KeepsPrefixRule others = ⊤
 abbrev pub IsRecorded : AnyFields → Type 0
 IsRecorded unit = HasAnyFields (any_list unit) unit × KeepsPrefixRule unit
 
--- the bytes of units, one after the other
-abbrev pub recorded_bytes : List AnyFields → List ℕ
-recorded_bytes units = flat_map any_list units
-
 -- ---- how it ends
 
 -- Why no unit is read of these last bytes: reading stopped inside it; or they are a payload unit
@@ -45,15 +42,12 @@ abbrev pub HasNoUnit : Cause → (last : List ℕ) → (left : Option (List ℕ)
 HasNoUnit cause last left = StopsInAny cause last left
     ⊎ ((unit : Unit) × (last ≡ unit_bytes unit) × HasNoPayload unit cause)
 
--- the input ends between two units, before an end of data or inside an answer
-abbrev pub IsCutOff : SoMuch → (last : List ℕ) → (left : Option (List ℕ)) → Type 0
-IsCutOff m last left = (last ≡ []) × IsAtEnd left × (is_whole m ≡ false)
-
--- why reading stopped at these last bytes after so many units
+-- why reading stopped at these last bytes after so many units: it is short too where the input ends
+-- between two units, before an end of data or inside an answer
 abbrev pub StopsReading : Cause → ℕ → SoMuch → (last : List ℕ) → (left : Option (List ℕ)) → Type 0
 StopsReading too_many count m last left = (count ≡ 2 ^ 64 - 1) × (last ≡ [])
 StopsReading (wrong short) count m last left =
-    HasNoUnit (wrong short) last left ⊎ IsCutOff m last left
+    HasNoUnit (wrong short) last left ⊎ ((last ≡ []) × IsAtEnd left × (is_whole m ≡ false))
 StopsReading cause count m last left = HasNoUnit cause last left
 
 -- The unit is refused so; or memory ran out where it is allowed, or for the copy of what is kept
@@ -62,15 +56,12 @@ abbrev pub IsRefused : Refusal → AnyFields → SoMuch → Type 0
 IsRefused (Change Memory) unit m = IsOk (step unit m) ⊎ (m.pending ≡ None)
 IsRefused e unit m = step unit m ≡ Err e
 
--- the last bytes are a unit that is refused
-abbrev pub RefusesUnit : Refusal → SoMuch → (last : List ℕ) → Type 0
-RefusesUnit e m last = (unit : AnyFields) × (last ≡ any_list unit) × IsRecorded unit
-    × IsRefused e unit m
-
+-- no unit is read of the last bytes, or they are a unit that is refused
 abbrev pub StopsRecording : StopCause → ℕ → SoMuch → (last : List ℕ) →
     (left : Option (List ℕ)) → Type 0
 StopsRecording (Read f) count m last left = StopsReading (cause_of f) count m last left
-StopsRecording (Refused e) count m last left = RefusesUnit e m last
+StopsRecording (Refused e) count m last left =
+    (unit : AnyFields) × (last ≡ any_list unit) × IsRecorded unit × IsRefused e unit m
 
 -- so much is whole, and this is what it leaves
 pub record IsLeft (m : SoMuch) (r : Recording) : Type 0 where
@@ -86,14 +77,10 @@ abbrev pub EndsRecording : Result Recording Stop → ℕ → SoMuch → (last : 
 EndsRecording (Ok r) count m last left = (last ≡ []) × IsAtEnd left × IsLeft m r
 EndsRecording (Err stop) count m last left = StopsRecording stop.cause count m last left
 
--- the reader's count of failures after a call with this answer, where it was n before
+-- the reader's count of failures where reading stopped so, where it was n before
 abbrev pub stopped_count : StopCause → ℕ → ℕ
 stopped_count (Read f) n = reader_count {T = ℕ} (Err (cause_of f)) n
 stopped_count (Refused e) n = n
-
-abbrev pub recorded_count : Result Recording Stop → ℕ → ℕ
-recorded_count (Ok r) n = n
-recorded_count (Err stop) n = stopped_count stop.cause n
 
 -- The whole promise of reading a recording: `old` and `new` are what the reader has before and
 -- after it.
@@ -102,16 +89,17 @@ pub record ReadsRecording (result : Result Recording Stop) (old new : ReaderStat
   pub units : List AnyFields
   pub last : List ℕ
   pub are_recorded : AllByRecursion IsRecorded units
-  pub takes : Consumes old.left new.left (recorded_bytes units ++ last)
+  pub takes : Consumes old.left new.left (flat_map any_list units ++ last)
   -- the units in turn make this
   pub held : SoMuch
   pub makes : held_after units (Ok nothing) ≡ Ok held
   -- so the call ended
   pub ends : EndsRecording result (length units) held last new.left
   -- where it stopped, it says how many bytes the units have
-  pub offset : IfErr result (λ s. s.offset ≡ min (length (recorded_bytes units)) (2 ^ 64 - 1))
+  pub offset : IfErr result (λ s. s.offset ≡ min (length (flat_map any_list units)) (2 ^ 64 - 1))
   -- the reader is blamed exactly where its count of failures rose
-  pub reader_failures : new.failed ≡ recorded_count result old.failed
+  pub reader_failures : MatchResult result (λ r. new.failed ≡ old.failed)
+      (λ s. new.failed ≡ stopped_count s.cause old.failed)
 
 -- the error in a reader's fault is one that the last read may have given
 abbrev pub HoldsCauseOf : (Error → Type 0) → StopCause → Type 0

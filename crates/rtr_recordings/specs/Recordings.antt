@@ -54,23 +54,18 @@ abbrev pub is_other : (last : Option ℕ) → (session : ℕ) → Bool
 is_other None session = false
 is_other (Some last) session = not (last == session)
 
--- what was sent before counts no longer in another session (RFC 8210 section 5.1), and after a
--- cache reset (sections 5.9 and 8.3)
-abbrev pub begins_anew : SoMuch → (session : ℕ) → Bool
-begins_anew m session = m.was_reset || is_other m.session session
-
--- what an answer of this session begins with
+-- what an answer of this session begins with: what was sent before counts no longer in another
+-- session (RFC 8210 section 5.1), and after a cache reset (sections 5.9 and 8.3)
 abbrev pub base : SoMuch → (session : ℕ) → List Payload
-base m session = if begins_anew m session then [] else m.kept
+base m session = if m.was_reset || is_other m.session session then [] else m.kept
 
 -- a cache response opens an answer, and cuts off the one that is open
 abbrev pub opens_answer : SoMuch → (session : ℕ) → SoMuch
-opens_answer m session = record {
+opens_answer m session = record m {
   kept = base m session;
   pending = Some (base m session);
   session = Some session;
   was_reset = false;
-  end = m.end;
   has_cut = m.has_cut || is_some m.pending;
 }
 
@@ -82,60 +77,36 @@ current m = unwrap_or m.pending m.kept
 
 -- the change of a payload unit was made, in the answer that is then open, or it is refused
 abbrev pub with_change : SoMuch → Result (List Payload) ChangeError → Result SoMuch Refusal
-with_change m (Ok d) = Ok (record {
-  kept = m.kept;
-  pending = Some d;
-  session = m.session;
-  was_reset = m.was_reset;
-  end = m.end;
-  has_cut = m.has_cut;
-})
+with_change m (Ok d) = Ok (record m { pending = Some d })
 with_change m (Err e) = Err (Change e)
 
 -- ---- ends of data (RFC 8210 section 5.8)
 
 -- the answer is whole, and what it made is kept
 abbrev pub whole : SoMuch → EndMeaning → SoMuch
-whole m end = record {
+whole m end = record m {
   kept = current m;
   pending = None;
   session = Some end.session;
-  was_reset = m.was_reset;
   end = Some end;
-  has_cut = m.has_cut;
 }
 
--- its session has to be that of its answer
+-- the session of the end of data has to be that of its answer, if that has one
 abbrev pub closed_in : Option ℕ → SoMuch → EndMeaning → Result SoMuch Refusal
 closed_in None m end = Ok (whole m end)
 closed_in (Some begun) m end =
     if begun == end.session then Ok (whole m end) else Err (Session end.session begun)
 
-abbrev pub closed : SoMuch → EndMeaning → Result SoMuch Refusal
-closed m end = closed_in m.session m end
-
--- ---- cache resets (RFC 8210 section 5.9)
-
--- the next cache response begins anew
-abbrev pub reset : SoMuch → SoMuch
-reset m = record {
-  kept = m.kept;
-  pending = m.pending;
-  session = m.session;
-  was_reset = true;
-  end = m.end;
-  has_cut = m.has_cut;
-}
-
 -- ---- units in turn
 
--- What one unit makes of what came before it, or why it is refused. Serial notifies, queries and
--- error reports are passed over.
+-- What one unit makes of what came before it, or why it is refused. After a cache reset the next
+-- cache response begins anew (RFC 8210 section 5.9). Serial notifies, queries and error reports are
+-- passed over.
 abbrev pub step : AnyFields → SoMuch → Result SoMuch Refusal
 step (payload fields) m = with_change m (after (change_of (meaning fields)) (current m))
 step (cache_response version session) m = Ok (opens_answer m session)
-step (end_of_data end) m = closed m end
-step (cache_reset version session) m = Ok (reset m)
+step (end_of_data end) m = closed_in m.session m end
+step (cache_reset version session) m = Ok (record m { was_reset = true })
 step others m = Ok m
 
 -- what units in turn make of it, up to the first that is refused

@@ -1,6 +1,6 @@
 //! The data that a recording leaves.
 
-ghost use Rattle.std.specs.Prelude.{◌≡◌, Ok, Err, IfErr, MatchResult};
+ghost use Rattle.std.specs.Prelude.{◌≡◌, ◌||◌, Ok, Err, IfErr, MatchResult};
 ghost use Rattle.rtr_base.specs.declared.action.Action.TheVariants.{Announce};
 ghost use Rattle.rtr_units.specs.AnyEnd.{end_meaning};
 ghost use Rattle.rtr_payload.specs.Meanings.{payload_of};
@@ -19,7 +19,7 @@ ghost use Rattle.rtr_recordings.specs.PrivateRecordings.{
   TakesUnit,
 };
 ghost use Rattle.rtr_recordings.specs.RecordingRead.{HoldsStopError, ReadsRecording};
-ghost use Rattle.rtr_recordings.specs.Recordings.{begins_anew, closed, nothing, opens_answer};
+ghost use Rattle.rtr_recordings.specs.Recordings.{closed_in, is_other, nothing, opens_answer};
 
 use crate::stop::{Refusal, Stop, StopCause};
 use rtr_base::action::Action;
@@ -183,7 +183,7 @@ impl Held {
 
     /// Whether an answer of this session begins with no payloads.
     fn begins_anew(&self, session: u16) -> bool
-        ensures { result ≡ begins_anew self.now session }
+        ensures { result ≡ (self.now.was_reset || is_other self.now.session session) }
     {
         match self.session {
             Some(last) => self.was_reset || last != session,
@@ -194,8 +194,8 @@ impl Held {
     /// Closes the answer.
     fn close(&mut self, end: EndOfData) -> Result<(), Refusal>
         ensures { MatchResult result
-            (λ _. closed self.old (end_meaning end) ≡ Ok self.new)
-            (λ e. closed self.old (end_meaning end) ≡ Err e) }
+            (λ _. closed_in self.old.session self.old (end_meaning end) ≡ Ok self.new)
+            (λ e. closed_in self.old.session self.old (end_meaning end) ≡ Err e) }
     {
         let session = end.session();
         if let Some(begun) = self.session {

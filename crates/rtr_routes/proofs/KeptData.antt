@@ -9,7 +9,7 @@ use Rattle.rtr_data.specs.Data.{IsData}
 use Rattle.rtr_data.specs.Deltas.{all_for, change_forms, data_for}
 use Rattle.rtr_data.specs.Sequences.{IsSendable}
 use Rattle.rtr_data.proofs.Accepted.{all_sequence}
-use Rattle.rtr_deltas.specs.Canonical.{HoldsData, data_units}
+use Rattle.rtr_slices.specs.Canonical.{HoldsData, data_units}
 use Rattle.rtr_routes.specs.PrivateVrps.{kept_end}
 
 end_fits : IsEndMeaning kept_end

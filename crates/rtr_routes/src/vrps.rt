@@ -5,7 +5,7 @@ ghost use Rattle.rtr_units.specs.AnyEnd.{end_bytes};
 ghost use Rattle.rtr_units.specs.End.{IsEndMeaning, end_list};
 ghost use Rattle.rtr_units.specs.Stream.{PutsForm};
 ghost use Rattle.rtr_data.specs.Deltas.{all_for, change_forms};
-ghost use Rattle.rtr_deltas.specs.Canonical.{HoldsData};
+ghost use Rattle.rtr_slices.specs.Canonical.{HoldsData};
 ghost use Rattle.rtr_validation.specs.Covering.{IsFirstCovering};
 ghost use Rattle.rtr_validation.specs.Validity.{IsValidity};
 ghost use Rattle.rtr_routes.specs.PrivateVrps.{kept_end};
@@ -38,7 +38,7 @@ pub struct Vrps {
 impl Model for Vrps {
     ghost use Rattle.std.specs.Prelude.{List};
     ghost use Rattle.rtr_payload.specs.Payloads.{Payload};
-    ghost use Rattle.rtr_deltas.specs.Canonical.{HoldsData};
+    ghost use Rattle.rtr_slices.specs.Canonical.{HoldsData};
     ghost use Rattle.rtr_validation.specs.Tables.{AreTables};
     ghost use Rattle.rtr_routes.specs.PrivateVrps.{kept_end};
 

@@ -17,12 +17,12 @@ use Rattle.rtr_payload.specs.AspaUnits.{aspa_at}
 use Rattle.rtr_payload.specs.KeyUnits.{key_at}
 use Rattle.rtr_payload.specs.UnitFields.{Fields, prefix_unit, key_unit, aspa_unit}
 use Rattle.rtr_payload.specs.UnitFields.{HasFields}
-use Rattle.rtr_views.specs.Owed.{owed}
+use Rattle.rtr_views.specs.OwedCodes.{owed}
 use Rattle.rtr_views.specs.declared.view.UnitView.TheVariants as views
 use Rattle.rtr_session.specs.AnyFields.{serial_notify, serial_query, reset_query}
 use Rattle.rtr_session.specs.AnyFields.{cache_response, cache_reset}
 use Rattle.rtr_session.specs.AnyUnits.{serial_of, bare_of}
-use Rattle.rtr_session.specs.Placed.{held_unit, held_text, held_report}
+use Rattle.rtr_session.specs.HeldReports.{held_unit, held_text, held_report}
 use Rattle.rtr_session.specs.Replies.{owed_report}
 use Rattle.rtr_session.specs.Reports.{IsReport, HasParts}
 use Rattle.rtr_session.specs.SessionViews.{ShowsUnit, session_fault}

@@ -1,6 +1,6 @@
 pub mod Agreement
 pub mod Parts
-mod Placed
+mod LaidReports
 pub mod Forms
 mod Headers
 pub mod Held

@@ -2,7 +2,7 @@
 use Rattle.std.proofs.Common.{◌≡◌, ℕ, false, cond, List, Option, Some, None, option_map}
 use Rattle.std.specs.Prelude.{◌==◌}
 use Rattle.rtr_units.specs.Header.{type_field}
-use Rattle.rtr_session.specs.Placed.{held_report}
+use Rattle.rtr_session.specs.HeldReports.{held_report}
 use Rattle.rtr_session.specs.Replies.{owed_report}
 
 pub is_owed : (v c : ℕ) (code : Option ℕ) (p t : List ℕ) → (type_field p == 10) ≡ false →

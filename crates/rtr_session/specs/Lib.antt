@@ -7,5 +7,5 @@ pub mod AnyUnits
 pub mod Lengths
 pub mod SessionViews
 pub mod SessionForms
-pub mod Placed
+pub mod HeldReports
 pub mod Replies

@@ -2,9 +2,9 @@
 -- section 5.11; the answers are this library's own).
 use Rattle.std.specs.Prelude.{◌≡◌, ℕ, List, Option, Some, None, option_map}
 use Rattle.rtr_units.specs.Header.{type_field}
-use Rattle.rtr_views.specs.Owed.{owed}
+use Rattle.rtr_views.specs.OwedCodes.{owed}
 use Rattle.rtr_views.specs.Placing.{Places}
-use Rattle.rtr_session.specs.Placed.{held_report}
+use Rattle.rtr_session.specs.HeldReports.{held_report}
 use Rattle.rtr_session.specs.declared.answering.Reply.{Reply}
 use Rattle.rtr_session.specs.declared.answering.Reply.TheVariants as replies
 

@@ -3,7 +3,7 @@
 ghost use Rattle.std.specs.Prelude.{◌≡◌, ◌==◌, option_map, ℕ, List};
 ghost use Rattle.rtr_units.specs.Codes.{code_of};
 ghost use Rattle.rtr_units.specs.Header.{type_field};
-ghost use Rattle.rtr_views.specs.Owed.{read_fault};
+ghost use Rattle.rtr_views.specs.OwedCodes.{read_fault};
 ghost use Rattle.rtr_session.specs.Replies.{Replies, owed_report};
 
 use crate::placing::place_report;

@@ -17,7 +17,7 @@ ghost use Rattle.rtr_session.specs.declared.session_view.SessionView.{SessionVie
 ghost use Rattle.rtr_session.specs.declared.session_view.SessionView.TheVariants.{Data, Error};
 ghost use Rattle.rtr_session.specs.Lengths.{SaysLength, IsBounded};
 ghost use Rattle.rtr_session.specs.SessionKinds.{session_unit};
-ghost use Rattle.rtr_session.specs.Placed.{held_unit, held_text, held_report};
+ghost use Rattle.rtr_session.specs.HeldReports.{held_unit, held_text, held_report};
 ghost use Rattle.rtr_session.specs.Replies.{owed_report};
 ghost use Rattle.rtr_session.specs.Reports.{IsReport, HasParts};
 ghost use Rattle.rtr_session.specs.declared.report_view.ReportView.{ReportView};

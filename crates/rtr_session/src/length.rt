@@ -102,6 +102,10 @@ fn end_size(version: u8, size: u32) -> Result<u32, ViewFault>
 }
 
 /// The size in the header of an ASPA unit with these flags.
+///
+/// `Aspa` and `AspaView` have the same tests over their own faults, inlined into what follows: a
+/// call whose answer they had to turn into theirs would cost instructions at each unit. All three
+/// are proved to answer as `header_fault`.
 #[inline(always)]
 fn aspa_size(flags: u8, size: u32) -> Result<u32, ViewFault>
     ensures { SaysSize size (header_fault 0 11 flags size) result }

@@ -4,7 +4,7 @@ ghost use Rattle.std.specs.Prelude.{◌≡◌, ◌+◌, ◌++◌, ◌≤◌, len
 ghost use Rattle.rtr_base.specs.Bytes.{be};
 ghost use Rattle.rtr_units.specs.Report.{report};
 ghost use Rattle.rtr_views.specs.Placing.{Places};
-ghost use Rattle.rtr_session.specs.Placed.{held_report};
+ghost use Rattle.rtr_session.specs.HeldReports.{held_report, most_held};
 ghost use Rattle.rtr_session.specs.SessionForms.{shown_form};
 
 use crate::report::Report;
@@ -14,6 +14,10 @@ use rtr_units::header::Header;
 use rtr_units::queries::{CacheReset, ResetQuery};
 use rtr_units::unit::Unit;
 use rtr_views::placing::place;
+
+/// The most bytes of a unit and a text that a report holds: of the 65535 of the longest report 16
+/// are its header and two lengths.
+const MOST_HELD: usize = 65519;
 
 /// Writes a unit of a fixed size to the front of the output and answers its length in bytes. If the
 /// output is shorter, it answers none and leaves the output unchanged. It allocates nothing.
@@ -64,8 +68,8 @@ pub fn place_report(
 ) -> Option<usize>
     ensures { Places result (held_report version code.0 pdu.now text.now) output.old output.new }
 {
-    let pdu = front(pdu, 65519);
-    let text = front(text, 65519 - pdu.len());
+    let pdu = front(pdu, MOST_HELD);
+    let text = front(text, MOST_HELD - pdu.len());
     place_parts(version, code, pdu, text, output)
 }
 
@@ -89,7 +93,7 @@ fn place_parts(
     text: &[u8],
     output: &mut [u8],
 ) -> Option<usize>
-    requires { length pdu.now + length text.now ≤ 65519 }
+    requires { length pdu.now + length text.now ≤ most_held }
     ensures { Places result (report version code.0 pdu.now text.now) output.old output.new }
 {
     let size = 16 + pdu.len() + text.len();
@@ -109,7 +113,7 @@ fn place_parts(
 /// Writes the length of these bytes, and then them.
 fn lay_counted(bytes: &[u8], output: &mut [u8])
     requires size { length output.old ≡ 4 + length bytes.now }
-    requires fits { length bytes.now ≤ 65519 }
+    requires fits { length bytes.now ≤ most_held }
     ensures { output.new ≡ be (length bytes.now) 4 ++ bytes.now }
 {
     output[..4].copy_from_slice(&(bytes.len() as u32).to_be_bytes());

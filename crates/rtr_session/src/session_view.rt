@@ -17,6 +17,7 @@ use rtr_units::numbers::u32_at;
 use rtr_units::queries::{CacheReset, CacheResponse, ResetQuery, SerialNotify, SerialQuery};
 use rtr_units::unit::Unit;
 use rtr_views::fault::ViewFault;
+use rtr_views::unit_of;
 use rtr_views::view::UnitView;
 
 /// A unit of any type that lies in a slice. Key info, providers and error reports are borrowed from
@@ -51,6 +52,8 @@ pub struct SessionFault {
 }
 
 impl<'a> SessionView<'a> {
+    // Data units are tried first, since most units are such. Each result is built again, which lets
+    // the common ones stay in registers.
     /// The view of the unit that the input begins with, and its length in bytes, which is that of
     /// `unit_length`. It allocates nothing.
     ///
@@ -158,15 +161,4 @@ fn whole(input: &[u8]) -> Result<&[u8], ViewFault>
         Ok(None) => Err(ViewFault::Short),
         Err(fault) => Err(fault),
     }
-}
-
-/// The unit of these bytes.
-#[inline(always)]
-fn unit_of<U: Unit>(bytes: &[u8]) -> U
-    requires { length bytes.now ≡ U.LENGTH }
-    ensures { U.bytes result ≡ bytes.now }
-{
-    let mut unit = U::zero();
-    unit.as_mut().copy_from_slice(bytes);
-    unit
 }

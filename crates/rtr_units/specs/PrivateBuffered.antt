@@ -1,21 +1,11 @@
--- Calls of readers and writers that count their failures: this library's own. Only contracts of
--- private functions cite these.
+-- Calls of writers that count their failures: this library's own. Only contracts of private
+-- functions cite these.
 use Rattle.std.specs.Prelude.{◌≡◌, ◌<◌, ℕ, Option, List, length, Result, IfOk, IfErr}
-use Rattle.std.specs.Prelude.{is_ok}
-use Rattle.std.specs.Io.{ReadsAtMost, WritesAtMost}
-use Rattle.std.specs.Io.KnownBytes.{ReadConsumes, WriteAppends}
+use Rattle.std.specs.Io.{WritesAtMost}
+use Rattle.std.specs.Io.KnownBytes.{WriteAppends}
 use Rattle.std.specs.declared.io.Error.{Error}
 use Rattle.rtr_units.specs.CountedFailures.{Tally, FailedWith, Stalled}
-use Rattle.rtr_units.specs.StopCauses.{count_after}
 use Rattle.rtr_units.specs.Stream.{count_after_write}
-
--- a read of a reader whose bytes are known by `left`
-abbrev pub ReadsCounted : {T : Type 0} → (T → Option (List ℕ)) → Result ℕ Error →
-    Tally T → Tally T → List ℕ → Type 0
-ReadsCounted left answer old new piece =
-    ReadsAtMost answer piece × ReadConsumes (left old.inner) (left new.inner) answer piece
-    × IfErr answer (FailedWith new)
-    × (new.failed ≡ count_after old.failed (is_ok answer))
 
 -- a write of a piece to a writer whose bytes are known by `held`
 abbrev pub WritesCounted : {T : Type 0} → (T → Option (List ℕ)) → Result ℕ Error →

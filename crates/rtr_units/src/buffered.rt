@@ -1,10 +1,12 @@
 //! Buffered readers and writers that count their failures, and for which short pieces are cheap.
 
-ghost use Rattle.std.specs.Prelude.{◌≡◌, OnOk, None, []};
-ghost use Rattle.std.specs.Io.Buffered.{reader_remaining, writer_buffer, writer_contents};
+ghost use Rattle.std.specs.Prelude.{◌≡◌, ◌<◌, OnOk, None, [], length};
+ghost use Rattle.std.specs.Io.Buffered.{reader_buffer, reader_remaining, writer_buffer};
+ghost use Rattle.std.specs.Io.Buffered.{writer_contents};
 ghost use Rattle.rtr_units.specs.CountedFailures.{reader_state, writer_state};
 ghost use Rattle.rtr_units.specs.CountedFailures.{FailedWith, Stalled, FlushesCounted};
-ghost use Rattle.rtr_units.specs.PrivateBuffered.{ReadsCounted, WritesCounted};
+ghost use Rattle.rtr_units.specs.CountedFailures.{GivesHeld, ReadsCounted};
+ghost use Rattle.rtr_units.specs.PrivateBuffered.{WritesCounted};
 
 use crate::copying::copy;
 use crate::source::{Counted, Sink, Source};
@@ -48,20 +50,36 @@ impl<R> BufferedSource<R> {
 }
 
 impl<R: Read> BufferedSource<R> {
-    /// Reads as `Counted` does, in a call of its own.
+    /// Reads where the buffer holds less than is asked for: all that it holds, or else as `Counted`
+    /// does. It is kept out of line, so that the code of the fast path stays small.
     #[cold]
     #[inline(never)]
     fn read_on(&mut self, piece: &mut [u8]) -> io::Result<usize>
-        ensures { ReadsCounted (reader_remaining R.remaining) result self.old self.new piece.new }
+        requires { length (reader_buffer self.old.inner) < length piece.old }
+        ensures counted { ReadsCounted (reader_remaining R.remaining) result
+            self.old self.new piece.new }
+        ensures held { 0 < length (reader_buffer self.old.inner) →
+            GivesHeld result self.old self.new piece.new }
     {
+        let held = self.counted.inner.buffer();
+        let size = held.len();
+        if size > 0 {
+            piece[..size].copy_from_slice(held);
+            self.counted.inner.consume(size);
+            return Ok(size);
+        }
         self.counted.read(piece)
     }
 
-    /// The same. The compiler zeroes a slot for each call's result on entry; in a function of its
-    /// own, which rebuilds the result, so that the fast path pays nothing.
+    /// The same, with the result built again. On entry the compiler zeroes a slot for the result of
+    /// each call that is out of line: here the slot is this function's, and the fast path has none.
     #[inline(always)]
     fn read_apart(&mut self, piece: &mut [u8]) -> io::Result<usize>
-        ensures { ReadsCounted (reader_remaining R.remaining) result self.old self.new piece.new }
+        requires { length (reader_buffer self.old.inner) < length piece.old }
+        ensures counted { ReadsCounted (reader_remaining R.remaining) result
+            self.old self.new piece.new }
+        ensures held { 0 < length (reader_buffer self.old.inner) →
+            GivesHeld result self.old self.new piece.new }
     {
         match self.read_on(piece) {
             Ok(n) => Ok(n),
@@ -76,7 +94,17 @@ impl<R: Read> Source for BufferedSource<R> {
     ghost fails = { FailedWith };
 
     // Deliberately without an inline hint: see docs/decisions/SPEED.md.
-    fn read(&mut self, piece: &mut [u8]) -> io::Result<usize> {
+    //
+    /// Reads some bytes into the front of the piece, as any `Source`. While the buffer holds bytes
+    /// these are given, and the reader behind it is not asked: so a piece that came whole never
+    /// waits for a peer. What that reader has given is what was taken here, and what the buffer
+    /// holds.
+    fn read(&mut self, piece: &mut [u8]) -> io::Result<usize>
+        ensures counted { ReadsCounted (reader_remaining R.remaining) result
+            self.old self.new piece.new }
+        ensures held { 0 < length (reader_buffer self.old.inner) →
+            GivesHeld result self.old self.new piece.new }
+    {
         let held = self.counted.inner.buffer();
         let taken = piece.len();
         if taken <= held.len() {
@@ -135,7 +163,8 @@ impl<W: Write + Drop> BufferedSink<W> {
         held <= writer.capacity() && size < writer.capacity() - held
     }
 
-    /// Writes as `Counted` does, in a call of its own.
+    /// Writes as `Counted` does. It is kept out of line, so that the code of the fast path stays
+    /// small.
     #[cold]
     #[inline(never)]
     fn write_on(&mut self, piece: &[u8]) -> io::Result<usize>
@@ -144,7 +173,7 @@ impl<W: Write + Drop> BufferedSink<W> {
         self.counted.write(piece)
     }
 
-    /// The same, apart as `read_apart` of `BufferedSource`.
+    /// The same, with the result built again, as in `read_apart` of `BufferedSource`.
     #[inline(always)]
     fn write_apart(&mut self, piece: &[u8]) -> io::Result<usize>
         ensures { WritesCounted (writer_contents W.contents) result self.old self.new piece.now }

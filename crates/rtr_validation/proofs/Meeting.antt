@@ -6,7 +6,7 @@ use Rattle.rtr_base.specs.Addresses.{Family, v4, v6, PrefixParts}
 use Rattle.rtr_units.specs.End.{EndMeaning}
 use Rattle.rtr_units.specs.PrefixUnits.{OriginParts}
 use Rattle.rtr_payload.specs.Payloads.{LengthsInOrder, Payload, origin}
-use Rattle.rtr_deltas.specs.Canonical.{HoldsData}
+use Rattle.rtr_slices.specs.Canonical.{HoldsData}
 use Rattle.rtr_validation.specs.Validity.{Covers}
 use Rattle.rtr_validation.specs.Covering.{IsFirstCovering}
 use Rattle.rtr_validation.specs.Tables.{AreAtLeast, AreTables, vrp_at}

@@ -20,7 +20,7 @@ use Rattle.rtr_payload.proofs.FieldsRead.{fields_read}
 use Rattle.rtr_wire.specs.Sequences.{AreUnits}
 use Rattle.rtr_data.specs.Data.{IsData, announcement}
 use Rattle.rtr_data.specs.Deltas.{unit_of}
-use Rattle.rtr_deltas.specs.Canonical.{HoldsData, data_units}
+use Rattle.rtr_slices.specs.Canonical.{HoldsData, data_units}
 use Rattle.rtr_validation.specs.Tables.{vrp_of}
 use Rattle.rtr_validation.proofs.Order.{class, class_few, class_of}
 

@@ -5,7 +5,7 @@ use Rattle.rtr_base.specs.Addresses.{Family, v4, v6, PrefixParts, v4_test}
 use Rattle.rtr_units.specs.End.{EndMeaning}
 use Rattle.rtr_units.specs.PrefixUnits.{OriginParts}
 use Rattle.rtr_payload.specs.Payloads.{Payload, origin}
-use Rattle.rtr_deltas.specs.Canonical.{HoldsData}
+use Rattle.rtr_slices.specs.Canonical.{HoldsData}
 use Rattle.rtr_validation.specs.Validity.{Covers, IsValidity, Matches}
 use Rattle.rtr_validation.specs.Tables.{AreAtLeast, AreTables, vrp_at}
 use Rattle.rtr_validation.specs.PrivateTable.{AreSorted, IsTable, TableSays, route}

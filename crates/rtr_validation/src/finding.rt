@@ -7,7 +7,7 @@ ghost use Rattle.rtr_base.specs.Addresses.{family_of, width};
 ghost use Rattle.rtr_units.specs.End.{EndMeaning};
 ghost use Rattle.rtr_units.specs.PrefixUnits.{prefix_size};
 ghost use Rattle.rtr_payload.specs.Payloads.{Payload};
-ghost use Rattle.rtr_deltas.specs.Canonical.{HoldsData};
+ghost use Rattle.rtr_slices.specs.Canonical.{HoldsData};
 ghost use Rattle.rtr_validation.specs.Covering.{IsFirstCovering, IsMismatch, next_place, vrp};
 ghost use Rattle.rtr_validation.specs.PrivateCovering.{IsOrderedTable, UnitFrom};
 ghost use Rattle.rtr_validation.specs.PrivateTable.{route};

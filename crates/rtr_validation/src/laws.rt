@@ -7,11 +7,11 @@ ghost use Rattle.rtr_units.specs.PrefixUnits.{OriginParts};
 ghost use Rattle.rtr_payload.specs.Payloads.{Payload};
 ghost use Rattle.rtr_data.specs.Changes.{after_all};
 ghost use Rattle.rtr_data.specs.Data.{Change};
-ghost use Rattle.rtr_deltas.specs.Apply.{AppliesChanges};
-ghost use Rattle.rtr_deltas.specs.Canonical.{HoldsData};
-ghost use Rattle.rtr_deltas.specs.CanonicalChanges.{HoldsChanges};
-ghost use Rattle.rtr_deltas.specs.InOrder.{AppliesInOrder};
-ghost use Rattle.rtr_deltas.specs.Order.{Sends};
+ghost use Rattle.rtr_slices.specs.Apply.{AppliesChanges};
+ghost use Rattle.rtr_slices.specs.Canonical.{HoldsData};
+ghost use Rattle.rtr_slices.specs.CanonicalChanges.{HoldsChanges};
+ghost use Rattle.rtr_slices.specs.InOrder.{AppliesInOrder};
+ghost use Rattle.rtr_slices.specs.Order.{Sends};
 ghost use Rattle.rtr_validation.specs.Covering.{IsMismatch};
 ghost use Rattle.rtr_validation.specs.Validity.{Covers, IsValidity, Matches};
 ghost use Rattle.rtr_validation.specs.declared.mismatch.Mismatch.{Mismatch};
@@ -51,6 +51,6 @@ pub fn validity_of_changes()
         IsValidity e p asn by_slice) →
         IsValidity d' p asn by_set → by_slice ≡ by_set }
 {
-    rtr_deltas::laws::changes_in_slices();
-    rtr_deltas::in_order_laws::changes_as_they_came();
+    rtr_slices::laws::changes_in_slices();
+    rtr_slices::in_order_laws::changes_as_they_came();
 }

@@ -1,7 +1,7 @@
 //! Route origin validation (RFC 6811): whether a route is valid, by the origins that a cache sent.
 //!
 //! `validate` and `covering` work on data in slices, in canonical form, as `check_data` of
-//! `rtr_deltas` accepts them and `apply_into` writes them. They ask for no memory beyond `Tables`,
+//! `rtr_slices` accepts them and `apply_into` writes them. They ask for no memory beyond `Tables`,
 //! which are made of the data in one pass. `ValidateRoutes` has the same for a `Data`.
 #![tactic(auto)]
 

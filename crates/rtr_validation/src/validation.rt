@@ -6,7 +6,7 @@ ghost use Rattle.rtr_base.specs.Addresses.{v4, v6, width, family_of};
 ghost use Rattle.rtr_units.specs.End.{EndMeaning};
 ghost use Rattle.rtr_units.specs.PrefixUnits.{prefix_size};
 ghost use Rattle.rtr_payload.specs.Payloads.{Payload};
-ghost use Rattle.rtr_deltas.specs.Canonical.{HoldsData};
+ghost use Rattle.rtr_slices.specs.Canonical.{HoldsData};
 ghost use Rattle.rtr_validation.specs.Validity.{IsValidity};
 ghost use Rattle.rtr_validation.specs.Tables.{AreTables};
 

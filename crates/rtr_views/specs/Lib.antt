@@ -1,6 +1,6 @@
 pub mod Faults
 pub mod Origins
-pub mod Owed
+pub mod OwedCodes
 pub mod Placing
 pub mod PrivateFirst
 pub mod Views

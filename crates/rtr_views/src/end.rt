@@ -15,6 +15,9 @@ use rtr_units::numbers::u32_at;
 use rtr_units::unit::Unit;
 
 /// The end of data at the front of the input.
+///
+/// Each version has its own copy of what follows, since the units have different types, and `match`
+/// stands where `?` costs instructions.
 pub fn first_end(input: &[u8]) -> Result<EndOfData, ViewFault>
     requires header { 8 ≤ length input.now }
     requires kind { type_field input.now ≡ 7 }

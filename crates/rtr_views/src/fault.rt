@@ -5,7 +5,7 @@ ghost use Rattle.std.specs.Option.{option_map};
 ghost use Rattle.rtr_units.specs.Codes.{code_of};
 ghost use Rattle.rtr_units.specs.Header.{type_field};
 ghost use Rattle.rtr_units.specs.HeaderBytes.{header_bytes};
-ghost use Rattle.rtr_views.specs.Owed.{read_fault, owed};
+ghost use Rattle.rtr_views.specs.OwedCodes.{read_fault, owed};
 
 use rtr_base::error_code::ErrorCode;
 use rtr_payload::pdu::prefix_rule::PrefixRule;

@@ -8,6 +8,7 @@ ghost use Rattle.rtr_views.specs.PrivateFirst.{IsFirstUnit};
 
 use crate::fault::ViewFault;
 use rtr_units::numbers::u16_at;
+use rtr_units::unit::Unit;
 
 /// The size in the header at the front of the input, or `TooLong` if it is above 65535.
 #[inline(always)]
@@ -38,4 +39,15 @@ pub fn first_unit(input: &[u8], size: usize) -> Result<&[u8], ViewFault>
     }
     let (unit, _) = input.split_at(size);
     Ok(unit)
+}
+
+/// The unit of a fixed size that these bytes are.
+#[inline(always)]
+pub fn unit_of<U: Unit>(bytes: &[u8]) -> U
+    requires { length bytes.now ≡ U.LENGTH }
+    ensures { U.bytes result ≡ bytes.now }
+{
+    let mut unit = U::zero();
+    unit.as_mut().copy_from_slice(bytes);
+    unit
 }

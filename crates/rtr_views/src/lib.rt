@@ -11,3 +11,5 @@ pub mod origin;
 pub mod placing;
 pub mod router_key;
 pub mod view;
+
+pub use front::unit_of;

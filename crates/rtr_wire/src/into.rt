@@ -19,7 +19,8 @@ use rtr_views::placing::place;
 use rtr_views::view::UnitView;
 
 /// How far a call came: whole units taken from the front of the input, and what is written of them
-/// at the front of the output.
+/// at the front of the output. Of a unit that is refused no byte counts, whereas `normalise` has
+/// taken those that show its fault from its reader.
 #[derive(Clone, Copy, Debug, PartialEq, Eq)]
 pub struct Progress {
     /// Payload units that were taken.
@@ -169,8 +170,8 @@ fn take_step<S: Writing>(writing: S, rest: &[u8], output: &mut [u8]) -> Result<S
     }
 }
 
-/// The step for units of one type, or of any other: the type is named so that each has code of its
-/// own.
+/// The step for units of one type, or of any other. The code doesn't read `TYPE`, which is there so
+/// that each type has a copy of it, as in `normalise_slice`.
 #[inline(always)]
 fn view_step<const TYPE: u8, S: Writing>(
     writing: S,

@@ -74,8 +74,12 @@ fn step<'a, W: Sink>(rest: &'a [u8], writer: &mut W) -> Result<(bool, &'a [u8]),
     }
 }
 
-/// The step for units of one type, or of any other: the type is named so that each has code of its
-/// own. It isn't always inlined, so that the compiler simplifies each before it puts them together.
+/// The step for units of one type, or of any other.
+///
+/// The code doesn't read `TYPE`. It is there so that the compiler makes a copy of the step for each
+/// type, and keeps in it only what that type needs: without it all go through one step, in twice
+/// the instructions. `#[inline]`, and not always, has it simplify each copy before it puts them
+/// together.
 #[inline]
 fn view_step<'a, const TYPE: u8, W: Sink>(
     rest: &'a [u8],

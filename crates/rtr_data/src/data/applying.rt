@@ -4,9 +4,10 @@ ghost use Rattle.std.specs.Prelude.{◌≡◌, Err, IfErr, IfOk};
 ghost use Rattle.rtr_base.specs.declared.action.Action.TheVariants.{Announce};
 ghost use Rattle.rtr_units.specs.StopCauses.{HoldsReadError, by_cause, reader_count};
 ghost use Rattle.rtr_payload.specs.Meanings.{payload_of};
-ghost use Rattle.rtr_data.specs.Applying.{Applies, HoldsApplyError, ReadsChange};
+ghost use Rattle.rtr_data.specs.Applying.{Applies, HoldsApplyError};
 ghost use Rattle.rtr_data.specs.Contents.{IsFit, Leaves};
 ghost use Rattle.rtr_data.specs.Data.{changed};
+ghost use Rattle.rtr_data.specs.PrivateApplying.{ReadsChange};
 
 use super::Data;
 use crate::apply_error::{ApplyCause, ApplyError};

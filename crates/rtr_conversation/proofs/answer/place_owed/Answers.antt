@@ -1,6 +1,6 @@
 use Rattle.std.proofs.Common.{List, ℕ, sym, subst}
 use Rattle.rtr_views.specs.Placing.{Places}
-use Rattle.rtr_session.specs.Placed.{held_report}
+use Rattle.rtr_session.specs.HeldReports.{held_report}
 use Rattle.rtr_conversation.specs.Answered.{PlacesServed}
 use Rattle.rtr_conversation.proofs.answer.place_owed.Goals as goal
 

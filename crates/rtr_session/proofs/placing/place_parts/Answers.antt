@@ -1,6 +1,6 @@
 use Rattle.std.proofs.Common.{◌∙◌, refl, length, arith, length-append, ◌++◌}
 use Rattle.rtr_base.specs.Bytes.{be}
-use Rattle.rtr_session.proofs.Placed.{laid}
+use Rattle.rtr_session.proofs.LaidReports.{laid}
 use Rattle.rtr_session.proofs.placing.place_parts.Goals as goal
 
 pub returns-then-output-size : goal.returns-then-output-size

@@ -1,7 +1,7 @@
 use Rattle.std.proofs.Common.{◌≡◌, ◌-◌, ◌∙◌, length, take, ap, subst}
 use Rattle.rtr_units.specs.Report.{report}
 use Rattle.rtr_views.specs.Placing.{Places}
-use Rattle.rtr_session.specs.Placed.{held_unit, held_text}
+use Rattle.rtr_session.specs.HeldReports.{held_unit, held_text}
 use Rattle.rtr_session.proofs.placing.place_report.Goals as goal
 
 pub returns : goal.returns

@@ -7,7 +7,7 @@ use Rattle.rtr_payload.specs.UnitFields.{meaning}
 use Rattle.rtr_payload.specs.UnitKinds.{payload_unit}
 use Rattle.rtr_payload.proofs.Reading.{variable_after}
 use Rattle.rtr_wire.specs.Sequences.{in_version}
-use Rattle.rtr_wire.proofs.Kept.{not_written, written, partly_written}
+use Rattle.rtr_wire.proofs.KeptUnits.{not_written, written, partly_written}
 use Rattle.rtr_wire.proofs.Units.{not_read_after}
 use Rattle.rtr_wire.proofs.Written.{none_written, one_written}
 use Rattle.rtr_wire.proofs.run.pass_body.Goals as goal

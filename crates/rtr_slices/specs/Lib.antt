@@ -1,0 +1,14 @@
+pub mod Apply
+pub mod Canonical
+pub mod CanonicalChanges
+pub mod Delta
+pub mod Flaws
+pub mod Items
+pub mod PrivateChanges
+pub mod Net
+pub mod Order
+pub mod PrivateOrder
+pub mod PrivateOffsets
+pub mod InOrder
+pub mod PrivateInOrder
+pub mod PrivateMade
