@@ -19,7 +19,7 @@ use Rattle.rtr_wire.specs.Sequences.{Output}
 use Rattle.rtr_clean.specs.CleanForms.{IsPassed, KeepsRule, clean_form, ends_answer}
 use Rattle.rtr_clean.specs.Cleaning.{StopsAt}
 use Rattle.rtr_clean.specs.PrivateClean.{HasNoForm, PassesUnit}
-use Rattle.rtr_clean.specs.declared.clean.Passed.TheVariants as passes
+use Rattle.rtr_clean.specs.declared.clean.PassedUnit.TheVariants as passes
 use Rattle.rtr_clean.specs.declared.flushing.Flushed.{Flushed}
 
 -- ---- no unit was passed on

@@ -13,14 +13,14 @@ use Rattle.rtr_session.specs.declared.any_unit.AnyUnit.TheVariants as units
 use Rattle.rtr_wire.specs.Sequences.{Output, everything, for_version}
 use Rattle.rtr_clean.specs.CleanForms.{IsPassed, clean_form, ends_answer}
 use Rattle.rtr_clean.specs.Cleaning.{StopsAt}
-use Rattle.rtr_clean.specs.declared.clean.Passed.{Passed}
-use Rattle.rtr_clean.specs.declared.clean.Passed.TheVariants as passes
+use Rattle.rtr_clean.specs.declared.clean.PassedUnit.{PassedUnit}
+use Rattle.rtr_clean.specs.declared.clean.PassedUnit.TheVariants as passes
 use Rattle.rtr_clean.specs.declared.flushing.Flushed.{Flushed}
-use Rattle.rtr_clean.specs.declared.wanted.Wanted.{Wanted}
-use Rattle.rtr_clean.specs.declared.wanted.Wanted.TheVariants as wants
+use Rattle.rtr_clean.specs.declared.wanted.WantedForm.{WantedForm}
+use Rattle.rtr_clean.specs.declared.wanted.WantedForm.TheVariants as wants
 
 -- what is written, as the program holds what it is asked for
-abbrev pub form_held : Wanted → Output
+abbrev pub form_held : WantedForm → Output
 form_held wants.Everything = everything
 form_held (wants.Version v) = for_version v
 
@@ -46,20 +46,20 @@ IsPassedOn what is_last taken written = (unit : AnyFields) × (taken ≡ any_lis
     × IsPassed unit × (written ≡ clean_form what unit) × (ends_answer unit ≡ is_last)
 
 -- whether there was a flush
-abbrev pub has_flushed : Passed → Bool
+abbrev pub has_flushed : PassedUnit → Bool
 has_flushed passes.Part = false
 has_flushed (passes.Answer flushed) = true
 
 -- by the answer: so it was with one unit, which ended an answer exactly where there was a flush; or
 -- there was none; or the run ends here
 abbrev pub Passes :
-    Output → Result (Option Passed) Cause → List ℕ → Option (List ℕ) → List ℕ → Type 0
+    Output → Result (Option PassedUnit) Cause → List ℕ → Option (List ℕ) → List ℕ → Type 0
 Passes what (Ok (Some passed)) taken left written =
     IsPassedOn what (has_flushed passed) taken written
 Passes what (Ok None) taken left written = (taken ≡ []) × IsAtEnd left × (written ≡ [])
 Passes what (Err cause) taken left written = StopsAt what cause taken left written
 
 abbrev pub PassesUnit :
-    Output → Result (Option Passed) Fault → (old left held holds : Option (List ℕ)) → Type 0
+    Output → Result (Option PassedUnit) Fault → (old left held holds : Option (List ℕ)) → Type 0
 PassesUnit what r old left held holds = (taken written : List ℕ) × Consumes old left taken
     × Appends held holds written × Passes what (by_cause r) taken left written

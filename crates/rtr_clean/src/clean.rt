@@ -18,12 +18,13 @@ ghost use Rattle.rtr_clean.specs.PrivateClean.{HasNoForm, PassesUnit, bytes_to_w
 ghost use Rattle.rtr_clean.specs.PrivateClean.{form_held};
 
 use crate::flushing::{Flushed, flush};
-use crate::wanted::Wanted;
+use crate::wanted::WantedForm;
 use rtr_payload::payload;
-use rtr_payload::pdu::Payload;
+use rtr_payload::pdu::{Aspa, Payload, PayloadUnit, RouterKey};
 use rtr_session::AnyUnit;
 use rtr_units::end::EndOfData;
 use rtr_units::fault::Fault;
+use rtr_units::prefixes::Ipv4Prefix;
 use rtr_units::queries::{CacheReset, ResetQuery};
 use rtr_units::source::{Sink, Source};
 use rtr_units::unit::Unit;
@@ -33,7 +34,9 @@ use std::alloc::Global;
 /// Memory is asked for one unit at a time.
 ///
 /// The output is flushed after each unit that ends an answer: all do but a cache response and
-/// payload units, after which an end of data comes. So what a peer waits for never waits here.
+/// payload units, after which an end of data comes. So what a peer waits for never waits here. Of
+/// flushes the clause says only that they add no byte, and when one of them failed: that they come
+/// is tested.
 ///
 /// The sizes of units that were passed on are added to the offset, which stays at 2^64 - 1.
 ///
@@ -41,7 +44,7 @@ use std::alloc::Global;
 /// the unit, `Writer`, and `TooMany` after 2^64 - 1 units.
 pub fn clean<R: Source, W: Sink>(
     alloc: Global,
-    wanted: Wanted,
+    wanted: WantedForm,
     offset: &mut u64,
     input: &mut R,
     output: &mut W,
@@ -61,7 +64,7 @@ pub fn clean<R: Source, W: Sink>(
 
 /// A unit that was passed on.
 #[derive(Drop)]
-pub enum Passed {
+pub enum PassedUnit {
     /// One after which more of the same answer comes.
     Part,
     /// One that ends an answer, after which the output was flushed.
@@ -72,11 +75,11 @@ pub enum Passed {
 /// where the input has ended.
 fn pass<R: Source, W: Sink>(
     alloc: Global,
-    wanted: Wanted,
+    wanted: WantedForm,
     offset: &mut u64,
     input: &mut R,
     output: &mut W,
-) -> Result<Option<Passed>, Fault>
+) -> Result<Option<PassedUnit>, Fault>
     ensures bytes { PassesUnit (form_held wanted) result
         (R.state input.old).left (R.state input.new).left
         (W.state output.old).held (W.state output.new).held }
@@ -102,10 +105,10 @@ fn pass<R: Source, W: Sink>(
     }
     *offset = offset.saturating_add(u64::from(size));
     if !is_last {
-        return Ok(Some(Passed::Part));
+        return Ok(Some(PassedUnit::Part));
     }
     match flush(output) {
-        Ok(flushed) => Ok(Some(Passed::Answer(flushed))),
+        Ok(flushed) => Ok(Some(PassedUnit::Answer(flushed))),
         Err(fault) => Err(fault),
     }
 }
@@ -136,7 +139,7 @@ fn ends_answer(unit: &AnyUnit) -> bool
 }
 
 /// The unit that is written for this one, or none.
-fn form(alloc: Global, wanted: Wanted, unit: AnyUnit) -> Result<Option<AnyUnit>, Fault>
+fn form(alloc: Global, wanted: WantedForm, unit: AnyUnit) -> Result<Option<AnyUnit>, Fault>
     requires { HasAnyFields (any_bytes unit) (any_fields unit) }
     ensures written { IfOk result (λ o. KeepsRule (any_fields unit) ×
         (bytes_to_write o ≡ clean_form (form_held wanted) (any_fields unit))) }
@@ -159,13 +162,13 @@ fn form(alloc: Global, wanted: Wanted, unit: AnyUnit) -> Result<Option<AnyUnit>,
 }
 
 /// The end of data that is written for this one.
-fn end_form(wanted: Wanted, end: EndOfData) -> EndOfData
+fn end_form(wanted: WantedForm, end: EndOfData) -> EndOfData
     requires { IsEnd (end_bytes end) (end_meaning end) }
     ensures { end_bytes result ≡ end_list ((form_held wanted).end (end_meaning end)) }
 {
     match wanted {
-        Wanted::Everything => end,
-        Wanted::Version(version) => {
+        WantedForm::Everything => end,
+        WantedForm::Version(version) => {
             EndOfData::new(version, end.state(), end.timing().unwrap_or_default())
         }
     }
@@ -173,7 +176,7 @@ fn end_form(wanted: Wanted, end: EndOfData) -> EndOfData
 
 /// The payload unit that is written for this one, or none where the wanted version doesn't have its
 /// payload.
-fn payload_form(alloc: Global, wanted: Wanted, unit: Payload) -> Result<Option<AnyUnit>, Fault>
+fn payload_form(alloc: Global, wanted: WantedForm, unit: Payload) -> Result<Option<AnyUnit>, Fault>
     ensures written { IfOk result (λ o. LengthsAgree (unit_fields unit) × (bytes_to_write o ≡
         forms (written_units (form_held wanted) (meaning (unit_fields unit) ∷ [])))) }
     ensures fault { IfErr result (λ e. HasNoPayload unit (cause_of e)) }
@@ -184,8 +187,8 @@ fn payload_form(alloc: Global, wanted: Wanted, unit: Payload) -> Result<Option<A
         Err(fault) => return Err(fault),
     };
     let version = match wanted {
-        Wanted::Everything => came_in,
-        Wanted::Version(version) => {
+        WantedForm::Everything => came_in,
+        WantedForm::Version(version) => {
             if version < smallest_version(&payload) {
                 return Ok(None);
             }
@@ -196,13 +199,15 @@ fn payload_form(alloc: Global, wanted: Wanted, unit: Payload) -> Result<Option<A
     Ok(Some(AnyUnit::Payload(unit)))
 }
 
-/// The smallest version of the protocol that has the payload.
+/// The smallest version of the protocol that has the payload, by the constants of its kind of unit.
+/// `rtr_payload` asks this of a payload that is lent, and `rtr_wire` of a view: each has a type of
+/// its own, which one `match` has to take apart.
 fn smallest_version(payload: &payload::Payload) -> u8
     ensures { result ≡ smallest (payload_of payload.now) }
 {
     match payload {
-        payload::Payload::Origin(_) => 0,
-        payload::Payload::RouterKey(_) => 1,
-        payload::Payload::Aspa(_) => 2,
+        payload::Payload::Origin(_) => Ipv4Prefix::SMALLEST_VERSION,
+        payload::Payload::RouterKey(_) => RouterKey::SMALLEST_VERSION,
+        payload::Payload::Aspa(_) => Aspa::SMALLEST_VERSION,
     }
 }

@@ -2,13 +2,13 @@
 
 ghost use Rattle.std.specs.Prelude.{◌≡◌, drop, true, IsNone, IfSome, None, Err};
 ghost use Rattle.rtr_units.specs.StopCauses.{cause_of};
-ghost use Rattle.rtr_program.specs.Questions.{TellsAbout, asked_of, manual_text};
+ghost use Rattle.rtr_program.specs.Questions.{WritesText, asked_of, manual_text};
 ghost use Rattle.rtr_clean.specs.CleanStatus.{CleansAndFlushes, clean_status};
 ghost use Rattle.rtr_clean.specs.CleanWords.{form_asked};
 ghost use Rattle.rtr_clean.specs.PrivateClean.{form_held};
 
 use crate::clean::clean;
-use crate::wanted::{Wanted, form_wanted};
+use crate::wanted::{WantedForm, form_wanted};
 use rtr_program::{Manual, about, report, usage, words_after_name};
 use rtr_units::fault::Fault;
 use rtr_units::source::{Sink, Source};
@@ -54,7 +54,7 @@ pub fn program<R: Source, W: Sink, F: Write>(
     // Where they ask about the program, that is written, and nothing is read.
     ensures asked { IfSome words (λ all. form_asked (drop 1 all.items) ≡ None →
         IfSome (asked_of (drop 1 all.items)) (λ question. (input.new ≡ input.old)
-        × TellsAbout (manual_text manual.now question) 3 result
+        × WritesText (manual_text manual.now question) 0 3 result
         (W.state output.old) (W.state output.new))) }
     // If it succeeds no line is printed.
     ensures quiet { result ≡ 0 → faults.new ≡ faults.old }
@@ -79,7 +79,7 @@ pub fn program<R: Source, W: Sink, F: Write>(
 fn run<R: Source, W: Sink, F: Write>(
     alloc: Global,
     name: &str,
-    wanted: Wanted,
+    wanted: WantedForm,
     input: &mut R,
     output: &mut W,
     faults: &mut F,

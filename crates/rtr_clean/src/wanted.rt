@@ -6,7 +6,7 @@ ghost use Rattle.rtr_clean.specs.PrivateClean.{form_held};
 
 /// What a run is asked to write.
 #[derive(Clone, Copy)]
-pub enum Wanted {
+pub enum WantedForm {
     /// Each payload unit and each end of data in its version.
     Everything,
     /// Those that this version of the protocol has, in this version.
@@ -15,24 +15,24 @@ pub enum Wanted {
 
 /// What the words after the program's name ask for: everything without words, and one version with
 /// `--version` and its number.
-pub fn form_wanted(words: &[String]) -> Option<Wanted>
+pub fn form_wanted(words: &[String]) -> Option<WantedForm>
     ensures { option_map form_held result ≡ form_asked words.now }
 {
     match words {
-        [] => Some(Wanted::Everything),
+        [] => Some(WantedForm::Everything),
         [flag, number] if flag.as_str() == "--version" => version_numbered(number.as_str()),
         _ => None,
     }
 }
 
 /// The version of the protocol with this number.
-fn version_numbered(number: &str) -> Option<Wanted>
+fn version_numbered(number: &str) -> Option<WantedForm>
     ensures { option_map form_held result ≡ version_asked number.now }
 {
     match number {
-        "0" => Some(Wanted::Version(0)),
-        "1" => Some(Wanted::Version(1)),
-        "2" => Some(Wanted::Version(2)),
+        "0" => Some(WantedForm::Version(0)),
+        "1" => Some(WantedForm::Version(1)),
+        "2" => Some(WantedForm::Version(2)),
         _ => None,
     }
 }

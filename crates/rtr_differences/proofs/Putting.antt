@@ -55,13 +55,14 @@ text_piece v a p shown before line f flags is made empty fields is_flags =
     ∙ ap (λ (g : Fields). sign_of a ++ payload_said g ++ codes "\n")
     (fields ∙ ap (λ (n : ℕ). written_fields 0 n p) is_flags))
 
-pub json_piece : (v : ℕ) (a : Action) (p : Payload) (shown line : List ℕ) (f : Fields)
-    (flags : ℕ) → shown ≡ line → line ≡ payload_json f ++ codes "\n" →
+pub json_piece : (v : ℕ) (a : Action) (p : Payload) (shown before line : List ℕ) (f : Fields)
+    (flags : ℕ) → shown ≡ line → line ≡ before ++ (payload_json f ++ codes "\n") → before ≡ [] →
     f ≡ written_fields 0 flags p → flags ≡ flags_of a →
     change_piece Json v (record { action = a; payload = p }) ≡ shown
 unfolding change_piece
-json_piece v a p shown line f flags is made fields is_flags =
-    sym (is ∙ made ∙ ap (λ (g : Fields). payload_json g ++ codes "\n")
+json_piece v a p shown before line f flags is made empty fields is_flags =
+    sym (is ∙ made ∙ ap (λ (l : List ℕ). l ++ (payload_json f ++ codes "\n")) empty
+    ∙ ap (λ (g : Fields). payload_json g ++ codes "\n")
     (fields ∙ ap (λ (n : ℕ). written_fields 0 n p) is_flags))
 
 pub unit_piece : (v : ℕ) (a : Action) (p q : Payload) (u : PayloadUnit) (flags : ℕ) →

@@ -1,6 +1,6 @@
 //! What is printed of a change.
 
-ghost use Rattle.std.specs.Prelude.{◌≡◌, ◌++◌, OnOk, IfOk, codes};
+ghost use Rattle.std.specs.Prelude.{◌≡◌, ◌++◌, IfOk, OnOk, codes};
 ghost use Rattle.rtr_base.specs.Actions.{flags_of};
 ghost use Rattle.rtr_payload.specs.Meanings.{payload_of};
 ghost use Rattle.rtr_payload.specs.UnitBytes.{unit_fields};
@@ -22,7 +22,6 @@ use rtr_units::fault::Fault;
 use rtr_units::piece::put;
 use rtr_units::source::Sink;
 use std::alloc::{AllocError, Global};
-use std::mem;
 
 /// The version of the units whose words are printed. The words don't name it.
 const WORDS_VERSION: u8 = 0;
@@ -35,8 +34,6 @@ pub struct Printer {
     /// The version of the units that are written.
     version: u8,
     line: Line,
-    /// The text of an address.
-    scratch: String,
 }
 
 impl Printer {
@@ -50,7 +47,6 @@ impl Printer {
             form,
             version,
             line: Line::new(alloc),
-            scratch: String::new(alloc),
         }
     }
 
@@ -92,7 +88,7 @@ impl Printer {
     {
         let unit = pdu::Payload::from_payload(WORDS_VERSION, action.into_flags(), payload);
         self.line.clear();
-        match text_line(self.alloc, &mut self.line, action, &unit) {
+        match text_line(&mut self.line, action, &unit) {
             Ok(()) => put(output, self.line.as_bytes()),
             Err(_) => Err(Fault::Memory),
         }
@@ -111,12 +107,9 @@ impl Printer {
         ensures version { self.new.version ≡ self.old.version }
     {
         let unit = pdu::Payload::from_payload(WORDS_VERSION, action.into_flags(), payload);
-        let line = mem::replace(&mut self.line, Line::new(self.alloc));
-        match json_line(self.alloc, line, &mut self.scratch, &unit) {
-            Ok(line) => {
-                self.line = line;
-                put(output, self.line.as_bytes())
-            }
+        self.line.clear();
+        match json_line(&mut self.line, &unit) {
+            Ok(()) => put(output, self.line.as_bytes()),
             Err(_) => Err(Fault::Memory),
         }
     }
@@ -169,30 +162,20 @@ fn sign(action: Action) -> &'static str
 }
 
 /// Adds the line of the change that the unit makes.
-fn text_line(
-    alloc: Global,
-    line: &mut Line,
-    action: Action,
-    unit: &pdu::Payload,
-) -> Result<(), AllocError>
+fn text_line(line: &mut Line, action: Action, unit: &pdu::Payload) -> Result<(), AllocError>
     ensures { OnOk result (line.new ≡ line.old ++ (sign_of action
         ++ payload_said (unit_fields unit.now) ++ codes "\n")) }
 {
     line.text(sign(action))?;
-    describe_payload(alloc, line, unit)?;
+    describe_payload(line, unit)?;
     line.text("\n")
 }
 
-/// The line of JSON of the change that the unit makes.
-fn json_line(
-    alloc: Global,
-    line: Line,
-    scratch: &mut String,
-    unit: &pdu::Payload,
-) -> Result<Line, AllocError>
-    ensures { IfOk result (λ made. made ≡ payload_json (unit_fields unit.now) ++ codes "\n") }
+/// Adds the line of JSON of the change that the unit makes.
+fn json_line(line: &mut Line, unit: &pdu::Payload) -> Result<(), AllocError>
+    ensures { OnOk result (line.new ≡ line.old ++ (payload_json (unit_fields unit.now)
+        ++ codes "\n")) }
 {
-    let mut line = describe_payload_json(alloc, line, scratch, unit)?;
-    line.text("\n")?;
-    Ok(line)
+    describe_payload_json(line, unit)?;
+    line.text("\n")
 }

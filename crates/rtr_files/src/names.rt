@@ -6,8 +6,8 @@ ghost use Rattle.rtr_files.specs.FileNames.{NamesFile, names_file};
 /// What an option begins with, and alone the name of standard input.
 const HYPHEN: u8 = b'-';
 
-/// The words before the last one, and that one, where it can name a file: where it doesn't begin
-/// with a hyphen, as options do, or is a hyphen alone.
+/// The last word and the words before it, if the last word can name a file: if it doesn't begin
+/// with a hyphen, as options do, or is a hyphen alone. The words before it come first.
 pub fn file_after(words: &[String]) -> Option<(&[String], &str)>
     ensures { NamesFile words.now result }
 {

@@ -3,6 +3,7 @@ use Rattle.std.proofs.Common.{◌≡◌, ℕ, ◌<◌, ◌^◌, List, [], ◌∷
 use Rattle.std.proofs.Common.{Bool, true, false, cond, Option, Some, None, subst}
 use Rattle.std.specs.List.{find}
 use Rattle.std.specs.Str.{bytes_eq}
+use Rattle.rtr_base.specs.Actions.{act}
 use Rattle.rtr_base.specs.Addresses.{cleared, width}
 use Rattle.rtr_units.specs.PrefixUnits.{OriginParts}
 use Rattle.rtr_payload.specs.FaultSteps.{rule_of}
@@ -13,9 +14,10 @@ use Rattle.rtr_payload.specs.declared.pdu.prefix_rule.PrefixRule.{PrefixRule}
 use Rattle.rtr_session.specs.AnyFields.{AnyFields, AnyFit, serial_notify, serial_query, reset_query}
 use Rattle.rtr_session.specs.AnyFields.{cache_response, payload, end_of_data, cache_reset}
 use Rattle.rtr_session.specs.AnyFields.{error_report}
+use Rattle.rtr_texts.specs.TextLines.{payload_flags}
 use Rattle.rtr_findings.specs.KeptNames.{AllFit, IsAnnouncedAs, has_kept}
 use Rattle.rtr_findings.specs.PayloadNames.{IsNamed, option_name, payload_name, unit_name}
-use Rattle.rtr_findings.specs.SequenceSoFar.{action_of, announced, is_about, is_announce, is_same}
+use Rattle.rtr_findings.specs.SequenceSoFar.{announced, is_announce, is_same}
 use Rattle.rtr_findings.specs.SequenceSoFar.{named_by, origin_under, payload_named, says_announced}
 use Rattle.rtr_findings.specs.SequenceSoFar.{sequence}
 use Rattle.rtr_findings.proofs.NamesApart.{names_alike}
@@ -86,11 +88,11 @@ payload_kept : (fields : Fields) (before : List AnyFields) (p : Payload) → Fit
     has_kept (payload fields ∷ before) (payload_name p)
     ≡ announced (sequence (payload fields ∷ before)) p
 payload_kept fields before p fits h ih =
-    ap (λ b. cond b (is_announce (action_of fields)) (has_kept before (payload_name p)))
+    ap (λ b. cond b (is_announce (act (payload_flags fields))) (has_kept before (payload_name p)))
     (named_alike (payload_named fields) p (λ q. fields_named fields q fits) h)
-    ∙ ap (cond (is_same (payload_named fields) p) (is_announce (action_of fields))) ih
+    ∙ ap (cond (is_same (payload_named fields) p) (is_announce (act (payload_flags fields)))) ih
     ∙ says_either (is_same (payload_named fields) p) (Some (payload fields))
-    (find (is_about p) (sequence before))
+    (find (λ unit. is_same (named_by unit) p) (sequence before))
 
 pub names_kept : (history : List AnyFields) (p : Payload) → AllFit history → IsNamed p →
     has_kept history (payload_name p) ≡ announced (sequence history) p

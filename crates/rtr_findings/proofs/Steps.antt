@@ -2,20 +2,21 @@
 use Rattle.std.proofs.Common.{◌≡◌, List, [], ◌∷◌, ◌++◌, Option, Some, None, refl, ap, ◌∙◌}
 use Rattle.std.proofs.Common.{append_assoc, append-nil}
 use Rattle.std.specs.Prelude.{Bool, ◌&&◌}
+use Rattle.std.specs.Option.{option_or}
+use Rattle.rtr_base.specs.Actions.{act}
 use Rattle.rtr_payload.specs.Payloads.{Payload}
 use Rattle.rtr_session.specs.AnyFields.{AnyFields, serial_notify, serial_query, reset_query}
 use Rattle.rtr_session.specs.AnyFields.{cache_response, payload, end_of_data, cache_reset}
 use Rattle.rtr_session.specs.AnyFields.{error_report}
-use Rattle.rtr_texts.specs.TextLines.{payload_version}
+use Rattle.rtr_texts.specs.TextLines.{payload_flags, payload_version}
 use Rattle.rtr_findings.specs.CheckedUnits.{known_after}
 use Rattle.rtr_findings.specs.KeptNames.{IsAnnouncedAs}
 use Rattle.rtr_findings.specs.PrivateSteps.{again, found_by, state_after}
-use Rattle.rtr_findings.specs.Rules.{told, repeated, findings, other_version, other_session}
+use Rattle.rtr_findings.specs.Rules.{told, repeated, findings, differing}
 use Rattle.rtr_findings.specs.Rules.{cut_answer, reserved, field_rules, payload_reserved}
 use Rattle.rtr_findings.specs.Rules.{payload_rules}
-use Rattle.rtr_findings.specs.SequenceSoFar.{action_of, earlier, is_announce, named_by}
-use Rattle.rtr_findings.specs.SequenceSoFar.{payload_named, sequence, sequence_session}
-use Rattle.rtr_findings.specs.SequenceSoFar.{sequence_version, stage_of}
+use Rattle.rtr_findings.specs.SequenceSoFar.{given_session, given_version, is_announce}
+use Rattle.rtr_findings.specs.SequenceSoFar.{named_by, oldest, payload_named, sequence, stage_of}
 use Rattle.rtr_findings.specs.declared.finding.Finding.{Finding}
 use Rattle.rtr_findings.specs.declared.finding.Finding.TheVariants as rules
 use Rattle.rtr_findings.specs.declared.sequence.SequenceState.{SequenceState}
@@ -50,14 +51,15 @@ found_is history there (reset_query v s) h =
 found_is history there (cache_response v s) h =
     last_in_turn (cut_answer (stage_of (sequence history)))
 found_is history there (payload f) h =
-    ap (λ l. other_version (sequence_version (sequence history)) (payload_version f)
+    ap (λ l. differing rules.Version (oldest given_version (sequence history)) (payload_version f)
     ++ (payload_reserved f ++ (payload_rules f ++ l)))
-    (again_is (is_announce (action_of f)) there (sequence history) (payload_named f) h)
-    ∙ payload_in_turn (other_version (sequence_version (sequence history)) (payload_version f))
+    (again_is (is_announce (act (payload_flags f))) there (sequence history) (payload_named f) h)
+    ∙ payload_in_turn
+    (differing rules.Version (oldest given_version (sequence history)) (payload_version f))
     (payload_reserved f) (payload_rules f) _
 found_is history there (end_of_data m) h =
-    end_in_turn (other_version (sequence_version (sequence history)) m.version)
-    (other_session (sequence_session (sequence history)) m.session)
+    end_in_turn (differing rules.Version (oldest given_version (sequence history)) m.version)
+    (differing rules.Session (oldest given_session (sequence history)) m.session)
 found_is history there (cache_reset v s) h =
     own_in_turn (reserved (cache_reset v s)) []
 found_is history there (error_report v c body) h =
@@ -71,25 +73,25 @@ checks s there unit found is history known said =
 
 -- ---- the state
 
-nothing_later : {X : Type 0} (o : Option X) → o ≡ earlier o None
+nothing_later : {X : Type 0} (o : Option X) → o ≡ option_or o None
 nothing_later (Some x) = refl
 nothing_later None = refl
 
 abbrev passed : (units : List AnyFields) (stage : Stage) → SequenceState
 passed units stage = record {
-  version = earlier (sequence_version units) None;
-  session = earlier (sequence_session units) None;
+  version = option_or (oldest given_version units) None;
+  session = option_or (oldest given_session units) None;
   stage = stage;
 }
 
 passed_is : (units : List AnyFields) (stage : Stage) → record {
-  version = sequence_version units;
-  session = sequence_session units;
+  version = oldest given_version units;
+  session = oldest given_session units;
   stage = stage;
 } ≡ passed units stage
 passed_is units stage = λ i. record {
-  version = nothing_later (sequence_version units) i;
-  session = nothing_later (sequence_session units) i;
+  version = nothing_later (oldest given_version units) i;
+  session = nothing_later (oldest given_session units) i;
   stage = stage;
 }
 
@@ -100,8 +102,8 @@ state_is history (serial_query v s n) = passed_is (sequence history) _
 state_is history (reset_query v s) = passed_is (sequence history) _
 state_is history (cache_response v s) = refl
 state_is history (payload f) = λ i. record {
-  version = earlier (sequence_version (sequence history)) (Some (payload_version f));
-  session = nothing_later (sequence_session (sequence history)) i;
+  version = option_or (oldest given_version (sequence history)) (Some (payload_version f));
+  session = nothing_later (oldest given_session (sequence history)) i;
   stage = stage_of (payload f ∷ sequence history);
 }
 state_is history (end_of_data m) = refl

@@ -1,7 +1,7 @@
 -- What is known of a sequence after units, and what is found of the next one (this library's own).
 use Rattle.std.specs.Prelude.{List, [], ◌∷◌, ◌++◌, Option, Some, None}
 use Rattle.rtr_session.specs.AnyFields.{AnyFields}
-use Rattle.rtr_findings.specs.SequenceSoFar.{sequence, sequence_version, sequence_session}
+use Rattle.rtr_findings.specs.SequenceSoFar.{given_session, given_version, oldest, sequence}
 use Rattle.rtr_findings.specs.SequenceSoFar.{stage_of}
 use Rattle.rtr_findings.specs.declared.finding.Finding.{Finding}
 use Rattle.rtr_findings.specs.declared.sequence.SequenceState.{SequenceState}
@@ -9,8 +9,8 @@ use Rattle.rtr_findings.specs.declared.sequence.SequenceState.{SequenceState}
 -- the state after these units, newest first
 abbrev pub known_after : List AnyFields → SequenceState
 known_after history = record {
-  version = sequence_version (sequence history);
-  session = sequence_session (sequence history);
+  version = oldest given_version (sequence history);
+  session = oldest given_session (sequence history);
   stage = stage_of (sequence history);
 }
 

@@ -1,17 +1,19 @@
 -- What is found of a unit by what is known of its sequence. Only contracts of private functions
 -- cite these.
 use Rattle.std.specs.Prelude.{Bool, true, nat_lt, List, [], ◌++◌, ◌&&◌, ℕ, Option, Some, None}
+use Rattle.std.specs.Option.{option_or}
+use Rattle.rtr_base.specs.Actions.{act}
 use Rattle.rtr_payload.specs.AspaUnits.{AspaFields}
 use Rattle.rtr_payload.specs.Payloads.{Payload}
 use Rattle.rtr_payload.specs.Providers.{words_of}
 use Rattle.rtr_payload.specs.UnitFields.{Fields}
 use Rattle.rtr_session.specs.AnyFields.{AnyFields, cache_response, payload, end_of_data}
 use Rattle.rtr_session.specs.AnyFields.{serial_query, reset_query}
-use Rattle.rtr_texts.specs.TextLines.{payload_version}
+use Rattle.rtr_texts.specs.TextLines.{payload_flags, payload_version}
 use Rattle.rtr_texts.specs.declared.listed.ListedAspa.{ListedAspa}
-use Rattle.rtr_findings.specs.Rules.{told, other_version, other_session, cut_answer, reserved}
+use Rattle.rtr_findings.specs.Rules.{told, differing, cut_answer, reserved}
 use Rattle.rtr_findings.specs.Rules.{field_rules, payload_reserved, payload_rules}
-use Rattle.rtr_findings.specs.SequenceSoFar.{action_of, asked_at, earlier, is_announce}
+use Rattle.rtr_findings.specs.SequenceSoFar.{asked_at, is_announce}
 use Rattle.rtr_findings.specs.SequenceSoFar.{payload_named}
 use Rattle.rtr_findings.specs.declared.finding.Finding.{Finding}
 use Rattle.rtr_findings.specs.declared.finding.Finding.TheVariants as rules
@@ -41,14 +43,15 @@ again repeats None = []
 abbrev pub payload_found : Bool → Fields → List Finding
 payload_found there fields =
     payload_reserved fields ++ (payload_rules fields
-    ++ again (is_announce (action_of fields) && there) (payload_named fields))
+    ++ again (is_announce (act (payload_flags fields)) && there) (payload_named fields))
 
 -- what the unit breaks, where it is said whether its payload is announced
 abbrev pub found_by : SequenceState → Bool → AnyFields → List Finding
 found_by s there (payload fields) =
-    other_version s.version (payload_version fields) ++ payload_found there fields
+    differing rules.Version s.version (payload_version fields) ++ payload_found there fields
 found_by s there (end_of_data meaning) =
-    other_version s.version meaning.version ++ other_session s.session meaning.session
+    differing rules.Version s.version meaning.version
+    ++ differing rules.Session s.session meaning.session
 found_by s there (cache_response version session) = cut_answer s.stage
 found_by s there unit = reserved unit ++ field_rules unit
 
@@ -59,7 +62,7 @@ state_after s (reset_query version session) = record s { stage = asked_at s.stag
 state_after s (cache_response version session) =
     record { version = Some version; session = Some session; stage = Open }
 state_after s (payload fields) =
-    record s { version = earlier s.version (Some (payload_version fields)); stage = Open }
+    record s { version = option_or s.version (Some (payload_version fields)); stage = Open }
 state_after s (end_of_data meaning) =
     record { version = None; session = Some meaning.session; stage = Whole }
 state_after s unit = s

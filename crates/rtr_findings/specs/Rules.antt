@@ -4,6 +4,7 @@ use Rattle.std.specs.Prelude.{ℕ, ◌+◌, ◌/◌, ◌%◌, ◌^◌, ◌==◌,
 use Rattle.std.specs.Prelude.{◌&&◌, List, [], ◌∷◌, ◌++◌, length, Option, Some, None}
 use Rattle.std.specs.Prelude.{if◌then◌else◌}
 use Rattle.std.specs.Str.{is_utf8}
+use Rattle.rtr_base.specs.Actions.{act}
 use Rattle.rtr_base.specs.Addresses.{width, cleared}
 use Rattle.rtr_base.specs.declared.action.Action.{Action}
 use Rattle.rtr_base.specs.declared.action.Action.TheVariants.{Announce, Withdraw}
@@ -20,10 +21,10 @@ use Rattle.rtr_payload.specs.declared.pdu.prefix_rule.PrefixRule.TheVariants.{Ma
 use Rattle.rtr_session.specs.AnyFields.{AnyFields, reset_query, payload, end_of_data, cache_reset}
 use Rattle.rtr_session.specs.AnyFields.{cache_response, error_report}
 use Rattle.rtr_texts.specs.ReportParts.{report_parts}
-use Rattle.rtr_findings.specs.SequenceSoFar.{sequence, sequence_version, sequence_session}
+use Rattle.rtr_findings.specs.SequenceSoFar.{given_session, given_version, oldest, sequence}
 use Rattle.rtr_findings.specs.SequenceSoFar.{stage_of}
 use Rattle.rtr_texts.specs.TextLines.{payload_version}
-use Rattle.rtr_findings.specs.SequenceSoFar.{named_by, announces, announced, action_of}
+use Rattle.rtr_findings.specs.SequenceSoFar.{named_by, announces, announced}
 use Rattle.rtr_findings.specs.declared.sequence.Stage.{Stage}
 use Rattle.rtr_findings.specs.declared.sequence.Stage.TheVariants.{Before, Asked, Open, Whole}
 use Rattle.rtr_findings.specs.declared.finding.Finding.{Finding}
@@ -73,15 +74,12 @@ broken_lengths LenOverflow = rules.PrefixLength
 broken_lengths MaxOverflow = rules.MaxLength
 broken_lengths MaxUnderflow = rules.MaxBelow
 
--- the bits of the address after the prefix length are zero (this program's own)
-abbrev pub host_bits : OriginParts → List Finding
-host_bits o = told (not (cleared (width o.family) o.prefix_len o.address == o.address))
-    rules.HostBits
-
--- the rule on the lengths, and where it holds, the host bits
+-- the rule on the lengths, and where it holds, the bits of the address after the prefix length are
+-- zero (this program's own)
 abbrev pub prefix_rules : Option PrefixRule → OriginParts → List Finding
 prefix_rules (Some rule) o = broken_lengths rule ∷ []
-prefix_rules None o = host_bits o
+prefix_rules None o =
+    told (not (cleared (width o.family) o.prefix_len o.address == o.address)) rules.HostBits
 
 -- ---- router keys and ASPA units
 
@@ -90,18 +88,15 @@ prefix_rules None o = host_bits o
 abbrev pub lacking : (first version : ℕ) → List Finding
 lacking first version = told (nat_lt version first) (rules.Lacks version)
 
--- Whether the unit reads as one of an older draft, which has flags, a family and the number of
--- providers in the place of the customer, and the customer in that of the first provider: bytes 2
--- and 3 are 0, byte 8 and byte 9 are 0 or 1, and bytes 10 and 11 count the providers but that one
--- (this program's own).
-abbrev pub reads_as_older : AspaFields → Bool
-reads_as_older u =
-    (u.flags == 0) && (u.free == 0) && nat_le (u.aspa.customer / 2 ^ 24) 1 &&
-    nat_le (u.aspa.customer / 2 ^ 16 % 2 ^ 8) 1 &&
-    (u.aspa.customer % 2 ^ 16 + 1 == length u.aspa.providers)
-
+-- How the unit reads: as one of an older draft too, which has flags, a family and the number of
+-- providers in the place of the customer, and the customer in that of the first provider, where
+-- bytes 2 and 3 are 0, byte 8 and byte 9 are 0 or 1, and bytes 10 and 11 count the providers but
+-- that one (this program's own).
 abbrev pub layout_of : AspaFields → Layout
-layout_of u = if reads_as_older u then LikeOlderDraft else AsRead
+layout_of u =
+    if (u.flags == 0) && (u.free == 0) && nat_le (u.aspa.customer / 2 ^ 24) 1 &&
+    nat_le (u.aspa.customer / 2 ^ 16 % 2 ^ 8) 1 &&
+    (u.aspa.customer % 2 ^ 16 + 1 == length u.aspa.providers) then LikeOlderDraft else AsRead
 
 -- a withdrawal has no providers (this program's own)
 abbrev pub withdrawn_providers : Action → AspaFields → List Finding
@@ -109,28 +104,19 @@ withdrawn_providers Announce u = []
 withdrawn_providers Withdraw u =
     told (nat_lt 0 (length u.aspa.providers)) (rules.WithdrawnProviders (layout_of u))
 
--- each provider is above the one before it
+-- each provider is above the one before it (this program's own)
 abbrev pub ascend : List ℕ → Bool
 ascend (first ∷ second ∷ rest) = nat_lt first second && ascend (second ∷ rest)
 ascend providers = true
 
--- providers ascend (this program's own)
-abbrev pub provider_order : List ℕ → List Finding
-provider_order providers = told (not (ascend providers)) rules.ProviderOrder
-
 -- ---- error reports
 
--- no report is about a report (RFC 8210 section 5.11)
-abbrev pub report_about : List ℕ → List Finding
-report_about pdu = told (type_field pdu == 10) rules.ReportOfReport
-
--- its text is UTF-8 (RFC 8210 section 5.11)
-abbrev pub report_text : List ℕ → List Finding
-report_text text = told (not (is_utf8 text)) rules.ReportText
-
--- the two parts make up the report (RFC 8210 section 5.11)
+-- the two parts, the unit and the text, make up the report; it is about no report, and its text is
+-- UTF-8 (RFC 8210 section 5.11)
 abbrev pub report_rules : Option (List ℕ × List ℕ) → List Finding
-report_rules (Some parts) = report_about parts.0 ++ report_text parts.1
+report_rules (Some parts) =
+    told (type_field parts.0 == 10) rules.ReportOfReport
+    ++ told (not (is_utf8 parts.1)) rules.ReportText
 report_rules None = rules.ReportParts ∷ []
 
 -- ---- what the fields of a unit say
@@ -139,8 +125,8 @@ abbrev pub payload_rules : Fields → List Finding
 payload_rules (prefix_unit u) = prefix_rules (rule_of (prefix_unit u)) u.origin
 payload_rules (key_unit u) = lacking 1 u.version
 payload_rules (aspa_unit u) =
-    lacking 2 u.version ++ withdrawn_providers (action_of (aspa_unit u)) u ++
-    provider_order u.aspa.providers
+    lacking 2 u.version ++ withdrawn_providers (act u.flags) u ++
+    told (not (ascend u.aspa.providers)) rules.ProviderOrder
 
 abbrev pub field_rules : AnyFields → List Finding
 field_rules (payload fields) = payload_rules fields
@@ -149,22 +135,18 @@ field_rules unit = []
 
 -- ---- sequences
 
-abbrev pub other_version : Option ℕ → ℕ → List Finding
-other_version (Some begun) version =
-    told (not (begun == version)) (rules.Version version begun)
-other_version None version = []
+-- the unit has another number than its sequence, if that has one
+abbrev pub differing : (ℕ → ℕ → Finding) → Option ℕ → ℕ → List Finding
+differing rule (Some begun) number = told (not (begun == number)) (rule number begun)
+differing rule None number = []
 
 -- payload units and an end of data have the version of their sequence (RFC 8210 section 7)
 abbrev pub version_rule : List AnyFields → AnyFields → List Finding
 version_rule units (payload fields) =
-    other_version (sequence_version units) (payload_version fields)
-version_rule units (end_of_data meaning) = other_version (sequence_version units) meaning.version
+    differing rules.Version (oldest given_version units) (payload_version fields)
+version_rule units (end_of_data meaning) =
+    differing rules.Version (oldest given_version units) meaning.version
 version_rule units unit = []
-
-abbrev pub other_session : Option ℕ → ℕ → List Finding
-other_session (Some begun) session =
-    told (not (begun == session)) (rules.Session session begun)
-other_session None session = []
 
 -- an answer that is open has no end of data
 abbrev pub cut_answer : Stage → List Finding
@@ -176,32 +158,27 @@ cut_answer Whole = []
 -- An end of data has the session of its answer (RFC 8210 section 5.8), and a cache response comes
 -- after the end of data of the one before (section 8.1).
 abbrev pub answer_rule : List AnyFields → AnyFields → List Finding
-answer_rule units (end_of_data meaning) = other_session (sequence_session units) meaning.session
+answer_rule units (end_of_data meaning) =
+    differing rules.Session (oldest given_session units) meaning.session
 answer_rule units (cache_response version session) = cut_answer (stage_of units)
 answer_rule units unit = []
 
-abbrev pub repeated : Bool → List AnyFields → Option Payload → List Finding
+-- no payload is announced that is announced in the sequence (RFC 8210 sections 5.6, 5.7 and 5.10;
+-- ASPA units: this program's own)
+abbrev pub repeated : (announcing : Bool) → List AnyFields → Option Payload → List Finding
 repeated announcing units (Some p) = told (announcing && announced units p) rules.Twice
 repeated announcing units None = []
 
--- no payload is announced that is announced in the sequence (RFC 8210 sections 5.6, 5.7 and 5.10;
--- ASPA units: this program's own)
-abbrev pub announced_twice : List AnyFields → AnyFields → List Finding
-announced_twice units unit = repeated (announces unit) units (named_by unit)
-
 -- ---- all rules
-
--- what the unit breaks in a sequence with these units before it
-abbrev pub broken_in : List AnyFields → AnyFields → List Finding
-broken_in units unit =
-    version_rule units unit ++ reserved unit ++ field_rules unit ++ answer_rule units unit ++
-    announced_twice units unit
 
 -- What the unit breaks after all units that were read before it, newest first: the version of its
 -- sequence, reserved bytes and flags, what its fields say, and the answer and the payloads of its
 -- sequence, in this order.
 abbrev pub findings : List AnyFields → AnyFields → List Finding
-findings history unit = broken_in (sequence history) unit
+findings history unit =
+    version_rule (sequence history) unit ++ reserved unit ++ field_rules unit ++
+    answer_rule (sequence history) unit ++
+    repeated (announces unit) (sequence history) (named_by unit)
 
 -- ---- at the end of the input
 

@@ -4,6 +4,7 @@
 -- the next end of data (RFC 8210 section 8; that it may begin otherwise is this program's own).
 use Rattle.std.specs.Prelude.{ℕ, Bool, true, false, List, [], ◌∷◌, Option, Some, None}
 use Rattle.std.specs.List.{find}
+use Rattle.std.specs.Option.{option_or}
 use Rattle.std.specs.Ordering.{is_eq}
 use Rattle.rtr_base.specs.Actions.{act}
 use Rattle.rtr_base.specs.declared.action.Action.{Action}
@@ -15,7 +16,7 @@ use Rattle.rtr_payload.specs.RouteOrigins.{meant_origin}
 use Rattle.rtr_payload.specs.UnitFields.{Fields, prefix_unit, key_unit, aspa_unit}
 use Rattle.rtr_payload.specs.declared.pdu.prefix_rule.PrefixRule.{PrefixRule}
 use Rattle.rtr_session.specs.AnyFields.{AnyFields}
-use Rattle.rtr_texts.specs.TextLines.{payload_version}
+use Rattle.rtr_texts.specs.TextLines.{payload_flags, payload_version}
 use Rattle.rtr_session.specs.AnyFields.{cache_response, payload, end_of_data, serial_query}
 use Rattle.rtr_session.specs.AnyFields.{reset_query}
 use Rattle.rtr_findings.specs.declared.sequence.Stage.{Stage}
@@ -34,36 +35,25 @@ sequence [] = []
 sequence (newest ∷ before) = after_unit newest (sequence before)
 
 -- what the oldest of the units that has it has
-abbrev pub earlier : {X : Type 0} → Option X → Option X → Option X
-earlier (Some x) later = Some x
-earlier None later = later
-
 abbrev pub oldest : {X : Type 0} → (AnyFields → Option X) → List AnyFields → Option X
 oldest field [] = None
-oldest field (newest ∷ before) = earlier (oldest field before) (field newest)
+oldest field (newest ∷ before) = option_or (oldest field before) (field newest)
 
 -- ---- version and session
 
--- the version that a unit gives its sequence: cache responses and payload units do
+-- the version that a unit gives its sequence: cache responses and payload units do, and the oldest
+-- of them counts (RFC 8210 section 7)
 abbrev pub given_version : AnyFields → Option ℕ
 given_version (cache_response version session) = Some version
 given_version (payload fields) = Some (payload_version fields)
 given_version unit = None
 
--- its version is that of its first unit that gives one (RFC 8210 section 7)
-abbrev pub sequence_version : List AnyFields → Option ℕ
-sequence_version units = oldest given_version units
-
--- the session that a unit gives its sequence: cache responses do (RFC 8210 section 5.5), and the
--- end of data before a sequence without one (this program's own)
+-- the session that a unit gives its sequence: the cache response from which it goes does (RFC 8210
+-- section 5.5), and the end of data before a sequence without one (this program's own)
 abbrev pub given_session : AnyFields → Option ℕ
 given_session (cache_response version session) = Some session
 given_session (end_of_data meaning) = Some meaning.session
 given_session unit = None
-
--- its session is that of the cache response, or the end of data, from which it goes
-abbrev pub sequence_session : List AnyFields → Option ℕ
-sequence_session units = oldest given_session units
 
 -- ---- answers
 
@@ -104,18 +94,13 @@ abbrev pub named_by : AnyFields → Option Payload
 named_by (payload fields) = payload_named fields
 named_by unit = None
 
--- the lowest bit of the flags (RFC 8210 section 5.1)
-abbrev pub action_of : Fields → Action
-action_of (prefix_unit u) = act u.flags
-action_of (key_unit u) = act u.flags
-action_of (aspa_unit u) = act u.flags
-
 abbrev pub is_announce : Action → Bool
 is_announce Announce = true
 is_announce Withdraw = false
 
+-- by the lowest bit of the flags (RFC 8210 section 5.1)
 abbrev pub announces : AnyFields → Bool
-announces (payload fields) = is_announce (action_of fields)
+announces (payload fields) = is_announce (act (payload_flags fields))
 announces unit = false
 
 -- whether a payload is the one that is given
@@ -123,14 +108,10 @@ abbrev pub is_same : Option Payload → Payload → Bool
 is_same (Some p) q = is_eq (payload_cmp p q)
 is_same None q = false
 
--- whether the unit is about the payload
-abbrev pub is_about : Payload → AnyFields → Bool
-is_about p unit = is_same (named_by unit) p
-
 abbrev pub says_announced : Option AnyFields → Bool
 says_announced (Some unit) = announces unit
 says_announced None = false
 
 -- whether the payload is announced in the units: the newest of those that are about it announces it
 abbrev pub announced : List AnyFields → Payload → Bool
-announced units p = says_announced (find (is_about p) units)
+announced units p = says_announced (find (λ unit. is_same (named_by unit) p) units)

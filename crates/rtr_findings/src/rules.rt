@@ -1,6 +1,6 @@
 //! The rules on a unit, and on what is known of its sequence.
 
-ghost use Rattle.std.specs.Prelude.{◌≡◌, ◌==◌, ◌++◌, ◌∷◌, ◌&&◌, [], not, length, MatchResult};
+ghost use Rattle.std.specs.Prelude.{◌≡◌, ◌==◌, ◌++◌, ◌∷◌, ◌&&◌, [], not, length, MatchResult, Some};
 ghost use Rattle.std.specs.Str.{is_utf8};
 ghost use Rattle.rtr_base.specs.Actions.{act};
 ghost use Rattle.rtr_base.specs.Addresses.{v4, v6};
@@ -45,7 +45,7 @@ fn told(is_broken: bool, finding: Finding) -> Option<Finding>
 
 /// A unit has the version of its sequence.
 pub(crate) fn sequence_version(begun: Option<u8>, version: u8) -> Option<Finding>
-    ensures { found_in result ≡ rules.other_version begun version }
+    ensures { found_in result ≡ rules.differing broken.Version begun version }
 {
     match begun {
         Some(begun) => told(begun != version, Finding::Version(version, begun)),
@@ -55,7 +55,7 @@ pub(crate) fn sequence_version(begun: Option<u8>, version: u8) -> Option<Finding
 
 /// An end of data has the session of its sequence.
 pub(crate) fn sequence_session(begun: Option<u16>, session: u16) -> Option<Finding>
-    ensures { found_in result ≡ rules.other_session begun session }
+    ensures { found_in result ≡ rules.differing broken.Session begun session }
 {
     match begun {
         Some(begun) => told(begun != session, Finding::Session(session, begun)),
@@ -124,7 +124,7 @@ pub(crate) fn announces(flags: u8) -> bool
 /// What an IPv4 prefix breaks in a sequence of this version.
 pub(crate) fn ipv4(begun: Option<u8>, unit: &Ipv4Prefix, was_there: bool) -> Found
     ensures { found_list result.slots ≡
-        rules.other_version begun (prefix_at v4 (fixed_bytes unit.now)).version
+        rules.differing broken.Version begun (prefix_at v4 (fixed_bytes unit.now)).version
         ++ payload_found was_there (prefix_unit (prefix_at v4 (fixed_bytes unit.now))) }
 {
     let made = ipv4_prefix(unit.prefix_bits(), unit.prefix_len(), unit.max_len());
@@ -137,7 +137,7 @@ pub(crate) fn ipv4(begun: Option<u8>, unit: &Ipv4Prefix, was_there: bool) -> Fou
 /// What an IPv6 prefix breaks in a sequence of this version.
 pub(crate) fn ipv6(begun: Option<u8>, unit: &Ipv6Prefix, was_there: bool) -> Found
     ensures { found_list result.slots ≡
-        rules.other_version begun (prefix_at v6 (fixed_bytes unit.now)).version
+        rules.differing broken.Version begun (prefix_at v6 (fixed_bytes unit.now)).version
         ++ payload_found was_there (prefix_unit (prefix_at v6 (fixed_bytes unit.now))) }
 {
     let made = ipv6_prefix(unit.prefix_bits(), unit.prefix_len(), unit.max_len());
@@ -217,7 +217,7 @@ fn broken_lengths(rule: PrefixRule) -> Finding
 /// What a router key breaks in a sequence of this version.
 pub(crate) fn router_key(begun: Option<u8>, key: &ListedKey<'_>, was_there: bool) -> Found
     ensures { found_list result.slots ≡
-        rules.other_version begun (payload_version (key_listed key.now))
+        rules.differing broken.Version begun (payload_version (key_listed key.now))
         ++ payload_found was_there (key_listed key.now) }
 {
     Found {
@@ -239,7 +239,7 @@ pub(crate) fn router_key(begun: Option<u8>, key: &ListedKey<'_>, was_there: bool
 /// What an ASPA unit breaks in a sequence of this version.
 pub(crate) fn aspa(begun: Option<u8>, aspa: &ListedAspa<'_>, was_there: bool) -> Found
     ensures { found_list result.slots ≡
-        rules.other_version begun (payload_version (aspa_listed aspa.now))
+        rules.differing broken.Version begun (payload_version (aspa_listed aspa.now))
         ++ payload_found was_there (aspa_listed aspa.now) }
 {
     Found {
@@ -330,7 +330,7 @@ pub(crate) fn error_report(body: &[u8]) -> [Option<Finding>; 2]
 }
 
 fn report_texts(pdu: &[u8], text: &[u8]) -> [Option<Finding>; 2]
-    ensures { found_list result ≡ rules.report_about pdu.now ++ rules.report_text text.now }
+    ensures { found_list result ≡ rules.report_rules (Some (pdu.now, text.now)) }
 {
     [
         told(type_of(pdu) == REPORT, Finding::ReportOfReport),

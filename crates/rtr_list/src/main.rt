@@ -1,11 +1,10 @@
 //! Lists the units of a recorded session, one on a line, or what breaks the protocol's rules in it,
-//! or prints the payloads that it leaves.
+//! or prints their summary or the payloads that it leaves.
 #![tactic(auto)]
 
 use rtr_files::{Input, file_after};
-use rtr_listing::form_wanted;
+use rtr_lists::{program, reads_input};
 use rtr_program::{Escaped, Front, Manual, Prompt, Shared, hint, usage, words_after_name};
-use rtr_tables::{program, table_wanted};
 use rtr_units::buffered::BufferedSource;
 use rtr_units::source::Counted;
 use std::cell::{Cell, RefCell};
@@ -26,10 +25,10 @@ const FAILED: u8 = 3;
 const MANUAL: Manual = Manual {
     name: "rtr_list",
     version: "rtr_list 0.2.0\n",
-    usage: "usage: rtr_list [--json | --check | --csv | --vrps] [FILE]\n",
+    usage: "usage: rtr_list [--json | --check | --summary | --csv | --vrps] [FILE]\n",
     help: "\
 rtr_list - list the units of a recorded RTR session
-usage: rtr_list [--json | --check | --csv | --vrps] [FILE]
+usage: rtr_list [--json | --check | --summary | --csv | --vrps] [FILE]
 
 It reads units of the RPKI to Router protocol (RFC 8210) from FILE, or from standard input, for
 which the name - stands too.
@@ -37,6 +36,7 @@ which the name - stands too.
   (no word)  print a line of each unit, which begins with its offset
   --json     print a JSON object of each unit
   --check    print what breaks the protocol's rules, and nothing else
+  --summary  print how many units of each kind and prefix length there are
   --csv      print the origins that the recording leaves, as CSV
   --vrps     print all payloads that the recording leaves, as JSON
   --help     print this
@@ -84,7 +84,7 @@ fn words(rt: &HostRuntime) -> Option<Vec<String>> {
 /// Takes the last word off, if it names a file after words that ask for what is in one.
 fn take_file(words: &mut Vec<String>) -> Option<String> {
     let has_file = match file_after(words_after_name(words)) {
-        Some((before, _)) => table_wanted(before).is_some() || form_wanted(before).is_some(),
+        Some((before, _)) => reads_input(before),
         None => false,
     };
     if has_file { words.pop() } else { None }

@@ -14,10 +14,11 @@ use Rattle.rtr_payload.specs.declared.pdu.payload.Payload.{Payload}
 use Rattle.rtr_payload.specs.declared.pdu.payload.Payload.TheVariants as units
 use Rattle.rtr_session.specs.AnyFields.{AnyFields, payload}
 use Rattle.rtr_data.specs.Data.{has_name, name_cmp, name_of}
+use Rattle.rtr_texts.specs.TextLines.{payload_flags}
 use Rattle.rtr_findings.specs.CheckedUnits.{known_after}
 use Rattle.rtr_findings.specs.KeptNames.{IsAnnouncedAs}
 use Rattle.rtr_findings.specs.Rules.{findings}
-use Rattle.rtr_findings.specs.SequenceSoFar.{announced, action_of, is_about, is_announce, is_same}
+use Rattle.rtr_findings.specs.SequenceSoFar.{announced, is_announce, is_same}
 use Rattle.rtr_findings.specs.SequenceSoFar.{named_by, payload_named, says_announced, sequence}
 use Rattle.rtr_findings.specs.declared.finding.Finding.{Finding}
 use Rattle.rtr_listing.proofs.NamedPayloads.{named_in}
@@ -29,7 +30,7 @@ says_either : (b : Bool) (x y : Option AnyFields) →
 says_either true x y = refl
 says_either false x y = refl
 
-pub action_is : (u : Payload) → act (flags_in u) ≡ action_of (unit_fields u)
+pub action_is : (u : Payload) → act (flags_in u) ≡ act (payload_flags (unit_fields u))
 action_is (units.V4 u) = refl
 action_is (units.V6 u) = refl
 action_is (units.RouterKey u) = refl
@@ -41,16 +42,16 @@ module _ (fields : Fields) (units : List AnyFields) (old new : List Meant) (p : 
     (known : KnowsNames old units) (name : Some (name_of p) ≡ payload_named fields) where
   counted_after : (q : Meant) →
       has_name new q ≡
-      cond (is_at (name_cmp p) q) (is_announce (action_of fields)) (has_name old q) →
+      cond (is_at (name_cmp p) q) (is_announce (act (payload_flags fields))) (has_name old q) →
       has_name new q ≡ announced (payload fields ∷ units) (name_of q)
   unfolding name_cmp
   counted_after q counts =
       counts
-      ∙ ap (cond (is_at (name_cmp p) q) (is_announce (action_of fields))) (known q)
-      ∙ ap (λ o. cond (is_same o (name_of q)) (is_announce (action_of fields))
+      ∙ ap (cond (is_at (name_cmp p) q) (is_announce (act (payload_flags fields)))) (known q)
+      ∙ ap (λ o. cond (is_same o (name_of q)) (is_announce (act (payload_flags fields)))
       (announced units (name_of q))) name
       ∙ says_either (is_same (payload_named fields) (name_of q)) (Some (payload fields))
-      (find (is_about (name_of q)) units)
+      (find (λ unit. is_same (named_by unit) (name_of q)) units)
 
 pub payload_keeps : (u : Payload) (old new : List Meant) (p : Meant) (a : Action) (there : Bool) →
     a ≡ act (flags_in u) → Some p ≡ payload_in (unit_fields u) → there ≡ has_name old p →
@@ -60,7 +61,7 @@ payload_keeps u old new p a there a_is is said names =
     let fields : Fields = unit_fields u in
     let name : Some (name_of p) ≡ payload_named fields =
     ap (option_map name_of) is ∙ named_in fields in
-    let acts : Names old new p (is_announce (action_of fields)) =
+    let acts : Names old new p (is_announce (act (payload_flags fields))) =
     subst (λ x. Names old new p (is_announce x)) (a_is ∙ action_is u) names in (
       subst (IsAnnouncedAs there units) name (said ∙ known p),
       λ q. counted_after fields units old new p known name q (acts q),

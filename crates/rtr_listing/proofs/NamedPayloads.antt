@@ -4,6 +4,7 @@ use Rattle.std.proofs.Common.{arith}
 use Rattle.std.proofs.lemmas.Bool.Decides.{nat_tests}
 use Rattle.std.specs.Prelude.{◌≤◌, length}
 use Rattle.std.specs.Option.{option_map}
+use Rattle.rtr_base.specs.Actions.{act}
 use Rattle.rtr_base.specs.declared.action.Action.{Action}
 use Rattle.rtr_base.specs.declared.action.Action.TheVariants.{Announce, Withdraw}
 use Rattle.rtr_units.specs.PrefixUnits.{OriginParts}
@@ -15,8 +16,9 @@ use Rattle.rtr_payload.specs.UnitFields.{Fields, WithinLimits, prefix_unit, key_
 use Rattle.rtr_payload.specs.declared.pdu.prefix_rule.PrefixRule.{PrefixRule}
 use Rattle.rtr_data.specs.Contents.{IsFit}
 use Rattle.rtr_data.specs.Data.{name_of}
+use Rattle.rtr_texts.specs.TextLines.{payload_flags}
 use Rattle.rtr_listing.specs.PrivateFollowing.{payload_in}
-use Rattle.rtr_findings.specs.SequenceSoFar.{action_of, origin_under, payload_named}
+use Rattle.rtr_findings.specs.SequenceSoFar.{origin_under, payload_named}
 
 origin_named : (rule : Option PrefixRule) (o : OriginParts) →
     option_map name_of (origin_under rule (origin o)) ≡ origin_under rule (origin o)
@@ -47,7 +49,7 @@ fit_aspa Announce a h e = grind (arith, nat_tests)
 fit_aspa Withdraw a h e = absurd cc
 
 pub fit_in : (fields : Fields) (p : Payload) → WithinLimits fields → Some p ≡ payload_in fields →
-    action_of fields ≡ Announce → IsFit p
+    act (payload_flags fields) ≡ Announce → IsFit p
 fit_in (prefix_unit u) p h is e =
     fit_origin (rule_of (prefix_unit u)) (meant_origin u.origin) p is
 fit_in (key_unit u) p h is e =

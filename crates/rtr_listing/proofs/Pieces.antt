@@ -1,29 +1,12 @@
--- Lists of pieces, one more piece at a time.
-use Rattle.std.proofs.Common.{◌≡◌, ℕ, ◌+◌, ◌*◌, ◌<◌, List, [], ◌∷◌, ◌++◌, length, take, get_or, map}
-use Rattle.std.proofs.Common.{flat_map, decimal, codes, set, drop, max, subst, sym, ap, ◌∙◌}
-use Rattle.std.proofs.Common.{append_assoc, append-nil, Result, OnOk}
-use Rattle.std.proofs.Common.{Option, Some, None}
+-- Bytes of lines, one more byte at a time, and texts that are laid at the end of a line.
+use Rattle.std.proofs.Common.{◌≡◌, ℕ, ◌+◌, ◌-◌, ◌^◌, ◌<◌, ◌≤◌, List, ◌++◌, length, take, drop}
+use Rattle.std.proofs.Common.{get_or, map, set, max, replicate, arith, ap, sym, ◌∙◌}
+use Rattle.std.proofs.Common.{append_assoc, length-append, zero, suc, [], ◌∷◌, refl}
 use Rattle.std.proofs.lemmas.List.Edits.{map_over_more}
-use Rattle.std.proofs.lemmas.List.{get_or_default}
-use Rattle.rtr_base.specs.PlainTexts.{error_code_text}
-use Rattle.rtr_base.specs.declared.timing.Timing.{Timing}
-use Rattle.rtr_texts.specs.TextLines.{report_words, timing_words}
-use Rattle.rtr_base.specs.Bytes.{words}
-use Rattle.rtr_base.proofs.Numbers.{length-words}
-use Rattle.std.proofs.lemmas.List.{flat_map_more, take_more}
-use Rattle.std.specs.Char.Escape.{escape_ascii}
-
--- the escape of one byte more
-pub escape_more : (t xs : List ℕ) (i : ℕ) → i < length xs →
-    (t ++ flat_map escape_ascii (take i xs)) ++ escape_ascii (get_or xs i 0)
-    ≡ t ++ flat_map escape_ascii (take (i + 1) xs)
-escape_more t xs i h =
-    flat_map_more escape_ascii t (take i xs) (get_or xs i 0)
-    ∙ ap (λ l. t ++ flat_map escape_ascii l) (sym (take_more xs i 0 h))
-
--- the bytes of providers, four to each
-pub words_size : (ps : List ℕ) → length (words ps) ≡ 4 * length ps
-words_size = length-words
+use Rattle.std.proofs.lemmas.List.{get_or_default, length-take-le, take_at}
+use Rattle.std.proofs.lemmas.List.{length-map, length-take, take-append-le, take-map, take-take}
+use Rattle.rtr_texts.specs.Laying.{Lays, laid, text_end}
+use Rattle.rtr_texts.proofs.Laid.{laid_within, length-laid}
 
 -- one byte more was made a space where it was below 32
 pub cleared_more : (xs ys : List ℕ) (i y : ℕ) → i < length xs → i < length ys →
@@ -34,76 +17,56 @@ cleared_more xs ys i y h within is made =
     ∙ map_over_more (λ b. max b 32) xs ys i (get_or ys i 0) h is
     (get_or_default ys i 0 (get_or ys i 0) within)
 
--- a number after a label
-pub one_said : {E : Type 0} (r : Result (Unit {0}) E) (old new label : List ℕ) (k n : ℕ) →
-    k ≡ n → OnOk r (new ≡ old ++ (label ++ decimal k)) → OnOk r (new ≡ old ++ (label ++ decimal n))
-one_said r old new label k n e h =
-    subst (λ m. OnOk r (new ≡ old ++ (label ++ decimal m))) e h
+-- a text that was laid after the front of a line, where it ends inside the room
+pub laid_after : (front text before after : List ℕ) (at end : ℕ) → take at before ≡ front →
+    Lays text at before end after → end < length before → length before ≤ 2 ^ 64 - 1 →
+    take end after ≡ front ++ text
+unfolding Lays
+laid_after front text before after at end is lays room most =
+    let stops : end ≡ at + length text = omega (arith, lays.0, room, most) in
+    let size : length (take at before ++ text) ≡ end =
+    length-append (take at before) text
+    ∙ omega (arith, length-take-le at before (omega arith), stops)
+    in
+    ap (take end) (lays.1 most ∙ laid_within at text before (omega (arith, room, stops))
+    ∙ sym (append_assoc (take at before) text (drop (at + length text) before)))
+    ∙ take_at (take at before ++ text) (drop (at + length text) before) end size
+    ∙ ap (λ l. l ++ text) is
 
--- a session and a serial number after a label
-pub state_said : {E : Type 0} (r : Result (Unit {0}) E) (old new label : List ℕ) (k n j m : ℕ) →
-    k ≡ n → j ≡ m →
-    OnOk r (new ≡ old ++ (((label ++ decimal k) ++ codes " serial ") ++ decimal j)) →
-    OnOk r (new ≡ old ++ (((label ++ decimal n) ++ codes " serial ") ++ decimal m))
-state_said r old new label k n j m e f h =
-    subst (λ i. OnOk r (new ≡ old ++ (((label ++ decimal n) ++ codes " serial ") ++ decimal i))) f
-    (subst (λ i. OnOk r (new ≡ old ++ (((label ++ decimal i) ++ codes " serial ") ++ decimal j))) e
-    h)
+-- the front of a line that was given more room
+pub front_stays : (at n k : ℕ) (old : List ℕ) → at ≤ n → at ≤ length old →
+    take at (take n old ++ replicate k 0) ≡ take at old
+front_stays at n k old h has =
+    take-append-le at (take n old) (replicate k 0) (omega (arith, length-take n old, h, has))
+    ∙ take-take at n old h
 
--- all items were yielded where none is left
-pub all_yielded : (xs rest all : List ℕ) → rest ≡ [] → xs ++ rest ≡ all → xs ≡ all
-all_yielded xs rest all none is =
-    sym (append-nil xs) ∙ ap (λ l. xs ++ l) (sym none) ∙ is
+pub lays_stop : (text before after : List ℕ) (at end : ℕ) → Lays text at before end after →
+    end ≡ text_end at text
+unfolding Lays
+lays_stop text before after at end lays = lays.0
 
--- one item more was yielded
-pub one_yielded : (xs : List ℕ) (x : ℕ) (rest left all : List ℕ) → rest ≡ x ∷ left →
-    xs ++ rest ≡ all → (xs ++ x ∷ []) ++ left ≡ all
-one_yielded xs x rest left all next is =
-    append_assoc xs (x ∷ []) left ∙ ap (λ l. xs ++ l) (sym next) ∙ is
+pub lays_keeps : (text before after : List ℕ) (at end : ℕ) → Lays text at before end after →
+    length before ≤ 2 ^ 64 - 1 → length after ≡ length before
+unfolding Lays
+lays_keeps text before after at end lays most =
+    ap length (lays.1 most) ∙ length-laid at text before
 
--- two and three pieces one after the other
-pub two_pieces : (old mid new a b : List ℕ) → mid ≡ old ++ a → new ≡ mid ++ b →
-    new ≡ old ++ (a ++ b)
-two_pieces old mid new a b e f = f ∙ ap (λ l. l ++ b) e ∙ append_assoc old a b
+take_laid : (at : ℕ) (text slice : List ℕ) → take at (laid at text slice) ≡ take at slice
+take_laid zero text slice = refl
+take_laid (suc at) text [] = refl
+take_laid (suc at) text (b ∷ slice) = ap (λ l. b ∷ l) (take_laid at text slice)
 
-pub two_said : {E : Type 0} (r : Result (Unit {0}) E) (old mid new a b : List ℕ) → mid ≡ old ++ a →
-    OnOk r (new ≡ mid ++ b) → OnOk r (new ≡ old ++ (a ++ b))
-two_said r old mid new a b e h =
-    subst (λ l. OnOk r (new ≡ l)) (ap (λ l. l ++ b) e ∙ append_assoc old a b) h
+-- what stands before a text stays
+pub front_kept : (text before after : List ℕ) (at end : ℕ) → Lays text at before end after →
+    length before ≤ 2 ^ 64 - 1 → take at after ≡ take at before
+unfolding Lays
+front_kept text before after at end lays most =
+    ap (take at) (lays.1 most) ∙ take_laid at text before
 
--- ---- ends of data and error reports
-
-abbrev pub end_state : ℕ → ℕ → List ℕ
-end_state session serial =
-    codes " end of data session " ++ decimal session ++ codes " serial " ++ decimal serial
-
-pub end_timed : {E : Type 0} (r : Result (Unit {0}) E) (old mid new : List ℕ) (k n j m : ℕ) →
-    (timing : Option Timing) (t : Timing) → k ≡ n → j ≡ m → timing ≡ Some t →
-    mid ≡ old ++ end_state k j → OnOk r (new ≡ mid ++ timing_words (Some t)) →
-    OnOk r (new ≡ old ++ (end_state n m ++ timing_words timing))
-end_timed r old mid new k n j m timing t e f is first h =
-    subst (λ o. OnOk r (new ≡ old ++ (end_state n m ++ timing_words o))) (sym is)
-    (two_said r old mid new (end_state n m) (timing_words (Some t))
-    (first ∙ (λ i. old ++ end_state (e i) (f i))) h)
-
-pub end_untimed : (old new : List ℕ) (k n j m : ℕ) (timing : Option Timing) → k ≡ n → j ≡ m →
-    timing ≡ None → new ≡ old ++ end_state k j →
-    new ≡ old ++ (end_state n m ++ timing_words timing)
-end_untimed old new k n j m timing e f is first =
-    subst (λ o. new ≡ old ++ (end_state n m ++ timing_words o)) (sym is)
-    (first ∙ (λ i. old ++ end_state (e i) (f i))
-    ∙ ap (λ l. old ++ l) (sym (append-nil (end_state n m))))
-
-abbrev pub code_said : ℕ → List ℕ
-code_said code = codes " error report code " ++ error_code_text code
-
-pub parts_missed : {E : Type 0} (r : Result (Unit {0}) E) (old one mid new : List ℕ) (k n : ℕ) →
-    (parts : Option (List ℕ × List ℕ)) → k ≡ n → parts ≡ None →
-    one ≡ old ++ codes " error report code " → mid ≡ one ++ error_code_text k →
-    OnOk r (new ≡ mid ++ codes " with lengths that do not fit") →
-    OnOk r (new ≡ old ++ (code_said n ++ report_words parts))
-parts_missed r old one mid new k n parts e is first second h =
-    subst (λ o. OnOk r (new ≡ old ++ (code_said n ++ report_words o))) (sym is)
-    (two_said r old mid new (code_said n) (report_words None)
-    (two_pieces old one mid (codes " error report code ") (error_code_text k) first second
-    ∙ (λ i. old ++ code_said (e i))) h)
+-- the front of a line of which more was changed
+pub front_mapped : (f : ℕ → ℕ) (n m : ℕ) (xs ys rest : List ℕ) → n ≤ m → m ≤ length xs →
+    ys ≡ map f (take m xs) → take n (ys ++ rest) ≡ map f (take n xs)
+front_mapped f n m xs ys rest h k e =
+    take-append-le n ys rest
+    (omega (arith, ap length e, length-map (take m xs) f, length-take m xs, h, k))
+    ∙ ap (take n) e ∙ take-map f n (take m xs) ∙ ap (map f) (take-take n m xs h)

@@ -3,10 +3,7 @@
 #![tactic(auto)]
 
 mod check;
-mod escapes;
-mod fields;
-mod human;
-mod json_line;
+mod laid;
 mod line;
 mod listed;
 mod payload_line;

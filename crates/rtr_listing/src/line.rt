@@ -1,14 +1,13 @@
 //! Lines.
 
-ghost use Rattle.std.specs.Prelude.{◌≡◌, ◌≢◌, ◌∷◌, ◌++◌, [], Err, OnOk, decimal, flat_map, map};
-ghost use Rattle.std.specs.Prelude.{max};
-ghost use Rattle.std.specs.Char.Escape.{escape_ascii};
+ghost use Rattle.std.specs.Prelude.{◌≡◌, ◌≢◌, ◌≤◌, ◌∷◌, ◌++◌, [], Err, OnOk, decimal, length};
+ghost use Rattle.std.specs.Prelude.{map, max, take};
 ghost use Rattle.std.specs.Fmt.{AppendsText};
-ghost use Rattle.hex.specs.Hex.{encode_lower};
 ghost use Rattle.rtr_units.specs.StopCauses.{by_cause, by_reader};
+ghost use Rattle.rtr_texts.specs.Laying.{text_end};
 ghost use Rattle.rtr_listing.specs.Lines.{PutsLine, written_line};
 
-use hex::encode;
+use crate::laid::{Bytes, Laid};
 use itoa::Buffer;
 use rtr_units::fault::Fault;
 use rtr_units::piece::put;
@@ -21,18 +20,29 @@ use std::marker::Model;
 /// The lowest byte that a line has before its line feed.
 const SPACE: u8 = b' ';
 
+/// How many bytes are looked at at once.
+const BLOCK: usize = 32;
+
+/// The room that is made beyond what is needed.
+const MORE_ROOM: usize = 512;
+
 /// A line that is made of pieces, in memory that it uses again.
 #[derive(Drop)]
 pub struct Line {
-    bytes: Vec<u8>,
+    /// The bytes of the line, and after them room for more.
+    room: Vec<u8>,
+    /// The length of the line.
+    len: usize,
 }
 
 impl Model for Line {
-    ghost use Rattle.std.specs.Prelude.{ℕ, List};
+    ghost use Rattle.std.specs.Prelude.{◌≤◌, ℕ, List, length, take};
 
     ghost Value = { List ℕ };
 
-    ghost view = { λ line. line.bytes.items };
+    ghost view = { λ line. take line.len line.room.items };
+
+    ghost invariant = { λ line. line.len ≤ length line.room.items };
 }
 
 impl Line {
@@ -41,36 +51,23 @@ impl Line {
         ensures { result ≡ [] }
     {
         Line {
-            bytes: Vec::new(alloc),
+            room: Vec::new(alloc),
+            len: 0,
         }
-    }
-
-    /// The line of these bytes.
-    pub fn from_bytes(bytes: Vec<u8>) -> Line
-        ensures { result ≡ bytes.items }
-    {
-        Line { bytes }
-    }
-
-    /// The bytes of the line.
-    pub fn into_bytes(self) -> Vec<u8>
-        ensures { result.items ≡ self }
-    {
-        self.bytes
     }
 
     /// The bytes of the line, which are lent.
     pub fn as_bytes(&self) -> &[u8]
         ensures { result.now ≡ self.now }
     {
-        self.bytes.as_slice()
+        &self.room[..self.len]
     }
 
     /// Takes all pieces away.
     pub fn clear(&mut self)
         ensures { self.new ≡ [] }
     {
-        self.bytes.clear();
+        self.len = 0;
     }
 
     /// Adds a text.
@@ -78,7 +75,9 @@ impl Line {
     pub fn text(&mut self, text: &str) -> Result<(), AllocError>
         ensures { OnOk result (self.new ≡ self.old ++ text.now) }
     {
-        self.bytes.extend_from_slice(text.as_bytes())
+        self.lay(&Bytes {
+            bytes: text.as_bytes(),
+        })
     }
 
     /// Adds a number.
@@ -96,37 +95,37 @@ impl Line {
         self.number(number)
     }
 
-    /// Adds bytes in hex.
-    pub(crate) fn hex(&mut self, alloc: Global, bytes: &[u8]) -> Result<(), AllocError>
-        ensures { OnOk result (self.new ≡ self.old ++ encode_lower bytes.now) }
-    {
-        self.text(encode(alloc, bytes)?.as_str())
-    }
-
     /// Adds a byte.
     pub fn byte(&mut self, byte: u8) -> Result<(), AllocError>
         ensures { OnOk result (self.new ≡ self.old ++ byte ∷ []) }
     {
-        self.bytes.push(byte)?;
-        Ok(())
+        self.lay(&Bytes { bytes: &[byte] })
     }
 
-    /// Adds bytes, with an escape such as `\n` or `\x1b` for each that isn't ASCII that prints.
-    pub fn escaped(&mut self, bytes: &[u8]) -> Result<(), AllocError>
-        ensures { OnOk result (self.new ≡ self.old ++ flat_map escape_ascii bytes.now) }
+    /// Adds a text that is laid over a slice: over the room after the line, and again over more
+    /// where it takes that.
+    #[inline(always)]
+    pub(crate) fn lay<T: Laid>(&mut self, text: &T) -> Result<(), AllocError>
+        ensures { OnOk result (self.new ≡ self.old ++ T.text text.now) }
     {
-        for byte in bytes {
-            self.escaped_byte(*byte)?;
+        let end = text.lay(self.room.as_mut_slice(), self.len);
+        if end < self.room.len() {
+            self.len = end;
+            return Ok(());
         }
-        Ok(())
+        self.lay_over_more(text, end)
     }
 
-    fn escaped_byte(&mut self, byte: u8) -> Result<(), AllocError>
-        ensures { OnOk result (self.new ≡ self.old ++ escape_ascii byte) }
+    /// Adds a text that ends at this place, over more room than there is.
+    fn lay_over_more<T: Laid>(&mut self, text: &T, end: usize) -> Result<(), AllocError>
+        requires { end ≡ text_end (length self.old) (T.text text.now) }
+        ensures { OnOk result (self.new ≡ self.old ++ T.text text.now) }
     {
-        for piece in byte.escape_ascii() {
-            self.byte(piece)?;
-        }
+        let Some(size) = end.checked_add(MORE_ROOM) else {
+            return Err(AllocError);
+        };
+        self.room.resize(size, 0)?;
+        self.len = text.lay(self.room.as_mut_slice(), self.len);
         Ok(())
     }
 
@@ -146,9 +145,8 @@ impl Line {
     fn end(&mut self) -> Result<(), AllocError>
         ensures { OnOk result (self.new ≡ written_line self.old) }
     {
-        clear_controls(self.bytes.as_mut_slice());
-        self.bytes.push(b'\n')?;
-        Ok(())
+        clear_line(self.room.as_mut_slice(), self.len);
+        self.byte(b'\n')
     }
 
     /// Ends the line and writes it. `Memory` says that nothing was written, `Writer` that a part
@@ -158,7 +156,7 @@ impl Line {
         ensures no_reader { by_cause result ≢ Err by_reader }
     {
         match self.end() {
-            Ok(()) => put(writer, self.bytes.as_slice()),
+            Ok(()) => put(writer, self.as_bytes()),
             Err(_) => Err(Fault::Memory),
         }
     }
@@ -173,6 +171,21 @@ impl fmt::Write for Line {
             Err(_) => Err(fmt::Error),
         }
     }
+}
+
+/// Makes bytes below 32 of the line that this room begins with spaces, and those after it up to the
+/// end of a block, since whole blocks take the fewest instructions.
+fn clear_line(room: &mut [u8], len: usize)
+    requires { len ≤ length room.old }
+    ensures line { take len room.new ≡ map (λ byte. max byte 32) (take len room.old) }
+    ensures stays { length room.new ≡ length room.old }
+{
+    let blocks = if room.len() - len < BLOCK {
+        len
+    } else {
+        len + BLOCK - len % BLOCK
+    };
+    clear_controls(&mut room[..blocks]);
 }
 
 /// Makes bytes below 32 spaces.

@@ -1,6 +1,6 @@
 //! Units as they are listed, lent by units that own their parts.
 
-ghost use Rattle.std.specs.Prelude.{◌≡◌, drop};
+ghost use Rattle.std.specs.Prelude.{◌≡◌, drop, slice_index};
 ghost use Rattle.rtr_units.specs.Header.{session_field, version_field};
 ghost use Rattle.rtr_payload.specs.AspaUnits.{aspa_at};
 ghost use Rattle.rtr_payload.specs.KeyUnits.{key_at};
@@ -12,7 +12,6 @@ ghost use Rattle.rtr_texts.specs.ListedUnits.{aspa_listed, fields_listed, key_li
 ghost use Rattle.rtr_texts.specs.ListedUnits.{payload_listed};
 ghost use Rattle.rtr_texts.specs.declared.listed.Listed.TheVariants as listed;
 
-use crate::fields::byte_at;
 use rtr_payload::pdu::{Aspa, Payload, RouterKey};
 use rtr_session::{AnyUnit, Report};
 use rtr_texts::{Listed, ListedAspa, ListedKey, ListedPayload, ListedReport};
@@ -37,7 +36,8 @@ pub fn listed(unit: &AnyUnit) -> Listed<'_>
     }
 }
 
-fn listed_payload(unit: &Payload) -> ListedPayload<'_>
+/// The payload unit with its fields as they stand in it.
+pub(crate) fn listed_payload(unit: &Payload) -> ListedPayload<'_>
     ensures { payload_listed result ≡ unit_fields unit.now }
 {
     let free = byte_at(unit.as_partial_slice(), 3);
@@ -87,4 +87,11 @@ fn listed_report(report: &Report) -> ListedReport<'_>
         code: report.code().0,
         body: &report.as_ref()[HEADER..],
     }
+}
+
+/// The byte at the place, or 0 where there is none.
+fn byte_at(bytes: &[u8], place: usize) -> u8
+    ensures { result ≡ slice_index bytes.now place }
+{
+    bytes.get(place).copied().unwrap_or(0)
 }

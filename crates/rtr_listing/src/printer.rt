@@ -16,28 +16,25 @@ ghost use Rattle.rtr_texts.specs.TextLines.{unit_text};
 ghost use Rattle.rtr_listing.specs.declared.run.Wanted.TheVariants.{Text, Json, Findings};
 
 use crate::check::Checker;
+use crate::laid::{UnitJson, UnitText};
 use crate::line::Line;
+use crate::listed::listed;
 use crate::run::Wanted;
-use crate::{human, json_line};
 use rtr_findings::Finding;
 use rtr_session::AnyUnit;
 use rtr_units::fault::Fault;
 use rtr_units::source::Sink;
 use std::alloc::{AllocError, Global};
-use std::mem;
 
 /// What is printed of units that come one after the other, in memory that it uses again for each.
 #[derive(Drop)]
 pub struct Printer {
-    alloc: Global,
     /// The number of bytes of the units before, which stays at the greatest number.
     offset: u64,
     checker: Checker,
     /// What the newest unit breaks.
     findings: Vec<Finding>,
     line: Line,
-    /// The text of an address.
-    scratch: String,
 }
 
 impl Printer {
@@ -47,12 +44,10 @@ impl Printer {
         ensures checker { HasSeen result.checker [] }
     {
         Printer {
-            alloc,
             offset: 0,
             checker: Checker::new(alloc),
             findings: Vec::new(alloc),
             line: Line::new(alloc),
-            scratch: String::new(alloc),
         }
     }
 
@@ -108,8 +103,8 @@ impl Printer {
         ensures offset { self.new.offset ≡ self.old.offset }
     {
         match wanted {
-            Wanted::Text => listed(self.print_text(unit, output)),
-            Wanted::Json => listed(self.print_json(unit, output)),
+            Wanted::Text => unbroken(self.print_text(unit, output)),
+            Wanted::Json => unbroken(self.print_json(unit, output)),
             Wanted::Findings => self.print_findings(unit, output),
         }
     }
@@ -150,7 +145,11 @@ impl Printer {
         ensures offset { self.new.offset ≡ self.old.offset }
     {
         self.line.clear();
-        match human::describe(self.alloc, &mut self.line, self.offset, unit) {
+        let text = UnitText {
+            offset: self.offset,
+            unit: listed(unit),
+        };
+        match self.line.lay(&text) {
             Ok(()) => self.line.put(output),
             Err(_) => Err(Fault::Memory),
         }
@@ -162,13 +161,15 @@ impl Printer {
         ensures no_reader { by_cause result ≢ Err by_reader }
         ensures offset { self.new.offset ≡ self.old.offset }
     {
-        let mut line = mem::replace(&mut self.line, Line::new(self.alloc));
-        line.clear();
-        match json_line::describe(self.alloc, line, &mut self.scratch, self.offset, unit) {
-            Ok(line) => self.line = line,
-            Err(_) => return Err(Fault::Memory),
+        self.line.clear();
+        let text = UnitJson {
+            offset: self.offset,
+            unit: listed(unit),
+        };
+        match self.line.lay(&text) {
+            Ok(()) => self.line.put(output),
+            Err(_) => Err(Fault::Memory),
         }
-        self.line.put(output)
     }
 
     fn print_findings<W: Sink>(&mut self, unit: &AnyUnit, output: &mut W) -> Result<bool, Fault>
@@ -189,7 +190,7 @@ impl Printer {
 }
 
 /// A listed unit breaks no rule that is looked for.
-fn listed(line: Result<(), Fault>) -> Result<bool, Fault>
+fn unbroken(line: Result<(), Fault>) -> Result<bool, Fault>
     ensures text { (text : List ℕ) → (old new : WriterState) → PutsLine text line old new →
         Prints Text (written_line text ∷ []) result old new }
     ensures json { (text : List ℕ) → (old new : WriterState) → PutsLine text line old new →

@@ -1,11 +1,11 @@
 //! One run of the program, over any reader and writers.
 
-ghost use Rattle.std.specs.Prelude.{◌≡◌, [], false, is_ok, Err};
+ghost use Rattle.std.specs.Prelude.{◌≡◌, [], false, is_ok, Err, if◌then◌else◌};
 ghost use Rattle.rtr_units.specs.StopCauses.{by_cause, cause_of};
 ghost use Rattle.rtr_listing.specs.PrivateFollowing.{HasSeen};
 ghost use Rattle.rtr_listing.specs.Listing.{Lists};
-ghost use Rattle.rtr_listing.specs.ListStatus.{Runs, counts_units, listing_status, status_after};
-ghost use Rattle.rtr_listing.specs.ListWords.{wanted_by_words, wanted_by_word};
+ghost use Rattle.rtr_listing.specs.ListStatus.{Runs, counts_units, listing_status};
+ghost use Rattle.rtr_listing.specs.ListStatus.{wanted_by_words};
 
 use crate::printer::Printer;
 use rtr_program::report;
@@ -42,18 +42,11 @@ pub fn form_wanted(words: &[String]) -> Option<Wanted>
 {
     match words {
         [] => Some(Wanted::Text),
-        [word] => form_named(word.as_str()),
-        _ => None,
-    }
-}
-
-/// What the word asks for.
-fn form_named(word: &str) -> Option<Wanted>
-    ensures { result ≡ wanted_by_word word.now }
-{
-    match word {
-        "--json" => Some(Wanted::Json),
-        "--check" => Some(Wanted::Findings),
+        [word] => match word.as_str() {
+            "--json" => Some(Wanted::Json),
+            "--check" => Some(Wanted::Findings),
+            _ => None,
+        },
         _ => None,
     }
 }
@@ -130,7 +123,7 @@ fn tell<F: Write>(
     offset: u64,
     faults: &mut F,
 ) -> u8
-    ensures status { result ≡ status_after (by_cause answer) (is_ok flushed) }
+    ensures status { result ≡ (if is_ok flushed then listing_status (by_cause answer) else 3) }
     ensures quiet { result ≡ 0 → faults.new ≡ faults.old }
 {
     let found = match answer {
@@ -156,7 +149,8 @@ fn tell_fault<F: Write>(
     offset: u64,
     faults: &mut F,
 ) -> u8
-    ensures { result ≡ status_after (Err (cause_of fault.now)) (is_ok flushed) }
+    ensures { result ≡
+        (if is_ok flushed then listing_status (Err (cause_of fault.now)) else 3) }
 {
     let status = fault_status(fault);
     if status == BROKEN {

@@ -1,7 +1,7 @@
 //! What a program says of itself.
 
 ghost use Rattle.std.specs.Prelude.{◌≡◌, ◌≢◌, None, IfSome};
-ghost use Rattle.rtr_program.specs.Questions.{TellsAbout, asked_by_word, asked_of, manual_text};
+ghost use Rattle.rtr_program.specs.Questions.{WritesText, asked_of, manual_text};
 
 use rtr_units::fault::Fault;
 use rtr_units::piece::put;
@@ -41,18 +41,11 @@ fn asked(words: &[String]) -> Option<Question>
     ensures { result ≡ asked_of words.now }
 {
     match words {
-        [word] => question_named(word.as_str()),
-        _ => None,
-    }
-}
-
-/// What the word asks.
-fn question_named(word: &str) -> Option<Question>
-    ensures { result ≡ asked_by_word word.now }
-{
-    match word {
-        "--help" => Some(Question::Help),
-        "--version" => Some(Question::Version),
+        [word] => match word.as_str() {
+            "--help" => Some(Question::Help),
+            "--version" => Some(Question::Version),
+            _ => None,
+        },
         _ => None,
     }
 }
@@ -66,7 +59,7 @@ fn answer<W: Sink, F: Write>(
     output: &mut W,
     faults: &mut F,
 ) -> u8
-    ensures tells { TellsAbout (manual_text manual.now question) failed result
+    ensures tells { WritesText (manual_text manual.now question) 0 failed result
         (W.state output.old) (W.state output.new) }
     ensures quiet { failed ≢ 0 → result ≡ 0 → faults.new ≡ faults.old }
 {
@@ -102,7 +95,7 @@ pub fn about<W: Sink, F: Write>(
 ) -> u8
     ensures usage { asked_of words.now ≡ None → (result ≡ 2) × (output.new ≡ output.old) }
     ensures tells { IfSome (asked_of words.now) (λ question.
-        TellsAbout (manual_text manual.now question) failed result
+        WritesText (manual_text manual.now question) 0 failed result
         (W.state output.old) (W.state output.new)) }
     ensures quiet { failed ≢ 0 → result ≡ 0 → faults.new ≡ faults.old }
 {

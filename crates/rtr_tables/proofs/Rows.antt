@@ -124,28 +124,3 @@ module _ (piece : Payload → List ℕ) (os : List RouteOrigin) (ks : List Route
       ∙ sym (by_kinds ∙ ap (λ (l : List ℕ). flat_map piece (map origin_of os) ++ l)
       (ap (λ (l : List ℕ). l ++ flat_map piece (map entry_of es))
       (none_at piece key_of no_key ks) ∙ none_at piece entry_of no_entry es))
-
-  pub of_keys : ((o : RouteOrigin) → piece (origin_of o) ≡ []) →
-      ((e : ℕ × List ℕ) → piece (entry_of e) ≡ []) →
-      flat_map (λ k. piece (key_of k)) ks ≡ flat_map piece d
-  of_keys no_origin no_entry =
-      sym (flat_map-map piece key_of ks)
-      ∙ sym (append-nil (flat_map piece (map key_of ks)))
-      ∙ sym (by_kinds
-      ∙ ap (λ (l : List ℕ). l ++ (flat_map piece (map key_of ks)
-      ++ flat_map piece (map entry_of es)))
-      (none_at piece origin_of no_origin os)
-      ∙ ap (λ (l : List ℕ). flat_map piece (map key_of ks) ++ l)
-      (none_at piece entry_of no_entry es))
-
-  pub of_entries : ((o : RouteOrigin) → piece (origin_of o) ≡ []) →
-      ((k : RouterKey) → piece (key_of k) ≡ []) →
-      flat_map (λ e. piece (entry_of e)) es ≡ flat_map piece d
-  of_entries no_origin no_key =
-      sym (flat_map-map piece entry_of es)
-      ∙ sym (by_kinds
-      ∙ ap (λ (l : List ℕ). l ++ (flat_map piece (map key_of ks)
-      ++ flat_map piece (map entry_of es)))
-      (none_at piece origin_of no_origin os)
-      ∙ ap (λ (l : List ℕ). l ++ flat_map piece (map entry_of es))
-      (none_at piece key_of no_key ks))

@@ -1,4 +1,3 @@
-pub mod TableWords
 pub mod Tables
 pub mod TableStatus
 pub mod PrivateObjects

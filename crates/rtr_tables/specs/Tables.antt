@@ -2,13 +2,14 @@
 -- program's own. Numbers are in decimal, addresses as std writes them (IPv6 as RFC 5952), key
 -- identifiers in hex, and key info in base64 with padding (RFC 4648 section 4).
 use Rattle.std.specs.Prelude.{ℕ, Bool, true, false, List, [], ◌++◌, codes, decimal, drop}
+use Rattle.std.specs.Prelude.{filter}
 use Rattle.std.specs.List.{flat_map}
 use Rattle.base64.specs.Engines.{standard}
 use Rattle.base64.specs.GeneralPurpose.{encode_of}
 use Rattle.hex.specs.Hex.{encode_lower}
 use Rattle.rtr_base.specs.PlainTexts.{address_text, asn_text}
 use Rattle.rtr_units.specs.PrefixUnits.{OriginParts}
-use Rattle.rtr_payload.specs.Payloads.{Payload, origin, key, aspa, KeyParts, AspaParts}
+use Rattle.rtr_payload.specs.Payloads.{Payload, origin, key, aspa}
 use Rattle.rtr_tables.specs.declared.words.Table.{Table}
 use Rattle.rtr_tables.specs.declared.words.Table.TheVariants.{Csv, Json}
 
@@ -29,7 +30,13 @@ csv_row (aspa a) = []
 unfoldable pub csv_text : List Payload → List ℕ
 csv_text d = codes "ASN,IP Prefix,Max Length\n" ++ flat_map csv_row d
 
--- what has no row
+-- ---- kinds of payloads
+
+abbrev pub is_origin : Payload → Bool
+is_origin (origin o) = true
+is_origin (key k) = false
+is_origin (aspa a) = false
+
 abbrev pub is_key : Payload → Bool
 is_key (key k) = true
 is_key (origin o) = false
@@ -42,55 +49,32 @@ is_aspa (key k) = false
 
 -- ---- JSON
 
+-- the object of a payload:
 -- {"prefix":"192.0.2.0/23","maxLength":26,"asn":65551}
-abbrev pub origin_object : OriginParts → List ℕ
-origin_object o =
+-- {"asn":65551,"ski":"0102030405060708090a0b0c0d0e0f1011121314","pubkey":"FRYXGA=="}
+-- {"customer_asid":65551,"providers":[65549,65550]}
+abbrev pub object_text : Payload → List ℕ
+object_text (origin o) =
     codes "{\"prefix\":\"" ++ origin_prefix o ++ codes "\",\"maxLength\":" ++ decimal o.max_len
     ++ codes ",\"asn\":" ++ decimal o.asn ++ codes "}"
-
--- {"asn":65551,"ski":"0102030405060708090a0b0c0d0e0f1011121314","pubkey":"FRYXGA=="}
-abbrev pub key_object : KeyParts → List ℕ
-key_object k =
+object_text (key k) =
     codes "{\"asn\":" ++ decimal k.asn ++ codes ",\"ski\":\"" ++ encode_lower k.identifier
     ++ codes "\",\"pubkey\":\"" ++ encode_of standard k.info ++ codes "\"}"
-
--- a number of an array, which the first has no comma before
-abbrev pub after_comma : ℕ → List ℕ
-after_comma n = codes "," ++ decimal n
-
--- {"customer_asid":65551,"providers":[65549,65550]}
-abbrev pub aspa_object : AspaParts → List ℕ
-aspa_object a =
+object_text (aspa a) =
     codes "{\"customer_asid\":" ++ decimal a.customer ++ codes ",\"providers\":["
-    ++ drop 1 (flat_map after_comma a.providers) ++ codes "]}"
+    ++ drop 1 (flat_map (λ n. codes "," ++ decimal n) a.providers) ++ codes "]}"
 
--- what a payload adds to each of three arrays: after a comma an object on a line of its own, or
--- nothing
-abbrev pub origin_item : Payload → List ℕ
-origin_item (origin o) = codes ",\n" ++ origin_object o
-origin_item (key k) = []
-origin_item (aspa a) = []
-
-abbrev pub key_item : Payload → List ℕ
-key_item (origin o) = []
-key_item (key k) = codes ",\n" ++ key_object k
-key_item (aspa a) = []
-
-abbrev pub aspa_item : Payload → List ℕ
-aspa_item (origin o) = []
-aspa_item (key k) = []
-aspa_item (aspa a) = codes ",\n" ++ aspa_object a
-
--- the items of an array, the first without its comma
-abbrev pub items_of : (Payload → List ℕ) → List Payload → List ℕ
-items_of item d = drop 1 (flat_map item d)
+-- an array of the payloads of a kind: after a comma each object on a line of its own, the first
+-- without its comma
+abbrev pub items_of : (Payload → Bool) → List Payload → List ℕ
+items_of kind d = drop 1 (flat_map (λ p. codes ",\n" ++ object_text p) (filter kind d))
 
 -- an object with the origins, the router keys and the ASPAs, each in the order of payloads
 unfoldable pub json_text : List Payload → List ℕ
 json_text d =
-    codes "{\"roas\":[" ++ items_of origin_item d
-    ++ codes "\n],\n\"bgpsec_keys\":[" ++ items_of key_item d
-    ++ codes "\n],\n\"aspas\":[" ++ items_of aspa_item d ++ codes "\n]}\n"
+    codes "{\"roas\":[" ++ items_of is_origin d
+    ++ codes "\n],\n\"bgpsec_keys\":[" ++ items_of is_key d
+    ++ codes "\n],\n\"aspas\":[" ++ items_of is_aspa d ++ codes "\n]}\n"
 
 -- ---- a table
 

@@ -1,10 +1,10 @@
 //! All payloads in JSON.
 
-ghost use Rattle.std.specs.Prelude.{◌≡◌, ◌++◌, OnOk, codes, drop, flat_map};
+ghost use Rattle.std.specs.Prelude.{◌≡◌, ◌++◌, OnOk, codes, decimal, drop, flat_map};
 ghost use Rattle.rtr_data.specs.Contents.{entry_of};
 ghost use Rattle.rtr_payload.specs.Meanings.{key_of, origin_of};
-ghost use Rattle.rtr_tables.specs.PrivateObjects.{comma_unless, object_text};
-ghost use Rattle.rtr_tables.specs.Tables.{after_comma, aspa_item, json_text, key_item, origin_item};
+ghost use Rattle.rtr_tables.specs.PrivateObjects.{comma_unless};
+ghost use Rattle.rtr_tables.specs.Tables.{json_text, object_text};
 
 use crate::pieces::add_prefix;
 use base64::engine::general_purpose::STANDARD;
@@ -49,7 +49,7 @@ fn before_item(first: bool) -> &'static str
 /// Adds the items of the origins.
 fn add_origins(line: &mut Line, origins: btree_set::Iter<'_, KeptOrigin>) -> Result<(), AllocError>
     ensures { OnOk result (line.new ≡ line.old
-        ++ drop 1 (flat_map (λ o. origin_item (origin_of o)) origins.entry)) }
+        ++ drop 1 (flat_map (λ o. codes ",\n" ++ object_text (origin_of o)) origins.entry)) }
 {
     let mut first = true;
     for origin in origins {
@@ -83,7 +83,7 @@ fn add_keys(
     keys: btree_set::Iter<'_, RouterKey>,
 ) -> Result<(), AllocError>
     ensures { OnOk result (line.new ≡ line.old
-        ++ drop 1 (flat_map (λ k. key_item (key_of k)) keys.entry)) }
+        ++ drop 1 (flat_map (λ k. codes ",\n" ++ object_text (key_of k)) keys.entry)) }
 {
     let mut first = true;
     for key in keys {
@@ -111,7 +111,7 @@ fn add_aspas(
     aspas: btree_map::Iter<'_, Asn, ProviderAsns>,
 ) -> Result<(), AllocError>
     ensures { OnOk result (line.new ≡ line.old
-        ++ drop 1 (flat_map (λ e. aspa_item (entry_of e)) aspas.entry)) }
+        ++ drop 1 (flat_map (λ e. codes ",\n" ++ object_text (entry_of e)) aspas.entry)) }
 {
     let mut first = true;
     for (customer, providers) in aspas {
@@ -134,7 +134,8 @@ fn add_aspa(line: &mut Line, customer: Asn, providers: &ProviderAsns) -> Result<
 
 /// Adds the providers.
 fn add_providers(line: &mut Line, providers: &ProviderAsns) -> Result<(), AllocError>
-    ensures { OnOk result (line.new ≡ line.old ++ drop 1 (flat_map after_comma providers.now)) }
+    ensures { OnOk result (line.new ≡ line.old
+        ++ drop 1 (flat_map (λ n. codes "," ++ decimal n) providers.now)) }
 {
     let mut first = true;
     for provider in providers.iter() {

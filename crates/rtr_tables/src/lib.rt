@@ -1,5 +1,5 @@
-//! The program `rtr_list` with its tables: the payloads that a recording leaves, as validators
-//! print them, in comma-separated values or in JSON. What else it prints is `rtr_listing`'s.
+//! The tables of the program `rtr_list`: the payloads that a recording leaves, as validators print
+//! them, in comma-separated values or in JSON, over any reader and writers.
 #![tactic(auto)]
 
 mod csv_table;
@@ -10,5 +10,5 @@ mod words;
 
 pub use csv_table::{LeftOut, add_csv, left_out};
 pub use json_table::add_json;
-pub use run::program;
+pub use run::print_table;
 pub use words::{Table, table_wanted};

@@ -1,20 +1,16 @@
-//! One run of the program, over any reader and writers.
+//! A run that prints a table, over any reader and writers.
 
-ghost use Rattle.std.specs.Prelude.{◌≡◌, ◌++◌, drop, false, IfSome, IsNone, None, OnOk};
-ghost use Rattle.rtr_listing.specs.ListStatus.{Runs, counts_units};
-ghost use Rattle.rtr_program.specs.Questions.{TellsAbout, asked_of, manual_text};
-ghost use Rattle.rtr_listing.specs.ListWords.{wanted_by_words};
-ghost use Rattle.rtr_tables.specs.TableStatus.{EndsPrinting, HasEach, RunsTable};
+ghost use Rattle.std.specs.Prelude.{◌≡◌, ◌++◌, false, Ok, OnOk};
+ghost use Rattle.rtr_tables.specs.TableStatus.{EndsTable, HasEach, RunsTable};
 ghost use Rattle.rtr_tables.specs.TableStatus.{refused_status};
-ghost use Rattle.rtr_tables.specs.TableWords.{table_by_words};
 ghost use Rattle.rtr_tables.specs.Tables.{table_text};
 
 use crate::csv_table::{LeftOut, add_csv, left_out};
 use crate::json_table::add_json;
-use crate::words::{Table, table_wanted};
+use crate::words::Table;
 use rtr_data::{ChangeError, Data};
-use rtr_listing::{Line, form_wanted};
-use rtr_program::{Manual, about, report, usage, words_after_name};
+use rtr_listing::Line;
+use rtr_program::report;
 use rtr_recordings::{Recording, Refusal, Stop, StopCause, read_recording};
 use rtr_units::fault::Fault;
 use rtr_units::piece::put;
@@ -31,56 +27,6 @@ const REFUSED: u8 = 1;
 /// The status where reading, writing or memory failed.
 const FAILED: u8 = 3;
 
-/// Runs the program with the words that it was started with, its name first, and answers the exit
-/// status: that of `run` where they ask for a table, and of `rtr_listing::print_units` where they
-/// ask for units or broken rules. Where they ask for help or the version it is 0, or 3 where that
-/// can't be written. Otherwise, and where there are no words, since they can't be had as texts, a
-/// line on
-/// `faults` says how the program is called, and the status is 2.
-pub fn program<R: Source, W: Sink, F: Write>(
-    alloc: Global,
-    manual: &Manual,
-    words: Option<Vec<String>>,
-    input: &mut R,
-    output: &mut W,
-    faults: &mut F,
-) -> u8
-    // Without words nothing is read or written.
-    ensures no_words { IsNone words →
-        (result ≡ 2) × (input.new ≡ input.old) × (output.new ≡ output.old) }
-    // Nor is it with words after the program's name that ask for nothing.
-    ensures usage { IfSome words (λ all. table_by_words (drop 1 all.items) ≡ None →
-        wanted_by_words (drop 1 all.items) ≡ None → asked_of (drop 1 all.items) ≡ None →
-        (result ≡ 2) × (input.new ≡ input.old) × (output.new ≡ output.old)) }
-    // Where they ask about the program, that is written, and nothing is read.
-    ensures asked { IfSome words (λ all. IfSome (asked_of (drop 1 all.items)) (λ question.
-        (input.new ≡ input.old) × TellsAbout (manual_text manual.now question) 3 result
-        (W.state output.old) (W.state output.new))) }
-    // Where they ask for a table, it is printed of what the recording leaves.
-    ensures tables { IfSome words (λ all. IfSome (table_by_words (drop 1 all.items)) (λ table.
-        RunsTable table (faults.new ≡ faults.old) result
-        (R.state input.old) (R.state input.new) (W.state output.old) (W.state output.new))) }
-    // Where they ask for units or broken rules, these are printed of the input.
-    ensures lists { IfSome words (λ all. IfSome (wanted_by_words (drop 1 all.items)) (λ what.
-        Runs what result
-        (R.state input.old) (R.state input.new) (W.state output.old) (W.state output.new))) }
-    // Where units are printed and that succeeds, no line is printed on `faults`.
-    ensures quiet { IfSome words (λ all. IfSome (wanted_by_words (drop 1 all.items)) (λ what.
-        counts_units what ≡ false → result ≡ 0 → faults.new ≡ faults.old)) }
-{
-    let Some(all) = words else {
-        return usage(manual, faults);
-    };
-    let words = words_after_name(&all);
-    if let Some(table) = table_wanted(words) {
-        return run(alloc, manual.name, table, input, output, faults);
-    }
-    if let Some(wanted) = form_wanted(words) {
-        return rtr_listing::print_units(alloc, manual.name, wanted, input, output, faults);
-    }
-    about(manual, words, FAILED, output, faults)
-}
-
 /// Reads a recording up to the end of the input, as `read_recording` does, prints the table of the
 /// data that it leaves, flushes the output once, and answers the exit status:
 /// - 0 if all that succeeded;
@@ -91,7 +37,7 @@ pub fn program<R: Source, W: Sink, F: Write>(
 /// Statuses 1 and 3 come with a line on `faults`, which begins with the program's name, and status
 /// 0 with one where payloads are left out, and with one where an answer is. Of a pipe that nobody
 /// reads any more nothing is said. If a line can't be written, nothing else changes.
-pub fn run<R: Source, W: Sink, F: Write>(
+pub fn print_table<R: Source, W: Sink, F: Write>(
     alloc: Global,
     name: &str,
     table: Table,
@@ -117,7 +63,7 @@ fn print<W: Sink, F: Write>(
     output: &mut W,
     faults: &mut F,
 ) -> u8
-    ensures { EndsPrinting table (faults.new ≡ faults.old) recording.now result
+    ensures { EndsTable table (faults.new ≡ faults.old) (Ok recording.now) result
         (W.state output.old) (W.state output.new) }
 {
     let mut text = Line::new(alloc);

@@ -1,7 +1,7 @@
 //! Which table is asked for.
 
 ghost use Rattle.std.specs.Prelude.{◌≡◌};
-ghost use Rattle.rtr_tables.specs.TableWords.{table_by_word, table_by_words};
+ghost use Rattle.rtr_tables.specs.TableStatus.{table_by_words};
 
 /// In which form a table is printed.
 #[derive(Clone, Copy)]
@@ -17,18 +17,11 @@ pub fn table_wanted(words: &[String]) -> Option<Table>
     ensures { result ≡ table_by_words words.now }
 {
     match words {
-        [word] => table_named(word.as_str()),
-        _ => None,
-    }
-}
-
-/// The table that the word asks for.
-fn table_named(word: &str) -> Option<Table>
-    ensures { result ≡ table_by_word word.now }
-{
-    match word {
-        "--csv" => Some(Table::Csv),
-        "--vrps" => Some(Table::Json),
+        [word] => match word.as_str() {
+            "--csv" => Some(Table::Csv),
+            "--vrps" => Some(Table::Json),
+            _ => None,
+        },
         _ => None,
     }
 }

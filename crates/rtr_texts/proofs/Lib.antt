@@ -10,3 +10,4 @@ mod EscapedStrings
 mod PlainTokens
 mod UnitPieces
 mod ReportPieces
+mod ShortNumbers

@@ -1,6 +1,6 @@
 //! Texts that are laid over a slice.
 
-ghost use Rattle.std.specs.Prelude.{◌≡◌, ◌≤◌, ◌+◌, ◌++◌, length, codes, decimal};
+ghost use Rattle.std.specs.Prelude.{◌≡◌, ◌≤◌, ◌<◌, ◌+◌, ◌++◌, length, codes, decimal};
 ghost use Rattle.rtr_base.specs.PlainTexts.{asn_text};
 ghost use Rattle.rtr_texts.specs.Laying.{Lays};
 
@@ -42,15 +42,44 @@ pub fn text(output: &mut [u8], at: usize, text: &str) -> usize
     bytes(output, at, text.as_bytes())
 }
 
-/// Lays a number.
-#[inline(always)]
+/// Lays a number. Most have at most three digits, which are laid at once.
 pub fn number(output: &mut [u8], at: usize, number: u64) -> usize
+    ensures { Lays (decimal number) at output.old result output.new }
+{
+    match number {
+        0..10 => bytes(output, at, &[digit(number)]),
+        10..100 => bytes(output, at, &[digit(number / 10), digit(number % 10)]),
+        100..1000 => bytes(
+            output,
+            at,
+            &[
+                digit(number / 100),
+                digit(number / 10 % 10),
+                digit(number % 10),
+            ],
+        ),
+        _ => long_number(output, at, number),
+    }
+}
+
+/// The digit of a number below 10.
+#[inline(always)]
+fn digit(number: u64) -> u8
+    requires { number < 10 }
+    ensures { result ≡ 48 + number }
+{
+    b'0' + number as u8
+}
+
+/// Lays a number of any size.
+fn long_number(output: &mut [u8], at: usize, number: u64) -> usize
     ensures { Lays (decimal number) at output.old result output.new }
 {
     text(output, at, Buffer::new().format(number))
 }
 
 /// Lays a label and a number after it.
+#[inline(always)]
 pub fn labelled(output: &mut [u8], at: usize, label: &str, value: u64) -> usize
     ensures { Lays (label.now ++ decimal value) at output.old result output.new }
 {

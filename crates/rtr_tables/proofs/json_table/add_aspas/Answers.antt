@@ -2,7 +2,7 @@ use Rattle.std.proofs.Common.{rules, refl, sym, append-nil, codes, ◌++◌, ℕ
 use Rattle.std.specs.Map.Iter.{deref_pair}
 use Rattle.rtr_data.specs.Contents.{entry_of}
 use Rattle.rtr_data.proofs.Fronts.{turn}
-use Rattle.rtr_tables.specs.PrivateObjects.{object_text}
+use Rattle.rtr_tables.specs.Tables.{object_text}
 use Rattle.rtr_tables.proofs.Rows.{item_last, item_more, on_a_line, some_more}
 use Rattle.rtr_tables.proofs.json_table.add_aspas.Goals as goal
 

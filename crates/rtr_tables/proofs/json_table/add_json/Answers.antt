@@ -1,6 +1,9 @@
-use Rattle.std.proofs.Common.{ap, codes, drop, refl, List, ℕ}
-use Rattle.rtr_tables.specs.Tables.{aspa_item, json_text, key_item, origin_item}
-use Rattle.rtr_tables.proofs.Rows.{of_entries, of_keys, of_origins}
+use Rattle.std.proofs.Common.{ap, codes, drop, refl, List, ℕ, ◌++◌}
+use Rattle.rtr_payload.specs.Meanings.{key_of, origin_of}
+use Rattle.rtr_payload.specs.Payloads.{Payload}
+use Rattle.rtr_data.specs.Contents.{entry_of}
+use Rattle.rtr_tables.specs.Tables.{json_text, object_text}
+use Rattle.rtr_tables.proofs.Counts.{aspas_are, keys_are, origins_are, items_are}
 use Rattle.rtr_tables.proofs.Said.{last_said, then_said}
 use Rattle.rtr_tables.proofs.json_table.add_json.Goals as goal
 
@@ -10,11 +13,12 @@ returns c =
     let parts = c.parts-origins.result in
     let is = c.parts-origins.ensures.payloads in
     let cut = λ (l : List ℕ). drop 1 l in
-    let origins = ap cut (of_origins origin_item parts.0 parts.1 parts.2 _ is (λ k. refl)
-    (λ e. refl)) in
-    let keys = ap cut (of_keys key_item parts.0 parts.1 parts.2 _ is (λ o. refl) (λ e. refl)) in
-    let aspas = ap cut (of_entries aspa_item parts.0 parts.1 parts.2 _ is (λ o. refl)
-    (λ k. refl)) in
+    let item = λ (p : Payload). codes ",\n" ++ object_text p in
+    let origins = ap cut (items_are item origin_of parts.0 _
+    (origins_are parts.0 parts.1 parts.2 _ is)) in
+    let keys = ap cut (items_are item key_of parts.1 _ (keys_are parts.0 parts.1 parts.2 _ is)) in
+    let aspas = ap cut (items_are item entry_of parts.2 _
+    (aspas_are parts.0 parts.1 parts.2 _ is)) in
     let line = c.args.line.now in
     let one = then_said line c.text.new.self c.add_origins.new.line (codes "{\"roas\":[") _ _
     origins c.in_ok-text.ensures c.in_ok-add_origins.ensures in

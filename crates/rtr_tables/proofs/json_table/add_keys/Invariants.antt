@@ -1,7 +1,7 @@
 use Rattle.std.proofs.Common.{◌≡◌, ◌++◌, codes, map}
 use Rattle.std.specs.Map.Iter.{deref}
 use Rattle.rtr_payload.specs.Meanings.{key_of}
-use Rattle.rtr_tables.specs.PrivateObjects.{object_text}
+use Rattle.rtr_tables.specs.Tables.{object_text}
 use Rattle.rtr_tables.proofs.Rows.{is_none, items_so_far}
 use Rattle.rtr_tables.proofs.json_table.add_keys.Given as goal
 

@@ -1,0 +1,5 @@
+mod Rankings
+mod SummarisedUnits
+mod SummaryLines
+mod SummaryPieces
+mod Tallies

@@ -1,0 +1,73 @@
+-- What is counted of units one after the other. Only contracts of private functions cite these.
+use Rattle.std.specs.Prelude.{◌≡◌, ℕ, ◌+◌, ◌-◌, ◌<◌, ◌^◌, ◌==◌, min, Bool, true, List, length}
+use Rattle.std.specs.Prelude.{slice_index, set, Option, Some, None, Result, if◌then◌else◌}
+use Rattle.std.specs.BTreeMap.{BTreeMap, get}
+use Rattle.std.specs.Map.{count_at}
+use Rattle.std.specs.Option.{option_map}
+use Rattle.std.specs.Ordering.{nat_cmp}
+use Rattle.rtr_units.specs.AnyEnd.{end_meaning}
+use Rattle.rtr_units.specs.StopCauses.{ReaderState}
+use Rattle.rtr_units.specs.declared.fault.Fault.{Fault}
+use Rattle.rtr_session.specs.AnyFields.{AnyFields}
+use Rattle.rtr_listing.specs.Listing.{offset_of}
+use Rattle.rtr_summary.specs.Summaries.{tally, announced_type, other_type, announced_length}
+use Rattle.rtr_summary.specs.Summaries.{announced_as, first_end, last_end, number_lines}
+use Rattle.rtr_summary.specs.SummaryStatus.{ReadsUnits}
+use Rattle.rtr_summary.specs.declared.as_counts.AsCounts.{AsCounts}
+use Rattle.rtr_summary.specs.declared.summary.Summary.{Summary}
+
+-- one more of this number, up to the greatest
+abbrev pub raised : List ℕ → Option ℕ → List ℕ
+raised counts None = counts
+raised counts (Some n) = set counts n (min (slice_index counts n + 1) (2 ^ 64 - 1))
+
+-- of each byte it is counted of how many of these units it is the number
+pub record HasTallied (number : AnyFields → Option ℕ) (counts : List ℕ) (units : List AnyFields)
+    : Type 0 where
+  pub long : length counts ≡ 256
+  pub each : (k : ℕ) → k < 256 → slice_index counts k ≡ tally number units k
+
+-- how often the AS came
+abbrev pub as_count : BTreeMap ℕ ℕ → ℕ → ℕ
+as_count counts asn = count_at (get nat_cmp counts) asn
+
+-- one more of this AS, if there is one, up to the greatest
+abbrev pub one_more : Option ℕ → (ℕ → ℕ) → ℕ → ℕ
+one_more None ases k = ases k
+one_more (Some asn) ases k = if asn == k then min (ases asn + 1) (2 ^ 64 - 1) else ases k
+
+-- an AS was counted, if there was one, unless memory for it failed, now or before
+pub record CountsAs (asn : Option ℕ) (old new : AsCounts) : Type 0 where
+  pub whole : new.is_whole ≡ true → old.is_whole ≡ true
+  pub each : new.is_whole ≡ true → (k : ℕ) →
+      as_count new.counts k ≡ one_more asn (as_count old.counts) k
+
+-- of each AS it is counted how many prefixes of it these units announce, unless memory failed
+abbrev pub HasCounted : AsCounts → List AnyFields → Type 0
+HasCounted ases units = ases.is_whole ≡ true → (k : ℕ) →
+    as_count ases.counts k ≡ tally announced_as units k
+
+-- the summary is of these units
+pub record Sums (s : Summary) (units : List AnyFields) : Type 0 where
+  pub bytes : s.bytes ≡ offset_of units
+  pub count : s.units ≡ length units
+  pub announced : HasTallied announced_type s.announced.counts units
+  pub others : HasTallied other_type s.others.counts units
+  pub v4_lengths : HasTallied (announced_length 4) s.v4_lengths.counts units
+  pub v6_lengths : HasTallied (announced_length 6) s.v6_lengths.counts units
+  pub ases : HasCounted s.ases units
+  pub first : option_map end_meaning s.first ≡ first_end units
+  pub last : option_map end_meaning s.last ≡ last_end units
+
+-- the text of these numbers
+abbrev pub numbers_text : Bool → Summary → List ℕ
+numbers_text complete s =
+    number_lines complete s.bytes s.units
+    (slice_index s.announced.counts) (slice_index s.others.counts)
+    (slice_index s.v4_lengths.counts) (slice_index s.v6_lengths.counts)
+    (as_count s.ases.counts) (option_map end_meaning s.first) (option_map end_meaning s.last)
+
+-- so a call that reads units ended, and the summary is of them
+abbrev pub ReadsAndSums : Result (Unit {0}) Fault → Summary → (old new : ReaderState) → Type 0
+ReadsAndSums reading s old new =
+    (units : List AnyFields) × ReadsUnits reading units old new × Sums s units

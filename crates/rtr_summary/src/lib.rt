@@ -1,0 +1,14 @@
+//! What `rtr_list --summary` prints: how many units of each kind and prefix length there are, and
+//! which ASes announce most, over any reader and writers.
+#![tactic(auto)]
+
+mod as_counts;
+mod numbers;
+mod run;
+mod summary;
+mod tally;
+mod text;
+mod words;
+
+pub use run::summarise;
+pub use words::summary_wanted;
