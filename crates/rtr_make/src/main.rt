@@ -8,13 +8,29 @@ use rtr_units::source::Counted;
 use rtr_vrps::{asked, program};
 use std::io::{BufWriter, Stderr, Stdout, Write};
 use std::process::ExitCode;
-use std::{env, io};
+use std::{env, fmt, io};
 
 /// How many bytes of output are written at once.
 const BUFFER_SIZE: usize = 65536;
 
 /// The status if a file can't be opened.
 const FAILED: u8 = 3;
+
+/// The program's name and that of a file, if one is named.
+#[derive(Clone, Copy)]
+struct Named<'a>(Option<&'a str>);
+
+impl fmt::Display for Named<'_> {
+    fn fmt<W: fmt::Write>(&self, f: &mut fmt::Formatter<W>) -> fmt::Result {
+        match self.0 {
+            Some(file) => {
+                let shown = Escaped(file);
+                write!(f, "rtr_make: {shown}")
+            }
+            None => f.write_str("rtr_make"),
+        }
+    }
+}
 
 /// Standard output, unbuffered if there is no memory for a buffer.
 fn buffered_output(rt: &HostRuntime) -> BufWriter<Stdout> {
@@ -39,16 +55,23 @@ fn take_file(words: &mut Vec<String>) -> Option<String> {
     if has_file { words.pop() } else { None }
 }
 
-/// Makes what the words ask for of the file of this name.
+/// Makes what the words ask for of the file, or of standard input.
 fn make(
     rt: &HostRuntime,
     words: Option<Vec<String>>,
-    name: &str,
+    file: Option<&str>,
     faults: &mut Stderr,
 ) -> io::Result<ExitCode> {
-    let mut input = Input::open(rt, name)?;
+    let mut input = Input::open(rt, file.unwrap_or("-"))?;
     let mut output = Counted::new(buffered_output(rt));
-    Ok(program(rt.alloc(), words, &mut input, &mut output, faults))
+    Ok(program(
+        rt.alloc(),
+        words,
+        &Named(file),
+        &mut input,
+        &mut output,
+        faults,
+    ))
 }
 
 fn main(rt: HostRuntime) -> ExitCode {
@@ -58,15 +81,15 @@ fn main(rt: HostRuntime) -> ExitCode {
         Some(words) => take_file(words),
         None => None,
     };
-    let name = match &file {
-        Some(name) => name.as_str(),
-        None => "-",
+    let file = match &file {
+        Some(name) => Some(name.as_str()),
+        None => None,
     };
-    match make(&rt, words, name, &mut faults) {
+    match make(&rt, words, file, &mut faults) {
         Ok(code) => code,
         Err(error) => {
-            let shown = Escaped(name);
-            let _ = writeln!(faults, "rtr_make: {shown}: {error}");
+            let named = Named(file);
+            let _ = writeln!(faults, "{named}: {error}");
             ExitCode::from(FAILED)
         }
     }

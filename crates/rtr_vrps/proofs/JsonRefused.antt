@@ -1,25 +1,24 @@
 -- Why a document is refused, of which some was read.
 use Rattle.std.proofs.Common.{◌≡◌, ℕ, ◌<◌, List, [], ◌∷◌, ◌++◌, suc, take, drop, length}
 use Rattle.std.proofs.Common.{get_or, drop-cons, inl, inr, refl, sym, ap, subst, ◌∙◌}
-use Rattle.std.proofs.Common.{◌≤◌, false, MatchResult, Result, Ok, Err}
+use Rattle.std.proofs.Common.{MatchResult, Result, Ok, Err}
 use Rattle.std.proofs.lemmas.List.{take-append-drop}
 use Rattle.std.specs.List.{AllByRecursion}
 use Rattle.json.specs.Json.{Json}
 use Rattle.json.specs.Value.{items_view, members_view, value_view}
 use Rattle.json.specs.declared.value.Value.{Value}
 use Rattle.rtr_vrps.specs.JsonPayloads.{AreCustomerAspas, AreItemPayloads, ArePayloadsOfEach}
-use Rattle.rtr_vrps.specs.JsonPayloads.{AreTopPayloads, Dated}
+use Rattle.rtr_vrps.specs.JsonPayloads.{Dated}
 use Rattle.rtr_vrps.specs.JsonRefusals.{IsSomeCustomer, IsSomeItem, OrMemory}
-use Rattle.rtr_vrps.specs.JsonRefusals.{HasTopPayloads, RefusesArrayItem, RefusesAsn}
-use Rattle.rtr_vrps.specs.JsonRefusals.{RefusesCustomer, RefusesFirst, RefusesMembers, RefusesTop}
+use Rattle.rtr_vrps.specs.JsonRefusals.{RefusesArrayItem, RefusesAsn}
+use Rattle.rtr_vrps.specs.JsonRefusals.{RefusesCustomer, RefusesFirst}
 use Rattle.rtr_vrps.specs.JsonValues.{AreAsnValues, IsSomeAsn, items_list, members_list}
-use Rattle.rtr_vrps.specs.PrivateJson.{AddsPayloads, payloads_of}
+use Rattle.rtr_vrps.specs.PrivateJson.{AddsPayloads}
 use Rattle.rtr_vrps.specs.declared.item.Item.{Item}
 use Rattle.rtr_vrps.specs.declared.item.Reason.{Reason}
-use Rattle.rtr_vrps.specs.declared.item.Reason.TheVariants.{NoArray}
 use Rattle.rtr_vrps.specs.declared.item.Refusal.{Refusal}
 use Rattle.rtr_vrps.specs.declared.json_names.Kind.{Kind}
-use Rattle.rtr_vrps.proofs.JsonSoFar.{Member, each_all, some_array}
+use Rattle.rtr_vrps.proofs.JsonSoFar.{Member}
 
 pub or_memory : (P Q : Reason → Type 0) (why : Reason) → ((w : Reason) → P w → Q w) →
     OrMemory P why → OrMemory Q why
@@ -28,8 +27,8 @@ or_memory P Q why f (inr p) = inr (f why p)
 
 -- ---- the first of many
 
-first : {X : Type 0} (Fine : X → Type 0) (Refuses : X → Reason → Type 0) (before : List X) (x : X)
-    (after : List X) (why : Reason) → AllByRecursion Fine before → Refuses x why →
+pub first : {X : Type 0} (Fine : X → Type 0) (Refuses : X → Reason → Type 0) (before : List X)
+    (x : X) (after : List X) (why : Reason) → AllByRecursion Fine before → Refuses x why →
     RefusesFirst Fine Refuses (before ++ x ∷ after) why
 first Fine Refuses [] x after why h r = inl r
 first Fine Refuses (b ∷ before) x after why h r =
@@ -40,7 +39,7 @@ fine_asns [] ns h = tt
 fine_asns (j ∷ js) [] h = absurd h
 fine_asns (j ∷ js) (n ∷ ns) h = ((n, h.0), fine_asns js ns h.1)
 
-fine_items : (kind : Kind) (js : List Json) (ps : List Dated) → AreItemPayloads kind js ps →
+pub fine_items : (kind : Kind) (js : List Json) (ps : List Dated) → AreItemPayloads kind js ps →
     AllByRecursion (IsSomeItem kind) js
 fine_items kind [] ps h = tt
 fine_items kind (j ∷ js) [] h = absurd h
@@ -161,37 +160,6 @@ module _ {A : Type 0} where
       (members_list (members_view ms))) why
       (λ w k. members_refused (λ m. (ps : List Dated) × Each m.0 m.1 ps) Refuses ms i x w small is
       (fine_each Each _ _ a.payloads) k) r
-
-  -- a member of the object at the top is refused, or none has payloads by its name
-  pub top_refused : (ignored : List (List ℕ)) (ms : List (Member A)) (i : ℕ) (x : Member A)
-      (old mid : List Item) (why : Reason) → i < length ms → x ≡ get_or ms i x →
-      AddsPayloads (ArePayloadsOfEach (AreTopPayloads ignored)
-      (members_list (members_view (take i ms)))) old mid →
-      OrMemory (RefusesTop ignored (x.0.now, value_view x.1)) why →
-      OrMemory (RefusesMembers ignored (members_list (members_view ms))) why
-  top_refused ignored ms i x old mid why small is a r =
-      or_memory (RefusesFirst (HasTopPayloads ignored) (RefusesTop ignored)
-      (members_list (members_view ms)))
-      (RefusesMembers ignored (members_list (members_view ms))) why
-      (λ w k. inl k)
-      (each_refused (AreTopPayloads ignored) (RefusesTop ignored) ms i x old mid why small is a r)
-
-  pub no_array : (ignored : List (List ℕ)) (ms : List (Member A)) (i : ℕ) (old new : List Item)
-      (why : Reason) → length ms ≤ i →
-      AddsPayloads (ArePayloadsOfEach (AreTopPayloads ignored)
-      (members_list (members_view (take i ms)))) old new → why ≡ NoArray →
-      some_array ignored ms ≡ false →
-      OrMemory (RefusesMembers ignored (members_list (members_view ms))) why
-  no_array ignored ms i old new why large a is none =
-      let read = each_all (AreTopPayloads ignored) ms i old new large a in
-      inr (inr (
-        is,
-        record {
-          fine = fine_each (AreTopPayloads ignored) (members_list (members_view ms))
-              (payloads_of read.more) read.payloads;
-          none = none;
-        },
-      ))
 
 -- what needs no memory
 pub without_memory : {T : Type 0} (r : Result T Refusal) (Is : T → Type 0)

@@ -5,14 +5,13 @@ use Rattle.std.proofs.Common.{rules, inl, MatchResult, Result, Ok, Err}
 use Rattle.std.proofs.lemmas.List.{append-nil, take_all, take_more}
 use Rattle.std.specs.Bool.{MatchBool}
 use Rattle.std.specs.Borrow.{Bor}
-use Rattle.std.specs.List.{list_any}
 use Rattle.json.specs.Json.{Json, array, number, object}
 use Rattle.json.specs.Value.{items_view, members_view, value_view}
 use Rattle.json.proofs.Trees.{view-Array, view-Object}
 use Rattle.json.specs.declared.value.Value.{Array, Number, Object, Value, the_lemmas}
 use Rattle.rtr_vrps.specs.JsonPayloads.{AreCustomerAspas, AreItemPayloads, ArePayloadsOfEach}
 use Rattle.rtr_vrps.specs.JsonNames.{holding_named}
-use Rattle.rtr_vrps.specs.JsonPayloads.{ArePayloadsBy, AreTopPayloads, holds_part, is_array}
+use Rattle.rtr_vrps.specs.JsonPayloads.{ArePayloadsBy, AreTopPayloads, holds_part}
 use Rattle.rtr_vrps.specs.JsonPayloads.{Dated, IsDatedCustomer, IsDatedItem, dated}
 use Rattle.rtr_vrps.specs.MakeWords.{is_one_of}
 use Rattle.rtr_vrps.specs.declared.json_names.Holding.TheVariants.{Metadata}
@@ -247,9 +246,6 @@ top_none ignored name j e f =
     (ArePayloadsBy (holding_named name) j [])) (sym e)
     (subst (λ h. ArePayloadsBy h j []) (sym f) refl)
 
--- whether a member has payloads by its name, or is this part
-abbrev pub some_array : {A : Type 0} → List (List ℕ) → List (Member A) → Bool
-some_array ignored ms = list_any (λ m. is_array ignored m.0) (members_list (members_view ms))
-
+-- whether a member is this part
 abbrev pub some_part : {A : Type 0} → Part → List (Member A) → Bool
 some_part p ms = holds_part (members_list (members_view ms)) p

@@ -3,6 +3,8 @@ pub mod IgnoredSoFar
 pub mod ByNames
 pub mod JsonRefused
 pub mod JsonSoFar
+pub mod JsonReading
+pub mod JsonTokens
 pub mod Lacking
 pub mod SeenSoFar
 pub mod SoFar

@@ -1,5 +1,5 @@
 -- What rows of comma-separated values make of items.
-use Rattle.std.proofs.Common.{◌≡◌, ◌≢◌, ℕ, ◌+◌, ◌==◌, ◌&&◌, Bool, true}
+use Rattle.std.proofs.Common.{◌≡◌, ◌≢◌, ℕ, ◌+◌, ◌<◌, ◌==◌, ◌&&◌, Bool, true}
 use Rattle.std.proofs.Common.{false, cond, List, [], ◌∷◌, ◌++◌}
 use Rattle.std.proofs.lemmas.Bool.{and_parts, eqb-true}
 use Rattle.std.proofs.lemmas.List.{length-append}
@@ -18,9 +18,9 @@ use Rattle.csv.specs.declared.parser.State.{State}
 use Rattle.csv.specs.declared.parser.State.TheVariants.{StartRecord}
 use Rattle.rtr_base.proofs.Parsing.{refuses_len}
 use Rattle.rtr_vrps.specs.CsvItems.{AreItemsOf, HasNoOrigin, HasNoText, HasItems, IsItemOf}
-use Rattle.rtr_vrps.specs.CsvItems.{RefusesRows, without_header}
+use Rattle.rtr_vrps.specs.CsvItems.{RefusesRows, has_times, without_header}
 use Rattle.rtr_vrps.specs.CsvRows.{IsMaxLengthField, RefusesRow, is_header}
-use Rattle.rtr_vrps.specs.PrivateCsv.{AddsItem, RefusesItem, reason_of}
+use Rattle.rtr_vrps.specs.PrivateCsv.{AddsItem, RefusesItem, reason_of, timed_after}
 use Rattle.rtr_vrps.specs.declared.item.Item.{Item}
 use Rattle.rtr_vrps.specs.declared.item.Reason.{Reason}
 use Rattle.rtr_vrps.specs.declared.item.Reason.TheVariants.{Memory, NotText}
@@ -40,13 +40,34 @@ all_text : (rows : List (List (List ℕ))) (row : List (List ℕ)) → AllByRecu
 all_text [] row h t = (t, tt)
 all_text (r ∷ rows) row h t = (h.0, all_text rows row h.1 t)
 
-one_item : (rows : List (List (List ℕ))) (items : List Item) (row : List (List ℕ)) (i : Item) →
-    AreItemsOf rows items → IsItemOf row i →
-    AreItemsOf (rows ++ row ∷ []) (items ++ i ∷ [])
-one_item [] [] row i h is = (is, tt)
-one_item [] (j ∷ items) row i h is = absurd h
-one_item (r ∷ rows) [] row i h is = absurd h
-one_item (r ∷ rows) (j ∷ items) row i h is = (h.0, one_item rows items row i h.1 is)
+one_item : (timed : Bool) (rows : List (List (List ℕ))) (items : List Item) (row : List (List ℕ))
+    (i : Item) → AreItemsOf timed rows items → IsItemOf timed row i →
+    AreItemsOf timed (rows ++ row ∷ []) (items ++ i ∷ [])
+one_item timed [] [] row i h is = (is, tt)
+one_item timed [] (j ∷ items) row i h is = absurd h
+one_item timed (r ∷ rows) [] row i h is = absurd h
+one_item timed (r ∷ rows) (j ∷ items) row i h is = (h.0, one_item timed rows items row i h.1 is)
+
+not_zero : (n : ℕ) (b : Bool) → (n == 0) ≡ b → 0 < n → b ≡ false
+not_zero n true e h = absurd (omega (arith, eqb-true n 0 e, h))
+not_zero n false e h = refl
+
+-- the first row says whether there is a column of times
+first_says : (rows : List (List (List ℕ))) (row : List (List ℕ)) (timed : Bool) →
+    has_times rows ≡ timed → has_times (rows ++ row ∷ []) ≡ timed_after (length rows == 0) timed row
+first_says [] row timed e = refl
+first_says (r ∷ rows) row timed e =
+    e
+    ∙ sym (ap (λ b. timed_after b timed row)
+    (not_zero (length (r ∷ rows)) (length (r ∷ rows) == 0) refl (omega arith)))
+
+-- the items of rows after which there is one row more
+same_times : (rows : List (List (List ℕ))) (row : List (List ℕ)) (items : List Item) →
+    AreItemsOf (has_times rows) (without_header rows) items →
+    AreItemsOf (has_times (rows ++ row ∷ [])) (without_header rows) items
+same_times [] row [] h = tt
+same_times [] row (i ∷ items) h = absurd h
+same_times (r ∷ rows) row items h = h
 
 -- a row after others is no header
 header_before : (b : Bool) (rows : List (List (List ℕ))) (r row : List (List ℕ)) →
@@ -73,30 +94,38 @@ passed (r ∷ rows) row e =
     let first = and_parts (length (r ∷ rows) == 0) (is_header row) e in
     absurd (omega (arith, eqb-true (length (r ∷ rows)) 0 first.0))
 
-added : (b : Bool) (rows : List (List (List ℕ))) (row : List (List ℕ)) (old new : List Item) →
-    ((length rows == 0) && is_header row) ≡ b → AddsItem b row old new →
-    AreItemsOf (without_header rows) old → AreItemsOf (without_header (rows ++ row ∷ [])) new
-added true rows row old new e a h =
-    subst (λ l. AreItemsOf (without_header (rows ++ row ∷ [])) l) (sym a)
-    (subst (λ l. AreItemsOf l old) (sym (passed rows row e)) h)
-added false rows row old new e a h =
-    subst (λ l. AreItemsOf (without_header (rows ++ row ∷ [])) l) (sym a.1)
-    (subst (λ l. AreItemsOf l (old ++ a.0 ∷ [])) (sym (not_passed rows row e))
-    (one_item (without_header rows) old row a.0 h a.2))
+added : (b timed : Bool) (rows : List (List (List ℕ))) (row : List (List ℕ))
+    (old new : List Item) → ((length rows == 0) && is_header row) ≡ b →
+    AddsItem b timed row old new → AreItemsOf timed (without_header rows) old →
+    AreItemsOf timed (without_header (rows ++ row ∷ [])) new
+added true timed rows row old new e a h =
+    subst (λ l. AreItemsOf timed (without_header (rows ++ row ∷ [])) l) (sym a)
+    (subst (λ l. AreItemsOf timed l old) (sym (passed rows row e)) h)
+added false timed rows row old new e a h =
+    subst (λ l. AreItemsOf timed (without_header (rows ++ row ∷ [])) l) (sym a.1)
+    (subst (λ l. AreItemsOf timed l (old ++ a.0 ∷ [])) (sym (not_passed rows row e))
+    (one_item timed (without_header rows) old row a.0 h a.2))
 
 -- The rows so far, after which a text is in this state with this rest, and their items.
-pub record RowsSoFar (text : List ℕ) (count : ℕ) (items : List Item) (state : State)
-    (rest : List ℕ) : Type 0 where
+pub record RowsSoFar (text : List ℕ) (count : ℕ) (timed : Bool) (items : List Item)
+    (state : State) (rest : List ℕ) : Type 0 where
   pub rows : List (List (List ℕ))
   pub reached : Reached default_config StartRecord (strip_bom text) rows state rest
   pub text_rows : AllByRecursion AllText rows
-  pub origins : AreItemsOf (without_header rows) items
+  pub times : has_times rows ≡ timed
+  pub origins : AreItemsOf (has_times rows) (without_header rows) items
   pub number : length rows ≡ count
 
-pub no_rows : (text : List ℕ) → RowsSoFar text 0 [] StartRecord (strip_bom text)
+pub no_rows : (text : List ℕ) → RowsSoFar text 0 false [] StartRecord (strip_bom text)
 unfolding Reached
-no_rows text =
-    record { rows = []; reached = (refl, refl); text_rows = tt; origins = tt; number = refl }
+no_rows text = record {
+  rows = [];
+  reached = (refl, refl);
+  text_rows = tt;
+  times = refl;
+  origins = tt;
+  number = refl;
+}
 
 -- what a read took
 found : (o : Option Read) (row : List (List ℕ)) (s : State) (z : List ℕ) → NextIs o true row s z →
@@ -125,22 +154,33 @@ pub taken : (xs y : List ℕ) (rows : List (List (List ℕ))) (row : List (List 
 taken xs y rows row a b None h r = absurd h
 taken xs y rows row a b (Some z) h r = (z, refl, taken_at xs y z rows row a b h r)
 
-module _ (text : List ℕ) (count : ℕ) (items : List Item) (a : State) (y : List ℕ)
-    (s : RowsSoFar text count items a y) where
+module _ (text : List ℕ) (count : ℕ) (timed : Bool) (items : List Item) (a : State) (y : List ℕ)
+    (s : RowsSoFar text count timed items a y) where
   test : (row : List (List ℕ)) (b : Bool) → ((count == 0) && is_header row) ≡ b →
       ((length s.rows == 0) && is_header row) ≡ b
   test row b e = ap (λ n. (n == 0) && is_header row) s.number ∙ e
 
-  pub adds : (row : List (List ℕ)) (new : List Item) (b : State) (z : List ℕ) →
+  times_after : (row : List (List ℕ)) (now : Bool) → now ≡ timed_after (count == 0) timed row →
+      has_times (s.rows ++ row ∷ []) ≡ now
+  times_after row now e =
+      first_says s.rows row timed s.times ∙ ap (λ n. timed_after (n == 0) timed row) s.number
+      ∙ sym e
+
+  pub adds : (row : List (List ℕ)) (new : List Item) (now : Bool) (b : State) (z : List ℕ) →
       Reached default_config StartRecord (strip_bom text) (s.rows ++ row ∷ []) b z →
-      AllText row → AddsItem ((count == 0) && is_header row) row items new →
-      RowsSoFar text (count + 1) new b z
-  adds row new b z r t i = record {
+      AllText row → now ≡ timed_after (count == 0) timed row →
+      AddsItem ((count == 0) && is_header row) now row items new →
+      RowsSoFar text (count + 1) now new b z
+  adds row new now b z r t e i = record {
     rows = s.rows ++ row ∷ [];
     reached = r;
     text_rows = all_text s.rows row s.text_rows t;
-    origins = added ((count == 0) && is_header row) s.rows row items new (test row _ refl) i
-        s.origins;
+    times = times_after row now e;
+    origins = added ((count == 0) && is_header row) (has_times (s.rows ++ row ∷ [])) s.rows row
+        items new (test row _ refl)
+        (subst (λ c. AddsItem ((count == 0) && is_header row) c row items new)
+        (sym (times_after row now e)) i)
+        (same_times s.rows row items s.origins);
     number = omega (arith, s.number, length-append s.rows (row ∷ []));
   }
 
@@ -177,7 +217,7 @@ module _ (text : List ℕ) (count : ℕ) (items : List Item) (a : State) (y : Li
     first = (b, z, r);
     text_rows = all_text s.rows row s.text_rows t;
     last = not_passed s.rows row (test row false e);
-    origins = s.origins;
+    origins = same_times s.rows row items s.origins;
     refused = h;
   }
 
@@ -190,11 +230,12 @@ module _ (text : List ℕ) (count : ℕ) (items : List Item) (a : State) (y : Li
 
 -- why the reader of rows stopped
 pub explained : {R : Type 0} (rem : R → Option (List ℕ)) (a b : Reader R) (k : ErrorKind)
-    (text : List ℕ) (count : ℕ) (items : List Item) (y : List ℕ) → a.config ≡ default_config →
-    source_of rem a ≡ Some y → RowsSoFar text count items a.state y → ExplainsRead rem a b true k →
+    (text : List ℕ) (count : ℕ) (timed : Bool) (items : List Item) (y : List ℕ) →
+    a.config ≡ default_config → source_of rem a ≡ Some y →
+    RowsSoFar text count timed items a.state y → ExplainsRead rem a b true k →
     RefusesRows text (reason_of k)
-explained rem a b (Utf8 position error) text count items y c e s h =
+explained rem a b (Utf8 position error) text count timed items y c e s h =
     let t = taken (strip_bom text) y s.rows h.1 a.state b.state (pending_of (rem b.rdr) b)
     (rw (c, e) at h.2) s.reached in
-    no_text text count items a.state y s h.1 b.state t.0 t.2 h.3
-explained rem a b other text count items y c e s h = tt
+    no_text text count timed items a.state y s h.1 b.state t.0 t.2 h.3
+explained rem a b other text count timed items y c e s h = tt

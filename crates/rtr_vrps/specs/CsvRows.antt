@@ -9,6 +9,10 @@ use Rattle.rtr_base.specs.ReadTexts.{IsAsnText, IsLenText, IsPrefixText, Refuses
 use Rattle.rtr_payload.specs.declared.payload.Payload.{Payload}
 use Rattle.rtr_payload.specs.declared.payload.Payload.TheVariants.{Origin}
 use Rattle.rtr_payload.specs.declared.payload.RouteOrigin.{RouteOrigin}
+use Rattle.rtr_vrps.specs.JsonValues.{expiry_by_number}
+use Rattle.rtr_vrps.specs.MakeWords.{number_of}
+use Rattle.rtr_vrps.specs.declared.item.Expiry.{Expiry}
+use Rattle.rtr_vrps.specs.declared.item.Expiry.TheVariants.{Never}
 use Rattle.rtr_vrps.specs.declared.item.Reason.{Reason}
 use Rattle.rtr_vrps.specs.declared.item.Reason.TheVariants.{Asn, Prefix, MaxLength, MaxLengthRule}
 use Rattle.rtr_vrps.specs.declared.item.Reason.TheVariants.{UriColumn}
@@ -20,6 +24,15 @@ field row i = unwrap_or (field_at row i) []
 -- a row that names the columns
 abbrev pub is_header : List (List ℕ) → Bool
 is_header row = bytes_eq (field row 0) (codes "ASN") || bytes_eq (field row 0) (codes "asn")
+
+-- its fifth column is that of times, as rpki-client names it
+abbrev pub names_expiry : List (List ℕ) → Bool
+names_expiry row = bytes_eq (field row 4) (codes "Expires")
+
+-- when a row expires: where there is a column of times, at the number of seconds that its field is
+abbrev pub row_expiry : Bool → List (List ℕ) → Expiry
+row_expiry true row = expiry_by_number (number_of 64 (field row 4))
+row_expiry false row = Never
 
 -- the field of a max length: a number of at most 255, or empty where none is given
 abbrev pub IsMaxLengthField : List ℕ → Option ℕ → Type 0

@@ -1,7 +1,8 @@
--- Which items have expired at a time, and when the next one does, by `expires` of rpki-client: its
--- own, as RFC 6487 section 4.6 and RFC 9286 section 4.2.1 have it for what an item was made of. A
--- time is a number of seconds after the epoch, without leap seconds (POSIX).
-use Rattle.std.specs.Prelude.{◌≡◌, ⊤, ℕ, ◌+◌, ◌≤◌, Bool, true, nat_lt, length, filter}
+-- Which items have expired at a time, and when the next one does. rpki-client says of each item
+-- when the first of the objects that it was made of expires: certificates by RFC 6487 section 4.6,
+-- manifests by RFC 9286 section 4.2.1. A time is a number of seconds after the epoch, without leap
+-- seconds (POSIX).
+use Rattle.std.specs.Prelude.{◌≡◌, ℕ, ◌+◌, ◌≤◌, Bool, true, nat_lt, length, filter}
 use Rattle.std.specs.Prelude.{List, [], ◌∷◌, Option, Some, None, Result, Ok, Err}
 use Rattle.std.specs.List.{AllByRecursion}
 use Rattle.rtr_vrps.specs.JsonValues.{SomeIs}

@@ -15,4 +15,5 @@ pub mod PrivateAdding
 pub mod PrivateCsv
 pub mod PrivateExpiring
 pub mod PrivateJson
+pub mod PrivateReading
 pub mod PrivateWords

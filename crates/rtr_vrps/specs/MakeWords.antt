@@ -156,13 +156,9 @@ abbrev pub is_csv : Format → Bool
 is_csv Csv = true
 is_csv Json = false
 
--- names to ignore, and a time: comma-separated values have no names, and none of their columns is
--- read as a time
-abbrev pub wants_json : Said → Bool
-wants_json s = s.ignores || is_some s.at
-
+-- names to ignore go with JSON alone: comma-separated values have none
 abbrev pub allowed_in : Said → Format → Option Request
-allowed_in s format = if wants_json s && is_csv format then None else Some (request_in s format)
+allowed_in s format = if s.ignores && is_csv format then None else Some (request_in s format)
 
 -- a format has to be said, and version 0 has no timings (RFC 6810 section 5.8)
 abbrev pub request_of : Said → Option Request

@@ -1,11 +1,11 @@
 -- What one row leaves of items. Only contracts of private functions cite these.
 use Rattle.std.specs.Prelude.{◌≡◌, ⊤, ℕ, Bool, true, false, ◌&&◌, nat_le, length}
-use Rattle.std.specs.Prelude.{get_or, ◌++◌, List, [], ◌∷◌, Result, Ok, Err}
+use Rattle.std.specs.Prelude.{get_or, ◌++◌, List, [], ◌∷◌, Result, Ok, Err, if◌then◌else◌}
 use Rattle.csv.specs.Reading.{is_bom}
 use Rattle.csv.specs.declared.error.ErrorKind.{ErrorKind}
 use Rattle.csv.specs.declared.error.ErrorKind.TheVariants.{Utf8}
 use Rattle.rtr_vrps.specs.CsvItems.{IsItemOf}
-use Rattle.rtr_vrps.specs.CsvRows.{RefusesRow}
+use Rattle.rtr_vrps.specs.CsvRows.{RefusesRow, is_header, names_expiry}
 use Rattle.rtr_vrps.specs.declared.item.Item.{Item}
 use Rattle.rtr_vrps.specs.declared.item.Reason.{Reason}
 use Rattle.rtr_vrps.specs.declared.item.Reason.TheVariants.{NotText, Memory}
@@ -22,16 +22,20 @@ reason_of (Utf8 position error) = NotText
 reason_of other = Memory
 
 -- a row that is passed over adds no item, and any other adds its own
-abbrev pub AddsItem : Bool → List (List ℕ) → List Item → List Item → Type 0
-AddsItem true row old new = new ≡ old
-AddsItem false row old new = (i : Item) × (new ≡ old ++ i ∷ []) × IsItemOf row i
+abbrev pub AddsItem : (passed timed : Bool) → List (List ℕ) → List Item → List Item → Type 0
+AddsItem true timed row old new = new ≡ old
+AddsItem false timed row old new = (i : Item) × (new ≡ old ++ i ∷ []) × IsItemOf timed row i
 
 -- a row that isn't passed over is no origin, or memory ran out
 abbrev pub RefusesItem : Bool → List (List ℕ) → Reason → Type 0
 RefusesItem passed row Memory = ⊤
 RefusesItem passed row why = (passed ≡ false) × RefusesRow row why
 
-abbrev pub AddsRow : {T : Type 0} → Bool → List (List ℕ) → Result T Refusal → List Item →
-    List Item → Type 0
-AddsRow passed row (Ok t) old new = AddsItem passed row old new
-AddsRow passed row (Err r) old new = RefusesItem passed row r.reason
+abbrev pub AddsRow : {T : Type 0} → (passed timed : Bool) → List (List ℕ) → Result T Refusal →
+    List Item → List Item → Type 0
+AddsRow passed timed row (Ok t) old new = AddsItem passed timed row old new
+AddsRow passed timed row (Err r) old new = RefusesItem passed row r.reason
+
+-- whether there is a column of times, after one row more: the first says it
+abbrev pub timed_after : (first timed : Bool) → List (List ℕ) → Bool
+timed_after first timed row = if first then is_header row && names_expiry row else timed

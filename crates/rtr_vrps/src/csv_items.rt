@@ -5,9 +5,11 @@ ghost use Rattle.csv.specs.Reading.{error_kind};
 ghost use Rattle.csv.specs.Records.{fields_of};
 ghost use Rattle.rtr_vrps.specs.CsvItems.{HasItems, IsCsvOf, RefusesCsv, RefusesRows};
 ghost use Rattle.rtr_vrps.specs.CsvRows.{ReadsMaxLength, ReadsRow, field, is_header, is_uri};
-ghost use Rattle.rtr_vrps.specs.PrivateCsv.{AddsRow, reason_of};
+ghost use Rattle.rtr_vrps.specs.CsvRows.{names_expiry, row_expiry};
+ghost use Rattle.rtr_vrps.specs.PrivateCsv.{AddsRow, reason_of, timed_after};
 
 use crate::item::{Expiry, Item, Place, Reason, Refusal};
+use crate::json_values::expiry_of_number;
 use crate::quotes::{check_quotes, without_mark};
 use csv::{Error, ErrorKind, Position, ReaderBuilder, StringRecord};
 use rtr_base::addr::{MaxLenPrefix, Prefix};
@@ -16,8 +18,9 @@ use rtr_payload::payload::Payload;
 use std::alloc::Global;
 
 /// Reads a line for each origin: its ASN, with or without `AS` before the number, its prefix, and
-/// its max length, if it has one. Further columns and empty lines are passed over, and a first line
-/// whose first field is `ASN` or `asn`.
+/// its max length, if it has one. A first line whose first field is `ASN` or `asn` names the
+/// columns: if it calls the fifth `Expires`, as rpki-client does, that is when each origin expires,
+/// in seconds since 1970. Further columns and empty lines are passed over.
 ///
 /// The first quote at fault decides, as `check_quotes` has it; else the first line that is
 /// something else, with the reasons `NotText`, `UriColumn`, `Asn`, `Prefix`, `MaxLength` and
@@ -43,12 +46,16 @@ fn read_rows<'a>(alloc: Global, text: &'a [u8]) -> Result<Vec<Item<'a>>, Refusal
         .flexible(true)
         .from_reader(alloc, text);
     let mut row = StringRecord::new(alloc);
+    let mut timed = false;
     for count in 0..u64::MAX {
         match reader.read_record(&mut row) {
-            Ok(true) => match add_row(count == 0, text, &row, &mut items) {
-                Ok(()) => {}
-                Err(refusal) => return Err(refusal),
-            },
+            Ok(true) => {
+                timed = timed_after(count == 0, timed, &row);
+                match add_row(count == 0, timed, text, &row, &mut items) {
+                    Ok(()) => {}
+                    Err(refusal) => return Err(refusal),
+                }
+            }
             Ok(false) => return Ok(items),
             Err(error) => return Err(refusal(text, &error)),
         }
@@ -56,14 +63,27 @@ fn read_rows<'a>(alloc: Global, text: &'a [u8]) -> Result<Vec<Item<'a>>, Refusal
     Err(out_of_memory())
 }
 
-/// Adds the origin that a row is. The first row may name the columns, and is then passed over.
+/// Whether there is a column of times, after one row more: the first says it.
+fn timed_after(first: bool, timed: bool, row: &StringRecord) -> bool
+    ensures { result ≡ timed_after first timed (fields_of row.now) }
+{
+    if first {
+        is_header(row) && names_expiry(row)
+    } else {
+        timed
+    }
+}
+
+/// Adds the origin that a row is, with its time where there is a column of times. The first row may
+/// name the columns, and is then passed over.
 fn add_row<'a>(
     first: bool,
+    timed: bool,
     text: &[u8],
     row: &StringRecord,
     items: &mut Vec<Item<'a>>,
 ) -> Result<(), Refusal<'a>>
-    ensures { AddsRow (first && is_header (fields_of row.now)) (fields_of row.now) result
+    ensures { AddsRow (first && is_header (fields_of row.now)) timed (fields_of row.now) result
         items.old.items items.new.items }
 {
     if first && is_header(row) {
@@ -71,7 +91,7 @@ fn add_row<'a>(
     }
     let place = Place::Line(line_of(text, row));
     match origin(row) {
-        Ok(payload) => match items.push(undated(place, payload)) {
+        Ok(payload) => match items.push(item(place, payload, expiry(timed, row))) {
             Ok(()) => Ok(()),
             Err(_) => Err(out_of_memory()),
         },
@@ -79,14 +99,24 @@ fn add_row<'a>(
     }
 }
 
-/// The origin as an item. Nothing says when it expires.
-fn undated<'a>(place: Place<'a>, payload: Payload) -> Item<'a>
-    ensures { result ≡ record { place = place.entry; payload = payload; expiry = Expiry.Never } }
+fn item<'a>(place: Place<'a>, payload: Payload, expiry: Expiry) -> Item<'a>
+    ensures { result ≡ record { place = place.entry; payload = payload; expiry = expiry } }
 {
     Item {
         place,
         payload,
-        expiry: Expiry::Never,
+        expiry,
+    }
+}
+
+/// When the row expires.
+fn expiry(timed: bool, row: &StringRecord) -> Expiry
+    ensures { result ≡ row_expiry timed (fields_of row.now) }
+{
+    if timed {
+        expiry_of_number(field(row, 4))
+    } else {
+        Expiry::Never
     }
 }
 
@@ -158,6 +188,13 @@ fn is_header(row: &StringRecord) -> bool
 {
     let name = field(row, 0);
     name == "ASN" || name == "asn"
+}
+
+/// Whether the row calls the fifth column that of times.
+fn names_expiry(row: &StringRecord) -> bool
+    ensures { result ≡ names_expiry (fields_of row.now) }
+{
+    field(row, 4) == "Expires"
 }
 
 /// The origin that the row is.

@@ -34,10 +34,10 @@ pub fn leave_out_asked<'a>(
     }
 }
 
-/// Leaves out the items that have expired at this time: those whose own is not later.
+/// Leaves out the items that have expired at this time: those that expire at it or before it.
 ///
-/// The first item whose time is none, or is given twice, is refused, with `Time` or `Twice`. Then
-/// all items stay.
+/// The first item whose expiry is no number of seconds, or is given twice, is refused, with `Time`
+/// or `Twice`. Then all items stay.
 pub fn leave_out<'a>(now: u64, items: &mut Vec<Item<'a>>) -> Result<Expired, Refusal<'a>>
     ensures { LeavesOut now items.old.items items.new.items result }
 {

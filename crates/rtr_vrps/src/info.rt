@@ -46,8 +46,9 @@ data, to standard output.
   --drop           payloads that the version lacks are left out, and counted
   --empty          a sequence without payloads is written, too
   --ignore NAME    what the JSON has under this name is passed over
-  --at N           items of the JSON that have expired at this time, in
-                   seconds since 1970, are left out, and counted
+  --at N           items that have expired at this time, in seconds since
+                   1970, are left out, and counted: by their expires in
+                   JSON, by a fifth column of the name Expires in CSV
 
 Alone: --help prints this, and --version the program's version.
 ";

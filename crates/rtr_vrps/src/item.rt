@@ -17,7 +17,7 @@ pub struct Item<'a> {
     pub expiry: Expiry,
 }
 
-/// When a payload expires, as its item says under `expires`.
+/// When a payload expires, by `expires` of its object or the column `Expires` of its line.
 #[derive(Clone, Copy, Debug, PartialEq, Eq)]
 pub enum Expiry {
     /// The item says nothing of it.

@@ -1,25 +1,32 @@
 //! Payloads in JSON, as validators print them.
 
-ghost use Rattle.std.specs.Prelude.{◌≡◌, MatchResult};
+ghost use Rattle.std.specs.Prelude.{◌≡◌, ◌≢◌, ◌∷◌, IfSome, MatchResult, Some, false, true};
+ghost use Rattle.std.specs.Bool.{MatchBool};
 ghost use Rattle.std.specs.List.{list_any};
+ghost use Rattle.json.specs.Json.{document, value};
+ghost use Rattle.json.specs.Reads.{token_of};
+ghost use Rattle.json.specs.Token.{begin_object};
 ghost use Rattle.json.specs.Value.{items_view, members_view, value_view};
+ghost use Rattle.rtr_vrps.specs.JsonNames.{holding_named};
 ghost use Rattle.rtr_vrps.specs.JsonPayloads.{AreAuthorizations, AreCustomerAspas};
-ghost use Rattle.rtr_vrps.specs.JsonPayloads.{AreFamilyPayloads};
-ghost use Rattle.rtr_vrps.specs.JsonPayloads.{AreItemPayloads, ArePayloadsIn, ArePayloadsOfEach};
-ghost use Rattle.rtr_vrps.specs.JsonPayloads.{AreTopPayloads, HasItemsOf, HasTopItems};
-ghost use Rattle.rtr_vrps.specs.JsonPayloads.{IsCustomerAspa, IsDatedCustomer, IsDatedItem};
-ghost use Rattle.rtr_vrps.specs.JsonPayloads.{IsItemPayload, IsJsonOf, item_expiry};
-ghost use Rattle.rtr_vrps.specs.JsonPayloads.{HasPayloads, holds_payloads, is_array};
-ghost use Rattle.rtr_vrps.specs.JsonRefusals.{HasFamilyPayloads, IsNoDocument, IsSomeCustomer};
-ghost use Rattle.rtr_vrps.specs.JsonRefusals.{IsSomeItem};
-ghost use Rattle.rtr_vrps.specs.JsonRefusals.{OrMemory, RefusesAuthorizations};
+ghost use Rattle.rtr_vrps.specs.JsonPayloads.{AreFamilyPayloads, AreItemPayloads, ArePayloadsIn};
+ghost use Rattle.rtr_vrps.specs.JsonPayloads.{ArePayloadsOfEach, AreTopPayloads, HasItemsOf};
+ghost use Rattle.rtr_vrps.specs.JsonPayloads.{HasPayloads, IsCustomerAspa, IsDatedCustomer};
+ghost use Rattle.rtr_vrps.specs.JsonPayloads.{IsDatedItem, IsItemPayload, IsJsonOf, holds_payloads};
+ghost use Rattle.rtr_vrps.specs.JsonPayloads.{is_array, item_expiry};
+ghost use Rattle.rtr_vrps.specs.JsonRefusals.{HasFamilyPayloads, HasTopPayloads, IsNoDocument};
+ghost use Rattle.rtr_vrps.specs.JsonRefusals.{IsSomeCustomer, IsSomeItem, OrMemory};
+ghost use Rattle.rtr_vrps.specs.JsonRefusals.{RefusesArrayItem, RefusesAuthorizations};
 ghost use Rattle.rtr_vrps.specs.JsonRefusals.{RefusesCustomer, RefusesFamily, RefusesFirst};
-ghost use Rattle.rtr_vrps.specs.JsonRefusals.{RefusesArrayItem, RefusesJson, RefusesMembers};
-ghost use Rattle.rtr_vrps.specs.JsonRefusals.{RefusesPayloads, RefusesTop, RefusesUnknown};
-ghost use Rattle.rtr_vrps.specs.JsonRefusals.{RefusesValue};
+ghost use Rattle.rtr_vrps.specs.JsonRefusals.{RefusesJson, RefusesPayloads, RefusesTop};
+ghost use Rattle.rtr_vrps.specs.JsonRefusals.{RefusesUnknown, RefusesValue};
 ghost use Rattle.rtr_vrps.specs.JsonValues.{items_list, members_list};
-ghost use Rattle.rtr_vrps.specs.MakeWords.{ignored_by_words};
+ghost use Rattle.rtr_vrps.specs.MakeWords.{ignored_by_words, is_one_of};
 ghost use Rattle.rtr_vrps.specs.PrivateJson.{AddsOne, AddsPayloads};
+ghost use Rattle.rtr_vrps.specs.PrivateReading.{AreItems, AreMembers, IfItems, IfMembers, IfValue};
+ghost use Rattle.rtr_vrps.specs.PrivateReading.{IfSoleValue, IsNoObject, IsSoleValue, IsValue};
+ghost use Rattle.rtr_vrps.specs.PrivateReading.{TellsFound, is_begin_array, is_begin_object};
+ghost use Rattle.rtr_vrps.specs.PrivateReading.{is_null};
 
 use crate::item::{Expiry, Item, Place, Reason, Refusal};
 use crate::json_looks::has_payloads;
@@ -28,7 +35,7 @@ use crate::json_objects::Spot;
 use crate::json_values::{asn_of_text, providers_of};
 use crate::quotes::without_mark;
 use crate::words::is_ignored;
-use json::{Error, MAX_DEPTH, Reader, Scratch, Token, Value};
+use json::{Error, MAX_DEPTH, Reader, Scratch, Token, Value, is_valid};
 use rtr_payload::payload::Payload;
 use std::alloc::Global;
 
@@ -61,10 +68,25 @@ pub fn read_json<'a>(
     let Ok(rest) = std::str::from_utf8(rest) else {
         return Err(refusal(Place::Input, Reason::NotText));
     };
-    match Value::parse(alloc, rest, scratch) {
-        Ok(value) => items_of_value(alloc, words, &value),
-        Err(Error::OutOfMemory) => Err(refusal(Place::Input, Reason::Memory)),
-        Err(_) => Err(not_json(alloc, text.len(), rest)),
+    let Ok(mut reader) = Reader::new(rest, scratch) else {
+        return Err(refusal(Place::Input, Reason::Memory));
+    };
+    match read_document(alloc, words, &mut reader) {
+        Ok(items) => Ok(items),
+        Err(found) => Err(told(alloc, text.len(), rest, found)),
+    }
+}
+
+/// The refusal of a text that ends an input of so many bytes, if this is what was found in it
+/// before all of it was read: that it is no JSON comes first.
+fn told<'a>(alloc: Global, length: usize, text: &str, found: Refusal<'a>) -> Refusal<'a>
+    ensures { TellsFound (document text.now) found.entry.reason result.reason }
+{
+    let mut scratch = Scratch::new(alloc);
+    match is_valid(text, &mut scratch) {
+        Ok(true) => found,
+        Ok(false) => not_json(alloc, length, text),
+        Err(_) => refusal(Place::Input, Reason::Memory),
     }
 }
 
@@ -83,7 +105,7 @@ fn not_json<'a>(alloc: Global, length: usize, text: &str) -> Refusal<'a>
     let Ok(mut reader) = Reader::new(text, &mut scratch) else {
         return refusal(Place::Input, Reason::Memory);
     };
-    if Value::read(alloc, &mut reader, MAX_DEPTH).is_ok() {
+    if reader.skip_value(MAX_DEPTH).is_ok() {
         let _extra = reader.next();
     }
     let reason = match is_too_deep(alloc, text) {
@@ -118,60 +140,242 @@ fn is_too_deep(alloc: Global, text: &str) -> Option<bool> {
     Some(false)
 }
 
-/// The items of the object that the document has to be.
-fn items_of_value<'a>(
+/// The items of the object that the document has to be. What stands after a refusal isn't read.
+fn read_document<'a>(
     alloc: Global,
     words: &[String],
-    value: &Value<'a>,
+    reader: &mut Reader<'a>,
 ) -> Result<Vec<Item<'a>>, Refusal<'a>>
     ensures { MatchResult result
-        (λ v. HasItemsOf (ignored_by_words words.now) (value_view value.now) v.items)
-        (λ r. OrMemory (RefusesValue (ignored_by_words words.now) (value_view value.now))
-        r.reason) }
+        (λ v. IsSoleValue reader.old (λ j. HasItemsOf (ignored_by_words words.now) j v.items))
+        (λ r. IfSoleValue reader.old (λ j. OrMemory (RefusesValue (ignored_by_words words.now) j)
+        r.reason)) }
 {
-    match value {
-        Value::Object(members) => items_of(alloc, words, members),
-        _ => Err(refusal(Place::Input, Reason::NotObject)),
+    if !begins_object(reader) {
+        return Err(refusal(Place::Input, Reason::NotObject));
+    }
+    let mut items = Vec::new(alloc);
+    let has_array = match read_members(alloc, words, reader, &mut items) {
+        Ok(has_array) => has_array,
+        Err(refusal) => return Err(refusal),
+    };
+    match reader.next() {
+        Some(_) => Err(refusal(Place::Input, Reason::NotJson)),
+        None => items_found(has_array, items),
     }
 }
 
-/// The items of the members of the object at the top.
-fn items_of<'a>(
-    alloc: Global,
-    words: &[String],
-    members: &[(&'a str, Value<'a>)],
-) -> Result<Vec<Item<'a>>, Refusal<'a>>
+/// The items, unless there was no array of payloads.
+fn items_found(has_array: bool, items: Vec<Item<'_>>) -> Result<Vec<Item<'_>>, Refusal<'_>>
     ensures { MatchResult result
-        (λ v. HasTopItems (ignored_by_words words.now) (members_list (members_view members.now))
-        v.items)
-        (λ r. OrMemory (RefusesMembers (ignored_by_words words.now)
-        (members_list (members_view members.now))) r.reason) }
+        (λ v. (has_array ≡ true) × (v.items ≡ items.entry.items))
+        (λ r. (has_array ≡ false) × (r.reason ≡ Reason.NoArray)) }
 {
-    let mut items = Vec::new(alloc);
-    for member in members {
-        match add_member(alloc, words, member.0, &member.1, &mut items) {
-            Ok(()) => {}
-            Err(refusal) => return Err(refusal),
-        }
-    }
-    if has_array(words, members) {
+    if has_array {
         Ok(items)
     } else {
         Err(refusal(Place::Input, Reason::NoArray))
     }
 }
 
-/// Whether a member has payloads by its name.
-fn has_array(words: &[String], members: &[(&str, Value<'_>)]) -> bool
-    ensures { result ≡ list_any (λ m. is_array (ignored_by_words words.now) m.0)
-        (members_list (members_view members.now)) }
+/// Whether an object begins.
+fn begins_object(reader: &mut Reader<'_>) -> bool
+    ensures { MatchBool result (reader.old ≡ begin_object ∷ reader.new)
+        (IfSoleValue reader.old IsNoObject) }
 {
-    for member in members {
-        if is_array(words, member.0) {
-            return true;
+    match reader.next() {
+        Some(token) => is_begin_object(token),
+        None => false,
+    }
+}
+
+fn is_begin_object(token: Token<'_>) -> bool
+    ensures { result ≡ is_begin_object (token_of token.entry) }
+{
+    match token {
+        Token::BeginObject => true,
+        _ => false,
+    }
+}
+
+/// Reads the members of the object at the top to its end. Answers whether one has payloads by its
+/// name.
+fn read_members<'a>(
+    alloc: Global,
+    words: &[String],
+    reader: &mut Reader<'a>,
+    items: &mut Vec<Item<'a>>,
+) -> Result<bool, Refusal<'a>>
+    ensures { MatchResult result
+        (λ has. AreMembers reader.old reader.new (λ ms.
+        AddsPayloads (ArePayloadsOfEach (AreTopPayloads (ignored_by_words words.now)) ms)
+        items.old.items items.new.items
+        × (has ≡ list_any (λ m. is_array (ignored_by_words words.now) m.0) ms)))
+        (λ r. IfMembers reader.old (λ ms.
+        OrMemory (RefusesFirst (HasTopPayloads (ignored_by_words words.now))
+        (RefusesTop (ignored_by_words words.now)) ms) r.reason)) }
+{
+    let mut has_array = false;
+    loop {
+        let name = match reader.next_key() {
+            Ok(Some(name)) => name,
+            Ok(None) => return Ok(has_array),
+            Err(_) => return Err(refusal(Place::Input, Reason::NotJson)),
+        };
+        match read_member(alloc, words, name, reader, items) {
+            Ok(()) => {}
+            Err(refusal) => return Err(refusal),
+        }
+        has_array |= is_array(words, name);
+    }
+}
+
+/// Adds the payloads of the next value, which is that of a member of the object at the top, unless
+/// its name is to be ignored.
+fn read_member<'a>(
+    alloc: Global,
+    words: &[String],
+    name: &'a str,
+    reader: &mut Reader<'a>,
+    items: &mut Vec<Item<'a>>,
+) -> Result<(), Refusal<'a>>
+    ensures { MatchResult result
+        (λ _. IsValue 127 reader.old reader.new (λ j.
+        AddsPayloads (AreTopPayloads (ignored_by_words words.now) name.now j)
+        items.old.items items.new.items))
+        (λ r. IfValue 127 reader.old (λ j.
+        OrMemory (RefusesTop (ignored_by_words words.now) (name.now, j)) r.reason)) }
+{
+    match listed_kind(words, name) {
+        Some(kind) => read_payloads(alloc, name, kind, reader, items),
+        None => {
+            let value = read_value(alloc, reader, MAX_DEPTH - 1)?;
+            add_member(alloc, words, name, &value, items)
         }
     }
-    false
+}
+
+/// The kind of the payloads that a member of this name lists one after the other, if it does. ASPAs
+/// may stand under the names of their customers instead.
+fn listed_kind(words: &[String], name: &str) -> Option<Kind>
+    ensures { IfSome result (λ kind. (kind ≢ Kind.Aspas)
+        × (is_one_of (ignored_by_words words.now) name.now ≡ false)
+        × (holding_named name.now ≡ Some (Holding.Payloads kind))) }
+{
+    if is_ignored(words, name) {
+        return None;
+    }
+    match holding_named(name) {
+        Some(Holding::Payloads(Kind::Origins)) => Some(Kind::Origins),
+        Some(Holding::Payloads(Kind::RouterKeys)) => Some(Kind::RouterKeys),
+        _ => None,
+    }
+}
+
+/// Adds the payloads of the next value, which is an array, or `null`, as stayrtr writes it where it
+/// has none.
+fn read_payloads<'a>(
+    alloc: Global,
+    array: &'a str,
+    kind: Kind,
+    reader: &mut Reader<'a>,
+    items: &mut Vec<Item<'a>>,
+) -> Result<(), Refusal<'a>>
+    requires { kind ≢ Kind.Aspas }
+    ensures { MatchResult result
+        (λ _. IsValue 127 reader.old reader.new (λ j.
+        AddsPayloads (ArePayloadsIn kind j) items.old.items items.new.items))
+        (λ r. IfValue 127 reader.old (λ j. OrMemory (RefusesPayloads kind j) r.reason)) }
+{
+    let token = match reader.next() {
+        Some(token) => token,
+        None => return Err(refusal(Place::Input, Reason::NotJson)),
+    };
+    if is_begin_array(token) {
+        return read_list(alloc, array, kind, reader, items);
+    }
+    if is_null(token) {
+        return Ok(());
+    }
+    Err(refusal(Place::Array(array), Reason::NotArray))
+}
+
+fn is_begin_array(token: Token<'_>) -> bool
+    ensures { result ≡ is_begin_array (token_of token.entry) }
+{
+    match token {
+        Token::BeginArray => true,
+        _ => false,
+    }
+}
+
+fn is_null(token: Token<'_>) -> bool
+    ensures { result ≡ is_null (token_of token.entry) }
+{
+    match token {
+        Token::Null => true,
+        _ => false,
+    }
+}
+
+/// Adds the payloads of the items of an array to its end, each of which is dropped before the next
+/// is read.
+fn read_list<'a>(
+    alloc: Global,
+    array: &'a str,
+    kind: Kind,
+    reader: &mut Reader<'a>,
+    items: &mut Vec<Item<'a>>,
+) -> Result<(), Refusal<'a>>
+    ensures { MatchResult result
+        (λ _. AreItems reader.old reader.new (λ js.
+        AddsPayloads (AreItemPayloads kind js) items.old.items items.new.items))
+        (λ r. IfItems reader.old (λ js.
+        OrMemory (RefusesFirst (IsSomeItem kind) (RefusesArrayItem kind) js) r.reason)) }
+{
+    let mut spot = Spot { array, index: 0 };
+    while !reader.take_end_array() {
+        match read_item(alloc, spot, kind, reader, items) {
+            Ok(()) => {}
+            Err(refusal) => return Err(refusal),
+        }
+        spot.index = spot.index.saturating_add(1);
+    }
+    Ok(())
+}
+
+/// Adds the payload of the next item of an array.
+fn read_item<'a>(
+    alloc: Global,
+    spot: Spot<'a>,
+    kind: Kind,
+    reader: &mut Reader<'a>,
+    items: &mut Vec<Item<'a>>,
+) -> Result<(), Refusal<'a>>
+    ensures { MatchResult result
+        (λ _. IsValue 126 reader.old reader.new (λ j.
+        AddsOne (IsDatedItem kind j) items.old.items items.new.items))
+        (λ r. IfValue 126 reader.old (λ j. OrMemory (RefusesArrayItem kind j) r.reason)) }
+{
+    let item = read_value(alloc, reader, MAX_DEPTH - 2)?;
+    add_item(alloc, spot, kind, &item, items)
+}
+
+/// The next value. Arrays and objects may nest this deep.
+fn read_value<'a>(
+    alloc: Global,
+    reader: &mut Reader<'a>,
+    depth: usize,
+) -> Result<Value<'a>, Refusal<'a>>
+    ensures { MatchResult result
+        (λ v. value depth reader.old ≡ Some (value_view v, reader.new))
+        (λ r. IfValue depth reader.old (λ _. r.reason ≡ Reason.Memory)) }
+{
+    match Value::read(alloc, reader, depth) {
+        Ok(value) => Ok(value),
+        Err(Error::OutOfMemory) => Err(refusal(Place::Input, Reason::Memory)),
+        Err(_) => Err(refusal(Place::Input, Reason::NotJson)),
+    }
 }
 
 /// Whether a member of this name has payloads.

@@ -108,7 +108,8 @@ pub fn expiry_of(value: &Value<'_>) -> Expiry
     }
 }
 
-fn expiry_of_number(text: &str) -> Expiry
+/// When something expires for which this number is given: at so many seconds, if it is one.
+pub fn expiry_of_number(text: &str) -> Expiry
     ensures { result ≡ expiry_by_number (number_of 64 text.now) }
 {
     match long_number(text) {

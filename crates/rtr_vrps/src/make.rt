@@ -18,6 +18,7 @@ use crate::words::{Format, Request, asked};
 use json::Scratch;
 use rtr_units::source::Sink;
 use std::alloc::Global;
+use std::fmt::Display;
 use std::io;
 use std::io::{ErrorKind, Read, Write};
 use std::process::ExitCode;
@@ -34,9 +35,10 @@ const FAILED: u8 = 3;
 /// Runs the program with the words that it was started with, its name first, and answers the code
 /// to end with, which is the status of `run`. If there are no words, since they can't be had as
 /// texts, it prints the usage.
-pub fn program<R: Read, W: Sink, F: Write>(
+pub fn program<N: Display, R: Read, W: Sink, F: Write>(
     alloc: Global,
     words: Option<Vec<String>>,
+    name: &N,
     input: &mut R,
     output: &mut W,
     faults: &mut F,
@@ -62,7 +64,7 @@ pub fn program<R: Read, W: Sink, F: Write>(
     let Some(words) = words else {
         return ExitCode::from(usage(faults));
     };
-    let status = run_words(alloc, words_after_name(&words), input, output, faults);
+    let status = run_words(alloc, words_after_name(&words), name, input, output, faults);
     ExitCode::from(status)
 }
 
@@ -75,9 +77,10 @@ fn words_after_name(words: &[String]) -> &[String]
 
 /// Says what the words after the program's name ask it to say of itself, or runs what else they ask
 /// for.
-fn run_words<R: Read, W: Sink, F: Write>(
+fn run_words<N: Display, R: Read, W: Sink, F: Write>(
     alloc: Global,
     words: &[String],
+    name: &N,
     input: &mut R,
     output: &mut W,
     faults: &mut F,
@@ -93,14 +96,15 @@ fn run_words<R: Read, W: Sink, F: Write>(
 {
     match info_asked(words) {
         Some(info) => tell_info(info, output, faults),
-        None => run_asked(alloc, words, input, output, faults),
+        None => run_asked(alloc, words, name, input, output, faults),
     }
 }
 
 /// Runs what the words after the program's name ask for, or prints the usage.
-fn run_asked<R: Read, W: Sink, F: Write>(
+fn run_asked<N: Display, R: Read, W: Sink, F: Write>(
     alloc: Global,
     words: &[String],
+    name: &N,
     input: &mut R,
     output: &mut W,
     faults: &mut F,
@@ -113,26 +117,28 @@ fn run_asked<R: Read, W: Sink, F: Write>(
         (F.contents faults.new)) }
 {
     match asked(words) {
-        Some(asked) => run(alloc, &asked, words, input, output, faults),
+        Some(asked) => run(alloc, &asked, words, name, input, output, faults),
         None => usage(faults),
     }
 }
 
 /// Reads all of the input, writes the sequence of its payloads, flushes the output once, and
 /// answers the exit status. What JSON has under a name that stands after an `--ignore` of the words
-/// is passed over. At a time that is asked for `leave_out` leaves out what has expired. The status is
+/// is passed over. At a time that is asked for `leave_out` leaves out what has expired. The status
+/// is
 /// - 0 if that succeeded, with a line on `faults` if payloads were left out that the version lacks,
 ///   and one on those that have expired where a time is asked for;
 /// - 1 if the input was refused;
 /// - 3 if reading, writing, flushing or memory failed, or one of these lines where a time is asked
 ///   for.
 ///
-/// Statuses other than 0 come with a line on `faults`. If that can't be written, nothing else
-/// changes.
-pub fn run<R: Read, W: Sink, F: Write>(
+/// Statuses other than 0 come with a line on `faults`, which begins with the name of the input
+/// where that can't be read. If the line can't be written, nothing else changes.
+pub fn run<N: Display, R: Read, W: Sink, F: Write>(
     alloc: Global,
     asked: &Request,
     words: &[String],
+    name: &N,
     input: &mut R,
     output: &mut W,
     faults: &mut F,
@@ -143,18 +149,24 @@ pub fn run<R: Read, W: Sink, F: Write>(
 {
     let mut text: Vec<u8> = Vec::new(alloc);
     if let Err(error) = input.read_to_end(&mut text) {
-        let line = if error.kind() == ErrorKind::OutOfMemory {
-            "out of memory"
-        } else {
-            "read failed"
-        };
-        let _ = writeln!(faults, "{line}");
-        return FAILED;
+        return tell_unread(name, &error, faults);
     }
     match asked.format {
         Format::Csv => make_of_csv(alloc, asked, &text, output, faults),
         Format::Json => make_of_json(alloc, asked, words, &text, output, faults),
     }
+}
+
+/// Prints why the input of this name can't be read, and answers the status.
+fn tell_unread<N: Display, F: Write>(name: &N, error: &io::Error, faults: &mut F) -> u8
+    ensures { result ≡ 3 }
+{
+    let _ = if error.kind() == ErrorKind::OutOfMemory {
+        writeln!(faults, "out of memory")
+    } else {
+        writeln!(faults, "{name}: read failed: {error}")
+    };
+    FAILED
 }
 
 /// Writes the sequence of what stands in CSV.

@@ -5,7 +5,7 @@ ghost use Rattle.rtr_vrps.specs.MakeWords.{has_timing, ignored_by_words, is_csv}
 ghost use Rattle.rtr_vrps.specs.MakeWords.{is_one_of, nothing_said};
 ghost use Rattle.rtr_vrps.specs.MakeWords.{number_of, once};
 ghost use Rattle.rtr_vrps.specs.MakeWords.{request_by_words, request_of, said_alone, said_with};
-ghost use Rattle.rtr_vrps.specs.MakeWords.{setting_named, version_of, wants_json};
+ghost use Rattle.rtr_vrps.specs.MakeWords.{setting_named, version_of};
 ghost use Rattle.rtr_vrps.specs.Making.{version_number};
 ghost use Rattle.rtr_vrps.specs.PrivateWords.{word_taken};
 
@@ -106,10 +106,10 @@ struct Said {
 }
 
 /// What the words after the program's name ask for, if they ask for something: `--csv` or `--json`,
-/// and each of the options at most once, in any order, but for `--ignore`, which may come again
-/// with `--json`, and `--at`, which goes with `--json` alone. Without `--version` it is 2. The
-/// session and the serial number are 0 and the timings those of RFC 8210 section 6, if they aren't
-/// given. Version 0 has no timings: none may be given with it.
+/// and each of the options at most once, in any order, but for `--ignore`, which goes with `--json`
+/// alone and may come again. Without `--version` it is 2. The session and the serial number are 0
+/// and the timings those of RFC 8210 section 6, if they aren't given. Version 0 has no timings:
+/// none may be given with it.
 pub fn asked(words: &[String]) -> Option<Request>
     ensures { result ≡ request_by_words words.now }
 {
@@ -288,13 +288,6 @@ impl Said {
         self.refresh.is_some() || self.retry.is_some() || self.expire.is_some()
     }
 
-    /// Whether something was said that goes with JSON alone.
-    fn wants_json(&self) -> bool
-        ensures { result ≡ wants_json self.now }
-    {
-        self.ignores || self.at.is_some()
-    }
-
     /// What all words ask for.
     fn request(self) -> Option<Request>
         ensures { result ≡ request_of self }
@@ -304,7 +297,7 @@ impl Said {
             return None;
         }
         let format = self.format?;
-        if self.wants_json() && format.is_csv() {
+        if self.ignores && format.is_csv() {
             return None;
         }
         let timing = Timing::default();

@@ -28,16 +28,18 @@ returns-in-Err-add_row-clause-refused c =
     let more = rows-more (λ (s : Bor (List ℕ)). Some s.now) c.loop-count.reader
     c.read_record.new.self row default_config StartRecord (strip_bom c.args.text.now) inv.3
     inv.5.rows inv.2 inv.4 inv.5.reached read in
-    refuses c.args.text.now c.loop-count.count c.loop-count.items.items c.loop-count.reader.state
-    inv.3 inv.5 row c.in-Err-add_row.refusal.reason c.read_record.new.self.state more.0 more.2
+    refuses c.args.text.now c.loop-count.count c.loop-count.timed c.loop-count.items.items
+    c.loop-count.reader.state inv.3 inv.5 row c.in-Err-add_row.refusal.reason
+    c.read_record.new.self.state more.0 more.2
     (c.in-Ok-true.ensures.text inv.0) c.in-Err-add_row.ensures
 
 pub returns-in-Ok-false-clause-items : goal.returns-in-Ok-false-clause-items
 returns-in-Ok-false-clause-items c =
     let inv = c.loop-count.invariant in
     let read = rw c.in-Ok-false.field-0-test at (c.in-Ok-false.ensures.reads inv.0 inv.1) in
-    all c.args.text.now c.loop-count.count c.loop-count.items.items c.loop-count.reader.state
-    inv.3 inv.5 (rows-end (λ (s : Bor (List ℕ)). Some s.now) c.loop-count.reader
+    all c.args.text.now c.loop-count.count c.loop-count.timed c.loop-count.items.items
+    c.loop-count.reader.state inv.3 inv.5 (rows-end (λ (s : Bor (List ℕ)). Some s.now)
+    c.loop-count.reader
     c.read_record.new.self (fields_of c.read_record.new.row) default_config inv.3 inv.2 inv.4 read)
 
 pub returns-in-Err-clause-refused : goal.returns-in-Err-clause-refused
@@ -45,7 +47,8 @@ returns-in-Err-clause-refused c =
     let inv = c.loop-count.invariant in
     subst (RefusesRows c.args.text.now) (sym c.refusal.ensures)
     (explained (λ (s : Bor (List ℕ)). Some s.now) c.loop-count.reader c.read_record.new.self
-    c.in-Err.error.kind c.args.text.now c.loop-count.count c.loop-count.items.items inv.3 inv.2
+    c.in-Err.error.kind c.args.text.now c.loop-count.count c.loop-count.timed
+    c.loop-count.items.items inv.3 inv.2
     inv.4 inv.5 (c.in-Err.ensures.why inv.0 inv.1))
 
 pub loop-count-preserved : goal.loop-count-preserved
@@ -61,7 +64,9 @@ loop-count-preserved c =
       read.2 ∙ inv.2,
       more.0,
       more.1,
-      adds c.args.text.now c.loop-count.count c.loop-count.items.items c.loop-count.reader.state
-          inv.3 inv.5 row c.add_row.new.items.items c.read_record.new.self.state more.0 more.2
-          (c.in-Ok-true.ensures.text inv.0) c.in-Ok.ensures,
+      adds c.args.text.now c.loop-count.count c.loop-count.timed c.loop-count.items.items
+          c.loop-count.reader.state inv.3 inv.5 row c.add_row.new.items.items
+          c.timed_after-timed.result
+          c.read_record.new.self.state more.0 more.2 (c.in-Ok-true.ensures.text inv.0)
+          c.timed_after-timed.ensures c.in-Ok.ensures,
     )

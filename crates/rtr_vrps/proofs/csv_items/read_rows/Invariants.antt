@@ -8,4 +8,4 @@ abbrev pub invariant-loop-count : goal.invariant-loop-count
 invariant-loop-count l =
     (l.reader.trim ≡ trim.None) × Ready l.reader × (l.reader.config ≡ default_config)
     × (y : List ℕ) × (source_of (λ (s : Bor (List ℕ)). Some s.now) l.reader ≡ Some y)
-    × RowsSoFar l.fn.text l.count l.items.items l.reader.state y
+    × RowsSoFar l.fn.text l.count l.timed l.items.items l.reader.state y

@@ -1,4 +1,4 @@
-use Rattle.std.proofs.Common.{arith, rules, sym, subst}
+use Rattle.std.proofs.Common.{rules}
 use Rattle.std.proofs.lemmas.Fn.{filter_same}
 use Rattle.rtr_vrps.specs.Expiries.{stays}
 use Rattle.rtr_vrps.proofs.expiring.leave_out.Goals as goal

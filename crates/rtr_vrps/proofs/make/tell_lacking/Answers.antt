@@ -1,6 +1,3 @@
-use Rattle.std.proofs.Common.{subst, sym}
-use Rattle.std.specs.Io.KnownBytes.{Appends}
-use Rattle.std.specs.Prelude.{OnOk}
 use Rattle.rtr_vrps.proofs.TimesSoFar.{some_lack}
 use Rattle.rtr_vrps.proofs.make.tell_lacking.Goals as goal
 

@@ -1,0 +1,14 @@
+use Rattle.std.proofs.Common.{◌≡◌, arith}
+use Rattle.std.specs.Str.{IsUtf8}
+use Rattle.csv.specs.Reading.{strip_bom}
+use Rattle.rtr_vrps.specs.MakeWords.{ignored_by_words}
+use Rattle.rtr_vrps.proofs.JsonReading.{json_refused}
+use Rattle.rtr_vrps.proofs.json_items.read_json.Goals as goal
+
+pub returns-in-Err : goal.returns-in-Err
+returns-in-Err c =
+    let rest = c.in-Ok.rest.now in
+    let is : rest ≡ strip_bom c.args.text.now = grind arith in
+    let utf8 : IsUtf8 rest = grind arith in
+    json_refused (ignored_by_words c.args.words.now) c.args.text.now rest _ _ _ is utf8
+    c.in-Ok-new.ensures.ok c.in-Err.ensures c.told.ensures

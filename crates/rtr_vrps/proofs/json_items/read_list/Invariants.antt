@@ -1,0 +1,13 @@
+use Rattle.std.proofs.Common.{List, length}
+use Rattle.json.specs.Json.{Json, value}
+use Rattle.rtr_vrps.specs.JsonPayloads.{AreItemPayloads}
+use Rattle.rtr_vrps.specs.PrivateJson.{AddsPayloads}
+use Rattle.rtr_vrps.proofs.JsonTokens.{ItemsSoFar}
+use Rattle.rtr_vrps.proofs.json_items.read_list.Given as goal
+
+abbrev pub invariant-loop-spot : goal.invariant-loop-spot
+invariant-loop-spot l = (done : List Json) × ItemsSoFar (value 126) l.initial.reader l.reader done
+    × AddsPayloads (AreItemPayloads l.kind done) l.initial.items.items l.items.items
+
+abbrev pub decreases-loop-spot : goal.decreases-loop-spot
+decreases-loop-spot l = length l.reader
