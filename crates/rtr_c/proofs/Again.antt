@@ -16,10 +16,10 @@ use Rattle.rtr_session.specs.AnyFields.{cache_reset, error_report}
 use Rattle.rtr_session.specs.SessionForms.{session_form}
 use Rattle.rtr_session.specs.Reports.{HasParts}
 use Rattle.rtr_c.proofs.AgainPayload.{payload_again}
-use Rattle.rtr_c.specs.Said.{said, session_said, piece_said, report_said}
-use Rattle.rtr_c.specs.Shown.{CallShows, IsWrittenAgain}
-use Rattle.rtr_c.specs.Shown.{end_shown}
-use Rattle.rtr_c.specs.Shown.{with_parts, report_shown}
+use Rattle.rtr_c.specs.WrittenUnits.{said, session_said, piece_said, report_said}
+use Rattle.rtr_c.specs.ShownUnits.{CallShows, IsWrittenAgain}
+use Rattle.rtr_c.specs.ShownUnits.{end_shown}
+use Rattle.rtr_c.specs.ShownUnits.{with_parts, report_shown}
 use Rattle.rtr_c.specs.declared.unit.RtrUnit.{RtrUnit}
 
 end_said_again : (n v s q : ℕ) (t : Option Timing) (input : List ℕ) → HasTimingOf v t →

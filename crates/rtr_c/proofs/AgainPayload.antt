@@ -28,9 +28,10 @@ use Rattle.rtr_payload.specs.UnitFields.{aspa_unit, meaning}
 use Rattle.rtr_payload.proofs.FieldsRead.{words_of-words}
 use Rattle.rtr_c.specs.Answers.{rtr_no_form, rtr_too_long, rtr_unit_length, rtr_empty_providers}
 use Rattle.rtr_c.specs.declared.unit.RtrUnit.{RtrUnit}
-use Rattle.rtr_c.specs.Said.{said, piece_said, unless_broken, key_said, aspa_said, aspa_form}
-use Rattle.rtr_c.specs.Shown.{none, address_shown, prefix_shown, key_shown, aspa_shown}
-use Rattle.rtr_c.specs.Shown.{payload_shown}
+use Rattle.rtr_c.specs.WrittenUnits.{said, piece_said, unless_broken, key_said, aspa_said}
+use Rattle.rtr_c.specs.WrittenUnits.{aspa_form}
+use Rattle.rtr_c.specs.ShownUnits.{none, address_shown, prefix_shown, key_shown, aspa_shown}
+use Rattle.rtr_c.specs.ShownUnits.{payload_shown}
 
 piece_steps : {A : Type 0} (m n : ℕ) (x y : A) → m ≤ n → cond (nat_le m n) x y ≡ x
 piece_steps m n x y h = grind (arith, nat_tests)

@@ -1,13 +1,16 @@
 -- Findings and names, told to C.
-use Rattle.std.proofs.Common.{◌≡◌, ℕ, List, [], ◌∷◌, length, get_or, sym, ap, ◌∙◌}
-use Rattle.std.proofs.Common.{arith, Option, Some, None, Ok, Err, inr}
-use Rattle.std.specs.Prelude.{true}
+use Rattle.std.proofs.Common.{◌≡◌, ℕ, List, [], ◌∷◌, length, get_or, ap, ◌∙◌, arith, Option, None}
+use Rattle.std.proofs.Common.{Ok}
+use Rattle.std.specs.Prelude.{false, ◌%◌, ◌==◌, ◌&&◌}
+use Rattle.std.proofs.lemmas.Bool.Decides.{nat_tests}
+use Rattle.std.proofs.lemmas.List.{get_or-take}
+use Rattle.rtr_units.specs.Header.{length_field, type_field, version_field}
+use Rattle.rtr_payload.specs.FirstFault.{header_fault}
+use Rattle.rtr_session.specs.SessionKinds.{any_header_fault}
+use Rattle.rtr_session.proofs.Lengths.{said_bounded}
 use Rattle.rtr_findings.specs.declared.finding.Finding.{Finding}
-use Rattle.rtr_c.specs.Checks.{LooksAt, numbered_finding, is_bare_aspa}
-use Rattle.rtr_c.specs.LineAnswers.{no_line}
-use Rattle.rtr_c.specs.PrivateLines.{IsUnitOf}
+use Rattle.rtr_c.specs.Checks.{LooksAt, is_bare_aspa, numbered_finding}
 use Rattle.rtr_c.specs.declared.check.RtrFinding.{RtrFinding}
-use Rattle.rtr_c.specs.declared.lines.RtrLine.{RtrLine}
 
 pub seven_told : (xs : List (Option Finding)) → (a b c d e f g : RtrFinding) → length xs ≡ 7 →
     numbered_finding a ≡ get_or xs 0 None → numbered_finding b ≡ get_or xs 1 None →
@@ -31,11 +34,21 @@ seven_told (s0 ∷ s1 ∷ s2 ∷ s3 ∷ s4 ∷ s5 ∷ []) a b c d e f g h e0 e1 
 seven_told (s0 ∷ s1 ∷ s2 ∷ s3 ∷ s4 ∷ s5 ∷ s6 ∷ s7 ∷ xs) a b c d e f g h e0 e1 e2 e3 e4 e5 e6 =
     absurd (omega (arith, h))
 
--- an ASPA that is announced without providers
-pub bare_told : (input unit : List ℕ) (none : RtrLine) → IsUnitOf input unit →
-    is_bare_aspa unit ≡ true → none ≡ no_line 6 0 0 → LooksAt input (Err none)
-bare_told input unit none is bare told = (
-  Ok (Some (length unit)),
-  is.said,
-  inr (is.within, ap is_bare_aspa (sym is.front) ∙ bare, told),
-)
+-- an ASPA that is announced without providers has a header that is refused
+none_bare : (v t g n : ℕ) → any_header_fault v t g n ≡ None →
+    ((t == 11) && (g % 2 == 1) && (n == 12)) ≡ false
+unfolding any_header_fault header_fault
+none_bare v t g n h = grind (arith, nat_tests)
+
+pub looked_at : (input unit : List ℕ) → LooksAt input (Ok unit) → is_bare_aspa unit ≡ false
+looked_at input unit looks =
+    let bounded = said_bounded input (length unit) looks.0 in
+    let kind : type_field unit ≡ type_field input =
+    ap type_field looks.2
+    ∙ get_or-take (length unit) input 1 0 (omega (arith, bounded.least)) in
+    let flags : get_or unit 2 0 ≡ get_or input 2 0 =
+    ap (λ u. get_or u 2 0) looks.2
+    ∙ get_or-take (length unit) input 2 0 (omega (arith, bounded.least)) in
+    (λ i. (kind i == 11) && (flags i % 2 == 1) && (looks.0.2 i == 12))
+    ∙ none_bare (version_field input) (type_field input) (get_or input 2 0)
+    (length_field input) looks.0.1

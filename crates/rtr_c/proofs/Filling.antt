@@ -14,7 +14,7 @@ use Rattle.rtr_session.specs.AnyFields.{error_report}
 use Rattle.rtr_c.specs.Answers.{rtr_ok}
 use Rattle.rtr_c.proofs.Accepted.{fault_some}
 use Rattle.rtr_c.specs.ManyShown.{ShowsMany, no_place_left, fault_shown, unit_shown}
-use Rattle.rtr_c.specs.Shown.{CallShows, ShowsFirst, timed}
+use Rattle.rtr_c.specs.ShownUnits.{CallShows, ShowsFirst, timed}
 use Rattle.rtr_c.specs.declared.unit.RtrUnit.{RtrUnit}
 
 -- ---- one unit

@@ -29,10 +29,10 @@ use Rattle.rtr_c.specs.Kept.{IsShownAgain, prefix_kept, end_kept, key_kept}
 use Rattle.rtr_c.specs.Kept.{aspa_kept, report_kept}
 use Rattle.rtr_c.specs.Answers.{rtr_too_long, rtr_unit_length, rtr_empty_providers}
 use Rattle.rtr_c.specs.PrivateRanges.{IsRanged}
-use Rattle.rtr_c.specs.Said.{said, session_said, piece_said, part_said, text_said, prefix_said}
-use Rattle.rtr_c.specs.Said.{key_said, aspa_said, aspa_form, end_said, plain_said, report_said}
-use Rattle.rtr_c.specs.Said.{unless_broken, timing_said}
-use Rattle.rtr_c.specs.Shown.{serial_shown, bare_shown}
+use Rattle.rtr_c.specs.WrittenUnits.{said, session_said, piece_said, part_said, text_said}
+use Rattle.rtr_c.specs.WrittenUnits.{prefix_said, key_said, aspa_said, aspa_form, end_said}
+use Rattle.rtr_c.specs.WrittenUnits.{plain_said, report_said, unless_broken, timing_said}
+use Rattle.rtr_c.specs.ShownUnits.{serial_shown, bare_shown}
 use Rattle.rtr_c.specs.declared.unit.RtrUnit.{RtrUnit}
 
 -- ---- what is known where something is written

@@ -20,3 +20,4 @@ mod Sides
 mod OrderRoom
 mod RoomInOrder
 mod Routes
+mod Rooms

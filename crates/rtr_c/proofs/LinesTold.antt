@@ -13,8 +13,8 @@ use Rattle.rtr_texts.specs.Laying.{Lays}
 use Rattle.rtr_texts.specs.ListedUnits.{fields_at}
 use Rattle.rtr_texts.proofs.Laid.{lays_said}
 use Rattle.rtr_texts.proofs.ReadBack.{read_back}
-use Rattle.rtr_c.specs.LineAnswers.{TellsLine, TellsNone, TellsLaid, line_status}
-use Rattle.rtr_c.specs.PrivateLines.{IsUnitOf, HasNoLine, TellsRefusal}
+use Rattle.rtr_c.specs.LineAnswers.{HasNoLine, TellsLine, TellsNone, TellsLaid, line_status}
+use Rattle.rtr_c.specs.PrivateLines.{IsUnitOf, TellsRefusal}
 use Rattle.rtr_c.specs.declared.lines.RtrLine.{RtrLine}
 
 -- the text of the fields that stand in a unit, told

@@ -14,8 +14,8 @@ use Rattle.rtr_session.proofs.Viewed.{whole_bounded}
 use Rattle.rtr_session.proofs.Wholes.{any_whole, any_one}
 use Rattle.rtr_conversation.proofs.OneList.{one_list}
 use Rattle.rtr_c.specs.Kept.{kept, kept_part, kept_text, IsShownAgain}
-use Rattle.rtr_c.specs.Said.{piece_said, part_said, text_said}
-use Rattle.rtr_c.specs.Shown.{CallShows, ShowsFirst}
+use Rattle.rtr_c.specs.WrittenUnits.{piece_said, part_said, text_said}
+use Rattle.rtr_c.specs.ShownUnits.{CallShows, ShowsFirst}
 use Rattle.rtr_c.specs.declared.unit.RtrUnit.{RtrUnit}
 
 -- b is a unit of which w is shown, whatever follows it, with this part and this text

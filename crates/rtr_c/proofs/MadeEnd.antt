@@ -15,8 +15,8 @@ use Rattle.rtr_session.proofs.Units.{end_has}
 use Rattle.rtr_c.proofs.Made.{Made, no_piece}
 use Rattle.rtr_c.specs.Kept.{end_kept}
 use Rattle.rtr_c.specs.PrivateRanges.{IsRanged}
-use Rattle.rtr_c.specs.Said.{part_said, text_said, timing_said}
-use Rattle.rtr_c.specs.Shown.{end_shown}
+use Rattle.rtr_c.specs.WrittenUnits.{part_said, text_said, timing_said}
+use Rattle.rtr_c.specs.ShownUnits.{end_shown}
 use Rattle.rtr_c.specs.declared.unit.RtrUnit.{RtrUnit}
 
 typed : (v s q : ℕ) (t : Option Timing) (r : List ℕ) →

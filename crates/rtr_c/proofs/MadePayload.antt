@@ -33,8 +33,8 @@ use Rattle.rtr_c.proofs.AgainPayload.{cleared_once, info_back, providers_back}
 use Rattle.rtr_c.proofs.Made.{Made, no_piece}
 use Rattle.rtr_c.specs.Kept.{prefix_kept, key_kept, aspa_kept}
 use Rattle.rtr_c.specs.PrivateRanges.{IsRanged}
-use Rattle.rtr_c.specs.Said.{piece_said, part_said, text_said, aspa_form}
-use Rattle.rtr_c.specs.Shown.{none, payload_shown, address_shown}
+use Rattle.rtr_c.specs.WrittenUnits.{piece_said, part_said, text_said, aspa_form}
+use Rattle.rtr_c.specs.ShownUnits.{none, payload_shown, address_shown}
 use Rattle.rtr_c.specs.declared.unit.RtrUnit.{RtrUnit}
 
 -- ---- of any kind

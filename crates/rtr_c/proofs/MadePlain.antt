@@ -11,7 +11,7 @@ use Rattle.rtr_session.specs.PrivateHeaders.{IsPlainType}
 use Rattle.rtr_session.proofs.Forms.{plain_shown}
 use Rattle.rtr_session.proofs.Wholes.{any_whole}
 use Rattle.rtr_c.proofs.Made.{Made, no_piece}
-use Rattle.rtr_c.specs.Shown.{serial_shown, bare_shown, CallShows}
+use Rattle.rtr_c.specs.ShownUnits.{serial_shown, bare_shown, CallShows}
 use Rattle.rtr_c.specs.declared.unit.RtrUnit.{RtrUnit}
 
 serial_bytes : (v k s q : ℕ) → v < 256 → k < 256 → IsBytes (serial_list v k s q)

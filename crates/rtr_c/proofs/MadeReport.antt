@@ -17,8 +17,8 @@ use Rattle.rtr_c.proofs.Forms.{held_whole}
 use Rattle.rtr_c.proofs.Made.{Made}
 use Rattle.rtr_c.specs.Kept.{report_kept}
 use Rattle.rtr_c.specs.PrivateRanges.{IsRanged}
-use Rattle.rtr_c.specs.Said.{piece_said}
-use Rattle.rtr_c.specs.Shown.{with_parts, report_shown, ShowsReport}
+use Rattle.rtr_c.specs.WrittenUnits.{piece_said}
+use Rattle.rtr_c.specs.ShownUnits.{with_parts, report_shown, ShowsReport}
 use Rattle.rtr_c.specs.declared.unit.RtrUnit.{RtrUnit}
 
 module _ (u : RtrUnit) (p t : List ℕ) (ranged : IsRanged u) (hp : IsBytes p) (ht : IsBytes t)

@@ -5,7 +5,7 @@ use Rattle.std.specs.Option.{option_map}
 use Rattle.rtr_base.specs.Addresses.{PrefixParts}
 use Rattle.rtr_units.specs.End.{EndMeaning}
 use Rattle.rtr_payload.specs.Payloads.{Payload}
-use Rattle.rtr_deltas.specs.Canonical.{HoldsData}
+use Rattle.rtr_slices.specs.Canonical.{HoldsData}
 use Rattle.rtr_validation.specs.Covering.{IsFirstCovering}
 use Rattle.rtr_validation.specs.Tables.{AreTables}
 use Rattle.rtr_validation.specs.Validity.{IsValidity}

@@ -23,8 +23,8 @@ use Rattle.rtr_session.specs.declared.session_view.SessionView.{SessionView}
 use Rattle.rtr_session.specs.declared.session_view.SessionView.TheVariants as session
 use Rattle.rtr_session.proofs.Units.{payload_has, end_has, report_has}
 use Rattle.rtr_c.specs.PrivateShown.{ShowsView, IsOfSize, serial_at, CallRefuses}
-use Rattle.rtr_c.specs.Shown.{none, bare_shown, address_shown, key_shown, aspa_shown, InOrder}
-use Rattle.rtr_c.specs.Shown.{CallShows, ShowsReport, ShowsFirst}
+use Rattle.rtr_c.specs.ShownUnits.{none, bare_shown, address_shown, key_shown, aspa_shown, InOrder}
+use Rattle.rtr_c.specs.ShownUnits.{CallShows, ShowsReport, ShowsFirst}
 use Rattle.rtr_c.specs.declared.unit.RtrUnit.{RtrUnit}
 
 abbrev ShowsFields : List ℕ → RtrUnit → Type 0

@@ -32,7 +32,7 @@ use Rattle.rtr_c.specs.Compared.{WantsMore, fault_wanted, refusal_told, comparis
 use Rattle.rtr_c.specs.Compared.{TellsComparison}
 use Rattle.rtr_c.specs.declared.answer.RtrAnswer.{RtrAnswer}
 use Rattle.rtr_c.specs.declared.compare.RtrComparison.{RtrComparison}
-use Rattle.rtr_c.specs.Shown.{ShowsFirst}
+use Rattle.rtr_c.specs.ShownUnits.{ShowsFirst}
 use Rattle.rtr_c.specs.declared.unit.RtrUnit.{RtrUnit}
 
 -- ---- no other fault of a unit is that it is too short

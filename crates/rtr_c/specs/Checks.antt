@@ -1,5 +1,5 @@
 -- What C gets of the rules that a unit breaks (this library's own).
-use Rattle.std.specs.Prelude.{◌≡◌, ◌⊎◌, ℕ, ◌%◌, ◌<◌, ◌≤◌, ◌==◌, ◌&&◌, List, [], length, map, take}
+use Rattle.std.specs.Prelude.{◌≡◌, ℕ, ◌%◌, ◌≤◌, ◌==◌, ◌&&◌, List, [], length, map, take}
 use Rattle.std.specs.Prelude.{Bool, true, false, Option, Some, None, Result, Ok, Err, replicate}
 use Rattle.std.specs.Prelude.{◌∷◌, slice_index, if◌then◌else◌}
 use Rattle.rtr_units.specs.Header.{type_field}
@@ -20,9 +20,8 @@ use Rattle.rtr_findings.specs.declared.finding.Layout.TheVariants.{AsRead, LikeO
 use Rattle.rtr_findings.specs.declared.sequence.SequenceState.{SequenceState}
 use Rattle.rtr_findings.specs.declared.sequence.Stage.{Stage}
 use Rattle.rtr_findings.specs.declared.sequence.Stage.TheVariants.{Before, Asked, Open, Whole}
-use Rattle.rtr_c.specs.Answers.{rtr_ok, rtr_short, rtr_empty_providers, fault_status}
-use Rattle.rtr_c.specs.Answers.{fault_detail}
-use Rattle.rtr_c.specs.LineAnswers.{line_status, no_line}
+use Rattle.rtr_c.specs.Answers.{rtr_ok}
+use Rattle.rtr_c.specs.LineAnswers.{HasNoLine, line_status}
 use Rattle.rtr_c.specs.declared.check.RtrCheck.{RtrCheck}
 use Rattle.rtr_c.specs.declared.check.RtrChecked.{RtrChecked}
 use Rattle.rtr_c.specs.declared.check.RtrFinding.{RtrFinding}
@@ -81,29 +80,19 @@ told_line offset None = []
 
 -- ---- the unit that is looked at
 
--- an ASPA is announced without providers, which no unit is
-abbrev pub is_bare_aspa : List ℕ → Bool
-is_bare_aspa unit =
-    (type_field unit == 11) && (slice_index unit 2 % 2 == 1) && (length unit == 12)
-
--- why a unit is not looked at, by what the header says: not all of it is there, or it is an ASPA
--- that is announced without providers
-abbrev pub IsNotTaken : Result (Option ℕ) ViewFault → List ℕ → RtrLine → Type 0
-IsNotTaken (Ok None) input none = none ≡ no_line rtr_short 0 8
-IsNotTaken (Ok (Some n)) input none =
-    ((length input < n) × (none ≡ no_line rtr_short 0 n))
-    ⊎ ((n ≤ length input) × (is_bare_aspa (take n input) ≡ true)
-    × (none ≡ no_line rtr_empty_providers 0 0))
-IsNotTaken (Err e) input none = none ≡ no_line (fault_status e) (fault_detail e) 0
-
--- The unit that the input begins with, all of it; or why it is not looked at: by its header, since
--- not all of it is there, or since it is an ASPA that is announced without providers.
+-- The unit that the input begins with, all of it; or why it is not looked at: by its header, or
+-- since not all of it is there.
 abbrev pub LooksAt : List ℕ → Result (List ℕ) RtrLine → Type 0
 LooksAt input (Ok unit) =
     SaysLength input (Ok (Some (length unit))) × (length unit ≤ length input)
-    × (unit ≡ take (length unit) input) × (is_bare_aspa unit ≡ false)
+    × (unit ≡ take (length unit) input)
 LooksAt input (Err none) =
-    (r : Result (Option ℕ) ViewFault) × SaysLength input r × IsNotTaken r input none
+    (r : Result (Option ℕ) ViewFault) × SaysLength input r × HasNoLine r input none
+
+-- An ASPA is announced without providers. No unit that is looked at is one.
+abbrev pub is_bare_aspa : List ℕ → Bool
+is_bare_aspa unit =
+    (type_field unit == 11) && (slice_index unit 2 % 2 == 1) && (length unit == 12)
 
 -- ---- findings
 

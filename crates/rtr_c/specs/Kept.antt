@@ -9,9 +9,9 @@ use Rattle.rtr_units.specs.PrefixUnits.{prefix_type, prefix_size, address_bytes}
 use Rattle.rtr_views.specs.declared.fault.ViewFault.{ViewFault}
 use Rattle.rtr_session.specs.AnyFields.{AnyFields, HasAnyFields}
 use Rattle.rtr_c.specs.Answers.{rtr_ok}
-use Rattle.rtr_c.specs.Said.{part_said, text_said, timing_said}
-use Rattle.rtr_c.specs.Shown.{none, serial_shown, bare_shown, end_shown, address_shown}
-use Rattle.rtr_c.specs.Shown.{report_shown, with_parts, CallShows, ShowsFirst}
+use Rattle.rtr_c.specs.WrittenUnits.{part_said, text_said, timing_said}
+use Rattle.rtr_c.specs.ShownUnits.{none, serial_shown, bare_shown, end_shown, address_shown}
+use Rattle.rtr_c.specs.ShownUnits.{report_shown, with_parts, CallShows, ShowsFirst}
 use Rattle.rtr_c.specs.declared.unit.RtrUnit.{RtrUnit}
 
 -- a prefix, with the bits of its address after the prefix length zero

@@ -1,8 +1,8 @@
 pub mod Answers
-pub mod Shown
+pub mod ShownUnits
 pub mod ManyShown
 pub mod PrivateShown
-pub mod Said
+pub mod WrittenUnits
 pub mod Compared
 pub mod LineAnswers
 pub mod PrivateLines

@@ -1,5 +1,5 @@
 -- What C gets of the line of a unit (this library's own).
-use Rattle.std.specs.Prelude.{◌≡◌, ℕ, List, length, take, nat_le, if◌then◌else◌}
+use Rattle.std.specs.Prelude.{◌≡◌, ◌<◌, ℕ, List, length, take, nat_le, if◌then◌else◌}
 use Rattle.std.specs.Prelude.{Bool, true, false, Option, Some, None, Result, Ok, Err}
 use Rattle.rtr_views.specs.declared.fault.ViewFault.{ViewFault}
 use Rattle.rtr_session.specs.AnyFields.{AnyFields, HasAnyFields}
@@ -11,6 +11,12 @@ use Rattle.rtr_c.specs.declared.lines.RtrLine.{RtrLine}
 abbrev pub no_line : (status detail wanted : ℕ) → RtrLine
 no_line status detail wanted =
     record { size = 0; length = 0; wanted = wanted; status = status; detail = detail }
+
+-- why there is none, by what the header says: not all of the unit is there, or it is refused
+abbrev pub HasNoLine : Result (Option ℕ) ViewFault → List ℕ → RtrLine → Type 0
+HasNoLine (Ok None) input a = a ≡ no_line rtr_short 0 8
+HasNoLine (Ok (Some n)) input a = (length input < n) × (a ≡ no_line rtr_short 0 n)
+HasNoLine (Err e) input a = a ≡ no_line (fault_status e) (fault_detail e) 0
 
 -- there is no line, and the output is as it was
 abbrev pub TellsNone : RtrLine → (before after : List ℕ) → RtrLine → ℕ → Type 0

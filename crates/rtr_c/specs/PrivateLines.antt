@@ -1,12 +1,10 @@
 -- What functions leave that look for the unit of a line: this library's own. Only contracts of
 -- private functions cite these.
-use Rattle.std.specs.Prelude.{◌≡◌, ℕ, ◌≤◌, ◌<◌, List, length, take}
-use Rattle.std.specs.Prelude.{Option, Some, None, Result, Ok, Err}
+use Rattle.std.specs.Prelude.{◌≡◌, ℕ, ◌≤◌, List, length, take, Option, Some, Result, Ok}
 use Rattle.rtr_units.specs.Header.{type_field, version_field}
 use Rattle.rtr_views.specs.declared.fault.ViewFault.{ViewFault}
 use Rattle.rtr_session.specs.Lengths.{IsBounded, SaysLength}
-use Rattle.rtr_c.specs.Answers.{rtr_short, fault_status, fault_detail}
-use Rattle.rtr_c.specs.LineAnswers.{no_line}
+use Rattle.rtr_c.specs.LineAnswers.{HasNoLine}
 use Rattle.rtr_c.specs.declared.lines.RtrLine.{RtrLine}
 
 -- the unit that the input begins with, of a length that units of its version and type have
@@ -16,12 +14,7 @@ pub record IsUnitOf (input unit : List ℕ) : Type 0 where
   pub said : SaysLength input (Ok (Some (length unit)))
   pub bounded : IsBounded (version_field unit) (type_field unit) (length unit)
 
--- why there is none, by what the header says
-abbrev pub HasNoLine : Result (Option ℕ) ViewFault → List ℕ → RtrLine → Type 0
-HasNoLine (Ok None) input a = a ≡ no_line rtr_short 0 8
-HasNoLine (Ok (Some n)) input a = (length input < n) × (a ≡ no_line rtr_short 0 n)
-HasNoLine (Err e) input a = a ≡ no_line (fault_status e) (fault_detail e) 0
-
+-- why there is none
 abbrev pub TellsRefusal : List ℕ → RtrLine → Type 0
 TellsRefusal input a =
     (r : Result (Option ℕ) ViewFault) × SaysLength input r × HasNoLine r input a

@@ -15,8 +15,8 @@ use Rattle.rtr_views.specs.declared.view.UnitView.TheVariants as views
 use Rattle.rtr_session.specs.declared.session_view.SessionView.{SessionView}
 use Rattle.rtr_session.specs.declared.session_view.SessionView.TheVariants as session
 use Rattle.rtr_c.specs.Answers.{fault_status}
-use Rattle.rtr_c.specs.Shown.{none, serial_shown, bare_shown, address_shown, key_shown, aspa_shown}
-use Rattle.rtr_c.specs.Shown.{end_shown, ShowsReport, refused_shown}
+use Rattle.rtr_c.specs.ShownUnits.{none, serial_shown, bare_shown, address_shown, key_shown}
+use Rattle.rtr_c.specs.ShownUnits.{aspa_shown, end_shown, ShowsReport, refused_shown}
 use Rattle.rtr_c.specs.declared.unit.RtrUnit.{RtrUnit}
 
 abbrev pub origin_shown : (version flags size : ℕ) → RouteOrigin → RtrUnit

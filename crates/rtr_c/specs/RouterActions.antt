@@ -2,6 +2,10 @@
 use Rattle.std.specs.Prelude.{◌≡◌, ℕ, Bool, true, false, List, Option, Some, None, ◌==◌}
 use Rattle.std.specs.Prelude.{if◌then◌else◌}
 use Rattle.std.specs.Option.{is_some, unwrap_or}
+use Rattle.rtr_payload.specs.declared.pdu.prefix_rule.PrefixRule.{PrefixRule}
+use Rattle.rtr_payload.specs.declared.pdu.prefix_rule.PrefixRule.TheVariants.{LenOverflow}
+use Rattle.rtr_payload.specs.declared.pdu.prefix_rule.PrefixRule.TheVariants.{MaxOverflow}
+use Rattle.rtr_payload.specs.declared.pdu.prefix_rule.PrefixRule.TheVariants.{MaxUnderflow}
 use Rattle.rtr_router.specs.declared.event.Action.{Action}
 use Rattle.rtr_router.specs.declared.event.Action.TheVariants as actions
 use Rattle.rtr_router.specs.declared.event.Cause.{Cause}
@@ -137,16 +141,24 @@ ending_of a = record {
   cause = numbered_cause a.cause;
 }
 
--- the refusal of this status, of those that are the peer's fault
-abbrev pub refusal_at : ℕ → Option Refusal
-refusal_at s =
+-- the part of the rule on the lengths of a prefix that has this number
+abbrev pub numbered_prefix_rule : ℕ → Option PrefixRule
+numbered_prefix_rule n =
+    if n == 1 then Some LenOverflow
+    else if n == 2 then Some MaxOverflow
+    else if n == 3 then Some MaxUnderflow
+    else None
+
+-- the refusal of this status, with its detail, of those that are the peer's fault
+abbrev pub refusal_at : (status detail : ℕ) → Option Refusal
+refusal_at s d =
     if s == 1 then Some refusals.Short
-    else if s == 2 then Some refusals.UnitType
-    else if s == 3 then Some refusals.UnitVersion
+    else if s == 2 then Some (refusals.UnitType d)
+    else if s == 3 then Some (refusals.UnitVersion d)
     else if s == 4 then Some refusals.TooLong
     else if s == 5 then Some refusals.UnitLength
     else if s == 6 then Some refusals.EmptyProviders
-    else if s == 7 then Some refusals.Prefix
+    else if s == 7 then Some (refusals.Prefix (numbered_prefix_rule d))
     else if s == 14 then Some refusals.Duplicate
     else if s == 15 then Some refusals.Unknown
     else None
@@ -156,5 +168,5 @@ abbrev pub PlacesReport : RtrAction → List ℕ → (before after : List ℕ) �
     Type 0
 PlacesReport a input before after written said =
     (n : Option ℕ)
-    × PlacesEnding a.version (ending_of a) (refusal_at a.status) input n before after
+    × PlacesEnding a.version (ending_of a) (refusal_at a.status a.detail) input n before after
     × (written ≡ unwrap_or n 0) × (said ≡ is_some n)

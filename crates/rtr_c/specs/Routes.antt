@@ -7,7 +7,7 @@ use Rattle.rtr_base.specs.Bytes.{value}
 use Rattle.rtr_units.specs.End.{EndMeaning}
 use Rattle.rtr_units.specs.PrefixUnits.{address_bytes}
 use Rattle.rtr_payload.specs.Payloads.{Payload}
-use Rattle.rtr_deltas.specs.Canonical.{HoldsData}
+use Rattle.rtr_slices.specs.Canonical.{HoldsData}
 use Rattle.rtr_validation.specs.Covering.{IsFirstCovering, IsMismatch, vrp}
 use Rattle.rtr_validation.specs.Tables.{AreTables}
 use Rattle.rtr_validation.specs.Validity.{IsValidity}

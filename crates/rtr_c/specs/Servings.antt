@@ -129,5 +129,5 @@ abbrev pub PlacesAnswer : RtrServing → List ℕ → (before after : List ℕ) 
     Type 0
 PlacesAnswer a input before after written said =
     (n : Option ℕ)
-    × PlacesServed a.version (served_of a) (refusal_at a.status) input n before after
+    × PlacesServed a.version (served_of a) (refusal_at a.status a.detail) input n before after
     × (written ≡ unwrap_or n 0) × (said ≡ is_some n)

@@ -4,13 +4,10 @@
 use Rattle.std.specs.Prelude.{◌≡◌, ℕ, List, [], ◌++◌, length, codes, decimal, Option, Some, None}
 use Rattle.std.specs.Prelude.{◌==◌, nat_lt, if◌then◌else◌}
 use Rattle.rtr_base.specs.PlainTexts.{code_name}
-use Rattle.rtr_payload.specs.FirstFault.{text_of}
-use Rattle.rtr_payload.specs.declared.pdu.prefix_rule.PrefixRule.TheVariants.{LenOverflow}
-use Rattle.rtr_payload.specs.declared.pdu.prefix_rule.PrefixRule.TheVariants.{MaxOverflow}
-use Rattle.rtr_payload.specs.declared.pdu.prefix_rule.PrefixRule.TheVariants.{MaxUnderflow}
 use Rattle.rtr_router.specs.Texts.{cause_text}
 use Rattle.rtr_cache.specs.ReasonTexts.{reason_text}
-use Rattle.rtr_conversation.specs.Sent.{refusal_text}
+use Rattle.rtr_conversation.specs.Sent.{refusal_name, refusal_text}
+use Rattle.rtr_conversation.specs.declared.refusal.Refusal.{Refusal}
 use Rattle.rtr_conversation.specs.declared.refusal.Refusal.TheVariants as refusals
 use Rattle.rtr_texts.specs.Laying.{Lays}
 use Rattle.rtr_c.specs.Answers.{rtr_ok, rtr_short, rtr_unit_type, rtr_unit_version, rtr_too_long}
@@ -18,7 +15,7 @@ use Rattle.rtr_c.specs.Answers.{rtr_unit_length, rtr_empty_providers, rtr_prefix
 use Rattle.rtr_c.specs.Answers.{rtr_no_room, rtr_no_form, rtr_not_canonical, rtr_other_session}
 use Rattle.rtr_c.specs.Answers.{rtr_duplicate, rtr_unknown, rtr_undecided, rtr_no_index}
 use Rattle.rtr_c.specs.LineAnswers.{line_status}
-use Rattle.rtr_c.specs.RouterActions.{numbered_cause}
+use Rattle.rtr_c.specs.RouterActions.{numbered_cause, refusal_at}
 use Rattle.rtr_c.specs.Servings.{numbered_reason}
 
 -- a name where there is one, and else a label and the number
@@ -32,40 +29,32 @@ name_or None label n = label ++ decimal n
 unfoldable pub status_name : ℕ → Option (List ℕ)
 status_name s =
     if s == rtr_ok then Some (codes "accepted")
-    else if s == rtr_short then Some (refusal_text refusals.Short)
-    else if s == rtr_unit_type then Some (refusal_text refusals.UnitType)
-    else if s == rtr_unit_version then Some (refusal_text refusals.UnitVersion)
-    else if s == rtr_too_long then Some (refusal_text refusals.TooLong)
-    else if s == rtr_unit_length then Some (refusal_text refusals.UnitLength)
-    else if s == rtr_empty_providers then Some (refusal_text refusals.EmptyProviders)
-    else if s == rtr_prefix then Some (refusal_text refusals.Prefix)
+    else if s == rtr_short then Some (refusal_name refusals.Short)
+    else if s == rtr_unit_type then Some (refusal_name (refusals.UnitType 0))
+    else if s == rtr_unit_version then Some (refusal_name (refusals.UnitVersion 0))
+    else if s == rtr_too_long then Some (refusal_name refusals.TooLong)
+    else if s == rtr_unit_length then Some (refusal_name refusals.UnitLength)
+    else if s == rtr_empty_providers then Some (refusal_name refusals.EmptyProviders)
+    else if s == rtr_prefix then Some (refusal_name (refusals.Prefix None))
     else if s == rtr_too_many then Some (codes "too many units")
     else if s == rtr_no_room then Some (codes "no room in the output")
     else if s == rtr_no_form then Some (codes "no unit has these fields")
     else if s == rtr_not_canonical then Some (codes "not in canonical form")
     else if s == rtr_other_session then Some (codes "of another session")
-    else if s == rtr_duplicate then Some (refusal_text refusals.Duplicate)
-    else if s == rtr_unknown then Some (refusal_text refusals.Unknown)
+    else if s == rtr_duplicate then Some (refusal_name refusals.Duplicate)
+    else if s == rtr_unknown then Some (refusal_name refusals.Unknown)
     else if s == rtr_undecided then Some (codes "an ASPA is announced and then withdrawn")
     else if s == rtr_no_index then Some (codes "no room in the index")
     else None
 
--- of the rule that a prefix breaks, where the detail is one
-abbrev pub rule_said : ℕ → List ℕ
-rule_said rule =
-    if rule == 1 then text_of LenOverflow
-    else if rule == 2 then text_of MaxOverflow
-    else if rule == 3 then text_of MaxUnderflow
-    else refusal_text refusals.Prefix
+-- of a status that is a refusal the same as in a report
+abbrev refused_or : Option Refusal → ℕ → List ℕ
+refused_or (Some r) s = refusal_text r
+refused_or None s = name_or (status_name s) (codes "unknown status ") s
 
 -- of a status with its detail: unit type 5 is not allowed here
 abbrev pub status_said : (status detail : ℕ) → List ℕ
-status_said s d =
-    if s == rtr_unit_type then codes "unit type " ++ decimal d ++ codes " is not allowed here"
-    else if s == rtr_unit_version
-    then codes "version " ++ decimal d ++ codes " is not supported here"
-    else if s == rtr_prefix then rule_said d
-    else name_or (status_name s) (codes "unknown status ") s
+status_said s d = refused_or (refusal_at s d) s
 
 -- ---- names
 

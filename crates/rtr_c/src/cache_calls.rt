@@ -181,7 +181,7 @@ pub extern "C" fn rtr_cache_report_nonnull(
     ensures { PlacesAnswer serving.now input.now output.old output.new written.new result }
 {
     let answer = answer_from(serving);
-    let refusal = refusal_from(serving.status);
+    let refusal = refusal_from(serving.status, serving.detail);
     let placed = place_owed(serving.version, &answer, refusal, input, output);
     *written = placed.unwrap_or(0);
     placed.is_some()

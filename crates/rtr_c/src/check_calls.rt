@@ -1,32 +1,28 @@
 //! The rules that units break, for callers that keep the names of the payloads that are announced.
 
-ghost use Rattle.std.specs.Prelude.{◌≡◌, ℕ, ◌≤◌, List, Result, IfOk, IfErr, length, Ok, Err};
-ghost use Rattle.rtr_units.specs.Header.{type_field, version_field};
+ghost use Rattle.std.specs.Prelude.{◌≡◌, ℕ, List, Result};
 ghost use Rattle.rtr_session.specs.AnyFields.{AnyFields};
-ghost use Rattle.rtr_session.specs.Lengths.{IsBounded};
 ghost use Rattle.rtr_texts.specs.Laying.{Lays};
 ghost use Rattle.rtr_findings.specs.CheckedUnits.{found_in, known_after};
 ghost use Rattle.rtr_findings.specs.Rules.{end_findings};
-ghost use Rattle.rtr_c.specs.Checks.{Checks, LooksAt, NamesTold, is_bare_aspa};
-ghost use Rattle.rtr_c.specs.Checks.{numbered_finding};
-ghost use Rattle.rtr_c.specs.Checks.{check_state, told_line};
+ghost use Rattle.rtr_c.specs.Checks.{Checks, LooksAt, NamesTold, check_state, numbered_finding};
+ghost use Rattle.rtr_c.specs.Checks.{told_line};
 ghost use Rattle.rtr_c.specs.declared.lines.RtrLine.{RtrLine};
 
-use crate::answer::{ACCEPTED, EMPTY_PROVIDERS};
+use crate::answer::ACCEPTED;
 use crate::check::{
     RtrCheck, RtrChecked, RtrFinding, RtrNaming, check_from, check_to, finding_from, finding_to,
     findings_to, none_checked, none_named,
 };
-use crate::lines::{RtrLine, first_unit, refused, room_status};
+use crate::lines::{first_unit, room_status};
 use rtr_findings::{announces, begins, describe_finding, lay_name};
-use rtr_payload::pdu::Aspa;
 use rtr_texts::listed_unit;
 
 /// Which payload the unit announces or withdraws that the input begins with, as
 /// `rtr_findings::lay_name`, and what the caller does with its name.
 ///
-/// Statuses: those of `rtr_unit_size`, `SHORT` if not all of the unit is there, `EMPTY_PROVIDERS`
-/// for an ASPA that is announced without providers, and `NO_ROOM` if the output is too short.
+/// Statuses: those of `rtr_unit_size`, `SHORT` if not all of the unit is there, and `NO_ROOM` if
+/// the output is too short.
 #[unsafe(no_mangle)]
 pub extern "C" fn rtr_check_name_nonnull(
     input: &[u8],
@@ -36,7 +32,7 @@ pub extern "C" fn rtr_check_name_nonnull(
     ensures { (u : Result (List ℕ) RtrLine) × LooksAt input.now u
         × NamesTold u output.old output.new answer.new result }
 {
-    let unit = match taken_unit(input) {
+    let unit = match first_unit(input) {
         Ok(unit) => unit,
         Err(none) => {
             *answer = none_named(none.status, none.detail, none.wanted);
@@ -72,7 +68,7 @@ pub extern "C" fn rtr_check_unit_nonnull(
     ensures { (u : Result (List ℕ) RtrLine) × LooksAt input.now u
         × Checks u was_there check.old check.new answer.new result }
 {
-    let unit = match taken_unit(input) {
+    let unit = match first_unit(input) {
         Ok(unit) => unit,
         Err(none) => {
             *answer = none_checked(none.status, none.detail, none.wanted);
@@ -118,26 +114,4 @@ pub extern "C" fn rtr_finding_line_nonnull(
         Some(finding) => describe_finding(output, 0, offset, &finding),
         None => 0,
     }
-}
-
-/// The unit that the input begins with, or the answer if it is not looked at.
-fn taken_unit(input: &[u8]) -> Result<&[u8], RtrLine>
-    ensures unit { IfOk result (λ u. LooksAt input.now (Ok u.now)) }
-    ensures bounded { IfOk result (λ u.
-        IsBounded (version_field u.now) (type_field u.now) (length u.now)) }
-    ensures refusal { IfErr result (λ none. LooksAt input.now (Err none)) }
-{
-    let unit = first_unit(input)?;
-    if is_bare(unit) {
-        return Err(refused(EMPTY_PROVIDERS, 0, 0));
-    }
-    Ok(unit)
-}
-
-/// Whether the unit announces an ASPA without providers.
-fn is_bare(unit: &[u8]) -> bool
-    requires { 8 ≤ length unit.now }
-    ensures { result ≡ is_bare_aspa unit.now }
-{
-    unit[1] == Aspa::PDU && unit[2] % 2 == 1 && unit.len() == Aspa::FIXED
 }

@@ -18,7 +18,7 @@ pub struct RtrGroup {
 // The fields stand one after the other.
 const _: () = prove!(size_of::<RtrGroup>() == 32);
 
-/// What its caller does: as `rtr_group::event::Answer`. Fields that an answer doesn't have are zero.
+/// What its caller does: as `rtr_group::event::Answer`. Fields that an answer doesn't have are 0.
 #[repr(C)]
 #[derive(Clone, Copy)]
 pub struct RtrGroupAnswer {

@@ -1,29 +1,32 @@
 //! Laws of the calls: what follows from their contracts.
 
-ghost use Rattle.std.specs.Prelude.{◌≡◌, ◌≢◌, ◌<◌, ◌^◌, ◌+◌, ◌++◌, ℕ, Bool, List, take, drop};
-ghost use Rattle.std.specs.Prelude.{Result, Ok};
+ghost use Rattle.std.specs.Prelude.{◌≡◌, ◌≢◌, ◌<◌, ◌≤◌, ◌^◌, ◌+◌, ◌++◌, ℕ, Bool, List, take};
+ghost use Rattle.std.specs.Prelude.{drop, length, Result, Ok, false};
 ghost use Rattle.rtr_base.specs.Bytes.{IsBytes};
 ghost use Rattle.rtr_units.specs.Codes.{code_of};
 ghost use Rattle.rtr_units.specs.Header.{type_field};
-ghost use Rattle.rtr_views.specs.Owed.{owed, read_fault};
+ghost use Rattle.rtr_views.specs.OwedCodes.{owed, read_fault};
 ghost use Rattle.rtr_views.specs.declared.fault.ViewFault.{ViewFault};
 ghost use Rattle.rtr_data.specs.ChangeCodes.{change_code};
 ghost use Rattle.rtr_data.specs.declared.change_error.ChangeError.TheVariants as refusals;
 ghost use Rattle.rtr_session.specs.AnyFields.{AnyFields, HasAnyFields};
 ghost use Rattle.rtr_session.specs.SessionForms.{session_form};
+ghost use Rattle.rtr_findings.specs.PayloadNames.{unit_name};
 ghost use Rattle.rtr_wire.specs.Comparison.{ComparesMeanings};
 ghost use Rattle.rtr_wire.specs.Sequences.{Output, everything};
 ghost use Rattle.rtr_wire.specs.declared.compare_slices.ComparisonFault.{ComparisonFault};
 ghost use Rattle.rtr_c.specs.Answers.{CallNormalises, IsWanted, fault_status, joined_answer};
 ghost use Rattle.rtr_c.specs.Answers.{rtr_duplicate, rtr_no_room, rtr_ok, rtr_short, rtr_unknown};
+ghost use Rattle.rtr_c.specs.Checks.{LooksAt, is_bare_aspa, numbered_finding, told_line};
 ghost use Rattle.rtr_c.specs.Compared.{TellsComparison, comparison_told, rtr_left, rtr_right};
 ghost use Rattle.rtr_c.specs.Compared.{WantsMore, stop_compared};
 ghost use Rattle.rtr_c.specs.Kept.{IsShownAgain};
 ghost use Rattle.rtr_c.specs.Numbers.{code_owed, status_code};
 ghost use Rattle.rtr_c.specs.PrivateRanges.{IsRanged};
-ghost use Rattle.rtr_c.specs.Said.{said};
-ghost use Rattle.rtr_c.specs.Shown.{CallShows, IsWrittenAgain, ShowsFirst};
+ghost use Rattle.rtr_c.specs.WrittenUnits.{said};
+ghost use Rattle.rtr_c.specs.ShownUnits.{CallShows, IsWrittenAgain, ShowsFirst};
 ghost use Rattle.rtr_c.specs.declared.answer.RtrAnswer.{RtrAnswer};
+ghost use Rattle.rtr_c.specs.declared.check.RtrFinding.{RtrFinding};
 ghost use Rattle.rtr_c.specs.declared.compare.RtrComparison.{RtrComparison};
 ghost use Rattle.rtr_c.specs.declared.unit.RtrUnit.{RtrUnit};
 
@@ -140,4 +143,19 @@ pub fn codes_of_faults()
         owed (type_field input) (code_of (read_fault report e)) }
     ensures duplicate { status_code rtr_duplicate ≡ change_code refusals.Duplicate }
     ensures unknown { status_code rtr_unknown ≡ change_code refusals.Unknown }
+{}
+
+/// No ASPA that is announced without providers is looked at for rules and names: its header is
+/// refused.
+pub fn looked_at_are_units()
+    ensures { (input unit : List ℕ) → LooksAt input (Ok unit) → is_bare_aspa unit ≡ false }
+{}
+
+/// No name of a payload is longer than `RTR_NAME_ROOM`, and no line of a finding longer than
+/// `RTR_FINDING_ROOM`.
+pub fn bounded_texts()
+    ensures name { (unit : List ℕ) (f : AnyFields) → HasAnyFields unit f →
+        length (unit_name f) ≤ 65528 }
+    ensures finding { (offset : ℕ) (f : RtrFinding) → offset < 2 ^ 64 → f.value < 2 ^ 16 →
+        f.begun < 2 ^ 16 → length (told_line offset (numbered_finding f)) ≤ 128 }
 {}

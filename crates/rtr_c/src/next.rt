@@ -10,7 +10,7 @@ ghost use Rattle.rtr_session.specs.AnyFields.{AnyFields};
 ghost use Rattle.rtr_session.specs.SessionViews.{IsSessionFault};
 ghost use Rattle.rtr_c.specs.Answers.{wanted};
 ghost use Rattle.rtr_c.specs.PrivateShown.{ShowsView, IsOfSize, shown, serial_at, CallRefuses};
-ghost use Rattle.rtr_c.specs.Shown.{ShowsFirst, ShowsReport, none, bare_shown, end_shown};
+ghost use Rattle.rtr_c.specs.ShownUnits.{ShowsFirst, ShowsReport, none, bare_shown, end_shown};
 
 use crate::answer::{ACCEPTED, fault_detail, fault_status};
 use crate::unit::RtrUnit;
@@ -35,6 +35,7 @@ pub extern "C" fn rtr_next_nonnull(input: &[u8], unit: &mut RtrUnit) -> u8
         ShowsFirst r input.now unit.new result }
 {
     let unit_type = if input.len() < 8 { 255 } else { input[1] };
+    // All arms make the same call, which is compiled for each type by itself: see `show_first`.
     match unit_type {
         SerialNotify::PDU => show_first::<{ SerialNotify::PDU }>(input, unit),
         SerialQuery::PDU => show_first::<{ SerialQuery::PDU }>(input, unit),

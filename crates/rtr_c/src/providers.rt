@@ -1,7 +1,7 @@
 //! The providers of an ASPA, one at a time.
 
 ghost use Rattle.std.specs.Prelude.{◌≡◌};
-ghost use Rattle.rtr_c.specs.Said.{provider_said, TellsProvider};
+ghost use Rattle.rtr_c.specs.WrittenUnits.{provider_said, TellsProvider};
 
 use crate::unit::RtrUnit;
 use crate::write::part_of;

@@ -2,7 +2,8 @@
 
 ghost use Rattle.std.specs.Prelude.{◌≡◌};
 ghost use Rattle.rtr_c.specs.RouterActions.{action_told, cause_number, numbered_cause, ending_of};
-ghost use Rattle.rtr_c.specs.RouterActions.{plain_action, query_of, refusal_at};
+ghost use Rattle.rtr_c.specs.RouterActions.{numbered_prefix_rule, plain_action, query_of};
+ghost use Rattle.rtr_c.specs.RouterActions.{refusal_at};
 
 use crate::answer::{
     DUPLICATE, EMPTY_PROVIDERS, PREFIX, SHORT, TOO_LONG, UNIT_LENGTH, UNIT_TYPE, UNIT_VERSION,
@@ -11,6 +12,7 @@ use crate::answer::{
 use rtr_conversation::Refusal;
 use rtr_router::event::{Action, Cause, Ending};
 use rtr_router::head::Query;
+use rtr_wire::pdu::PrefixRule;
 
 const WAIT: u8 = 0;
 
@@ -205,21 +207,33 @@ pub(crate) fn query_from(action: &RtrAction) -> Query
     }
 }
 
-/// The refusal of a unit or a change that has this status; none where that is no fault of the
-/// peer's.
-pub(crate) fn refusal_from(status: u8) -> Option<Refusal>
-    ensures { result ≡ refusal_at status }
+/// The refusal of a unit or a change that has this status and this detail; none where that is no
+/// fault of the peer's.
+pub(crate) fn refusal_from(status: u8, detail: u8) -> Option<Refusal>
+    ensures { result ≡ refusal_at status detail }
 {
     match status {
         SHORT => Some(Refusal::Short),
-        UNIT_TYPE => Some(Refusal::UnitType),
-        UNIT_VERSION => Some(Refusal::UnitVersion),
+        UNIT_TYPE => Some(Refusal::UnitType(detail)),
+        UNIT_VERSION => Some(Refusal::UnitVersion(detail)),
         TOO_LONG => Some(Refusal::TooLong),
         UNIT_LENGTH => Some(Refusal::UnitLength),
         EMPTY_PROVIDERS => Some(Refusal::EmptyProviders),
-        PREFIX => Some(Refusal::Prefix),
+        PREFIX => Some(Refusal::Prefix(rule_from(detail))),
         DUPLICATE => Some(Refusal::Duplicate),
         UNKNOWN => Some(Refusal::Unknown),
+        _ => None,
+    }
+}
+
+/// The part of the rule on the lengths of a prefix that has this number, if one has it.
+fn rule_from(detail: u8) -> Option<PrefixRule>
+    ensures { result ≡ numbered_prefix_rule detail }
+{
+    match detail {
+        1 => Some(PrefixRule::LenOverflow),
+        2 => Some(PrefixRule::MaxOverflow),
+        3 => Some(PrefixRule::MaxUnderflow),
         _ => None,
     }
 }

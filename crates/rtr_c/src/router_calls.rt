@@ -203,7 +203,7 @@ pub extern "C" fn rtr_router_report_nonnull(
     let placed = place_ending(
         action.version,
         &ending_from(action),
-        refusal_from(action.status),
+        refusal_from(action.status, action.detail),
         input,
         output,
     );

@@ -13,7 +13,8 @@ use crate::next::wanted;
 use rtr_wire::pdu::ViewFault;
 use rtr_wire::{IntoFault, Progress, normalise_for_into, normalise_into};
 
-/// As `rtr_wire::normalise_into`.
+/// As `rtr_wire::normalise_into`. `taken` counts whole units: of the unit that a call stops at no
+/// byte, where `rtr_wire::normalise` has taken some from its reader, as its header.
 #[unsafe(no_mangle)]
 pub extern "C" fn rtr_normalise_slice_nonnull(
     input: &[u8],

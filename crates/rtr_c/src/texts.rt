@@ -1,23 +1,22 @@
 //! The texts of statuses, and the names of kinds, causes, reasons and error codes.
 
-ghost use Rattle.std.specs.Prelude.{◌≡◌, ◌++◌, codes, decimal};
+ghost use Rattle.std.specs.Prelude.{◌≡◌, codes};
 ghost use Rattle.std.specs.Option.{option_copied};
 ghost use Rattle.rtr_base.specs.PlainTexts.{code_name};
 ghost use Rattle.rtr_texts.specs.Laying.{Lays};
-ghost use Rattle.rtr_c.specs.LineAnswers.{line_status};
 ghost use Rattle.rtr_c.specs.Texts.{AnswersText, cause_name, name_or, name_said, type_name};
-ghost use Rattle.rtr_c.specs.Texts.{reason_name, rule_said, status_name, status_said};
+ghost use Rattle.rtr_c.specs.Texts.{reason_name, status_name, status_said};
 
 use crate::answer::{
     ACCEPTED, DUPLICATE, EMPTY_PROVIDERS, NO_FORM, NO_INDEX, NO_ROOM, NOT_CANONICAL, OTHER_SESSION,
     PREFIX, SHORT, TOO_LONG, TOO_MANY, UNDECIDED, UNIT_LENGTH, UNIT_TYPE, UNIT_VERSION, UNKNOWN,
 };
-use crate::router_action::cause_from;
+use crate::lines::room_status;
+use crate::router_action::{cause_from, refusal_from};
 use crate::serving::reason_from;
 use rtr_base::error_code::ErrorCode;
 use rtr_conversation::Refusal;
 use rtr_texts::laying;
-use rtr_wire::pdu::PrefixRule;
 
 /// How a call ended.
 const STATUS: u8 = 0;
@@ -50,7 +49,7 @@ pub extern "C" fn rtr_text_nonnull(
     let room = output.len();
     let end = lay_status(output, status, detail);
     *text_length = end;
-    fitting(end, room)
+    room_status(end, room)
 }
 
 /// The name of a status (`named` is 0), a kind (1), a cause (2), a reason (3) or an error code (4);
@@ -67,39 +66,22 @@ pub extern "C" fn rtr_name_nonnull(
     let room = output.len();
     let end = lay_name(output, named, number);
     *text_length = end;
-    fitting(end, room)
-}
-
-/// Whether a text of this length fits an output with so much room.
-pub(crate) fn fitting(length: usize, room: usize) -> u8
-    ensures { result ≡ line_status length room }
-{
-    if length <= room { ACCEPTED } else { NO_ROOM }
+    room_status(end, room)
 }
 
 /// Lays the text of a status with its detail.
 fn lay_status(output: &mut [u8], status: u8, detail: u8) -> usize
     ensures { Lays (status_said status detail) 0 output.old result output.new }
 {
-    match status {
-        UNIT_TYPE => around(output, "unit type ", detail, " is not allowed here"),
-        UNIT_VERSION => around(output, "version ", detail, " is not supported here"),
-        PREFIX => laying::bytes(output, 0, rule_text(detail)),
-        _ => lay_or(
+    match refusal_from(status, detail) {
+        Some(refusal) => refusal.lay(output, 0),
+        None => lay_or(
             output,
             status_text(status as u16),
             "unknown status ",
             status as u16,
         ),
     }
-}
-
-/// Lays a number between two texts.
-fn around(output: &mut [u8], before: &str, number: u8, after: &str) -> usize
-    ensures { Lays (before.now ++ decimal number ++ after.now) 0 output.old result output.new }
-{
-    let at = laying::labelled(output, 0, before, number as u64);
-    laying::text(output, at, after)
 }
 
 /// Lays a name where there is one, and else a label and the number.
@@ -110,18 +92,6 @@ fn lay_or(output: &mut [u8], name: Option<&str>, label: &str, number: u16) -> us
     match name {
         Some(name) => laying::text(output, 0, name),
         None => laying::labelled(output, 0, label, number as u64),
-    }
-}
-
-/// The text of the rule that a prefix breaks.
-fn rule_text(rule: u8) -> &'static [u8]
-    ensures { result.now ≡ rule_said rule }
-{
-    match rule {
-        1 => PrefixRule::LenOverflow.text(),
-        2 => PrefixRule::MaxOverflow.text(),
-        3 => PrefixRule::MaxUnderflow.text(),
-        _ => Refusal::Prefix.text().as_bytes(),
     }
 }
 
@@ -142,20 +112,20 @@ fn text_of_status(status: u8) -> Option<&'static str>
 {
     match status {
         ACCEPTED => Some("accepted"),
-        SHORT => Some(Refusal::Short.text()),
-        UNIT_TYPE => Some(Refusal::UnitType.text()),
-        UNIT_VERSION => Some(Refusal::UnitVersion.text()),
-        TOO_LONG => Some(Refusal::TooLong.text()),
-        UNIT_LENGTH => Some(Refusal::UnitLength.text()),
-        EMPTY_PROVIDERS => Some(Refusal::EmptyProviders.text()),
-        PREFIX => Some(Refusal::Prefix.text()),
+        SHORT => Some(Refusal::Short.name()),
+        UNIT_TYPE => Some(Refusal::UnitType(0).name()),
+        UNIT_VERSION => Some(Refusal::UnitVersion(0).name()),
+        TOO_LONG => Some(Refusal::TooLong.name()),
+        UNIT_LENGTH => Some(Refusal::UnitLength.name()),
+        EMPTY_PROVIDERS => Some(Refusal::EmptyProviders.name()),
+        PREFIX => Some(Refusal::Prefix(None).name()),
         TOO_MANY => Some("too many units"),
         NO_ROOM => Some("no room in the output"),
         NO_FORM => Some("no unit has these fields"),
         NOT_CANONICAL => Some("not in canonical form"),
         OTHER_SESSION => Some("of another session"),
-        DUPLICATE => Some(Refusal::Duplicate.text()),
-        UNKNOWN => Some(Refusal::Unknown.text()),
+        DUPLICATE => Some(Refusal::Duplicate.name()),
+        UNKNOWN => Some(Refusal::Unknown.name()),
         UNDECIDED => Some("an ASPA is announced and then withdrawn"),
         NO_INDEX => Some("no room in the index"),
         _ => None,

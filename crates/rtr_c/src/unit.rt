@@ -1,7 +1,7 @@
 //! One unit, in numbers.
 
 ghost use Rattle.std.specs.Prelude.{◌≡◌};
-ghost use Rattle.rtr_c.specs.Shown.{none};
+ghost use Rattle.rtr_c.specs.ShownUnits.{none};
 
 /// A unit of any kind. Fields that its kind doesn't have are zero.
 #[repr(C)]

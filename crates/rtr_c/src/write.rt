@@ -4,10 +4,11 @@ ghost use Rattle.std.specs.Prelude.{◌≡◌, ◌∷◌, ◌++◌, Ok, IfSome};
 ghost use Rattle.std.specs.Option.{option_copied};
 ghost use Rattle.rtr_base.specs.Addresses.{ip_version};
 ghost use Rattle.rtr_base.specs.Bytes.{be, IsBytes};
-ghost use Rattle.rtr_c.specs.Said.{Writes, TellsWritten, said, part_said};
-ghost use Rattle.rtr_c.specs.Said.{prefix_said, key_said, aspa_said, end_said};
-ghost use Rattle.rtr_c.specs.Said.{plain_said, report_said, session_said, text_said, piece_said};
-ghost use Rattle.rtr_session.specs.Placed.{held_report};
+ghost use Rattle.rtr_c.specs.WrittenUnits.{Writes, TellsWritten, said, part_said};
+ghost use Rattle.rtr_c.specs.WrittenUnits.{prefix_said, key_said, aspa_said, end_said};
+ghost use Rattle.rtr_c.specs.WrittenUnits.{plain_said, report_said, session_said, text_said};
+ghost use Rattle.rtr_c.specs.WrittenUnits.{piece_said};
+ghost use Rattle.rtr_session.specs.HeldReports.{held_report};
 
 use crate::answer::{
     ACCEPTED, EMPTY_PROVIDERS, NO_FORM, NO_ROOM, PREFIX, TOO_LONG, UNIT_LENGTH, UNIT_TYPE,
@@ -78,7 +79,7 @@ pub extern "C" fn rtr_write_unit_nonnull(
 }
 
 /// Writes the form of a unit that is no payload unit and no end of data, and answers its length.
-#[tactic(auto, unfolding(crate::specs::Said::session_said))]
+#[tactic(auto, unfolding(crate::specs::WrittenUnits::session_said))]
 fn write_session(unit: &RtrUnit, input: &[u8], output: &mut [u8]) -> Result<usize, u8>
     ensures { Writes (session_said unit.now input.now) result output.old output.new }
 {

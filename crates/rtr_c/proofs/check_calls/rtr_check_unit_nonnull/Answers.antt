@@ -15,7 +15,7 @@ returns c =
     let unit = c.in-Ok.unit.now in
     let is = c.listed_unit-listed.ensures in (
       Ok unit,
-      c.in-Ok.ensures.unit,
+      (c.in-Ok.ensures.unit.said, c.in-Ok.ensures.unit.within, c.in-Ok.ensures.unit.front),
       record {
         size = refl;
         wanted = refl;

@@ -1,6 +1,6 @@
 use Rattle.std.proofs.Common.{◌+◌, ap, subst, arith}
 use Rattle.std.proofs.lemmas.List.{take_rest}
-use Rattle.rtr_c.specs.Shown.{ShowsFirst}
+use Rattle.rtr_c.specs.ShownUnits.{ShowsFirst}
 use Rattle.rtr_c.proofs.Filling.{Next, ended, next, filled}
 use Rattle.rtr_c.proofs.many.rtr_next_many_nonnull.Goals as goal
 

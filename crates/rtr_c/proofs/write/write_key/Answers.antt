@@ -1,5 +1,5 @@
 use Rattle.std.proofs.Common.{subst, sym}
-use Rattle.rtr_c.specs.Said.{Writes}
+use Rattle.rtr_c.specs.WrittenUnits.{Writes}
 use Rattle.rtr_c.proofs.Forms.{key_is}
 use Rattle.rtr_c.proofs.write.write_key.Goals as goal
 
