@@ -4,7 +4,7 @@ use crate::answer::Answer;
 use crate::into::{output, tell_output};
 use crate::row::Row;
 use crate::views::tell_end;
-use rtr_deltas::{
+use rtr_slices::{
     DeltaFault, Flaw, InOrderFault, Reason, apply_in_order, check_data, check_in_order, delta_into,
 };
 

@@ -10,8 +10,8 @@
 //!   `;` between. With none after it the call allocates nothing.
 //!
 //! With an argument the program marks each call by an allocation of that many bytes before it and
-//! one after it, so that `.ci/growth` can make those between fail. Then each row prints `whole`, or
-//! `refused` and which of its answers that is.
+//! one after it, so that `tests/programs/growth` can make those between fail. Then each row prints
+//! `whole`, or `refused` and which of its answers that is.
 #![tactic(auto)]
 
 mod answer;

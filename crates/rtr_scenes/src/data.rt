@@ -1,7 +1,7 @@
 //! The data of a router, in a slice.
 
 use rtr_conversation::Refusal;
-use rtr_deltas::{InOrderFault, apply_in_order};
+use rtr_slices::{InOrderFault, apply_in_order};
 use std::alloc::{AllocError, Global};
 use std::test::Fail;
 

@@ -1,7 +1,7 @@
 //! The data that a cache has, and those that it had before.
 
 use rtr_cache::event::Present;
-use rtr_deltas::{check_data, delta_into};
+use rtr_slices::{check_data, delta_into};
 use rtr_wire::normalise_for_into;
 use std::alloc::Global;
 use std::test::Fail;

@@ -2,7 +2,7 @@
 
 use crate::payloads::{COUNT, Named};
 use crate::random::Random;
-use rtr_deltas::check_data;
+use rtr_slices::check_data;
 use std::alloc::Global;
 use std::test::Fail;
 

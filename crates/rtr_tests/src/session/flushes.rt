@@ -2,8 +2,8 @@
 
 use crate::samples::{decoded, expect_rows};
 use crate::support::{ONES, Pieces, Recorder};
+use rtr_lists::program;
 use rtr_program::Manual;
-use rtr_tables::program;
 use rtr_units::source::Counted;
 use std::alloc::Global;
 
@@ -30,6 +30,7 @@ rtr_list --json; 3 0; 01 02 00 00 00 00 00 08 -> 1
 rtr_list; 0 2; 01 02 00 00 00 00 00 08 -> 1
 rtr_list --json; 0 2; 01 02 00 00 00 00 00 08 -> 1
 rtr_list --csv; 0 0; 00 07 12 34 00 00 00 0c de ad be ef -> 1
+rtr_list --summary; 0 0; 00 07 12 34 00 00 00 0c de ad be ef -> 1
 rtr_list --help; 0 0; -> 1
 rtr_list --version; 0 0; -> 1
 rtr_list x; 0 0; 01 02 00 00 00 00 00 08 -> 0
