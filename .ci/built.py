@@ -111,10 +111,10 @@ def module(only_fresh=False):
     return found[0]
 
 
-def script(name):
-    """A script of this folder as a module, for another that uses what it has."""
-    loader = SourceFileLoader(name, os.path.join(TOP, ".ci", name))
-    module = module_from_spec(spec_from_loader(name, loader))
+def script(path):
+    """A script of the repository as a module, for another that uses what it has."""
+    loader = SourceFileLoader(os.path.basename(path), os.path.join(TOP, path))
+    module = module_from_spec(spec_from_loader(loader.name, loader))
     loader.exec_module(module)
     return module
 
@@ -128,8 +128,8 @@ def compiler():
 
 
 def compile_library(source, to):
-    """Compiles a C file of this folder as a library to load into programs."""
-    file = os.path.join(TOP, ".ci", source)
+    """Compiles a C file of the repository as a library to load into programs."""
+    file = os.path.join(TOP, source)
     subprocess.run([compiler(), "-shared", "-fPIC", "-O1", "-o", to, file], check=True)
 
 

@@ -55,6 +55,12 @@ BY_NAME = {sample.unit: sample for sample in SAMPLES}
 assert len(BY_NAME) == len(SAMPLES), "two samples have one name"
 
 
-def unit(name):
-    """The bytes of the sample of this name."""
-    return BY_NAME[name].bytes
+def unit(name, version=None):
+    """The bytes of the sample of this name, or the same in another version."""
+    found = BY_NAME[name].bytes
+    return found if version is None else bytes([version]) + found[1:]
+
+
+def form(name):
+    """What is written of the sample of this name."""
+    return BY_NAME[name].written

@@ -1,7 +1,7 @@
-/* Calls each function over the cases of a file that `bindings/cases.py` wrote, in eight threads at
- * once, and over a few units by hand, between inaccessible pages (testing.h).
+/* Calls each function over the cases of a file that `tests/libraries/cases.py` wrote, in eight
+ * threads at once, and over a few units by hand, between inaccessible pages (testing.h).
  *
- * usage: tests CASES SESSIONS   the second file is that of `bindings/sessions.py cases` */
+ * usage: tests CASES SESSIONS   the second file is that of `tests/libraries/sessions.py cases` */
 #include "testing.h"
 #include <pthread.h>
 

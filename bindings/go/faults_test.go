@@ -190,13 +190,12 @@ func clientRefusals() map[string]refusedResponse {
 			"unit of another version than the session"},
 		"6: no providers": {2, changed(withdrawn, 2, 1), EmptyProviders, 9,
 			changed(withdrawn, 2, 1)[:8], "ASPA unit has no providers"},
-		"7: a cut unit": {1, join(ipv4, ipv4[:19]), Short, 0, ipv4[:19], "unexpected end of input"},
-		"8: length over": {1, longPrefix, PrefixRule, 0, longPrefix,
-			"prefix fields are not allowed"},
+		"7: a cut unit":  {1, join(ipv4, ipv4[:19]), Short, 0, ipv4[:19], "unexpected end of input"},
+		"8: length over": {1, longPrefix, PrefixRule, 0, longPrefix, "prefix length too large"},
 		"8: max length over": {1, changed(ipv4, 10, 33), PrefixRule, 0, changed(ipv4, 10, 33),
-			"prefix fields are not allowed"},
+			"max-length too large"},
 		"8: max length under": {1, changed(announced6, 10, 31), PrefixRule, 0,
-			changed(announced6, 10, 31), "prefix fields are not allowed"},
+			changed(announced6, 10, 31), "max-length smaller than prefix length"},
 		// The rules of a session and of data.
 		"a duplicate": {1, join(ipv4, announced6, ipv4, end), Duplicate, 7, ipv4,
 			"duplicate announcement"},
@@ -221,7 +220,7 @@ func clientRefusals() map[string]refusedResponse {
 		if kind == 5 || kind > int(ASPA) {
 			unit := header(1, byte(kind), 12)
 			all[fmt.Sprintf("2: type %d", kind)] = refusedResponse{1, unit, UnitType, 5, unit,
-				"unit type is not allowed here"}
+				fmt.Sprintf("unit type %d is not allowed here", kind)}
 		}
 	}
 	for _, kind := range []byte{9, 11} {
@@ -383,8 +382,9 @@ func TestCrowd(t *testing.T) {
 		data[serial] = parsed(t, sets[serial][2])
 	}
 	server, address := started(t, func(limits *ServerLimits) {
-		limits.First, limits.Unit = 2*time.Second, 2*time.Second
-		limits.Write, limits.KeepBytes = 2*time.Second, 10000
+		// No good client comes to these, however busy the machine is.
+		limits.First, limits.Unit = 20*time.Second, 20*time.Second
+		limits.Write, limits.KeepBytes = 20*time.Second, 10000
 	}, data[1])
 	ctx, cancel := limited(t)
 	defer cancel()

@@ -77,14 +77,10 @@ GOOD = [
 ] + [Case(f"report-{code}", REPORT, lambda v, code=code: units.report(v, code, b"", b"no"),
           code=code) for code in range(10)]
 
-TYPE, LENGTH, LONG = ("unit type is not allowed here", "invalid unit length",
-                      "unit is longer than 65535 bytes")
-FIELDS = "prefix fields are not allowed"
+LENGTH, LONG = "invalid unit length", "unit is longer than 65535 bytes"
 
-BAD = [
-    Case("type-5", REFUSED, lambda v: units.unit(v, 5, 0), code=5, text=TYPE),
-    Case("type-12", REFUSED, lambda v: units.unit(v, 12, 0), code=5, text=TYPE),
-    Case("type-255", REFUSED, lambda v: units.unit(v, 255, 0), code=5, text=TYPE),
+BAD = [Case(f"type-{kind}", REFUSED, lambda v, kind=kind: units.unit(v, kind, 0), code=5,
+            text=f"unit type {kind} is not allowed here") for kind in (5, 12, 255)] + [
     Case("notify-length", REFUSED, bad_length(units.NOTIFY, 8), code=0, text=LENGTH),
     Case("response-length", REFUSED, bad_length(units.RESPONSE, 12), code=0, text=LENGTH),
     Case("prefix-length", REFUSED, bad_length(units.IPV4, 21), code=0, text=LENGTH),
@@ -96,14 +92,17 @@ BAD = [
     Case("short-report", REFUSED, bad_length(units.REPORT, 12), code=None),
     Case("aspa-of-none", REFUSED, lambda v: units.unit(v, units.ASPA, 256, bytes(4))[:8],
          code=9, text="ASPA unit has no providers"),
-    Case("prefix-over", REFUSED, bad_prefix([33, 33]), code=0, text=FIELDS, about=20),
-    Case("max-length-over", REFUSED, bad_prefix([8, 33]), code=0, text=FIELDS, about=20),
-    Case("max-length-under", REFUSED, bad_prefix([8, 7]), code=0, text=FIELDS, about=20),
+    Case("prefix-over", REFUSED, bad_prefix([33, 33]), code=0, text="prefix length too large",
+         about=20),
+    Case("max-length-over", REFUSED, bad_prefix([8, 33]), code=0, text="max-length too large",
+         about=20),
+    Case("max-length-under", REFUSED, bad_prefix([8, 7]), code=0,
+         text="max-length smaller than prefix length", about=20),
 ]
 
 
 def as_in(case, version):
     """The case in this version, in which an end of data may be refused by its header."""
     if case.kind == END and version > 2:
-        return replace(case, kind=REFUSED, code=4, text="version is not supported here")
+        return replace(case, kind=REFUSED, code=4, text=f"version {version} is not supported here")
     return case

@@ -1,5 +1,5 @@
-// Plays the rows that the other languages play: bindings/cases.py, sessions.py, deltas.py and
-// validity.py say what a file of each has.
+// Plays the rows that the other languages play: cases.py, sessions.py, deltas.py and validity.py in
+// tests/libraries say what a file of each has.
 
 import assert from "node:assert/strict";
 import { Fault, Named, Status } from "../rtr_wire.js";
@@ -232,7 +232,7 @@ export function texts(rtr, bytes) {
     return count;
 }
 
-/** The rows of .ci/listings --findings: recordings, and the lines of what they break. */
+/** The rows of tests/programs/listings --findings: recordings, and the lines of what they break. */
 export function findings(rtr, bytes) {
     const rows = new Rows(bytes);
     const text = new TextDecoder();

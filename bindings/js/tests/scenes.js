@@ -137,7 +137,7 @@ class Player {
             if (!(error instanceof Fault)) {
                 throw error;
             }
-            const action = this.#router.notApplied(this.now, error.status);
+            const action = this.#router.notApplied(this.now, error.status, error.detail);
             this.#act(action, changes.subarray(error.offset));
         }
     }

@@ -1,5 +1,5 @@
 """The rows that the other languages play, too: those of the file that a variable names, or else
-fewer, which the scripts in bindings make."""
+fewer, which the scripts in tests/libraries make."""
 from __future__ import annotations
 
 import ipaddress
@@ -11,9 +11,10 @@ import sys
 from typing import Iterator, List, NamedTuple, Tuple
 
 BINDINGS = pathlib.Path(__file__).resolve().parent.parent.parent
+TESTS = BINDINGS.parent / "tests"
 SAMPLES = BINDINGS.parent / "crates"
 
-sys.path.insert(0, str(BINDINGS.parent / "tests"))
+sys.path.insert(0, str(TESTS))
 import samples  # noqa: E402  (the sample units of all languages)
 
 
@@ -21,7 +22,7 @@ def rows(variable: str, *script: str) -> bytes:
     """The bytes of the rows."""
     if path := os.environ.get(variable):
         return pathlib.Path(path).read_bytes()
-    words = [sys.executable, BINDINGS / script[0], *script[1:]]
+    words = [sys.executable, TESTS / "libraries" / script[0], *script[1:]]
     return subprocess.run(words, check=True, stdout=subprocess.PIPE).stdout
 
 
@@ -43,7 +44,7 @@ class Taken:
 
 
 class Case(NamedTuple):
-    """A row of bindings/cases.py; the version is 255 where there is none."""
+    """A row of tests/libraries/cases.py; the version is 255 where there is none."""
 
     version: int
     status: int
@@ -63,7 +64,7 @@ def cases() -> Iterator[Case]:
 
 
 class Answer(NamedTuple):
-    """What bindings/sessions.py says of one unit."""
+    """What tests/libraries/sessions.py says of one unit."""
 
     numbers: Tuple[int, ...]
     address: bytes
@@ -84,7 +85,7 @@ def sessions() -> Iterator[Tuple[bytes, List[Answer]]]:
 
 
 class Change(NamedTuple):
-    """A row of bindings/deltas.py: a call, and how it ends."""
+    """A row of tests/libraries/deltas.py: a call, and how it ends."""
 
     call: int
     status: int
@@ -104,8 +105,8 @@ def changes() -> Iterator[Change]:
 
 
 class Route(NamedTuple):
-    """A route of bindings/validity.py, with the place, the AS, the prefix length, the max length
-    and the mismatch of each VRP that covers it."""
+    """A route of tests/libraries/validity.py, with the place, the AS, the prefix length, the max
+    length and the mismatch of each VRP that covers it."""
 
     prefix: str
     asn: int

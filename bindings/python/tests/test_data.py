@@ -1,4 +1,4 @@
-"""Data and changes: the rows of bindings/deltas.py, and random data beside Python's sets."""
+"""Data and changes: the rows of tests/libraries/deltas.py, and random data beside Python's sets."""
 import ctypes
 import ipaddress
 import pickle
@@ -216,7 +216,7 @@ class Sets(unittest.TestCase):
 
 
 class Routes(unittest.TestCase):
-    """The rows of bindings/validity.py."""
+    """The rows of tests/libraries/validity.py."""
 
     def test_rows(self):
         seen = dict.fromkeys(rtr_wire.Validity, 0)

@@ -1,7 +1,6 @@
-"""Lines, objects and texts of faults, by the samples in tests/samples and .ci/listings."""
+"""Lines, objects and texts of faults, by tests/samples and tests/programs/listings."""
 import json
 import random
-import sys
 import unittest
 from importlib.machinery import SourceFileLoader
 from importlib.util import module_from_spec, spec_from_loader
@@ -16,15 +15,10 @@ from .rows import samples
 
 def _listings():
     """The script, which computes what is expected without the library."""
-    folder = rows.BINDINGS.parent / ".ci"
-    sys.path.insert(0, str(folder))
-    try:
-        loader = SourceFileLoader("listings", str(folder / "listings"))
-        module = module_from_spec(spec_from_loader("listings", loader))
-        loader.exec_module(module)
-        return module
-    finally:
-        sys.path.remove(str(folder))
+    loader = SourceFileLoader("listings", str(rows.TESTS / "programs" / "listings"))
+    module = module_from_spec(spec_from_loader("listings", loader))
+    loader.exec_module(module)
+    return module
 
 
 LISTINGS = _listings()

@@ -17,7 +17,7 @@ DATA = Data.from_vrps([Vrp(ipaddress.IPv4Network("192.0.2.0/23"), 65551, 26),
 def runs(*words, given=b""):
     """The status of a command, and what it prints on standard output and error."""
     done = subprocess.run([sys.executable, "-m", "rtr_wire", *words], input=given,
-                          stdout=subprocess.PIPE, stderr=subprocess.PIPE, timeout=60)
+                          stdout=subprocess.PIPE, stderr=subprocess.PIPE, timeout=300)
     return done.returncode, done.stdout, done.stderr.decode()
 
 

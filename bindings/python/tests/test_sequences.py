@@ -1,4 +1,4 @@
-"""Whole sequences: the rows of bindings/cases.py."""
+"""Whole sequences: the rows of tests/libraries/cases.py."""
 import io
 import threading
 import unittest

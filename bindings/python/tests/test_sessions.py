@@ -1,4 +1,4 @@
-"""Sessions with units of all kinds: the rows of bindings/sessions.py."""
+"""Sessions with units of all kinds: the rows of tests/libraries/sessions.py."""
 import io
 import unittest
 
@@ -8,7 +8,7 @@ from rtr_wire import (Aspa, ErrorReport, Fault, IPv4Prefix, IPv6Prefix, PrefixEr
 
 from . import rows
 
-# The numbers of an answer, as bindings/sessions.py names them.
+# The numbers of an answer, as tests/libraries/sessions.py names them.
 (STATUS, SIZE, WANTED, PART, PART_LENGTH, TEXT, TEXT_LENGTH, ASN, CUSTOMER, SERIAL, REFRESH, RETRY,
  EXPIRE, SESSION, CODE, KIND, VERSION, ACTION, FAMILY, LENGTH, MOST, DETAIL) = range(22)
 

@@ -1,5 +1,5 @@
-//! The cases that `bindings/cases.py` writes: read from the file that `RTR_CASES` names, or else
-//! made by python3. Where there is no python3, nothing is tested here.
+//! The cases that `tests/libraries/cases.py` writes: read from the file that `RTR_CASES` names, or
+//! else made by python3. Where there is no python3, nothing is tested here.
 
 mod computed;
 
@@ -19,7 +19,7 @@ struct Case {
 
 /// The cases, or none where they can't be made.
 fn cases() -> Vec<Case> {
-    let bytes = computed::cases("RTR_CASES", "cases.py", &["--inputs", "300"]);
+    let bytes = computed::cases("RTR_CASES", "libraries/cases.py", &["--inputs", "300"]);
     let bytes = bytes.unwrap_or_default();
     let mut rest = &bytes[..];
     let mut all = Vec::new();

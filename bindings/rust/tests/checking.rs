@@ -1,5 +1,6 @@
-//! The recordings of `.ci/listings --findings`, with the lines of what they break: from the file that
-//! `RTR_FINDINGS` names, or else made by python3. Where there is no python3, nothing is tested here.
+//! The recordings of `tests/programs/listings --findings`, with the lines of what they break: from
+//! the file that `RTR_FINDINGS` names, or else made by python3. Where there is no python3, nothing
+//! is tested here.
 #![cfg(feature = "alloc")]
 
 mod computed;
@@ -26,7 +27,7 @@ fn check(recording: &[u8]) -> (Vec<Finding>, Option<Fault>) {
 
 #[test]
 fn rows_of_listings() {
-    let rows = computed::cases("RTR_FINDINGS", "../.ci/listings", &["--findings"]);
+    let rows = computed::cases("RTR_FINDINGS", "programs/listings", &["--findings"]);
     let rows = rows.unwrap_or_default();
     let mut rest = &rows[..];
     while !rest.is_empty() {

@@ -323,7 +323,7 @@ fn no_data_and_expired_data() {
     let _alone = alone();
     let cache = Played::new();
     let options = ClientOptions {
-        expire: Some(milliseconds(500)),
+        expire: Some(milliseconds(2500)),
         ..options()
     };
     let expired = Told::Failed("the data have expired".to_string());
@@ -342,7 +342,7 @@ fn no_data_and_expired_data() {
         drop(cache.asked(&serial_query(2, SESSION, 1)));
         drop(cache.asked(&reset_query(2)));
         assert!(holds(|| log.lock().unwrap().told.contains(&expired)));
-        assert!(came.elapsed() >= milliseconds(400));
+        assert!(came.elapsed() >= milliseconds(2400));
     });
     let place = told.iter().position(|told| *told == Told::Dropped).unwrap();
     assert_eq!(told[..2], [told[0].clone(), told[0].clone()]);
@@ -563,7 +563,7 @@ fn flood_answer(unit: &[u8]) -> Plays {
 fn slow(bytes: Vec<u8>) -> Plays {
     Box::new(|mut peer| {
         for byte in bytes {
-            if peer.stream.write_all(&[byte]).is_err() {
+            if peer.stream.get_mut().write_all(&[byte]).is_err() {
                 return;
             }
             std::thread::sleep(milliseconds(20));

@@ -1,5 +1,5 @@
-//! The cases that `bindings/deltas.py` writes: read from the file that `RTR_DELTAS` names, or else
-//! made by python3. Where there is no python3, nothing is tested here.
+//! The cases that `tests/libraries/deltas.py` writes: read from the file that `RTR_DELTAS` names, or
+//! else made by python3. Where there is no python3, nothing is tested here.
 #![cfg(feature = "std")]
 
 mod computed;
@@ -72,7 +72,7 @@ impl<'a> Case<'a> {
 
 #[test]
 fn deltas() {
-    let bytes = computed::cases("RTR_DELTAS", "deltas.py", &[]).unwrap_or_default();
+    let bytes = computed::cases("RTR_DELTAS", "libraries/deltas.py", &[]).unwrap_or_default();
     let mut rest = &bytes[..];
     while !rest.is_empty() {
         let (case, after) = Case::first(rest);

@@ -8,7 +8,7 @@ mod peers;
 use peers::*;
 use rtr_wire::*;
 use std::alloc::{GlobalAlloc, Layout, System};
-use std::net::TcpListener;
+use std::net::{SocketAddr, TcpListener, TcpStream};
 use std::sync::atomic::{AtomicUsize, Ordering};
 use std::time::Duration;
 
@@ -62,6 +62,14 @@ fn flood(bytes: &[u8], options: ClientOptions) {
     });
 }
 
+/// A connection that asks over and over, and doesn't read.
+fn unread(address: SocketAddr) -> TcpStream {
+    let mut client = Peer::connect(address);
+    (0..40).for_each(|_| client.try_send(&reset_query(2)));
+    client.is_sent_to();
+    client.stream.into_inner()
+}
+
 #[test]
 fn memory() {
     // A client: an answer of as many bytes as are allowed.
@@ -86,11 +94,7 @@ fn memory() {
     let address = server.listen("127.0.0.1:0").expect("a port is free");
     assert_eq!(server.update(data), Ok(true));
     let held = most(|| {
-        let mut clients: Vec<Peer> = (0..count).map(|_| Peer::connect(address)).collect();
-        for client in &mut clients {
-            (0..40).for_each(|_| client.try_send(&reset_query(2)));
-        }
-        clients.iter().for_each(Peer::is_sent_to);
+        let _clients: Vec<TcpStream> = (0..count).map(|_| unread(address)).collect();
         assert!(holds(|| server.clients() == count));
         std::thread::sleep(Duration::from_millis(200));
     });
@@ -99,12 +103,7 @@ fn memory() {
     let before = HELD.load(Ordering::Relaxed);
     let mut slow = Vec::new();
     for serial in 2..=16 {
-        for _ in 0..3 {
-            let mut client = Peer::connect(address);
-            (0..40).for_each(|_| client.try_send(&reset_query(2)));
-            client.is_sent_to();
-            slow.push(client);
-        }
+        slow.extend((0..3).map(|_| unread(address)));
         assert_eq!(server.update(data_of(SESSION, serial, u16::MAX)), Ok(true));
     }
     let few = || HELD.load(Ordering::Relaxed) < before + 2 * length + 15 * 3 * (8 << 10);

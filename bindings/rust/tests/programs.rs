@@ -353,6 +353,9 @@ fn arguments() {
         &["a", "--listen"],
         &["--help"],
         &["-a"],
+        &["a", "--max-clients"],
+        &["a", "--max-clients", "0"],
+        &["a", "--max-clients", "1x"],
     ] {
         let got = program("cache").args(words).output().unwrap();
         assert_eq!(got.status.code(), Some(2), "{words:?}");

@@ -18,15 +18,27 @@ struct Cache {
     address: SocketAddr,
 }
 
+/// Limits that no client comes to, however busy the machine is.
 fn options() -> ServerOptions {
     ServerOptions {
-        first_query: milliseconds(600),
-        unit: milliseconds(400),
+        first_query: PATIENCE,
+        unit: PATIENCE,
         idle: PATIENCE,
-        write: milliseconds(600),
-        response: milliseconds(2000),
+        write: PATIENCE,
+        response: PATIENCE,
         notify: milliseconds(300),
         ..ServerOptions::default()
+    }
+}
+
+/// Limits that a test waits for, and that no client comes to that does at once what it can.
+fn limits() -> ServerOptions {
+    ServerOptions {
+        first_query: milliseconds(2000),
+        unit: milliseconds(400),
+        idle: milliseconds(500),
+        write: milliseconds(2000),
+        ..options()
     }
 }
 
@@ -405,10 +417,7 @@ fn clients_that_stop() {
 #[test]
 fn clients_that_stall_or_reset() {
     let _alone = alone();
-    let cache = Cache::new(ServerOptions {
-        idle: milliseconds(500),
-        ..options()
-    });
+    let cache = Cache::new(limits());
     assert_eq!(cache.server.update(data(4)), Ok(true));
     let session = [reset_query(2), serial_query(2, SESSION, 2), reset_query(2)].concat();
     let mut stalled = Vec::new();
@@ -431,10 +440,7 @@ fn clients_that_stall_or_reset() {
 #[test]
 fn slow_clients() {
     let _alone = alone();
-    let cache = Cache::new(ServerOptions {
-        idle: milliseconds(500),
-        ..options()
-    });
+    let cache = Cache::new(limits());
     assert_eq!(cache.server.update(data_of(SESSION, 1, 20)), Ok(true));
     // Nothing comes, a unit comes a byte at a time, or nothing comes after a query.
     let (mut nothing, mut bytes, mut idle) = (cache.client(), cache.client(), cache.client());
@@ -460,8 +466,13 @@ fn slow_clients() {
 #[test]
 fn clients_that_do_not_read() {
     let _alone = alone();
-    let cache = Cache::new(options());
-    assert_eq!(cache.server.update(data_of(SESSION, 1, u16::MAX)), Ok(true));
+    let cache = Cache::new(ServerOptions {
+        idle: PATIENCE,
+        ..limits()
+    });
+    let large = data_of(SESSION, 1, u16::MAX);
+    let answer = answer(&large, 1);
+    assert_eq!(cache.server.update(large), Ok(true));
     let mut stalled: Vec<Peer> = (0..4).map(|_| cache.client()).collect();
     for client in &mut stalled {
         (0..40).for_each(|_| client.try_send(&reset_query(2)));
@@ -469,11 +480,11 @@ fn clients_that_do_not_read() {
     let mut reading = cache.client();
     for _ in 0..3 {
         reading.send(&reset_query(1));
-        reading.response();
+        assert!(reading.bytes(answer.len()) == answer, "other bytes came");
     }
     drop(reading);
     assert!(holds(|| cache.server.clients() == 0));
-    // One that reads too slowly is cut where its data are too old, or the response takes too long.
+    // One that reads too slowly is cut where its data are too old.
     let mut slow = cache.client();
     (0..40).for_each(|_| slow.try_send(&reset_query(2)));
     std::thread::sleep(milliseconds(200));
@@ -487,11 +498,7 @@ fn clients_that_do_not_read() {
 #[test]
 fn a_slow_reader() {
     let _alone = alone();
-    let cache = Cache::new(ServerOptions {
-        write: PATIENCE,
-        response: PATIENCE,
-        ..options()
-    });
+    let cache = Cache::new(options());
     let mut bytes = Vec::new();
     for number in 0..1_000_000_u32 {
         bytes.extend([2, 4, 0, 0, 0, 0, 0, 20, 1, 32, 32, 0]);
@@ -499,8 +506,9 @@ fn a_slow_reader() {
         bytes.extend([0, 1, 0, 15]);
     }
     bytes.extend(Data::new(2, SESSION, 1, None).unwrap().into_bytes());
-    let wanted = [response(2, SESSION), bytes.clone()].concat();
-    assert_eq!(cache.server.update(Data::parse(&bytes).unwrap()), Ok(true));
+    let data = Data::parse(&bytes).unwrap();
+    let wanted = answer(&data, 2);
+    assert_eq!(cache.server.update(data), Ok(true));
     let mut client = cache.client();
     client.send(&reset_query(2));
     let mut came = vec![0; wanted.len()];
@@ -520,7 +528,6 @@ fn too_many_clients() {
     let _alone = alone();
     let cache = Cache::new(ServerOptions {
         connections: 2,
-        first_query: PATIENCE,
         ..options()
     });
     assert_eq!(cache.server.update(data(1)), Ok(true));
@@ -624,16 +631,11 @@ fn telling(options: ServerOptions) -> (Server, Receiver<String>) {
 #[test]
 fn answers_that_are_cut() {
     let _alone = alone();
-    let patient = ServerOptions {
-        write: PATIENCE,
-        response: PATIENCE,
-        ..options()
-    };
     for (session, texts) in [
         (SESSION, "the router is too far behind"),
         (7, "the data are of a new session"),
     ] {
-        let (server, told) = telling(patient.clone());
+        let (server, told) = telling(options());
         let address = server.listen("127.0.0.1:0").unwrap();
         server.update(data_of(SESSION, 1, u16::MAX)).unwrap();
         let mut slow = Peer::connect(address);
@@ -657,7 +659,12 @@ fn answers_that_are_cut() {
 #[test]
 fn no_thread_wakes() {
     let _alone = alone();
-    let cache = Cache::new(ServerOptions::default());
+    let cache = Cache::new(ServerOptions {
+        first_query: HOUR,
+        unit: HOUR,
+        write: HOUR,
+        ..ServerOptions::default()
+    });
     assert_eq!(cache.server.update(data_of(SESSION, 1, u16::MAX)), Ok(true));
     let mut clients: Vec<Peer> = (0..20).map(|_| cache.client()).collect();
     let (slow, idle) = clients.split_at_mut(2);
@@ -683,7 +690,8 @@ fn reasons() {
     let _alone = alone();
     let (server, told) = telling(ServerOptions {
         connections: 1,
-        ..options()
+        idle: PATIENCE,
+        ..limits()
     });
     let address = server.listen("127.0.0.1:0").unwrap();
     server.update(data(1)).unwrap();

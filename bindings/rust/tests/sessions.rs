@@ -1,5 +1,5 @@
-//! The sessions that `bindings/sessions.py` computes: read from the file that `RTR_SESSIONS` names,
-//! or else made by python3. Where there is no python3, nothing is tested here.
+//! The sessions that `tests/libraries/sessions.py` computes: read from the file that `RTR_SESSIONS`
+//! names, or else made by python3. Where there is no python3, nothing is tested here.
 #![cfg(feature = "std")]
 
 mod computed;
@@ -8,7 +8,7 @@ use rtr_wire::*;
 
 /// What was computed of one unit.
 struct Answer {
-    /// In the order of NUMBERS in `bindings/sessions.py`.
+    /// In the order of NUMBERS in `tests/libraries/sessions.py`.
     numbers: [u64; 22],
     address: Vec<u8>,
     identifier: Vec<u8>,
@@ -44,7 +44,7 @@ impl Bytes {
 
 /// Each session, with the answer for each of its units.
 fn sessions() -> Vec<(Vec<u8>, Vec<Answer>)> {
-    let bytes = match computed::cases("RTR_SESSIONS", "sessions.py", &["cases"]) {
+    let bytes = match computed::cases("RTR_SESSIONS", "libraries/sessions.py", &["cases"]) {
         Some(bytes) => bytes,
         None => return Vec::new(),
     };

@@ -1,6 +1,6 @@
-//! The tables of VRPs that `bindings/validity.py` computes, with the validity of routes: read from
-//! the file that `RTR_VALIDITY` names, or else made by python3. Where there is no python3, nothing
-//! is tested here.
+//! The tables of VRPs that `tests/libraries/validity.py` computes, with the validity of routes: read
+//! from the file that `RTR_VALIDITY` names, or else made by python3. Where there is no python3,
+//! nothing is tested here.
 #![cfg(feature = "std")]
 
 use rtr_wire::{Data, LengthError, Mismatch, Route, Tables, Unit, Validity, Vrp};
@@ -29,7 +29,7 @@ fn bytes_of_tables() -> Option<Vec<u8>> {
     if let Ok(path) = std::env::var("RTR_VALIDITY") {
         return Some(std::fs::read(path).expect("the file of tables is read"));
     }
-    let script = concat!(env!("CARGO_MANIFEST_DIR"), "/../validity.py");
+    let script = concat!(env!("CARGO_MANIFEST_DIR"), "/../../tests/libraries/validity.py");
     match Command::new("python3").arg(script).output() {
         Ok(output) => {
             let said = String::from_utf8_lossy(&output.stderr);

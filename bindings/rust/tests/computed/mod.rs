@@ -1,4 +1,4 @@
-//! What a script of `bindings/` computes for tests.
+//! What a script of `tests/` computes for tests.
 #![allow(dead_code)]
 
 use rtr_wire::{Fault, PrefixRule};
@@ -11,7 +11,7 @@ pub fn cases(setting: &str, script: &str, arguments: &[&str]) -> Option<Vec<u8>>
     if let Ok(path) = std::env::var(setting) {
         return Some(std::fs::read(path).expect("the file of cases is read"));
     }
-    let path = format!("{}/../{script}", env!("CARGO_MANIFEST_DIR"));
+    let path = format!("{}/../../tests/{script}", env!("CARGO_MANIFEST_DIR"));
     match Command::new("python3").arg(path).args(arguments).output() {
         Ok(output) => {
             let said = String::from_utf8_lossy(&output.stderr);

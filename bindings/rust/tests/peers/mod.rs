@@ -2,7 +2,7 @@
 #![allow(dead_code)]
 
 use rtr_wire::*;
-use std::io::{Read, Write};
+use std::io::{BufReader, Read, Write};
 use std::net::{Shutdown, SocketAddr, TcpStream};
 use std::sync::{Mutex, MutexGuard, PoisonError};
 use std::time::{Duration, Instant};
@@ -10,6 +10,8 @@ use std::time::{Duration, Instant};
 pub const SESSION: u16 = 4660;
 /// How long a test waits for something that has to come.
 pub const PATIENCE: Duration = Duration::from_secs(30);
+/// How long nothing comes, where a test looks for that.
+pub const HOUR: Duration = Duration::from_secs(3600);
 /// How late something may come that ends by a limit of well under a second: others use the machine
 /// too.
 pub const LATE: Duration = Duration::from_secs(10);
@@ -62,9 +64,10 @@ pub fn data(serial: u32) -> Data {
     data_of(SESSION, serial, 20)
 }
 
-/// A connection as the tests have one.
+/// A connection as the tests have one. It reads ahead: a call of the system for each unit would take
+/// so long where others use the machine too that a cache ends it.
 pub struct Peer {
-    pub stream: TcpStream,
+    pub stream: BufReader<TcpStream>,
 }
 
 pub fn bytes_of(unit: &UnitRef) -> Vec<u8> {
@@ -75,6 +78,12 @@ pub fn bytes_of(unit: &UnitRef) -> Vec<u8> {
 
 pub fn reset_query(version: u8) -> Vec<u8> {
     vec![version, 2, 0, 0, 0, 0, 0, 8]
+}
+
+/// All that a reset query of a version is answered.
+pub fn answer(data: &Data, version: u8) -> Vec<u8> {
+    let data = data.for_version(version).unwrap();
+    [&response(version, data.end().session), data.as_bytes()].concat()
 }
 
 /// A cache response.
@@ -99,38 +108,42 @@ impl Peer {
         stream.set_nodelay(true).unwrap();
         stream.set_read_timeout(Some(PATIENCE)).unwrap();
         stream.set_write_timeout(Some(PATIENCE)).unwrap();
+        let stream = BufReader::new(stream);
         Peer { stream }
     }
 
     pub fn send(&mut self, bytes: &[u8]) {
-        self.stream.write_all(bytes).expect("the peer is there");
+        let written = self.stream.get_mut().write_all(bytes);
+        written.expect("the peer is there");
     }
 
     /// Sends as much as the peer takes.
     pub fn try_send(&mut self, bytes: &[u8]) {
-        let _ = self.stream.write_all(bytes);
+        let _ = self.stream.get_mut().write_all(bytes);
     }
 
     /// Waits until something has come, which isn't read: a connection that is dropped then is
     /// reset.
     pub fn is_sent_to(&self) {
-        let _ = self.stream.peek(&mut [0]);
+        if self.stream.buffer().is_empty() {
+            let _ = self.stream.get_ref().peek(&mut [0]);
+        }
     }
 
     pub fn finish(&self) {
-        let _ = self.stream.shutdown(Shutdown::Write);
+        let _ = self.stream.get_ref().shutdown(Shutdown::Write);
     }
 
     /// The next unit, or none where the peer has closed.
     pub fn unit(&mut self) -> Option<OwnedUnit> {
-        let mut reader = Reader::new(&self.stream);
+        let mut reader = Reader::new(&mut self.stream);
         let unit = reader.next_unit();
         unit.expect("a unit comes").map(Unit::into_owned)
     }
 
     /// The bytes up to the end of data, which have to come.
     pub fn sequence(&mut self) -> Vec<u8> {
-        let mut reader = Reader::new(&self.stream);
+        let mut reader = Reader::new(&mut self.stream);
         let mut bytes = Vec::new();
         loop {
             let unit = reader.next_unit().expect("a unit comes");
@@ -140,6 +153,13 @@ impl Peer {
                 return bytes;
             }
         }
+    }
+
+    /// So many bytes, whatever they are: this takes little time, also where much comes.
+    pub fn bytes(&mut self, count: usize) -> Vec<u8> {
+        let mut bytes = vec![0; count];
+        self.stream.read_exact(&mut bytes).expect("they come");
+        bytes
     }
 
     /// A cache response, and the sequence after it.

@@ -11,7 +11,7 @@ use rtr_wire_tokio::{AsyncClient, AsyncServer};
 use std::collections::BTreeSet;
 use std::future::{pending, Future};
 use std::io;
-use std::net::{SocketAddr, TcpStream};
+use std::net::SocketAddr;
 use std::ops::ControlFlow;
 use std::pin::Pin;
 use std::sync::mpsc::{channel, Receiver};
@@ -94,13 +94,24 @@ fn client_options(version: u8) -> ClientOptions {
     }
 }
 
+/// Limits that no client comes to, however busy the machine is.
 fn server_options() -> ServerOptions {
     ServerOptions {
-        first_query: milliseconds(500),
-        unit: milliseconds(300),
-        write: milliseconds(500),
+        first_query: PATIENCE,
+        unit: PATIENCE,
+        write: PATIENCE,
         notify: milliseconds(1),
         ..ServerOptions::default()
+    }
+}
+
+/// Limits that a test waits for, and that no client comes to that does at once what it can.
+fn server_limits() -> ServerOptions {
+    ServerOptions {
+        first_query: milliseconds(2000),
+        unit: milliseconds(1000),
+        write: milliseconds(2000),
+        ..server_options()
     }
 }
 
@@ -401,7 +412,6 @@ fn too_many_clients() {
     let _alone = alone();
     let host = Host::new(AsyncServer::new(ServerOptions {
         connections: 2,
-        first_query: PATIENCE,
         ..server_options()
     }));
     host.server.update(data(1)).unwrap();
@@ -434,7 +444,7 @@ fn telling(options: ServerOptions) -> (AsyncServer, Receiver<String>) {
 #[test]
 fn clients_that_stall() {
     let _alone = alone();
-    let (server, told) = telling(server_options());
+    let (server, told) = telling(server_limits());
     let host = Host::new(server);
     host.server.update(data(1)).unwrap();
     let slow = Ok("the router is too slow");
@@ -446,7 +456,9 @@ fn clients_that_stall() {
         assert_eq!(told.recv_timeout(PATIENCE).as_deref(), slow);
     }
     drop(silent);
-    host.server.update(data_of(SESSION, 2, u16::MAX)).unwrap();
+    let large = data_of(SESSION, 2, u16::MAX);
+    let answer = answer(&large, 1);
+    host.server.update(large).unwrap();
     let mut unread: Vec<Peer> = (0..4).map(|_| Peer::connect(host.address)).collect();
     for peer in &mut unread {
         (0..40).for_each(|_| peer.try_send(&reset_query(2)));
@@ -454,7 +466,7 @@ fn clients_that_stall() {
     let mut reading = Peer::connect(host.address);
     for _ in 0..3 {
         reading.send(&reset_query(1));
-        reading.response();
+        assert!(reading.bytes(answer.len()) == answer, "other bytes came");
     }
     for _ in 0..4 {
         assert_eq!(told.recv_timeout(PATIENCE).as_deref(), slow);
@@ -467,16 +479,16 @@ fn clients_that_stall() {
 #[test]
 fn a_client_that_waits() {
     let _alone = alone();
-    let host = Host::new(AsyncServer::new(server_options()));
+    let host = Host::new(AsyncServer::new(server_limits()));
     host.server.update(data(1)).unwrap();
     let mut client = Peer::connect(host.address);
-    for _ in 0..3 {
+    for wait in [1100, 1100, 0] {
         let query = reset_query(2);
         client.send(&query[..5]);
         sleep(milliseconds(50));
         client.send(&query[5..]);
         assert_eq!(client.response(), data(1).as_bytes());
-        sleep(milliseconds(400));
+        sleep(milliseconds(wait));
     }
 }
 
@@ -484,7 +496,7 @@ fn a_client_that_waits() {
 #[test]
 fn handshakes_that_stall() {
     let _alone = alone();
-    let (server, told) = telling(server_options());
+    let (server, told) = telling(server_limits());
     let host = Host::with(server, true);
     let began = Instant::now();
     let mut clients: Vec<Peer> = (0..3).map(|_| Peer::connect(host.address)).collect();
@@ -493,7 +505,7 @@ fn handshakes_that_stall() {
         let text = told.recv_timeout(PATIENCE);
         assert_eq!(text.as_deref(), Ok("the router is too slow"));
     }
-    assert!(began.elapsed() >= milliseconds(400), "they ended early");
+    assert!(began.elapsed() >= milliseconds(1900), "they ended early");
     assert!(began.elapsed() < LATE, "they ended late");
     assert!(clients.iter_mut().all(Peer::is_closed));
     assert!(holds(|| host.server.clients() == 0));
@@ -503,15 +515,11 @@ fn handshakes_that_stall() {
 #[test]
 fn answers_that_are_cut() {
     let _alone = alone();
-    let patient = ServerOptions {
-        write: PATIENCE,
-        ..server_options()
-    };
     for (session, text) in [
         (SESSION, "the router is too far behind"),
         (7, "the data are of a new session"),
     ] {
-        let (server, told) = telling(patient.clone());
+        let (server, told) = telling(server_options());
         let host = Host::new(server);
         host.server.update(data_of(SESSION, 1, u16::MAX)).unwrap();
         let mut slow = Peer::connect(host.address);
@@ -607,7 +615,7 @@ fn stops() {
     let _alone = alone();
     let host = Host::new(AsyncServer::new(server_options()));
     host.server.update(data_of(SESSION, 1, u16::MAX)).unwrap();
-    let mut clients: Vec<TcpStream> = Vec::new();
+    let mut clients = Vec::new();
     for _ in 0..10 {
         let mut client = Peer::connect(host.address);
         (0..20).for_each(|_| client.try_send(&reset_query(2)));
@@ -626,7 +634,12 @@ fn stops() {
 #[test]
 fn no_thread_wakes() {
     let _alone = alone();
-    let host = Host::new(AsyncServer::new(ServerOptions::default()));
+    let host = Host::new(AsyncServer::new(ServerOptions {
+        first_query: HOUR,
+        unit: HOUR,
+        write: HOUR,
+        ..ServerOptions::default()
+    }));
     host.server.update(data_of(SESSION, 1, u16::MAX)).unwrap();
     let before = std::fs::read_dir("/proc/self/task").unwrap().count();
     let mut clients: Vec<Peer> = (0..20).map(|_| Peer::connect(host.address)).collect();
