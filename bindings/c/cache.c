@@ -1,6 +1,9 @@
 /* A cache: serves the data of a file to routers, and takes it up again when it changes (RFC 8210).
  *
- * usage: cache FILE [--listen ADDRESS:PORT].. [--refuse]    at [::]:3323 if none is named
+ * usage: cache FILE [--listen ADDRESS:PORT].. [--max-clients N] [--refuse]
+ *
+ * It listens at [::]:3323 if no address is named, and serves 1024 routers at once if not said
+ * otherwise.
  *
  * The file has a sequence that only announces, in any order, with or without a cache response
  * before it. Put another in its place by renaming: one that can't be taken is named, and the data
@@ -22,6 +25,7 @@
 #include <stdlib.h>
 #include <string.h>
 #include <sys/epoll.h>
+#include <sys/sendfile.h>
 #include <sys/socket.h>
 #include <sys/stat.h>
 #include <time.h>
@@ -33,7 +37,7 @@
 enum { LOOK = 250, REST = 100, LINGER = 200 };
 
 /* How many connections above the limit are told so at once, and how long a file may be. */
-enum { MOST_REFUSED = 64, LISTENERS = 16, EVENTS = 64, BUFFER = 1 << 16 };
+enum { MOST_REFUSED = 64, LISTENERS = 16, EVENTS = 64, BUFFER = 1 << 17, MAPPED = 1 << 16 };
 static const off_t most_bytes = 1 << 28;
 
 /* A connection, in a list of them all. */
@@ -58,7 +62,8 @@ static struct rtr_server server;
 static struct connection *connections;
 static size_t taken; /* connections, those above the limit too */
 static int64_t due = INT64_MAX; /* when something is to be done with one of them */
-static int poller, listeners[LISTENERS], listening;
+static char *addresses[LISTENERS];
+static int poller, listeners[LISTENERS], listening, named;
 static volatile sig_atomic_t ended;
 
 /* Times by a clock that doesn't go back, and since 1970. */
@@ -130,17 +135,29 @@ static void forget(struct connection *c)
     free(c);
 }
 
+/* Sends parts: of a file what the system takes from it, else a copy. */
+static ssize_t send_parts(int one, const struct rtr_part *parts, int count)
+{
+    struct iovec pieces[2];
+    off_t place = parts[0].place;
+    if (parts[0].file >= 0)
+        return sendfile(one, parts[0].file, &place, parts[0].length);
+    bool more = count > 1 && parts[1].file >= 0;
+    if (more)
+        count = 1;
+    for (int i = 0; i < count; i++)
+        pieces[i] = (struct iovec){(void *)(uintptr_t)parts[i].at, parts[i].length};
+    struct msghdr message = {.msg_iov = pieces, .msg_iovlen = (size_t)count};
+    return sendmsg(one, &message, MSG_NOSIGNAL | (more ? MSG_MORE : 0));
+}
+
 /* Sends what can be sent; false where the connection broke. */
 static bool send_some(struct connection *c)
 {
     struct rtr_part parts[2];
     int count;
     while ((count = rtr_served_output(&c->served, parts)) > 0) {
-        struct iovec pieces[2];
-        for (int i = 0; i < count; i++)
-            pieces[i] = (struct iovec){(void *)(uintptr_t)parts[i].at, parts[i].length};
-        struct msghdr message = {.msg_iov = pieces, .msg_iovlen = (size_t)count};
-        ssize_t sent = sendmsg(c->socket, &message, MSG_NOSIGNAL | MSG_DONTWAIT);
+        ssize_t sent = send_parts(c->socket, parts, count);
         if (sent < 0 && errno == EAGAIN)
             return true;
         if (sent < 0 && errno != EINTR) {
@@ -501,25 +518,40 @@ static void run(struct watched *w, const sigset_t *signals)
         save(w);
 }
 
+/* Reads how many there may be: a number above none. */
+static bool read_count(const char *word, size_t *number)
+{
+    char *end;
+    *number = strtoul(word, &end, 10);
+    return word[0] >= '1' && word[0] <= '9' && !*end;
+}
+
+/* Reads the words of the command line; false where they aren't understood. */
+static bool read_words(int count, char **words, struct watched *w)
+{
+    for (int i = 1; i < count; i++) {
+        if (!strcmp(words[i], "--listen") && i + 1 < count && named < LISTENERS)
+            addresses[named++] = words[++i];
+        else if (!strcmp(words[i], "--max-clients") && i + 1 < count
+                 && read_count(words[i + 1], &server.most_connections))
+            i += 1;
+        else if (!strcmp(words[i], "--refuse"))
+            server.settings.refuses = true;
+        else if (words[i][0] != '-' && words[i][0] && !w->path)
+            w->path = words[i];
+        else
+            return false;
+    }
+    return w->path && strlen(w->path) <= sizeof w->kept - 16;
+}
+
 int main(int count, char **words)
 {
     static char anywhere[] = "[::]:3323";
     static struct watched w = {.failed = "not tried", .spare = -1};
-    char *addresses[LISTENERS];
-    int named = 0;
-    bool understood = true, refuse = false;
-    for (int i = 1; i < count; i++) {
-        if (!strcmp(words[i], "--listen") && i + 1 < count && named < LISTENERS)
-            addresses[named++] = words[++i];
-        else if (!strcmp(words[i], "--refuse"))
-            refuse = true;
-        else if (words[i][0] != '-' && words[i][0] && !w.path)
-            w.path = words[i];
-        else
-            understood = false;
-    }
-    if (!understood || !w.path || strlen(w.path) > sizeof w.kept - 16) {
-        fprintf(stderr, "usage: cache FILE [--listen ADDRESS:PORT].. [--refuse]\n");
+    rtr_server_init(&server);
+    if (!read_words(count, words, &w)) {
+        fprintf(stderr, "usage: cache FILE [--listen ADDRESS:PORT].. [--max-clients N] [--refuse]\n");
         return 2;
     }
     if (!named)
@@ -531,12 +563,11 @@ int main(int count, char **words)
     sigaddset(&blocked, SIGINT);
     sigaddset(&blocked, SIGTERM);
     sigprocmask(SIG_BLOCK, &blocked, &signals);
+    signal(SIGPIPE, SIG_IGN);
     signal(SIGINT, end);
     signal(SIGTERM, end);
-    mallopt(M_MMAP_THRESHOLD, BUFFER); /* so that the memory of data is given back */
+    mallopt(M_MMAP_THRESHOLD, MAPPED); /* so that the memory of data is given back */
     poller = epoll_create1(EPOLL_CLOEXEC);
-    rtr_server_init(&server);
-    server.settings.refuses = refuse;
     restore(&w);
     for (int i = 0; i < named; i++)
         if (!listen_at(addresses[i]))

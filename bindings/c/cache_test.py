@@ -173,7 +173,8 @@ class Router:
 
 def test_arguments():
     for words in ([], ["--listen", "a:1"], ["a", "b"], ["a", "--listen"], ["a", "--other"],
-                  ["--help"]):
+                  ["--help"], ["a", "--max-clients"], ["a", "--max-clients", "0"],
+                  ["a", "--max-clients", "1x"], ["a", "--max-clients", "-1"]):
         done = subprocess.run([PROGRAM, *words], capture_output=True, timeout=PATIENCE, check=False)
         assert done.returncode == 2 and done.stderr.startswith(b"usage: cache "), words
     for where in ("192.0.2.1:3323", "nowhere", "127.0.0.1:no-such-port"):
@@ -221,6 +222,32 @@ def test_refuse():
         cache.takes(1, 1)
         router.socket.sendall(serial_query(7))
         router.gets_report(1, 0)
+
+
+def test_max_clients():
+    with started(data(1, [1]), words=["--max-clients", "1"]) as cache, Router(cache) as router:
+        cache.takes(1, 1)
+        router.asks(RESET_QUERY, response(data(1, [1])))
+        with Router(cache) as other:
+            other.gets_report(2, 1)
+        router.asks(RESET_QUERY, response(data(1, [1])))
+
+
+def test_many_bytes():
+    """Data that are sent from a file in memory; those who ask get them while newer ones come."""
+    one, two = data(1, range(30000)), data(2, range(1, 30001))
+    with started(one) as cache, Router(cache, 4096) as slow, Router(cache) as router:
+        cache.takes(1, 30000)
+        slow.socket.sendall(RESET_QUERY)
+        router.asks(RESET_QUERY, response(one))
+        put(cache.path, two)
+        cache.takes(2, 30000)
+        router.gets(notify(2))
+        router.asks(RESET_QUERY, response(two))
+        slow.gets(response(one))
+        version_0 = b"".join(prefix(asn, version=0) for asn in range(1, 30001)) + end(2, version=0)
+        with Router(cache) as old:
+            old.asks(unit(0, 2, 0), unit(0, 3, SESSION) + version_0)
 
 
 def test_file():

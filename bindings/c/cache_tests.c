@@ -44,7 +44,7 @@ static const struct row first_rows[] = {
     {"0302000000000008", RTR_SERVE_END, RTR_REASON_NO_VERSION, 0,
      REPORTS(2, 4, 8, "version is not supported")},
     {"0005000000000008", RTR_SERVE_END, RTR_REASON_FAULTY, RTR_UNIT_TYPE,
-     REPORTS(0, 5, 8, "unit type is not allowed here")},
+     REPORTS(0, 5, 8, "unit type 5 is not allowed here")},
     {"0705000000000008", RTR_SERVE_END, RTR_REASON_NO_VERSION, RTR_UNIT_TYPE,
      REPORTS(2, 4, 8, "version is not supported")},
 };
@@ -64,13 +64,13 @@ static const struct row rows[] = {
     {REPORT, RTR_SERVE_END, RTR_REASON_REPORTED, 0, SAYS_NOTHING},
     {"010a00000000000f", RTR_SERVE_END, RTR_REASON_FAULTY, RTR_UNIT_LENGTH, SAYS_NOTHING},
     {"0105000000000008", RTR_SERVE_END, RTR_REASON_FAULTY, RTR_UNIT_TYPE,
-     REPORTS(1, 5, 8, "unit type is not allowed here")},
+     REPORTS(1, 5, 8, "unit type 5 is not allowed here")},
     {"0102000000000009", RTR_SERVE_END, RTR_REASON_FAULTY, RTR_UNIT_LENGTH,
      REPORTS(1, 0, 8, "invalid unit length")},
     {"0109000000010000", RTR_SERVE_END, RTR_REASON_FAULTY, RTR_TOO_LONG,
      REPORTS(1, 0, 8, "unit is longer than 65535 bytes")},
     {"0104000000000014012118000000000000000000", RTR_SERVE_END, RTR_REASON_FAULTY, RTR_PREFIX,
-     REPORTS(1, 0, 20, "prefix fields are not allowed")},
+     REPORTS(1, 0, 20, "prefix length too large")},
 };
 
 /* After a query of version 1. */

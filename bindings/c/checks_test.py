@@ -1,5 +1,6 @@
 #!/usr/bin/env python3
-"""Plays the rows of .ci/listings --findings by the program checks.c: what it prints of each.
+"""Plays the rows of tests/programs/listings --findings by the program checks.c, and compares what it
+prints of each.
 
 usage: checks_test.py FILE COMMAND..
 """

@@ -1,5 +1,5 @@
-/* Calls each function on data over the cases of a file that `bindings/deltas.py` wrote, between
- * inaccessible pages (testing.h).
+/* Calls each function on data over the cases of a file that `tests/libraries/deltas.py` wrote,
+ * between inaccessible pages (testing.h).
  *
  * usage: data_tests CASES */
 #include "testing.h"

@@ -75,11 +75,9 @@ static inline void owes(int code, size_t about)
     CHECK(rtr_next(output, length, &unit) == RTR_OK && unit.size == length);
     CHECK(unit.kind == RTR_ERROR_REPORT && unit.code == code);
     CHECK(about == 0 || unit.part_length == about);
-    /* Without the place; of what is refused without the detail, too. */
-    const char *text =
-        c.failure == RTR_CLIENT_REFUSED ? rtr_status_text((uint8_t)c.status) : c.text;
-    CHECK(unit.text_length > 0 && unit.text_length <= strlen(text));
-    CHECK(memcmp(output + unit.text_start, text, unit.text_length) == 0);
+    /* Without the place. */
+    CHECK(unit.text_length > 0 && unit.text_length <= strlen(c.text));
+    CHECK(memcmp(output + unit.text_start, c.text, unit.text_length) == 0);
 }
 
 /* These bytes come. */

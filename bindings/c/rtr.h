@@ -1005,7 +1005,8 @@ void rtr_router_lost(struct rtr_router *router, uint64_t now, struct rtr_action 
 void rtr_router_applied(struct rtr_router *router, uint64_t now, struct rtr_action *action);
 
 /* None was made, since rtr_apply_in_order answered this status; with RTR_OK, since there was no
- * memory, for a unit or for the changes. */
+ * memory, for a unit or for the changes. The action's detail is 0: the caller puts there the one that
+ * came with the status, before rtr_router_report. */
 void rtr_router_not_applied(struct rtr_router *router, uint64_t now, uint8_t status,
                             struct rtr_action *action);
 

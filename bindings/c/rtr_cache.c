@@ -1,8 +1,15 @@
 /* See rtr_cache.h. What to answer when, the calls of rtr.h on a struct rtr_cache say: here are
  * data, buffers and the limits of time of what is sent. */
+#ifndef _GNU_SOURCE
+#define _GNU_SOURCE /* for memfd_create */
+#endif
 #include <stdio.h>
 #include <stdlib.h>
 #include <string.h>
+#ifdef __linux__
+#include <sys/mman.h>
+#include <unistd.h>
+#endif
 #include "rtr_cache.h"
 
 enum { VERSIONS = RTR_HIGHEST_VERSION + 1 };
@@ -10,9 +17,14 @@ enum { VERSIONS = RTR_HIGHEST_VERSION + 1 };
 /* How many newer data there may be than those of an answer that is being sent. */
 enum { MOST_BEHIND = 2 };
 
-/* Bytes that several connections send; the last of their holders frees them. */
+/* Data of so many bytes are put into a file in memory before they are sent. */
+enum { FILED = 1 << 16 };
+
+/* Bytes that several connections send; the last of their holders frees them. They lie in a file in
+ * memory, all of the struct, unless that is -1. */
 struct rtr_shared {
     size_t holders, length;
+    int file;
     uint8_t bytes[];
 };
 
@@ -38,6 +50,7 @@ static struct rtr_shared *shared(size_t room)
     if (one) {
         one->holders = 1;
         one->length = room;
+        one->file = -1;
     }
     return one;
 }
@@ -56,9 +69,55 @@ static struct rtr_shared *held(struct rtr_shared *one)
     return one;
 }
 
+#ifdef __linux__
+
+static void free_filed(struct rtr_shared *one)
+{
+    close(one->file);
+    munmap(one, sizeof *one + one->length);
+}
+
+/* The same bytes in a file in memory, in the place of those that were allocated; where there is no
+ * such file, or somebody else holds them, they stay. */
+static struct rtr_shared *filed(struct rtr_shared *one)
+{
+    size_t size = sizeof *one + one->length;
+    bool stays = one->file >= 0 || one->length < FILED || one->holders > 1;
+    int file = stays ? -1 : memfd_create("rtr data", MFD_CLOEXEC);
+    struct rtr_shared *made = MAP_FAILED;
+    if (file >= 0 && write(file, one, size) == (ssize_t)size)
+        made = mmap(NULL, size, PROT_READ | PROT_WRITE, MAP_SHARED | MAP_POPULATE, file, 0);
+    if (made == MAP_FAILED) {
+        if (file >= 0)
+            close(file);
+        return one;
+    }
+    made->file = file;
+    free(one);
+    return made;
+}
+
+#else
+
+static void free_filed(struct rtr_shared *one)
+{
+    (void)one;
+}
+
+static struct rtr_shared *filed(struct rtr_shared *one)
+{
+    return one;
+}
+
+#endif
+
 static void release(struct rtr_shared *one)
 {
-    if (one && !--one->holders)
+    if (!one || --one->holders)
+        return;
+    if (one->file >= 0)
+        free_filed(one);
+    else
         free(one);
 }
 
@@ -144,6 +203,14 @@ static struct rtr_shared *form(struct rtr_server *s, uint8_t version)
     if (!s->forms[version])
         s->forms[version] = in_version(s->forms[s->end.version], version);
     return s->forms[version];
+}
+
+/* The same, held by one that sends them. */
+static struct rtr_shared *sent_form(struct rtr_server *s, uint8_t version)
+{
+    if (form(s, version))
+        s->forms[version] = filed(s->forms[version]);
+    return s->forms[version] ? held(s->forms[version]) : NULL;
 }
 
 /* Forgets what is made of the newest data. */
@@ -613,8 +680,8 @@ static void act(struct rtr_served *c, int64_t now, const struct rtr_serving *ser
     struct rtr_server *s = c->server;
     bool gives = serving->kind == RTR_SERVE_ALL || serving->kind == RTR_SERVE_CHANGES;
     c->head_length = rtr_cache_unit(serving, c->head, sizeof c->head);
-    if (serving->kind == RTR_SERVE_ALL && form(s, serving->version))
-        c->body = held(form(s, serving->version));
+    if (serving->kind == RTR_SERVE_ALL)
+        c->body = sent_form(s, serving->version);
     else if (serving->kind == RTR_SERVE_CHANGES)
         c->body = changes_from(s, serving->version, serving->serial);
     else if (serving->kind == RTR_SERVE_NO_DATA || serving->kind == RTR_SERVE_END)
@@ -763,9 +830,11 @@ int rtr_served_output(const struct rtr_served *c, struct rtr_part parts[2])
     size_t head = c->sent < c->head_length ? c->head_length - c->sent : 0;
     size_t body = unsent(c) - head;
     if (head)
-        parts[count++] = (struct rtr_part){c->head + c->sent, head};
-    if (body)
-        parts[count++] = (struct rtr_part){c->body->bytes + c->body->length - body, body};
+        parts[count++] = (struct rtr_part){c->head + c->sent, head, -1, 0};
+    if (body) {
+        const uint8_t *at = c->body->bytes + c->body->length - body;
+        parts[count++] = (struct rtr_part){at, body, c->body->file, at - (const uint8_t *)c->body};
+    }
     return count;
 }
 

@@ -44,10 +44,13 @@ enum rtr_update {
     RTR_UPDATE_MEMORY   /* there is no memory for them */
 };
 
-/* Bytes to be sent. */
+/* Bytes to be sent. Where `file` isn't -1, they also stand at this place of that file in memory, from
+ * where sendfile sends them without a copy; it raises SIGPIPE, so ignore that. */
 struct rtr_part {
     const uint8_t *at;
     size_t length;
+    int file;
+    int64_t place;
 };
 
 /* Bytes that several connections send, changes that lead back, and changes that were made for

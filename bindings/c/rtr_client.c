@@ -208,8 +208,10 @@ static void apply(struct rtr_client *c, const struct rtr_action *a, struct bytes
     c->made_length = made.length = why.written;
     if (can && change_to(c, made, &c->next_end))
         rtr_router_applied(&c->router, c->now, &next);
-    else
+    else {
         rtr_router_not_applied(&c->router, c->now, why.status, &next);
+        next.detail = why.detail;
+    }
     if (next.kind == RTR_SHOW)
         show(c);
     else

@@ -1,5 +1,5 @@
-/* Looks up the routes of the tables in a file that `bindings/validity.py` wrote, whose data lie
- * between inaccessible pages (testing.h).
+/* Looks up the routes of the tables in a file that `tests/libraries/validity.py` wrote, whose data
+ * lie between inaccessible pages (testing.h).
  *
  * usage: validity_tests TABLES */
 #include "testing.h"
