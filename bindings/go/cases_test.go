@@ -14,7 +14,7 @@ import (
 	"testing"
 )
 
-// A case that bindings/cases.py wrote.
+// A case that tests/libraries/cases.py wrote.
 type testCase struct {
 	version, status, detail uint8
 	numbers                 [5]uint64 // units, forms, taken, length of the input and of the form
@@ -27,14 +27,15 @@ var (
 	readsCases sync.Once
 )
 
-// The cases of the file that RTR_CASES names, or else those that ../cases.py makes. Where there is
+// The cases of the file that RTR_CASES names, or else those that cases.py makes. Where there is
 // no python3, the tests that need cases are skipped.
 func cases(t *testing.T) []testCase {
 	readsCases.Do(func() {
 		if path := os.Getenv("RTR_CASES"); path != "" {
 			caseBytes, caseErr = os.ReadFile(path)
 		} else {
-			caseBytes, caseErr = exec.Command("python3", "../cases.py", "--inputs", "300").Output()
+			script := "../../tests/libraries/cases.py"
+			caseBytes, caseErr = exec.Command("python3", script, "--inputs", "300").Output()
 		}
 	})
 	if errors.Is(caseErr, exec.ErrNotFound) {
@@ -305,14 +306,15 @@ func (one *testCase) checkSame(t *testing.T, same, expected bool, side Side, err
 	}
 }
 
-// answer is what bindings/sessions.py computed of one unit: numbers in the order of its NUMBERS.
+// answer is what tests/libraries/sessions.py computed of one unit: numbers in the order of its
+// NUMBERS.
 type answer struct {
 	numbers             [22]uint64
 	address, identifier []byte
 	form                []byte
 }
 
-// sessions are those of the file that RTR_SESSIONS names, or else those that ../sessions.py makes,
+// sessions are those of the file that RTR_SESSIONS names, or else those that sessions.py makes,
 // with the answer for each of their units.
 func sessions(t *testing.T) (inputs [][]byte, answers [][]answer) {
 	var rest []byte
@@ -320,7 +322,7 @@ func sessions(t *testing.T) (inputs [][]byte, answers [][]answer) {
 	if path := os.Getenv("RTR_SESSIONS"); path != "" {
 		rest, err = os.ReadFile(path)
 	} else {
-		rest, err = exec.Command("python3", "../sessions.py", "cases").Output()
+		rest, err = exec.Command("python3", "../../tests/libraries/sessions.py", "cases").Output()
 	}
 	if errors.Is(err, exec.ErrNotFound) {
 		t.Skip("there is no python3 to make sessions, and RTR_SESSIONS names no file of them")

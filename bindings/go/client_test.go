@@ -440,7 +440,7 @@ func TestChangesBetweenVersions(t *testing.T) {
 		play(t, nil, scene{asked(1, 7, 1), all0}), play(t, nil, scene{reset0, join(all0, report(0, 1))}),
 		play(t, nil, scene{reset1, []byte{}}), play(t, nil, scene{reset1, full(7, 4, key)}))
 	client := quick(address)
-	client.Version, client.Expire = 1, time.Second
+	client.Version, client.Expire = 1, 3*time.Second
 	updates, failures := follow(t, client, func(update Update) bool {
 		return update.Data.Serial() == 4
 	})

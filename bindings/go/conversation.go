@@ -176,9 +176,9 @@ func (f *follower) apply(changes bool) action {
 		return f.machine.applied(f.peer.now())
 	case errors.As(f.err, &fault):
 		f.unit = fault.Unit
-		return f.machine.notApplied(f.peer.now(), fault.Status)
+		return f.machine.notApplied(f.peer.now(), fault.Status, fault.Detail)
 	}
-	return f.machine.notApplied(f.peer.now(), OK)
+	return f.machine.notApplied(f.peer.now(), OK, 0)
 }
 
 // show gives other data to the caller: the zero Data where there are none any more.

@@ -11,20 +11,20 @@ import (
 	"testing"
 )
 
-// deltaCase is a case that bindings/deltas.py wrote: a call, and what is expected of it.
+// deltaCase is a case that tests/libraries/deltas.py wrote: a call, and what is expected of it.
 type deltaCase struct {
 	call, status, side, detail uint8
 	offset                     int64
 	first, second, output      []byte
 }
 
-// deltaCases are those of the file that RTR_DELTAS names, or else those that ../deltas.py makes.
+// deltaCases are those of the file that RTR_DELTAS names, or else those that deltas.py makes.
 // Where there is no python3, the test is skipped.
 func deltaCases(t *testing.T) (all []deltaCase) {
 	path := os.Getenv("RTR_DELTAS")
 	rest, err := os.ReadFile(path)
 	if path == "" {
-		rest, err = exec.Command("python3", "../deltas.py").Output()
+		rest, err = exec.Command("python3", "../../tests/libraries/deltas.py").Output()
 	}
 	if errors.Is(err, exec.ErrNotFound) {
 		t.Skip("there is no python3 to make cases, and RTR_DELTAS names no file of them")

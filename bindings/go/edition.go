@@ -29,7 +29,10 @@ type edition struct {
 	known []C.uint32_t // the serial numbers that they lead to
 
 	lock   sync.Mutex
-	forms  [versions]Data
+	forms  [versions]Data  // for clients without a socket
+	files  [versions]piece // for the others
+	sends  int             // how many clients are sent one
+	old    bool            // there is a newer edition
 	deltas map[question][]byte
 	room   int // for more deltas
 }
@@ -143,25 +146,64 @@ func (m mark) behind(present mark) error {
 }
 
 // form is what the version has of the data.
-func (e *edition) form(version uint8) (data Data, err error) {
+func (e *edition) form(version uint8) (piece, error) {
 	e.lock.Lock()
 	defer e.lock.Unlock()
+	var err error
 	if e.forms[version].IsZero() {
 		e.forms[version], err = e.data.For(version)
 	}
-	return e.forms[version], err
+	return piece{bytes: e.forms[version].Bytes()}, err
+}
+
+// file is the same in a file, if they are many, which is there until sent is called.
+func (e *edition) file(version uint8) (piece, error) {
+	e.lock.Lock()
+	defer e.lock.Unlock()
+	e.sends++
+	made := &e.files[version]
+	if made.size() > 0 {
+		return *made, nil
+	}
+	data, err := e.data.For(version)
+	if err == nil {
+		*made = filed(data.Bytes())
+	}
+	return *made, err
+}
+
+// sent says that a client is done with what file answered.
+func (e *edition) sent() {
+	e.lock.Lock()
+	defer e.lock.Unlock()
+	e.sends--
+	e.closeUnused()
+}
+
+// replaced says that there is a newer edition.
+func (e *edition) replaced() {
+	e.lock.Lock()
+	defer e.lock.Unlock()
+	e.old = true
+	e.closeUnused()
+}
+
+// closeUnused closes the files of an old edition that no client is sent.
+func (e *edition) closeUnused() {
+	for version := range e.files {
+		if made := &e.files[version]; e.old && e.sends == 0 && made.file != nil {
+			made.file.Close()
+			*made = piece{}
+		}
+	}
 }
 
 // since is the delta for clients of a version from the data of a serial number that is known, or
 // from these data.
 func (e *edition) since(version uint8, serial uint32) ([]byte, error) {
-	new, err := e.form(version)
-	if err != nil {
-		return nil, err
-	}
 	if serial == e.data.Serial() {
-		_, end := parts(new.Bytes())
-		return end, nil
+		_, end := parts(e.data.Bytes())
+		return formFor(end, version)
 	}
 	e.lock.Lock()
 	defer e.lock.Unlock()
@@ -174,18 +216,18 @@ func (e *edition) since(version uint8, serial uint32) ([]byte, error) {
 		steps++
 	}
 	old, err := before(e.data, e.back[:steps])
-	if err == nil {
-		old, err = old.For(version)
-	}
 	if err != nil {
 		return nil, err
 	}
-	return e.change(asked, old, new)
+	return e.change(asked, old)
 }
 
-// change is the delta that answers a question, from old data to new ones of its version.
-func (e *edition) change(asked question, old, new Data) ([]byte, error) {
-	changes, err := Delta(old, new)
+// change is the delta that answers a question, from old data of the version of these.
+func (e *edition) change(asked question, old Data) ([]byte, error) {
+	changes, err := Delta(old, e.data)
+	if err == nil {
+		changes, err = formFor(changes, asked.version)
+	}
 	if e.room -= len(changes); e.room >= 0 && err == nil {
 		e.deltas[asked] = changes
 	}
@@ -195,14 +237,13 @@ func (e *edition) change(asked question, old, new Data) ([]byte, error) {
 // prepare makes what clients of the edition before will ask for. What fails is tried again then.
 func (e *edition) prepare(old *edition) {
 	old.lock.Lock()
-	forms := old.forms
+	forms, files := old.forms, old.files
 	old.lock.Unlock()
-	for version, before := range forms {
-		if before.IsZero() || len(e.known) == 0 {
-			continue
-		}
-		if now, err := e.form(uint8(version)); err == nil {
-			e.change(question{uint8(version), old.data.Serial()}, before, now)
+	before, err := old.data.For(e.data.Version())
+	for version := range forms {
+		asked := !forms[version].IsZero() || files[version].size() > 0
+		if asked && err == nil && len(e.known) > 0 {
+			e.change(question{uint8(version), old.data.Serial()}, before)
 		}
 	}
 }

@@ -156,8 +156,10 @@ func (m *machine) applied(now uint64) action {
 }
 
 // notApplied tells the machine why no change was made; OK stands for what is no fault of them.
-func (m *machine) notApplied(now uint64, status Status) action {
-	return C.router_not_applied(&m.router, C.uint64_t(now), C.uint8_t(status))
+func (m *machine) notApplied(now uint64, status Status, detail uint8) action {
+	made := C.router_not_applied(&m.router, C.uint64_t(now), C.uint8_t(status))
+	made.detail = C.uint8_t(detail)
+	return made
 }
 
 // wakes is when the machine wants a tick, if nothing comes before.

@@ -14,7 +14,7 @@ import (
 	"time"
 )
 
-// How much of an answer the system buffers.
+// How much of an answer the system buffers at least.
 const chunk = 1 << 16
 
 // How much is written in one call where it isn't known what was taken of it at a deadline: as much
@@ -30,6 +30,7 @@ type served struct {
 	server     *Server
 	connection net.Conn
 	raw        syscall.RawConn // the socket, if the connection is one
+	counter    Counter         // what counts what is written to it, if that is wanted
 	cache      C.struct_rtr_cache
 	present    C.struct_rtr_present // what names the data of its place
 	serving    C.struct_rtr_serving // what the machine said last
@@ -48,6 +49,11 @@ type served struct {
 	shaking func() // ends a handshake, as long as there is one
 }
 
+// Counter is a connection that gives the socket under it, by SyscallConn, to be written to in its
+// place, and is told what was taken of it: so many bytes, and those that were to be written, unless
+// they stand in a file.
+type Counter interface{ Wrote(bytes []byte, taken int) }
+
 // usualCacheSettings are the usual ones.
 func usualCacheSettings() (usual C.struct_rtr_cache_settings) {
 	C.rtr_cache_settings_usual(&usual)
@@ -58,6 +64,7 @@ func newServed(server *Server, connection net.Conn) *served {
 	c := &served{server: server, connection: connection}
 	if socket, ok := connection.(syscall.Conn); ok {
 		c.raw, _ = socket.SyscallConn()
+		c.counter, _ = connection.(Counter)
 	}
 	if _, ok := connection.(shaker); ok {
 		c.shaking = func() {} // serve looks whether the server is closed
@@ -156,19 +163,20 @@ func (c *served) tell(known []C.uint32_t) {
 
 // answer sends what the machine says, and is done with the unit that it is about.
 func (c *served) answer(e *edition) (err error) {
-	var body []byte
-	switch version := uint8(c.serving.version); c.serving.kind {
-	case C.RTR_SERVE_ALL:
-		var data Data
-		data, err = e.form(version)
-		body = data.Bytes()
-	case C.RTR_SERVE_CHANGES:
-		body, err = e.since(version, uint32(c.serving.serial))
+	var body piece
+	switch version := uint8(c.serving.version); {
+	case c.serving.kind == C.RTR_SERVE_ALL && c.raw != nil:
+		defer e.sent()
+		body, err = e.file(version)
+	case c.serving.kind == C.RTR_SERVE_ALL:
+		body, err = e.form(version)
+	case c.serving.kind == C.RTR_SERVE_CHANGES:
+		body.bytes, err = e.since(version, uint32(c.serving.serial))
 	}
 	if err == nil {
 		opening := c.opening()
 		c.logs(LevelDebug, "answers", "unit", Kind(opening[1]), "version", opening[0])
-		err = c.write(opening, body)
+		err = c.write(piece{bytes: opening}, body)
 	}
 	taken := int(c.serving.taken)
 	c.input, c.offset = append(c.buffer[:0], c.input[taken:]...), c.offset+int64(taken)
@@ -221,37 +229,39 @@ func (c *served) receive() {
 }
 
 // write writes parts, as long as some of them is taken now and then, in the time of a response.
-func (c *served) write(parts ...[]byte) error {
+func (c *served) write(parts ...piece) error {
 	last := c.server.clock.time().Add(c.server.Limits.Response)
-	for _, part := range parts {
-		for slow := false; len(part) > 0; {
-			if err := c.allow(last, len(part) > chunk); err != nil {
+	for i := range parts {
+		one := &parts[i]
+		for slow := false; one.size() > 0; {
+			if err := c.allow(last, one.size() > chunk); err != nil {
 				return err
 			}
 			if slow {
 				return ErrTooSlow
 			}
-			taken, err := c.writeSome(part)
+			taken, err := c.writeSome(one)
 			if slow = isTimeout(err); err != nil && !slow {
 				return err
 			}
-			part = part[taken:]
+			one.skip(taken)
 		}
 	}
 	return nil
 }
 
 // writeSome writes some of a part. It is a timeout where nothing was taken until the deadline.
-func (c *served) writeSome(part []byte) (taken int, err error) {
+func (c *served) writeSome(one *piece) (taken int, err error) {
 	if c.raw == nil {
 		// What met its deadline may have been taken in part, but TLS can't go on after it.
-		if len(part) > tlsRecord {
-			part = part[:tlsRecord]
+		bytes := one.bytes
+		if len(bytes) > tlsRecord {
+			bytes = bytes[:tlsRecord]
 		}
-		return c.connection.Write(part)
+		return c.connection.Write(bytes)
 	}
 	failed := c.raw.Write(func(socket uintptr) bool {
-		taken, err = syscall.Write(int(socket), part)
+		taken, err = one.send(int(socket))
 		return err != syscall.EAGAIN && err != syscall.EINTR
 	})
 	switch {
@@ -259,6 +269,9 @@ func (c *served) writeSome(part []byte) (taken int, err error) {
 		return 0, failed
 	case err != nil:
 		return 0, os.NewSyscallError("write", err)
+	}
+	if c.counter != nil {
+		c.counter.Wrote(one.bytes, taken)
 	}
 	return taken, nil
 }

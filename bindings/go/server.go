@@ -117,6 +117,7 @@ func (s *Server) update(data Data, save func(*edition) error, before func()) err
 		return err
 	}
 	s.present.Store(next)
+	present.replaced()
 	before()
 	s.Log.write(LevelInfo, "data", data.fields()...)
 	s.wake()
@@ -187,10 +188,14 @@ func isFull(err error) bool {
 // How many clients above the limit are sent a report at once; those above them are closed.
 const mostRefused = 64
 
+// How much of what is written to a client the system buffers: with less of it a goroutine waits more
+// often.
+const writeBuffer = 1 << 17
+
 // take serves a client in a goroutine of its own, or refuses it.
 func (s *Server) take(connection net.Conn) {
 	if tcp, ok := connection.(*net.TCPConn); ok {
-		tcp.SetWriteBuffer(chunk)
+		tcp.SetWriteBuffer(writeBuffer)
 	}
 	client, refused := newServed(s, connection), 0
 	s.lock.Lock()

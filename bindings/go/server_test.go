@@ -280,8 +280,8 @@ func TestServerLimits(t *testing.T) {
 	noLeaks(t)
 	data := megabytes(t)
 	server, address := started(t, func(limits *ServerLimits) {
-		limits.First, limits.Unit = 500*time.Millisecond, 300*time.Millisecond
-		limits.Idle, limits.Write = 700*time.Millisecond, 2*time.Second
+		limits.First, limits.Unit = 2*time.Second, 300*time.Millisecond
+		limits.Idle, limits.Write = 2*time.Second, 3*time.Second
 	})
 	errs := why(server)
 	if err := server.Update(data); err != nil {

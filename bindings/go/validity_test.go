@@ -12,7 +12,7 @@ import (
 	"testing"
 )
 
-// A VRP that covers a route, as bindings/validity.py computed it.
+// A VRP that covers a route, as tests/libraries/validity.py computed it.
 type coveringVRP struct {
 	place                       uint32
 	asn                         uint32
@@ -33,7 +33,7 @@ type validityTable struct {
 	routes []validityRow
 }
 
-// validityTables are those of the file that RTR_VALIDITY names, or else those that ../validity.py
+// validityTables are those of the file that RTR_VALIDITY names, or else those that validity.py
 // makes.
 func validityTables(t *testing.T) (tables []validityTable) {
 	var rest []byte
@@ -41,7 +41,7 @@ func validityTables(t *testing.T) (tables []validityTable) {
 	if path := os.Getenv("RTR_VALIDITY"); path != "" {
 		rest, err = os.ReadFile(path)
 	} else {
-		rest, err = exec.Command("python3", "../validity.py").Output()
+		rest, err = exec.Command("python3", "../../tests/libraries/validity.py").Output()
 	}
 	if errors.Is(err, exec.ErrNotFound) {
 		t.Skip("there is no python3 to make tables, and RTR_VALIDITY names no file of them")

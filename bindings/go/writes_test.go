@@ -5,7 +5,9 @@ package rtr
 import (
 	"errors"
 	"net"
+	"net/netip"
 	"os"
+	"syscall"
 	"testing"
 	"time"
 )
@@ -42,7 +44,7 @@ func TestWriteTakenInPart(t *testing.T) {
 		connection := &stalled{takes: takes}
 		writes := len(takes)
 		c := newServed(NewServer(), connection)
-		err := c.write(make([]byte, 1<<20))
+		err := c.write(piece{bytes: make([]byte, 1<<20)})
 		if !errors.Is(err, ErrTooSlow) || len(connection.takes) > 0 || connection.deadlines != writes+1 {
 			t.Errorf("%s: %v after %d deadlines", name, err, connection.deadlines)
 		}
@@ -53,6 +55,16 @@ func TestWriteTakenInPart(t *testing.T) {
 // deadline.
 func TestWriteToASocket(t *testing.T) {
 	noLeaks(t)
+	bytes := piece{bytes: make([]byte, 1<<26)}
+	file := filed(bytes.bytes)
+	if file.file == nil {
+		t.Fatal("no file")
+	}
+	writeToASocket(t, bytes)
+	writeToASocket(t, file)
+}
+
+func writeToASocket(t *testing.T, one piece) {
 	listener := listen(t, "127.0.0.1:0")
 	defer listener.Close()
 	taken := make(chan net.Conn, 1)
@@ -64,17 +76,80 @@ func TestWriteToASocket(t *testing.T) {
 	connection := <-taken
 	defer connection.Close()
 	c := newServed(NewServer(), connection)
-	part := make([]byte, 1<<26)
 	connection.SetWriteDeadline(time.Now().Add(time.Hour))
-	if written, err := c.writeSome(part); err != nil || written <= tlsRecord || written == len(part) {
+	written, err := c.writeSome(&one)
+	if err != nil || written <= tlsRecord || written == one.size() {
 		t.Fatal(written, err)
 	}
 	connection.SetWriteDeadline(time.Now().Add(50 * time.Millisecond))
-	var err error
 	for err == nil {
-		_, err = c.writeSome(part)
+		_, err = c.writeSome(&one)
 	}
 	if !isTimeout(err) {
 		t.Fatal(err)
+	}
+}
+
+// Many bytes lie in a file, unless files may have fewer bytes than these.
+func TestFiled(t *testing.T) {
+	for _, length := range []int{0, 24, chunk - 1, chunk, 3*chunk + 1} {
+		if one := filed(make([]byte, length)); one.size() != length || (one.file != nil) != (length >= chunk) {
+			t.Errorf("%d bytes: %d, a file: %t", length, one.size(), one.file != nil)
+		}
+	}
+	var usual syscall.Rlimit
+	if err := syscall.Getrlimit(syscall.RLIMIT_FSIZE, &usual); err != nil {
+		t.Fatal(err)
+	}
+	less := usual
+	less.Cur = 1 << 20
+	if err := syscall.Setrlimit(syscall.RLIMIT_FSIZE, &less); err != nil {
+		t.Fatal(err)
+	}
+	one := filed(make([]byte, 1<<20+1))
+	if err := syscall.Setrlimit(syscall.RLIMIT_FSIZE, &usual); err != nil {
+		t.Fatal(err)
+	}
+	if one.file != nil || len(one.bytes) != 1<<20+1 {
+		t.Error(one.file != nil, len(one.bytes))
+	}
+}
+
+// The file of an edition stays while it is the newest or a client is sent it.
+func TestFiledEdition(t *testing.T) {
+	vrps := make([]VRP, chunk/20)
+	for i := range vrps {
+		vrps[i] = VRP{netip.MustParsePrefix("192.0.2.0/24"), 24, uint32(i)}
+	}
+	data, err := NewDataOf(vrps, 1, 4660, 1, Timing{3600, 600, 7200})
+	if err != nil {
+		t.Fatal(err)
+	}
+	e := newEdition(0, data, nil, ServerLimits{})
+	isOpen := func(one piece) bool {
+		_, err := one.file.Stat()
+		return err == nil
+	}
+	file := func() piece {
+		one, err := e.file(1)
+		if err != nil || one.file == nil || !isOpen(one) {
+			t.Fatal(err, "no file")
+		}
+		return one
+	}
+	one := file()
+	e.sent()
+	if other := file(); !isOpen(one) || other.file != one.file {
+		t.Fatal("closed before there was a newer edition")
+	}
+	if e.replaced(); !isOpen(one) {
+		t.Fatal("closed before a client was done with it")
+	}
+	if e.sent(); isOpen(one) {
+		t.Fatal("still open")
+	}
+	one = file() // for a client that came late
+	if e.sent(); isOpen(one) {
+		t.Fatal("open again")
 	}
 }

@@ -10,6 +10,7 @@ import (
 	"net"
 	"os"
 	"os/signal"
+	"strconv"
 	"strings"
 	"syscall"
 	"time"
@@ -17,7 +18,7 @@ import (
 	"fishreef/rtr"
 )
 
-const usage = "usage: cache FILE [--listen ADDRESS:PORT].. [--refuse]"
+const usage = "usage: cache FILE [--listen ADDRESS:PORT].. [--max-clients N] [--refuse]"
 
 // Where a cache listens that isn't told where: every address, at a port that needs no rights.
 const anywhere = ":3323"
@@ -29,6 +30,7 @@ const interval = time.Second / 4
 type options struct {
 	path      string
 	addresses []string
+	clients   int // at once; 0 where it isn't said
 	refuse    bool
 }
 
@@ -53,6 +55,12 @@ func arguments(words []string) (wanted options, ok bool) {
 		case words[0] == "--listen" && len(words) > 1:
 			wanted.addresses = append(wanted.addresses, words[1])
 			words = words[1:]
+		case words[0] == "--max-clients" && len(words) > 1:
+			var err error
+			if wanted.clients, err = strconv.Atoi(words[1]); err != nil || wanted.clients < 1 {
+				return options{}, false
+			}
+			words = words[1:]
 		case words[0] == "--refuse":
 			wanted.refuse = true
 		case wanted.path == "" && words[0] != "" && words[0][0] != '-':
@@ -71,6 +79,9 @@ func arguments(words []string) (wanted options, ok bool) {
 func run(ctx context.Context, wanted options) error {
 	server := rtr.NewServer()
 	server.Limits.Refuse = wanted.refuse
+	if wanted.clients > 0 {
+		server.Limits.Connections = wanted.clients
+	}
 	defer server.Close()
 	server.Ended = func(client net.Addr, err error) { say(client, ": ", err) }
 	kept := wanted.path + rtr.KeptSuffix
