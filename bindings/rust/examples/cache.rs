@@ -1,6 +1,9 @@
 //! A cache: serves the data of a file to routers (RFC 8210).
 //!
-//! usage: cache FILE [--listen ADDRESS]... [--refuse]    at `[::]:3323` if none is named
+//! usage: cache FILE [--listen ADDRESS]... [--max-clients N] [--refuse]
+//!
+//! It listens at `[::]:3323` if no address is named, and serves 1024 clients at once if not said
+//! otherwise.
 //!
 //! The file holds a sequence that only announces, in whatever order, with or without a cache
 //! response before it. It is looked at four times a second, and read again when it has changed: put
@@ -31,16 +34,21 @@ const LOOK: Duration = Duration::from_millis(250);
 struct Arguments {
     file: String,
     listen: Vec<String>,
-    refuse: bool,
+    options: ServerOptions,
 }
 
 fn arguments(words: impl Iterator<Item = String>) -> Option<Arguments> {
-    let (mut file, mut listen, mut refuse) = (None, Vec::new(), false);
+    let (mut file, mut listen) = (None, Vec::new());
+    let mut options = ServerOptions::default();
     let mut words = words.peekable();
     while let Some(word) = words.next() {
         match word.as_str() {
             "--listen" => listen.push(words.next()?),
-            "--refuse" => refuse = true,
+            "--max-clients" => {
+                let count = words.next()?.parse().ok();
+                options.connections = count.filter(|count| *count > 0)?;
+            }
+            "--refuse" => options.refuse = true,
             _ if word.starts_with('-') || file.is_some() => return None,
             _ => file = Some(word),
         }
@@ -51,7 +59,7 @@ fn arguments(words: impl Iterator<Item = String>) -> Option<Arguments> {
     Some(Arguments {
         file: file?,
         listen,
-        refuse,
+        options,
     })
 }
 
@@ -225,11 +233,7 @@ fn data(bytes: &[u8]) -> Result<Data, Box<dyn Error>> {
 
 /// Serves until a signal comes.
 fn serve(arguments: &Arguments) -> Result<(), Box<dyn Error>> {
-    let options = ServerOptions {
-        refuse: arguments.refuse,
-        ..ServerOptions::default()
-    };
-    let server = Server::telling(options, |client, error| {
+    let server = Server::telling(arguments.options.clone(), |client, error| {
         say(format_args!("{client}: {error}"));
     });
     signals::catch();
@@ -259,7 +263,7 @@ fn main() -> ExitCode {
     let arguments = match arguments(std::env::args().skip(1)) {
         Some(arguments) => arguments,
         None => {
-            eprintln!("usage: cache FILE [--listen ADDRESS]... [--refuse]");
+            eprintln!("usage: cache FILE [--listen ADDRESS]... [--max-clients N] [--refuse]");
             return ExitCode::from(2);
         }
     };

@@ -1,5 +1,6 @@
 //! What a cache has now, and what leads back to what it had before.
 
+use crate::body::Body;
 use crate::cache::locked;
 use crate::cache_machine::Present;
 use crate::data::DataError;
@@ -9,7 +10,7 @@ use crate::server_error::UpdateError;
 use crate::unit::compare_serials;
 use std::cmp::Ordering;
 use std::collections::BTreeMap;
-use std::sync::{Arc, Mutex};
+use std::sync::Mutex;
 use std::time::SystemTime;
 use std::vec::Vec;
 
@@ -34,7 +35,7 @@ pub(crate) struct Edition {
 /// What clients are sent, made when the first of them asks for it.
 #[derive(Debug, Default)]
 struct Made {
-    forms: [Option<Data>; VERSIONS],
+    forms: [Option<Body>; VERSIONS],
     /// What leads to the data, by the serial number that it begins at: whole, and for each version.
     changes: BTreeMap<u32, (Changes, [Option<Changes>; VERSIONS])>,
     /// How many bytes these have.
@@ -161,17 +162,18 @@ impl Edition {
     }
 
     /// The bytes of all data, for clients of a version that there is.
-    pub(crate) fn all(&self, version: u8) -> Arc<Vec<u8>> {
+    pub(crate) fn all(&self, version: u8) -> Body {
         let form = &mut locked(&self.made).forms[usize::from(version)];
-        form.get_or_insert_with(|| self.data.in_version(version))
-            .shared()
+        form.get_or_insert_with(|| Body::filed(self.data.in_version(version).shared()))
+            .clone()
     }
 
     /// The bytes of what leads clients of a version from a serial number that is known, or from the
     /// present one.
-    pub(crate) fn since(&self, version: u8, serial: u32, options: &ServerOptions) -> Arc<Vec<u8>> {
+    pub(crate) fn since(&self, version: u8, serial: u32, options: &ServerOptions) -> Body {
         if serial == self.present.serial {
-            return self.data.without_payloads().in_version(version).shared();
+            let end = self.data.without_payloads().in_version(version);
+            return Body::Allocated(end.shared());
         }
         let is_made = locked(&self.made).changes.contains_key(&serial);
         if !is_made {
@@ -184,7 +186,7 @@ impl Edition {
         let (whole, forms) = made.changes.get_mut(&serial).expect("it was just made");
         // A version has of changes what it has of the data.
         let form = forms[usize::from(version)].get_or_insert_with(|| whole.in_version(version));
-        form.shared()
+        Body::Allocated(form.shared())
     }
 
     /// Makes what leads from these data, and keeps it.

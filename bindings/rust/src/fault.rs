@@ -112,7 +112,7 @@ impl Fault {
     }
 
     /// The type, the version or the broken rule, as `rtr.h` numbers it, or 0.
-    fn detail(self) -> u8 {
+    pub(crate) fn detail(self) -> u8 {
         match self {
             Fault::UnitType(detail) | Fault::UnitVersion(detail) => detail,
             Fault::Prefix(PrefixRule::LengthOver) => prefix_rule::LENGTH_OVER,

@@ -83,6 +83,8 @@ mod asking;
 #[allow(clippy::pedantic)] // It has the words of `rtr.h`.
 mod abi;
 #[cfg(feature = "std")]
+mod body;
+#[cfg(feature = "std")]
 mod cache;
 #[cfg(feature = "std")]
 mod cache_machine;

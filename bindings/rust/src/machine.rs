@@ -72,11 +72,11 @@ impl Machine {
         action
     }
 
-    /// No change was made, for this status, or for none of the changes' fault.
-    pub(crate) fn not_applied(&mut self, now: u64, status: u8) -> Action {
+    /// No change was made, for this status with its detail, or for none of the changes' fault.
+    pub(crate) fn not_applied(&mut self, now: u64, status: u8, detail: u8) -> Action {
         let mut action = Action::default();
         unsafe { abi::rtr_router_not_applied(self, now, status, &mut action) };
-        action
+        Action { detail, ..action }
     }
 
     /// Units came; `ended` where nothing follows them.

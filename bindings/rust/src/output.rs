@@ -1,6 +1,7 @@
 //! What is sent on a connection.
 
-use std::sync::Arc;
+use crate::body::Body;
+use std::fs::File;
 use std::vec::Vec;
 
 /// Bytes that are sent, and how many of them were. Times are those of the caller's clock.
@@ -8,7 +9,7 @@ use std::vec::Vec;
 pub(crate) struct Output {
     head: Vec<u8>,
     /// What comes behind the head, which others may be sent too.
-    body: Arc<Vec<u8>>,
+    body: Body,
     sent: usize,
     pub(crate) began: u64,
     /// When the stream took some last.
@@ -17,7 +18,7 @@ pub(crate) struct Output {
 
 impl Output {
     /// These bytes, which begin to be sent now, if there are any.
-    pub(crate) fn new(head: Vec<u8>, body: Arc<Vec<u8>>, now: u64) -> Option<Output> {
+    pub(crate) fn new(head: Vec<u8>, body: Body, now: u64) -> Option<Output> {
         let output = Output {
             head,
             body,
@@ -35,6 +36,12 @@ impl Output {
             head,
             &self.body[self.sent.saturating_sub(self.head.len())..],
         ]
+    }
+
+    /// The file that has the body, and where the bytes begin there that are left.
+    pub(crate) fn file(&self) -> Option<(&File, usize)> {
+        let file = self.body.file()?;
+        Some((file, self.sent.saturating_sub(self.head.len())))
     }
 
     /// The stream took so many now: what is left, if something is.

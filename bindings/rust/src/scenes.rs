@@ -1,11 +1,11 @@
-//! A connection of a server does in each scene of a cache what the scene says
-//! (`tests/transcripts` of the repository).
+//! A connection of a server does in each scene of a cache what the scene says. The scenes are
+//! those of the repository's tests.
 
 use super::{Server, ServerOptions};
 use crate::cache::{locked, Moment};
 use crate::serving::Connection;
 use crate::socket::Socket;
-use crate::waiting::wait;
+use crate::waiting::{wait, Awaited};
 use crate::{Data, Unit};
 use std::boxed::Box;
 use std::fmt::Write as _;
@@ -122,7 +122,7 @@ impl Joined {
 
     /// Whether bytes came for the connection, or their end.
     fn is_ready(&self) -> bool {
-        let mut awaited = [self.connection.awaited()];
+        let mut awaited = [Awaited::to_read(&self.connection.socket())];
         wait(&mut awaited, 0);
         !self.connection.is_sending() && awaited[0].is_ready()
     }
@@ -189,11 +189,12 @@ impl Played {
 
     /// Has the connection go on at this time until it waits for something.
     fn settle(&mut self) {
-        let moment = self.moment();
+        let (mut moment, now) = (self.moment(), self.now);
         if let Some(joined) = &mut self.joined {
             let mut is_ready = joined.is_ready();
             while !joined.rests(&moment, is_ready) {
-                joined.connection.go_on(&moment, &|_, _| {}, is_ready);
+                let connection = &mut joined.connection;
+                connection.go_on(&mut moment, || now, &|_, _| {}, is_ready);
                 is_ready = joined.is_ready();
             }
         }
@@ -237,11 +238,12 @@ impl Played {
         stream.set_nonblocking(true).unwrap();
         let room = Arc::new(AtomicUsize::new(usize::MAX));
         let socket = Box::new(Taken(stream, Arc::clone(&room)));
-        let moment = self.moment();
+        let (mut moment, now) = (self.moment(), self.now);
         let from = (Ipv4Addr::LOCALHOST, 0).into();
         let mut connection = Connection::new(socket, from, &moment);
         if beyond {
-            connection.refuse(&moment, &|_, _| {});
+            connection.refuse(&moment);
+            connection.go_on(&mut moment, || now, &|_, _| {}, false);
         }
         self.joined = Some(Joined {
             connection,
@@ -412,8 +414,8 @@ fn transcripts_of_a_cache() {
     assert!(count >= 100, "only {count} scenes"); // without those that are made
 }
 
-/// Is an end that a router is joined with (`tests/joined`), where the environment says where to
-/// tell what it does: what happens to it comes on standard input.
+/// Is an end that a router is joined with, where the environment says where to tell what it does:
+/// what happens to it comes on standard input.
 #[test]
 fn joined() {
     let mut output = match std::env::var("RTR_JOINED") {

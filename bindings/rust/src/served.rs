@@ -1,13 +1,14 @@
 //! A client of a cache, without sockets and clock.
 
+use crate::body::Body;
 use crate::cache::Moment;
 use crate::cache_machine::{serving, Cache as Machine, Serving};
 use crate::input::Input;
 use crate::machine::milliseconds;
 use crate::output::Output;
 use crate::server_error::ServerError;
+use std::fs::File;
 use std::io;
-use std::sync::Arc;
 use std::time::Duration;
 use std::vec::Vec;
 
@@ -152,6 +153,11 @@ impl Served {
         self.output.as_ref().map_or([&[], &[]], Output::parts)
     }
 
+    /// The file that has the second part, and where that begins in it.
+    pub(crate) fn file(&self) -> Option<(&File, usize)> {
+        self.output.as_ref()?.file()
+    }
+
     /// So many bytes of it were sent.
     pub fn sent(&mut self, moment: &Moment, count: usize) {
         let output = self.output.take();
@@ -237,7 +243,7 @@ impl Served {
             (serving::WAIT, _) => return,
             (serving::ALL, Some(newest)) => newest.all(version),
             (serving::CHANGES, Some(newest)) => newest.since(version, serial, &moment.options),
-            _ => Arc::default(),
+            _ => Body::default(),
         };
         let newest = moment.newest.as_ref();
         self.place = newest.map(|newest| (newest.present.session, newest.number));

@@ -8,8 +8,9 @@ use crate::server_error::{ServerError, UpdateError};
 use crate::serving::{Connection, Ended};
 use crate::socket::Socket;
 use crate::timed::{has_to_wait, milliseconds_since, Stop};
-use crate::waiting::{wait, waker, Awaited, Waker, Woken};
+use crate::waiting::{keep_waiting, limit_unsent, waker, Poller, Waker, Woken};
 use std::boxed::Box;
+use std::collections::BTreeMap;
 use std::io;
 use std::mem::take;
 use std::net::{SocketAddr, TcpListener, TcpStream, ToSocketAddrs};
@@ -27,6 +28,10 @@ mod scenes;
 
 /// How many connections may be closing beside those that are served.
 const MOST_CLOSING: usize = 64;
+/// How many bytes the system keeps for a client at most.
+const UNSENT: i32 = 1 << 17;
+/// How many clients are taken in before those that are served go on.
+const MOST_TAKEN: usize = 64;
 /// How long no client is taken in, in milliseconds, after the system had no place for one.
 const PAUSE: u64 = 100;
 
@@ -81,12 +86,6 @@ struct Listener {
 
 /// What makes a connection of the one over TCP.
 type Ready = dyn Fn(TcpStream) -> io::Result<Box<dyn Socket>> + Send;
-
-impl Listener {
-    fn awaited(&self) -> Awaited {
-        Awaited::to_read(&self.socket)
-    }
-}
 
 impl Server {
     /// A server that has no data yet and listens nowhere.
@@ -200,6 +199,7 @@ impl Server {
         ready: impl Fn(TcpStream) -> io::Result<S> + Send + 'static,
     ) -> io::Result<SocketAddr> {
         let socket = TcpListener::bind(address)?;
+        keep_waiting(&socket);
         socket.set_nonblocking(true)?;
         let address = socket.local_addr()?;
         self.start()?;
@@ -274,106 +274,208 @@ impl Drop for Server {
 
 /// Starts the thread of a server.
 fn start(shared: &Arc<Shared>) -> io::Result<(JoinHandle<()>, Waker)> {
-    let (waker, woken) = waker()?;
-    let host = Host {
-        begun: Instant::now(),
-        woken,
-        listeners: Vec::new(),
-        connections: Vec::new(),
-        takes_from: 0,
-        moment: shared.cache.at(0),
-        shared: Arc::clone(shared),
-    };
+    let (host, waker) = Host::new(shared)?;
     let thread = thread::Builder::new().name("rtr cache".to_string());
     Ok((thread.spawn(move || host.run())?, waker))
+}
+
+/// The key of what wakes the thread, and that of the first listener; those of clients are below.
+const WOKEN: u64 = u64::MAX;
+const LISTENERS: u64 = 1 << 63;
+
+/// A client, and what is waited for.
+struct Client {
+    connection: Connection,
+    /// Whether it is room.
+    wants_room: bool,
+    /// When the client goes on if that doesn't come before.
+    wakes: u64,
 }
 
 /// What serves clients, in a thread.
 struct Host {
     begun: Instant,
     woken: Woken,
+    poller: Poller,
     listeners: Vec<Listener>,
-    connections: Vec<Connection>,
-    /// When clients are taken in again.
+    /// Whether clients are taken in, and when they are again.
+    takes: bool,
     takes_from: u64,
+    clients: BTreeMap<u64, Client>,
+    /// The key of the next client.
+    next: u64,
+    /// How many clients are served.
+    served: usize,
+    /// When the first client goes on, or before that.
+    due: u64,
     moment: Moment,
     shared: Arc<Shared>,
 }
 
 impl Host {
+    /// One without clients, and what wakes it.
+    fn new(shared: &Arc<Shared>) -> io::Result<(Host, Waker)> {
+        let (waker, woken) = waker()?;
+        let poller = Poller::new()?;
+        poller.add(woken.socket(), WOKEN, false)?;
+        let host = Host {
+            begun: Instant::now(),
+            woken,
+            poller,
+            listeners: Vec::new(),
+            takes: false,
+            takes_from: 0,
+            clients: BTreeMap::new(),
+            next: 0,
+            served: 0,
+            due: u64::MAX,
+            moment: shared.cache.at(0),
+            shared: Arc::clone(shared),
+        };
+        Ok((host, waker))
+    }
+
     fn run(mut self) {
         loop {
-            let awaited = self.wait();
-            self.look();
+            let ready = self.wait();
+            let is_new = self.look();
             if self.shared.stop.is_set() {
                 return self.shared.clients.store(0, Ordering::Relaxed);
             }
-            self.go_on(&awaited);
+            self.go_on(&ready);
+            if is_new || self.due <= self.moment.now {
+                self.go_on_by_time();
+            }
+            self.shared.clients.store(self.served, Ordering::Relaxed);
         }
     }
 
-    /// Waits until something has come or is to be done: answers what has come for the waker, the
-    /// connections, and the listeners if clients are taken in.
-    fn wait(&mut self) -> Vec<Awaited> {
-        self.moment.now = milliseconds_since(self.begun);
-        let (now, moment) = (self.moment.now, &self.moment);
+    /// Waits until something has come or is to be done: the keys of what is ready.
+    fn wait(&mut self) -> Vec<u64> {
+        let now = milliseconds_since(self.begun);
         let pause = Some(self.takes_from).filter(|time| *time > now);
-        let times = self.connections.iter().map(|one| one.wakes(moment));
-        let wakes = times.chain(pause).min().unwrap_or(u64::MAX);
-        let most = moment.options.connections;
-        let takes = pause.is_none() && self.connections.len() < most.saturating_add(MOST_CLOSING);
-        let mut awaited = std::vec![self.woken.awaited()];
-        awaited.extend(self.connections.iter().map(Connection::awaited));
-        if takes {
-            awaited.extend(self.listeners.iter().map(Listener::awaited));
-        }
-        wait(&mut awaited, wakes.saturating_sub(now));
+        self.listen(pause.is_none() && self.has_place());
+        let wakes = self.due.min(pause.unwrap_or(u64::MAX));
+        let ready = self.poller.wait(wakes.saturating_sub(now));
         self.moment.now = milliseconds_since(self.begun);
-        awaited
+        ready
     }
 
-    /// Takes up the listeners and the data that are new.
-    fn look(&mut self) {
-        self.woken.clear();
-        self.listeners.append(&mut locked(&self.shared.listeners));
-        self.moment = self.shared.cache.at(self.moment.now);
+    /// Whether there may be more clients.
+    fn has_place(&self) -> bool {
+        let most = self.moment.options.connections;
+        self.clients.len() < most.saturating_add(MOST_CLOSING)
     }
 
-    /// Goes on with all connections that can or have to, and takes in new ones.
-    fn go_on(&mut self, awaited: &[Awaited]) {
-        let (clients, listeners) = awaited[1..].split_at(self.connections.len());
-        for (connection, awaited) in self.connections.iter_mut().zip(clients) {
-            if awaited.is_ready() || connection.wakes(&self.moment) <= self.moment.now {
-                connection.go_on(&self.moment, &self.shared.ended, awaited.is_ready());
+    /// Has listeners be waited for, or not.
+    fn listen(&mut self, takes: bool) {
+        if takes == self.takes {
+            return;
+        }
+        self.takes = takes;
+        for (listener, key) in self.listeners.iter().zip(LISTENERS..) {
+            if takes {
+                let _ = self.poller.add(&listener.socket, key, false);
+            } else {
+                self.poller.remove(&listener.socket);
             }
         }
-        for at in (0..listeners.len()).filter(|at| listeners[*at].is_ready()) {
-            match self.listeners[at].socket.accept() {
-                Ok((stream, from)) => self.take_in(at, stream, from),
-                Err(error) if has_to_wait(&error) => {}
-                Err(_) => self.takes_from = self.moment.now + PAUSE,
+    }
+
+    /// Takes up the listeners and the data that are new; answers whether data are.
+    fn look(&mut self) -> bool {
+        self.woken.clear(); // before it looks: who comes after that wakes it again
+        let mut listeners = take(&mut *locked(&self.shared.listeners));
+        if !listeners.is_empty() {
+            self.listen(false);
+            self.listeners.append(&mut listeners);
+        }
+        let known = take(&mut self.moment.newest);
+        self.moment = self.shared.cache.at(self.moment.now);
+        let newest = self.moment.newest.as_ref();
+        newest.map(Arc::as_ptr) != known.as_ref().map(Arc::as_ptr)
+    }
+
+    /// Goes on with all clients that can, and takes in new ones.
+    fn go_on(&mut self, ready: &[u64]) {
+        for key in ready {
+            match key.checked_sub(LISTENERS).map(usize::try_from) {
+                _ if *key == WOKEN => {}
+                Some(Ok(at)) => self.accept(at),
+                _ => self.act(*key, true),
             }
         }
         let given = take(&mut *locked(&self.shared.given));
         for (socket, from) in given {
             self.serve(socket, from, false);
         }
-        self.connections.retain(|one| !one.is_over());
-        let served = self.served();
-        self.shared.clients.store(served, Ordering::Relaxed);
     }
 
-    /// How many clients are served.
-    fn served(&self) -> usize {
-        self.connections
-            .iter()
-            .filter(|one| one.is_served())
-            .count()
+    /// Goes on with a client.
+    fn act(&mut self, key: u64, is_ready: bool) {
+        let client = match self.clients.get_mut(&key) {
+            Some(client) => client,
+            None => return,
+        };
+        let connection = &mut client.connection;
+        let was_served = connection.is_served();
+        let (moment, begun) = (&mut self.moment, self.begun);
+        moment.now = milliseconds_since(begun);
+        let clock = || milliseconds_since(begun);
+        connection.go_on(moment, clock, &self.shared.ended, is_ready);
+        self.served -= usize::from(was_served && !connection.is_served());
+        if connection.is_over() {
+            self.poller.remove(&connection.socket());
+            self.clients.remove(&key);
+            return;
+        }
+        let wants_room = connection.is_sending();
+        if wants_room != client.wants_room {
+            client.wants_room = wants_room;
+            self.poller.change(&connection.socket(), key, wants_room);
+        }
+        client.wakes = connection.wakes(&self.moment);
+        self.due = self.due.min(client.wakes);
+    }
+
+    /// Goes on with all clients that have to by now.
+    fn go_on_by_time(&mut self) {
+        let (mut late, mut due) = (Vec::new(), u64::MAX);
+        for (key, client) in &mut self.clients {
+            client.wakes = client.connection.wakes(&self.moment);
+            if client.wakes <= self.moment.now {
+                late.push(*key);
+            } else {
+                due = due.min(client.wakes);
+            }
+        }
+        self.due = due;
+        for key in late {
+            self.act(key, false);
+        }
+    }
+
+    /// Takes in the clients that a listener has, but few at once.
+    fn accept(&mut self, at: usize) {
+        for _ in 0..MOST_TAKEN {
+            if !self.has_place() {
+                return;
+            }
+            match self.listeners[at].socket.accept() {
+                Ok((stream, from)) => self.take_in(at, stream, from),
+                Err(error) if has_to_wait(&error) => return,
+                Err(_) => {
+                    self.takes_from = self.moment.now + PAUSE;
+                    return;
+                }
+            }
+        }
     }
 
     /// Takes in a client of a listener.
     fn take_in(&mut self, at: usize, stream: TcpStream, from: SocketAddr) {
         let is_last = stream.try_clone().is_err();
+        limit_unsent(&stream, UNSENT);
         if stream.set_nonblocking(true).is_err() || stream.set_nodelay(true).is_err() {
             return; // it is gone again
         }
@@ -388,11 +490,48 @@ impl Host {
     fn serve(&mut self, socket: Box<dyn Socket>, from: SocketAddr, is_last: bool) {
         self.shared
             .tell(LogLevel::Debug, "connected", ("client", from));
-        let is_full = self.served() >= self.moment.options.connections;
+        let is_full = self.served >= self.moment.options.connections;
+        let key = self.next;
         let mut connection = Connection::new(socket, from, &self.moment);
-        if is_last || is_full {
-            connection.refuse(&self.moment, &self.shared.ended);
+        if let Err(error) = self.poller.add(&connection.socket(), key, false) {
+            return (self.shared.ended)(from, &ServerError::Io(error));
         }
-        self.connections.push(connection);
+        self.next += 1;
+        self.served += 1;
+        if is_last || is_full {
+            connection.refuse(&self.moment);
+        }
+        self.served -= usize::from(!connection.is_served());
+        let client = Client {
+            connection,
+            wants_room: false,
+            wakes: 0,
+        };
+        self.clients.insert(key, client);
+        self.act(key, false);
+    }
+}
+
+#[cfg(test)]
+mod tests {
+    use super::{Host, Server, ServerOptions, WOKEN};
+
+    #[test]
+    fn what_comes_after_a_look_is_looked_for() {
+        let server = Server::new(ServerOptions::default());
+        let (mut host, waker) = Host::new(&server.shared).unwrap();
+        waker.wake();
+        let ready = host.wait();
+        assert_eq!(ready, [WOKEN]);
+        assert!(!host.look());
+        host.go_on(&ready);
+        assert!(host.poller.wait(0).is_empty());
+
+        waker.wake();
+        let ready = host.wait();
+        host.look();
+        waker.wake();
+        host.go_on(&ready);
+        assert_eq!(host.poller.wait(0), [WOKEN]);
     }
 }

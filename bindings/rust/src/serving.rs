@@ -5,10 +5,10 @@ use crate::served::{Served, ServedStep};
 use crate::server_error::ServerError;
 use crate::socket::Socket;
 use crate::timed::has_to_wait;
-use crate::waiting::Awaited;
 use std::boxed::Box;
 use std::io::{self, ErrorKind, IoSlice};
 use std::net::SocketAddr;
+use std::os::unix::io::{AsFd, BorrowedFd};
 
 /// How many bytes are read at once.
 const CHUNK: usize = 4096;
@@ -49,10 +49,9 @@ impl Connection {
         }
     }
 
-    /// Ends the connection, since it is one more than there may be.
-    pub(crate) fn refuse(&mut self, moment: &Moment, ended: &Ended) {
+    /// Ends the connection, since it is one more than there may be. It has to go on.
+    pub(crate) fn refuse(&mut self, moment: &Moment) {
         self.served.refuse(moment);
-        self.go_on(moment, ended, false);
     }
 
     /// Whether the connection hasn't ended.
@@ -65,19 +64,14 @@ impl Connection {
         self.is_over
     }
 
-    /// Whether it waits until the socket takes bytes.
-    #[cfg(test)]
+    /// Whether it waits until the socket takes bytes, and not until it has some.
     pub(crate) fn is_sending(&self) -> bool {
         self.is_sending
     }
 
-    /// What it waits for.
-    pub(crate) fn awaited(&self) -> Awaited {
-        if self.is_sending {
-            Awaited::to_write(&self.socket.socket())
-        } else {
-            Awaited::to_read(&self.socket.socket())
-        }
+    /// The socket that is waited for.
+    pub(crate) fn socket(&self) -> BorrowedFd<'_> {
+        self.socket.socket()
     }
 
     /// When it is to go on if what it waits for doesn't come before.
@@ -86,14 +80,21 @@ impl Connection {
     }
 
     /// Goes on without waiting, by one answer at most; it is ready if what it waited for has come.
-    pub(crate) fn go_on(&mut self, moment: &Moment, ended: &Ended, is_ready: bool) {
+    /// To make an answer and to send it take their time, so the clock is asked after that again.
+    pub(crate) fn go_on(
+        &mut self,
+        moment: &mut Moment,
+        clock: impl Fn() -> u64,
+        ended: &Ended,
+        is_ready: bool,
+    ) {
         if is_ready && !self.is_sending {
             self.receive(moment);
         }
         let mut has_sent = false;
         loop {
             match self.served.next(moment) {
-                ServedStep::Send if !has_sent => self.send(moment),
+                ServedStep::Send if !has_sent => self.send(moment, &clock),
                 ServedStep::Finish => self.left = Left::Last,
                 ServedStep::Ended(error) => {
                     ended(self.from, &error);
@@ -119,9 +120,10 @@ impl Connection {
     }
 
     /// Sends on.
-    fn send(&mut self, moment: &Moment) {
-        let output = self.served.output().map(IoSlice::new);
-        match self.socket.write_vectored(&output) {
+    fn send(&mut self, moment: &mut Moment, clock: impl Fn() -> u64) {
+        let written = self.write();
+        moment.now = clock();
+        match written {
             Ok(0) => self.served.lost(ErrorKind::WriteZero.into()),
             Ok(count) => {
                 self.left = Left::Bytes;
@@ -129,6 +131,20 @@ impl Connection {
             }
             Err(error) => self.lost(error),
         }
+    }
+
+    /// Has the socket take some of what is to be sent, from a file if it can.
+    fn write(&mut self) -> io::Result<usize> {
+        let output = self.served.output();
+        if let ([], Some((file, from))) = (output[0], self.served.file()) {
+            let sent = self
+                .socket
+                .send_file(file.as_fd(), from as u64, output[1].len());
+            if let Some(sent) = sent {
+                return sent;
+            }
+        }
+        self.socket.write_vectored(&output.map(IoSlice::new))
     }
 
     /// Does what is left to be done; answers whether it needn't wait for room.
@@ -151,5 +167,46 @@ impl Connection {
         if !has_to_wait(&error) {
             self.served.lost(error);
         }
+    }
+}
+
+#[cfg(test)]
+mod tests {
+    use super::Connection;
+    use crate::{Cache, Data, ServerOptions};
+    use std::boxed::Box;
+    use std::io::Write;
+    use std::net::Ipv4Addr;
+    use std::os::unix::net::UnixStream;
+    use std::time::Duration;
+    use std::vec::Vec;
+
+    /// The time for which a client may take nothing begins once an answer was made and sent.
+    #[test]
+    fn the_time_of_an_answer_is_the_caches() {
+        let cache = Cache::new(ServerOptions {
+            write: Duration::from_millis(600),
+            ..ServerOptions::default()
+        });
+        // More than a socket takes that nobody reads.
+        let mut bytes = Vec::new();
+        for number in 0..100_000_u32 {
+            bytes.extend([2, 4, 0, 0, 0, 0, 0, 20, 1, 32, 32, 0]);
+            bytes.extend(number.to_be_bytes());
+            bytes.extend([0, 1, 0, 15]);
+        }
+        bytes.extend(Data::new(2, 4660, 1, None).unwrap().into_bytes());
+        cache.update(Data::parse(&bytes).unwrap()).unwrap();
+
+        let (mut router, stream) = UnixStream::pair().unwrap();
+        stream.set_nonblocking(true).unwrap();
+        let mut moment = cache.at(0);
+        let from = (Ipv4Addr::LOCALHOST, 0).into();
+        let mut connection = Connection::new(Box::new(stream), from, &moment);
+        router.write_all(&[2, 2, 0, 0, 0, 0, 0, 8]).unwrap();
+        let ended = |_, error: &crate::ServerError| panic!("{error}");
+        connection.go_on(&mut moment, || 5000, &ended, true);
+        assert!(connection.is_sending());
+        assert_eq!(connection.wakes(&moment), 5600);
     }
 }

@@ -1,5 +1,6 @@
 //! What clients and caches in threads carry bytes over.
 
+use crate::body::send_from;
 use std::boxed::Box;
 use std::io::{self, Read, Write};
 use std::net::{Shutdown, TcpStream};
@@ -61,11 +62,32 @@ pub trait Socket: Read + Write + Send {
     ///
     /// Those of the socket.
     fn finish(&mut self) -> io::Result<()>;
+
+    /// Sends at most so many bytes of a file, from there on, if the socket takes them without a copy:
+    /// how many it took. What encrypts bytes can't, and then this isn't to be written.
+    fn send_file(
+        &mut self,
+        file: BorrowedFd<'_>,
+        from: u64,
+        most: usize,
+    ) -> Option<io::Result<usize>> {
+        let _ = (file, from, most);
+        None
+    }
 }
 
 impl Socket for TcpStream {
     fn socket(&self) -> BorrowedFd<'_> {
         self.as_fd()
+    }
+
+    fn send_file(
+        &mut self,
+        file: BorrowedFd<'_>,
+        from: u64,
+        most: usize,
+    ) -> Option<io::Result<usize>> {
+        Some(send_from(file, from, most, self))
     }
 
     fn finish(&mut self) -> io::Result<()> {
@@ -90,5 +112,14 @@ impl Socket for Box<dyn Socket> {
 
     fn finish(&mut self) -> io::Result<()> {
         (**self).finish()
+    }
+
+    fn send_file(
+        &mut self,
+        file: BorrowedFd<'_>,
+        from: u64,
+        most: usize,
+    ) -> Option<io::Result<usize>> {
+        (**self).send_file(file, from, most)
     }
 }

@@ -1,9 +1,10 @@
 //! Waiting for several sockets, and being woken from another thread.
 
-use std::io::{Read, Write};
-use std::os::raw::{c_int, c_short, c_ulong};
-use std::os::unix::io::AsRawFd;
+use std::io::{self, Read, Write};
+use std::os::raw::{c_int, c_short, c_uint, c_ulong};
+use std::os::unix::io::{AsRawFd, FromRawFd, OwnedFd};
 use std::os::unix::net::UnixStream;
+use std::vec::Vec;
 
 /// A socket that is waited for, as the C library has it.
 #[repr(C)]
@@ -17,6 +18,32 @@ pub(crate) struct Awaited {
 extern "C" {
     /// Of the C library, on Linux: the standard library has nothing that waits for several sockets.
     fn poll(awaited: *mut Awaited, count: c_ulong, milliseconds: c_int) -> c_int;
+    // The same for many, which are named once.
+    fn epoll_create1(flags: c_int) -> c_int;
+    fn epoll_ctl(poller: c_int, how: c_int, descriptor: c_int, event: *mut Event) -> c_int;
+    fn epoll_wait(poller: c_int, events: *mut Event, most: c_int, milliseconds: c_int) -> c_int;
+    fn listen(socket: c_int, waiting: c_int) -> c_int;
+    fn setsockopt(
+        socket: c_int,
+        level: c_int,
+        option: c_int,
+        value: *const c_int,
+        size: c_uint,
+    ) -> c_int;
+}
+
+/// Has the system keep as many connections as it may until they are accepted.
+pub(crate) fn keep_waiting(listener: &impl AsRawFd) {
+    // SAFETY: these are numbers.
+    unsafe { listen(listener.as_raw_fd(), c_int::MAX) };
+}
+
+/// Has the system keep so many bytes at most until they are sent.
+pub(crate) fn limit_unsent(socket: &impl AsRawFd, bytes: c_int) {
+    const SOCKET: c_int = 1;
+    const UNSENT: c_int = 7;
+    // SAFETY: the number is live, and of this size.
+    unsafe { setsockopt(socket.as_raw_fd(), SOCKET, UNSENT, &bytes, 4) };
 }
 
 const READABLE: c_short = 1;
@@ -40,6 +67,7 @@ impl Awaited {
     }
 
     /// Whether the socket needn't be waited for, or has failed.
+    #[cfg(test)]
     pub(crate) fn is_ready(self) -> bool {
         self.came != 0
     }
@@ -50,6 +78,84 @@ pub(crate) fn wait(sockets: &mut [Awaited], milliseconds: u64) {
     let most = c_int::try_from(milliseconds).unwrap_or(c_int::MAX);
     // SAFETY: the slice is live, borrowed mutably, and of this length.
     unsafe { poll(sockets.as_mut_ptr(), sockets.len() as c_ulong, most) };
+}
+
+/// What is waited for of a socket, and the key that it has.
+#[cfg_attr(target_arch = "x86_64", repr(C, packed))]
+#[cfg_attr(not(target_arch = "x86_64"), repr(C))]
+#[derive(Clone, Copy)]
+struct Event {
+    what: u32,
+    key: u64,
+}
+
+/// What waits for many sockets, each of which has a key.
+#[derive(Debug)]
+pub(crate) struct Poller(OwnedFd);
+
+impl Poller {
+    /// How many sockets that are ready are told at once.
+    const MOST: u8 = 250;
+
+    pub(crate) fn new() -> io::Result<Poller> {
+        const CLOSED_ON_EXEC: c_int = 0o2_000_000;
+        // SAFETY: it takes a number.
+        let descriptor = unsafe { epoll_create1(CLOSED_ON_EXEC) };
+        if descriptor < 0 {
+            return Err(io::Error::last_os_error());
+        }
+        // SAFETY: the descriptor was just made, and nobody else has it.
+        Ok(Poller(unsafe { OwnedFd::from_raw_fd(descriptor) }))
+    }
+
+    /// Waits for a socket too, until it has something to be read, or room if that is wanted.
+    pub(crate) fn add(&self, socket: &impl AsRawFd, key: u64, wants_room: bool) -> io::Result<()> {
+        const ADD: c_int = 1;
+        self.control(ADD, socket, key, wants_room)
+    }
+
+    /// Waits for something else of it.
+    pub(crate) fn change(&self, socket: &impl AsRawFd, key: u64, wants_room: bool) {
+        const MODIFY: c_int = 3;
+        let _ = self.control(MODIFY, socket, key, wants_room);
+    }
+
+    /// Waits for it no more.
+    pub(crate) fn remove(&self, socket: &impl AsRawFd) {
+        const DELETE: c_int = 2;
+        let _ = self.control(DELETE, socket, 0, false);
+    }
+
+    fn control(
+        &self,
+        how: c_int,
+        socket: &impl AsRawFd,
+        key: u64,
+        wants_room: bool,
+    ) -> io::Result<()> {
+        const READABLE: u32 = 1;
+        const WRITABLE: u32 = 4;
+        let what = if wants_room { WRITABLE } else { READABLE };
+        let mut event = Event { what, key };
+        let (poller, descriptor) = (self.0.as_raw_fd(), socket.as_raw_fd());
+        // SAFETY: the event is live, and the call keeps no place of it.
+        match unsafe { epoll_ctl(poller, how, descriptor, &mut event) } {
+            0 => Ok(()),
+            _ => Err(io::Error::last_os_error()),
+        }
+    }
+
+    /// Waits until a socket is ready, a signal comes, or so many milliseconds have passed: the keys
+    /// of those that are ready or have failed.
+    pub(crate) fn wait(&self, milliseconds: u64) -> Vec<u64> {
+        let limit = c_int::try_from(milliseconds).unwrap_or(c_int::MAX);
+        let mut events = [Event { what: 0, key: 0 }; Poller::MOST as usize];
+        let (poller, most) = (self.0.as_raw_fd(), c_int::from(Poller::MOST));
+        // SAFETY: the array is live, borrowed mutably, and of this length.
+        let count = unsafe { epoll_wait(poller, events.as_mut_ptr(), most, limit) };
+        let count = usize::try_from(count).unwrap_or(0);
+        events[..count].iter().map(|event| event.key).collect()
+    }
 }
 
 /// A thread that waits, and what wakes it.
@@ -78,6 +184,10 @@ impl Waker {
 impl Woken {
     pub(crate) fn awaited(&self) -> Awaited {
         Awaited::to_read(&self.0)
+    }
+
+    pub(crate) fn socket(&self) -> &UnixStream {
+        &self.0
     }
 
     /// What woke it is done with.
