@@ -52,9 +52,9 @@ export class Router {
         return this.#told("rtr_router_applied", now);
     }
 
-    /** None was made, since `applyInOrder` answered this status. */
-    notApplied(now, status) {
-        return this.#told("rtr_router_not_applied", now, status);
+    /** None was made, since `applyInOrder` answered this status with this detail. */
+    notApplied(now, status, detail = 0) {
+        return { ...this.#told("rtr_router_not_applied", now, status), detail };
     }
 
     /** These bytes came, and nothing more will where `ended`. */

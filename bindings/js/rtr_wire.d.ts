@@ -164,7 +164,7 @@ export class Router {
     connected(now: number): Action;
     lost(now: number): Action;
     applied(now: number): Action;
-    notApplied(now: number, status: Status): Action;
+    notApplied(now: number, status: Status, detail?: number): Action;
     read(now: number, bytes: Uint8Array, ended?: boolean): Action;
     query(action: Action): Uint8Array;
     report(action: Action, bytes: Uint8Array): Uint8Array | null;

@@ -163,7 +163,7 @@ class Router:
         self._output = b""
         self._steps: List[Step] = []
         self._told: Optional[Callable[..., None]] = None
-        self._refused = Status.OK
+        self._refused = (int(Status.OK), 0)  # a status and its detail
         self._error: Optional[Exception] = None
 
     @property
@@ -215,7 +215,7 @@ class Router:
             try:
                 self._perform(action, came)
             except MemoryError as error:
-                self._error, self._refused = error, Status.OK
+                self._error, self._refused = error, (int(Status.OK), 0)
                 self._told = self._not_applied
         return self._steps.pop(0)
 
@@ -266,11 +266,13 @@ class Router:
             self._made = base.apply(answer)
             self._told = CALLS.rtr_router_applied
         except Fault as fault:
-            self._error, self._refused = fault, fault.status
+            self._error, self._refused = fault, (fault.status, int(fault.detail))
             self._told = self._not_applied
 
     def _not_applied(self, router: _rtr.rtr_router, now: int, action: _rtr.rtr_action) -> None:
-        CALLS.rtr_router_not_applied(router, now, self._refused, action)
+        status, detail = self._refused
+        CALLS.rtr_router_not_applied(router, now, status, action)
+        action.detail = detail
 
     def _show(self, new: Optional[Data]) -> None:
         """These are the data now."""
