@@ -120,20 +120,36 @@ func (r *Reader) made(ctx context.Context, file File, expires bool) (rtr.Data, E
 	if err != nil {
 		return rtr.Data{}, Expired{}, err
 	}
+	expired, err := expiredOf(string(told))
+	if err != nil {
+		return rtr.Data{}, Expired{}, err
+	}
 	data, err := rtr.ParseData(output)
-	return data, expiredOf(string(told)), err
+	return data, expired, err
 }
 
+// The last line of rtr_make at a time, where others will expire, and where none will.
+const (
+	someExpire = "left out %d that have expired; the next expires at %d"
+	noneExpire = "left out %d that have expired; none of the others will"
+)
+
 // expiredOf reads what rtr_make says of items that have expired: its last line.
-func expiredOf(told string) (expired Expired) {
+//
+// Errors: that it is another one, since then nothing would be left out at its time.
+func expiredOf(told string) (expired Expired, err error) {
 	lines := strings.Split(strings.TrimSpace(told), "\n")
+	last := lines[len(lines)-1]
 	var next int64
-	found, _ := fmt.Sscanf(lines[len(lines)-1],
-		"left out %d that have expired; the next expires at %d", &expired.LeftOut, &next)
-	if found == 2 {
+	if _, err := fmt.Sscanf(last, someExpire, &expired.LeftOut, &next); err == nil {
 		expired.Next = time.Unix(next, 0)
+		return expired, nil
 	}
-	return expired
+	_, _ = fmt.Sscanf(last, noneExpire, &expired.LeftOut)
+	if fmt.Sprintf(noneExpire, expired.LeftOut) == last {
+		return expired, nil
+	}
+	return Expired{}, fmt.Errorf("rtr_make says %q of what has expired", last)
 }
 
 // words is the command line of rtr_make for a format, at a time.
@@ -142,10 +158,10 @@ func (r *Reader) words(format Format, now time.Time, expires bool) []string {
 	if r.Empty || expires {
 		line = append(line, "--empty")
 	}
+	line = append(line, "--at", strconv.FormatInt(now.Unix(), 10))
 	if format != JSON {
 		return line
 	}
-	line = append(line, "--at", strconv.FormatInt(now.Unix(), 10))
 	for _, name := range r.Ignored {
 		line = append(line, "--ignore", name)
 	}

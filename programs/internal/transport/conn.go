@@ -5,6 +5,7 @@ import (
 	"errors"
 	"net"
 	"sync"
+	"syscall"
 
 	"fishreef/rtr"
 )
@@ -100,14 +101,27 @@ func (c *conn) speaks(version uint8) {
 
 // Write writes, and counts.
 func (c *conn) Write(bytes []byte) (int, error) {
+	n, err := c.Conn.Write(bytes)
+	c.Wrote(bytes, n)
+	return n, err
+}
+
+// SyscallConn is the socket, where bytes go over it as they are.
+func (c *conn) SyscallConn() (syscall.RawConn, error) {
+	if socket, ok := c.Conn.(*net.TCPConn); ok {
+		return socket.SyscallConn()
+	}
+	return nil, net.ErrClosed
+}
+
+// Wrote counts what was to be written, and how much of it was.
+func (c *conn) Wrote(bytes []byte, taken int) {
 	// A report is written alone, and long answers in chunks, which begin anywhere.
 	unit, rest, failed := rtr.Next(bytes)
 	if failed == nil && unit.Kind == rtr.ErrorReport && len(rest) == 0 {
 		c.observer.Reported(Sent, unit.Code)
 	}
-	n, err := c.Conn.Write(bytes)
-	c.observer.Moved(c.kind, Sent, n)
-	return n, err
+	c.observer.Moved(c.kind, Sent, taken)
 }
 
 // HandshakeContext makes the handshake, where the transport has one that has to be made first.

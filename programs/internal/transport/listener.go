@@ -85,7 +85,7 @@ func Guarded(bound Bound, secured Secured, gate *Gate, observer Observer) net.Li
 }
 
 // How much of what is written to a client the system buffers.
-const writeBuffer = 1 << 16
+const writeBuffer = 1 << 17
 
 // Accept gives the next connection that comes in. It never waits for the peer.
 func (l *listener) Accept() (net.Conn, error) {
