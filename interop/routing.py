@@ -3,6 +3,7 @@ comes by notify and delta, and after a restart of the cache with another session
 import contextlib
 import os
 import socket
+import sys
 import time
 
 import payloads
@@ -13,6 +14,10 @@ from payloads import END, NOTIFY, SERIAL_QUERY
 from processes import until
 from results import Pair
 from tap import Tap
+
+sys.path.append(os.path.join(os.path.dirname(os.path.abspath(__file__)), "..", "tests"))
+
+import samples  # noqa: E402  (it lies in that folder)
 
 PART = "their routers"
 
@@ -30,8 +35,8 @@ THEIR_RETRY = 2
 # cache, a length that no query has, a unit that never ends, and a length of zero.
 HOSTILE = [
     bytes.fromhex("01020000ffffffff") + bytes(65536),
-    bytes.fromhex("01ad000000000008"),
-    bytes.fromhex("010400000000001401171a00c00002000001000f"),
+    samples.unit("type 173"),
+    samples.unit("IPv4 prefix"),
     bytes.fromhex("0101000000000008"),
     bytes.fromhex("01010000"),
     bytes.fromhex("0102000000000000"),

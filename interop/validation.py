@@ -14,7 +14,7 @@ from processes import Missing, package_version, program, until
 from results import Pair
 
 TOP = os.path.join(os.path.dirname(os.path.abspath(__file__)), "..")
-sys.path.append(os.path.join(TOP, "bindings"))
+sys.path.append(os.path.join(TOP, "tests", "libraries"))
 
 import validity  # noqa: E402  (it lies in that folder)
 
