@@ -270,7 +270,8 @@ impl Router {
             }
             Err(error) => {
                 connection.error = Some(ClientError::refused(error, &connection.kept));
-                self.machine.not_applied(now, error.fault.status(), error.fault.detail())
+                self.machine
+                    .not_applied(now, error.fault.status(), error.fault.detail())
             }
         }
     }

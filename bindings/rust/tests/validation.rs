@@ -29,7 +29,10 @@ fn bytes_of_tables() -> Option<Vec<u8>> {
     if let Ok(path) = std::env::var("RTR_VALIDITY") {
         return Some(std::fs::read(path).expect("the file of tables is read"));
     }
-    let script = concat!(env!("CARGO_MANIFEST_DIR"), "/../../tests/libraries/validity.py");
+    let script = concat!(
+        env!("CARGO_MANIFEST_DIR"),
+        "/../../tests/libraries/validity.py"
+    );
     match Command::new("python3").arg(script).output() {
         Ok(output) => {
             let said = String::from_utf8_lossy(&output.stderr);
