@@ -133,18 +133,20 @@ impl Connection {
         }
     }
 
-    /// Has the socket take some of what is to be sent, from a file if it can.
+    /// Has the socket take some of what is to be sent, from a file if it can. What stands before
+    /// that goes alone, so that nothing of the file is copied.
     fn write(&mut self) -> io::Result<usize> {
-        let output = self.served.output();
-        if let ([], Some((file, from))) = (output[0], self.served.file()) {
-            let sent = self
-                .socket
-                .send_file(file.as_fd(), from as u64, output[1].len());
+        let [head, body] = self.served.output();
+        if let Some((file, from)) = self.served.file() {
+            if !head.is_empty() {
+                return self.socket.write(head);
+            }
+            let sent = self.socket.send_file(file.as_fd(), from as u64, body.len());
             if let Some(sent) = sent {
                 return sent;
             }
         }
-        self.socket.write_vectored(&output.map(IoSlice::new))
+        self.socket.write_vectored(&[head, body].map(IoSlice::new))
     }
 
     /// Does what is left to be done; answers whether it needn't wait for room.
