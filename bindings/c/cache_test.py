@@ -234,20 +234,22 @@ def test_max_clients():
 
 
 def test_many_bytes():
-    """Data that are sent from a file in memory; those who ask get them while newer ones come."""
-    one, two = data(1, range(30000)), data(2, range(1, 30001))
+    """Data that are sent from a file in memory, of more than a huge page; those who ask get them
+    while newer ones come."""
+    count = 130_000
+    one, two = data(1, range(count)), data(2, range(1, count + 1))
     with started(one) as cache, Router(cache, 4096) as slow, Router(cache) as router:
-        cache.takes(1, 30000)
+        cache.takes(1, count)
         slow.socket.sendall(RESET_QUERY)
         router.asks(RESET_QUERY, response(one))
         put(cache.path, two)
-        cache.takes(2, 30000)
+        cache.takes(2, count)
         router.gets(notify(2))
         router.asks(RESET_QUERY, response(two))
         slow.gets(response(one))
-        version_0 = b"".join(prefix(asn, version=0) for asn in range(1, 30001)) + end(2, version=0)
+        version_0 = b"".join(prefix(asn, version=0) for asn in range(1, count + 1))
         with Router(cache) as old:
-            old.asks(unit(0, 2, 0), unit(0, 3, SESSION) + version_0)
+            old.asks(unit(0, 2, 0), unit(0, 3, SESSION) + version_0 + end(2, version=0))
 
 
 def test_file():

@@ -3,12 +3,17 @@
 #ifndef _GNU_SOURCE
 #define _GNU_SOURCE /* for memfd_create */
 #endif
+#include <stddef.h>
 #include <stdio.h>
 #include <stdlib.h>
 #include <string.h>
 #ifdef __linux__
 #include <sys/mman.h>
+#include <sys/resource.h>
 #include <unistd.h>
+#ifndef MADV_COLLAPSE
+#define MADV_COLLAPSE 25 /* since Linux 6.1 */
+#endif
 #endif
 #include "rtr_cache.h"
 
@@ -17,8 +22,9 @@ enum { VERSIONS = RTR_HIGHEST_VERSION + 1 };
 /* How many newer data there may be than those of an answer that is being sent. */
 enum { MOST_BEHIND = 2 };
 
-/* Data of so many bytes are put into a file in memory before they are sent. */
-enum { FILED = 1 << 16 };
+/* Data of so many bytes are put into a file in memory before they are sent; it has huge pages of
+ * these bytes. */
+enum { FILED = 1 << 16, HUGE_PAGE = 1 << 21 };
 
 /* Bytes that several connections send; the last of their holders frees them. They lie in a file in
  * memory, all of the struct, unless that is -1. */
@@ -71,20 +77,49 @@ static struct rtr_shared *held(struct rtr_shared *one)
 
 #ifdef __linux__
 
+/* How many bytes of it lie in a file. */
+static size_t filed_size(const struct rtr_shared *one)
+{
+    return offsetof(struct rtr_shared, bytes) + one->length;
+}
+
 static void free_filed(struct rtr_shared *one)
 {
     close(one->file);
-    munmap(one, sizeof *one + one->length);
+    munmap(one, filed_size(one));
+}
+
+/* Has an empty file in memory begin with huge pages, as many as these bytes fill at least by half:
+ * to send them takes less time. A page has to have a byte before. Where the system has none, or a
+ * write behind its limit would end the process, the bytes get the usual pages later. */
+static void begin_huge(int file, size_t size)
+{
+    struct rlimit limit;
+    size_t huge = (size + HUGE_PAGE / 2) / HUGE_PAGE * HUGE_PAGE;
+    if (!huge || getrlimit(RLIMIT_FSIZE, &limit) || limit.rlim_cur < size)
+        return;
+    char *room = mmap(NULL, huge + HUGE_PAGE, PROT_NONE, MAP_PRIVATE | MAP_ANONYMOUS, -1, 0);
+    if (room == MAP_FAILED)
+        return;
+    char *at = room + (-(uintptr_t)room & (HUGE_PAGE - 1));
+    bool begun = mmap(at, huge, PROT_READ, MAP_SHARED | MAP_FIXED, file, 0) == at;
+    for (size_t place = 0; begun && place < huge; place += HUGE_PAGE)
+        begun = pwrite(file, "", 1, (off_t)place) == 1;
+    if (begun)
+        madvise(at, huge, MADV_COLLAPSE);
+    munmap(room, huge + HUGE_PAGE);
 }
 
 /* The same bytes in a file in memory, in the place of those that were allocated; where there is no
  * such file, or somebody else holds them, they stay. */
 static struct rtr_shared *filed(struct rtr_shared *one)
 {
-    size_t size = sizeof *one + one->length;
+    size_t size = filed_size(one);
     bool stays = one->file >= 0 || one->length < FILED || one->holders > 1;
     int file = stays ? -1 : memfd_create("rtr data", MFD_CLOEXEC);
     struct rtr_shared *made = MAP_FAILED;
+    if (file >= 0)
+        begin_huge(file, size);
     if (file >= 0 && write(file, one, size) == (ssize_t)size)
         made = mmap(NULL, size, PROT_READ | PROT_WRITE, MAP_SHARED | MAP_POPULATE, file, 0);
     if (made == MAP_FAILED) {

@@ -5,6 +5,7 @@
  * usage: rtr_cache_tests [SESSIONS]   with so many sessions of random bytes; 3000 if not said */
 #include "counting.h"
 #include "rtr_cache.h"
+#include <sys/resource.h>
 
 _Static_assert(sizeof(struct rtr_served) == 432, "rtr_cache.h says how large it is");
 
@@ -644,6 +645,35 @@ static void test_held(void)
     ends();
 }
 
+/* A table of more than a huge page lies in a file in memory, unless files may have fewer bytes. */
+static void test_filed(bool limited)
+{
+    enum { COUNT = 170000, LENGTH = COUNT * 20 + 24 };
+    struct rlimit usual_limit, limit;
+    struct rtr_part parts[2];
+    uint8_t *table = malloc(LENGTH), *copy = malloc(LENGTH);
+    for (uint32_t i = 0; i < COUNT; i++)
+        memcpy(table + (size_t)i * 20, whole(1, 5, i, i)->bytes + 8, 20 + 24);
+    getrlimit(RLIMIT_FSIZE, &usual_limit);
+    limit = usual_limit;
+    limit.rlim_cur = limited ? 1 << 20 : limit.rlim_cur;
+    setrlimit(RLIMIT_FSIZE, &limit);
+    rtr_server_init(&s);
+    CHECK(rtr_server_update(&s, now, table, LENGTH) == RTR_UPDATE_TAKEN);
+    stalls();
+    setrlimit(RLIMIT_FSIZE, &usual_limit);
+    CHECK(rtr_served_output(&v, parts) == 2 && parts[1].length == LENGTH);
+    CHECK((parts[1].file < 0) == limited && !memcmp(parts[1].at, table, LENGTH));
+    if (!limited) {
+        CHECK(pread(parts[1].file, copy, LENGTH, (off_t)parts[1].place) == LENGTH);
+        CHECK(!memcmp(copy, table, LENGTH));
+    }
+    rtr_served_free(&v);
+    free(table);
+    free(copy);
+    ends();
+}
+
 /* ---- random sessions */
 
 static uint32_t some(uint32_t bound)
@@ -719,6 +749,8 @@ int main(int count, char **words)
     test_torn();
     test_memory();
     test_held();
+    test_filed(false);
+    test_filed(true);
     test_random(count > 1 ? atoi(words[1]) : 3000);
     return 0;
 }

@@ -3,7 +3,9 @@
 package rtr
 
 import (
+	"bytes"
 	"errors"
+	"io"
 	"net"
 	"net/netip"
 	"os"
@@ -92,9 +94,21 @@ func writeToASocket(t *testing.T, one piece) {
 
 // Many bytes lie in a file, unless files may have fewer bytes than these.
 func TestFiled(t *testing.T) {
-	for _, length := range []int{0, 24, chunk - 1, chunk, 3*chunk + 1} {
-		if one := filed(make([]byte, length)); one.size() != length || (one.file != nil) != (length >= chunk) {
+	all := make([]byte, 5*hugePage/2+1)
+	for i := range all {
+		all[i] = byte(i * i >> 8)
+	}
+	for _, length := range []int{0, 24, chunk - 1, chunk, 3*chunk + 1, hugePage / 2, len(all)} {
+		one := filed(all[:length])
+		if one.size() != length || (one.file != nil) != (length >= chunk) {
 			t.Errorf("%d bytes: %d, a file: %t", length, one.size(), one.file != nil)
+		}
+		if one.file == nil {
+			continue
+		}
+		one.file.Seek(0, io.SeekStart)
+		if read, err := io.ReadAll(one.file); err != nil || !bytes.Equal(read, all[:length]) {
+			t.Errorf("%d bytes: others in the file, %v", length, err)
 		}
 	}
 	var usual syscall.Rlimit
@@ -106,11 +120,11 @@ func TestFiled(t *testing.T) {
 	if err := syscall.Setrlimit(syscall.RLIMIT_FSIZE, &less); err != nil {
 		t.Fatal(err)
 	}
-	one := filed(make([]byte, 1<<20+1))
+	one := filed(all)
 	if err := syscall.Setrlimit(syscall.RLIMIT_FSIZE, &usual); err != nil {
 		t.Fatal(err)
 	}
-	if one.file != nil || len(one.bytes) != 1<<20+1 {
+	if one.file != nil || len(one.bytes) != len(all) {
 		t.Error(one.file != nil, len(one.bytes))
 	}
 }

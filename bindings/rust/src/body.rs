@@ -4,6 +4,7 @@ use std::fs::File;
 use std::io::{self, Write};
 use std::ops::Deref;
 use std::os::raw::{c_char, c_int, c_uint, c_void};
+use std::os::unix::fs::FileExt;
 use std::os::unix::io::{AsRawFd, BorrowedFd, FromRawFd};
 use std::ptr::null_mut;
 use std::slice;
@@ -12,6 +13,8 @@ use std::vec::Vec;
 
 /// So many bytes are put into a file in memory, from where a socket takes them without a copy.
 const FILED: usize = 1 << 16;
+/// So many bytes has a huge page.
+const HUGE_PAGE: usize = 1 << 21;
 
 /// Bytes that are shared.
 #[derive(Clone, Debug)]
@@ -67,8 +70,22 @@ extern "C" {
         from: i64,
     ) -> *mut c_void;
     fn munmap(at: *mut c_void, size: usize) -> c_int;
+    fn madvise(at: *mut c_void, size: usize, how: c_int) -> c_int;
+    fn getrlimit(which: c_int, limit: *mut Limit) -> c_int;
     fn sendfile(socket: c_int, file: c_int, from: *mut i64, most: usize) -> isize;
 }
+
+/// A limit of the system for a process: now, and at most.
+#[repr(C)]
+struct Limit([u64; 2]);
+
+// What is to be done with a mapping, and how.
+const NOTHING: c_int = 0;
+const READABLE: c_int = 1;
+const SHARED: c_int = 0x1;
+const PRIVATE: c_int = 0x2;
+const FIXED: c_int = 0x10;
+const ANONYMOUS: c_int = 0x20;
 
 /// A file in memory, and where its bytes can be read.
 #[derive(Debug)]
@@ -85,8 +102,6 @@ unsafe impl Sync for Filed {}
 impl Filed {
     fn new(bytes: &[u8]) -> io::Result<Filed> {
         const CLOSED_ON_EXEC: c_uint = 1;
-        const READABLE: c_int = 1;
-        const SHARED: c_int = 1;
         // SAFETY: the name ends with a zero byte, and stays.
         let descriptor = unsafe { memfd_create(b"rtr data\0".as_ptr().cast(), CLOSED_ON_EXEC) };
         if descriptor < 0 {
@@ -95,6 +110,7 @@ impl Filed {
         // SAFETY: the descriptor was just made, and nobody else has it.
         let mut file = unsafe { File::from_raw_fd(descriptor) };
         let length = bytes.len();
+        begin_huge(&file, length);
         // Once: at a limit for the size of files a second write would end the process.
         if file.write(bytes)? < length {
             return Err(io::ErrorKind::WriteZero.into());
@@ -121,6 +137,43 @@ impl Drop for Filed {
     }
 }
 
+/// Has an empty file in memory begin with huge pages, as many as these bytes fill at least by half:
+/// to send them takes less time. A page has to have a byte before. Where the system has none, or a
+/// write behind its limit would end the process, the bytes get the usual pages later.
+fn begin_huge(file: &File, size: usize) {
+    const COLLAPSE: c_int = 25; // since Linux 6.1
+    let huge = (size + HUGE_PAGE / 2) / HUGE_PAGE * HUGE_PAGE;
+    if huge == 0 || !may_be_filed(size) {
+        return;
+    }
+    let (length, how) = (huge + HUGE_PAGE, PRIVATE | ANONYMOUS);
+    // SAFETY: the system picks a place that is free.
+    let room = unsafe { mmap(null_mut(), length, NOTHING, how, -1, 0) };
+    if room as isize == -1 {
+        return;
+    }
+    let at = room.wrapping_add(room.align_offset(HUGE_PAGE));
+    let (how, descriptor) = (SHARED | FIXED, file.as_raw_fd());
+    // SAFETY: that place lies in the room, of which nobody else has one.
+    let is_mapped = unsafe { mmap(at, huge, READABLE, how, descriptor, 0) } == at;
+    let mut places = (0..huge as u64).step_by(HUGE_PAGE);
+    if is_mapped && places.all(|place| file.write_at(&[0], place).is_ok()) {
+        // SAFETY: so many bytes are mapped there, and keep their values.
+        unsafe { madvise(at, huge, COLLAPSE) };
+    }
+    // SAFETY: nobody has a place of the room any more.
+    unsafe { munmap(room, length) };
+}
+
+/// Whether a file may have so many bytes.
+fn may_be_filed(size: usize) -> bool {
+    const FILE_SIZE: c_int = 1;
+    let mut limit = Limit([0; 2]);
+    // SAFETY: the limit is live, borrowed mutably.
+    let failed = unsafe { getrlimit(FILE_SIZE, &mut limit) } != 0;
+    !failed && size as u64 <= limit.0[0]
+}
+
 /// Has a socket take some bytes of a file, from there on: how many it took.
 pub(crate) fn send_from(
     file: BorrowedFd<'_>,
@@ -136,7 +189,7 @@ pub(crate) fn send_from(
 
 #[cfg(test)]
 mod tests {
-    use super::{Body, FILED};
+    use super::{Body, FILED, HUGE_PAGE};
     use std::process::Command;
     use std::string::String;
     use std::sync::Arc;
@@ -144,7 +197,8 @@ mod tests {
 
     #[test]
     fn many_bytes_lie_in_a_file() {
-        for length in [0, 1, FILED - 1, FILED, 3 * FILED + 1] {
+        let more = 5 * HUGE_PAGE / 2 + 1;
+        for length in [0, 1, FILED - 1, FILED, 3 * FILED + 1, HUGE_PAGE / 2, more] {
             let mut bytes = vec![7; length];
             bytes.iter_mut().step_by(5).for_each(|byte| *byte = 8);
             let body = Body::filed(Arc::new(bytes.clone()));
@@ -158,8 +212,8 @@ mod tests {
     fn many_bytes_for_a_file_lie_in_none() {
         const LIMITED: &str = "RTR_TEST_LIMITED";
         if env::var_os(LIMITED).is_some() {
-            let body = Body::filed(Arc::new(vec![7; 1 << 20]));
-            assert!(body.file().is_none() && body[..] == vec![7; 1 << 20]);
+            let body = Body::filed(Arc::new(vec![7; 5 << 20]));
+            assert!(body.file().is_none() && body[..] == vec![7; 5 << 20]);
             return;
         }
         let mut limited = Command::new("sh");
