@@ -1,7 +1,8 @@
 //! Prints what differs between the data of two recordings.
 #![tactic(auto)]
 
-use rtr_differences::{Request, asked, run};
+use rtr_differences::{Form, Request, asked, run};
+use rtr_files::{Painted, wants_colours};
 use rtr_program::{Escaped, Front, Manual, Watched, about, hint, usage, words_after_name};
 use rtr_units::buffered::BufferedSource;
 use rtr_units::source::Counted;
@@ -91,6 +92,9 @@ fn buffered<'a>(
     Ok(BufferedSource::new(BufReader::with_capacity(rt.alloc(), BUFFER_SIZE, watched)?))
 }
 
+/// The output, whose lines for people are in colours on a terminal.
+type Output = Painted<Counted<BufWriter<Stdout>>>;
+
 /// Standard output, unbuffered if there is no memory for a buffer.
 fn buffered_output(rt: &HostRuntime) -> BufWriter<Stdout> {
     match BufWriter::with_capacity(rt.alloc(), BUFFER_SIZE, rt.stdout()) {
@@ -118,12 +122,7 @@ fn closed(faults: &mut Stderr) -> u8 {
 }
 
 /// Opens both files, compares them, and answers the status.
-fn compare(
-    rt: &HostRuntime,
-    request: Request<'_>,
-    output: &mut Counted<BufWriter<Stdout>>,
-    faults: &mut Stderr,
-) -> u8 {
+fn compare(rt: &HostRuntime, request: Request<'_>, output: &mut Output, faults: &mut Stderr) -> u8 {
     let old = match Input::open(rt, request.old) {
         Ok(input) => input,
         Err(error) => return unread(request.old, &error, faults),
@@ -169,12 +168,21 @@ fn words(rt: &HostRuntime) -> Option<Vec<String>> {
 
 fn main(rt: HostRuntime) -> ExitCode {
     let mut faults: Stderr = rt.stderr();
-    let mut output = Counted::new(buffered_output(&rt));
     let Some(words) = words(&rt) else {
         return ExitCode::from(usage(&MANUAL, &mut faults));
     };
     let words = words_after_name(&words);
-    let status = match asked(words) {
+    let request = asked(words);
+    let has_lines = matches!(
+        request,
+        Some(Request {
+            form: Form::Text,
+            ..
+        })
+    );
+    let colours = has_lines && wants_colours(&rt);
+    let mut output = Painted::new(Counted::new(buffered_output(&rt)), colours);
+    let status = match request {
         Some(request) => compare(&rt, request, &mut output, &mut faults),
         None => about(&MANUAL, words, TROUBLE, &mut output, &mut faults),
     };

@@ -1,1 +1,3 @@
 pub mod FileNames
+pub mod Colours
+pub mod Terminals

@@ -2,7 +2,7 @@
 //! or prints their summary or the payloads that it leaves.
 #![tactic(auto)]
 
-use rtr_files::{Input, file_after};
+use rtr_files::{Input, Painted, file_after, wants_colours};
 use rtr_lists::{program, reads_input};
 use rtr_program::{Escaped, Front, Manual, Prompt, Shared, hint, usage, words_after_name};
 use rtr_units::buffered::BufferedSource;
@@ -99,7 +99,7 @@ fn unread(name: &str, error: &io::Error, faults: &mut Stderr) -> u8 {
 }
 
 /// Prints what the words ask for of the file of this name, and answers the status. Faults are told
-/// of the name that is shown.
+/// of the name that is shown. Lines for people are in colours on a terminal.
 fn print(rt: &HostRuntime, words: Vec<String>, name: &str, shown: &str, faults: &mut Stderr) -> u8 {
     let lines = RefCell::new(buffered_output(rt));
     let front = Cell::new(Front::new());
@@ -107,7 +107,8 @@ fn print(rt: &HostRuntime, words: Vec<String>, name: &str, shown: &str, faults: 
         Ok(input) => BufferedSource::new(input),
         Err(error) => return unread(shown, &error, faults),
     };
-    let mut output = Counted::new(Shared::new(&lines));
+    let colours = words_after_name(&words).is_empty() && wants_colours(rt);
+    let mut output = Painted::new(Counted::new(Shared::new(&lines)), colours);
     let status = program(
         rt.alloc(),
         &MANUAL,
