@@ -36,7 +36,7 @@ which the name - stands too.
   (no word)  print a line of each unit, which begins with its offset
   --json     print a JSON object of each unit
   --check    print what breaks the protocol's rules, and nothing else
-  --summary  print how many units of each kind and prefix length there are
+  --summary  print how many units of each kind there are, and what each answer's serial number is
   --csv      print the origins that the recording leaves, as CSV
   --vrps     print all payloads that the recording leaves, as JSON
   --help     print this

@@ -1,3 +1,4 @@
+mod AnswerLines
 mod Rankings
 mod SummarisedUnits
 mod SummaryLines

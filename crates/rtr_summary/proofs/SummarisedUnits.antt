@@ -2,10 +2,8 @@
 use Rattle.std.proofs.Common.{◌≡◌, ℕ, ◌+◌, ◌-◌, ◌^◌, ◌<◌, min, List, [], ◌∷◌, length, Option}
 use Rattle.std.proofs.Common.{Ok, Err, refl, ap, subst, ◌∙◌, arith}
 use Rattle.std.proofs.lemmas.List.{length-append}
-use Rattle.std.specs.Option.{option_map, option_or}
 use Rattle.std.specs.Io.KnownBytes.{Consumes}
 use Rattle.std.proofs.KnownBytes.{Consumes-trans}
-use Rattle.rtr_units.specs.AnyEnd.{end_meaning}
 use Rattle.rtr_units.specs.declared.fault.Fault.{Fault}
 use Rattle.rtr_units.specs.StopCauses.{Cause, by_reader, by_writer, too_many, no_memory, wrong}
 use Rattle.rtr_units.specs.StopCauses.{cause_of, ReaderState, reader_count}
@@ -13,8 +11,9 @@ use Rattle.rtr_units.specs.Reading.{Takes}
 use Rattle.rtr_session.specs.AnyFields.{AnyFields, HasAnyFields, any_list}
 use Rattle.rtr_session.specs.AnyReading.{HasEnded, StopsInAny}
 use Rattle.rtr_listing.specs.Listing.{AreAnyUnits, units_bytes}
-use Rattle.rtr_summary.specs.PrivateTallies.{CountsAs, ReadsAndSums, Sums, raised}
-use Rattle.rtr_summary.specs.Summaries.{announced_as, announced_length, announced_type, end_in}
+use Rattle.rtr_summary.specs.PrivateTallies.{AnswersMore, CountsAs, ReadsAndSums, Sums}
+use Rattle.rtr_summary.specs.PrivateTallies.{raised}
+use Rattle.rtr_summary.specs.Summaries.{announced_as, announced_length, announced_type}
 use Rattle.rtr_summary.specs.Summaries.{other_type}
 use Rattle.rtr_summary.specs.SummaryStatus.{UnitsEnd}
 use Rattle.rtr_summary.specs.declared.summary.Summary.{Summary}
@@ -39,10 +38,7 @@ pub record Counts (s : Summary) (f : AnyFields) (whole : List ℕ) (t : Summary)
   pub v4_lengths : t.v4_lengths.counts ≡ raised s.v4_lengths.counts (announced_length 4 f)
   pub v6_lengths : t.v6_lengths.counts ≡ raised s.v6_lengths.counts (announced_length 6 f)
   pub ases : CountsAs (announced_as f) s.ases t.ases
-  pub first : option_map end_meaning t.first ≡
-      option_or (option_map end_meaning s.first) (end_in f)
-  pub last : option_map end_meaning t.last ≡
-      option_or (end_in f) (option_map end_meaning s.last)
+  pub answers : AnswersMore f s.answers t.answers
 
 sums_more : (s t : Summary) (f : AnyFields) (bytes : List ℕ) (units : List AnyFields) →
     bytes ≡ any_list f → length units < 2 ^ 64 - 1 → Sums s units → Counts s f bytes t →
@@ -67,8 +63,7 @@ sums_more s t f bytes units is room h more = record {
       tallied_more (announced_length 6) _ _ units f (announced_length 6 f) refl more.v6_lengths
       room h.v6_lengths;
   ases = counted_more units f (announced_as f) s.ases t.ases refl more.ases room h.ases;
-  first = more.first ∙ ap (λ o. option_or o (end_in f)) h.first;
-  last = more.last ∙ ap (λ o. option_or (end_in f) o) h.last;
+  answers = more.answers units room h.answers;
 }
 
 pub goes_on : (n : ℕ) (s t : Summary) (f : AnyFields) (bytes : List ℕ) (a b c : Option (List ℕ)) →

@@ -67,21 +67,22 @@ ases_same f g h =
     ap (λ (l : List (ℕ × ℕ)). flat_map as_line (take 10 l)) (ranking_same f g h (2 ^ 32))
 
 pub numbers_same : (complete : Bool) (s : Summary) (units : List AnyFields) → Sums s units →
-    s.ases.is_whole ≡ true → numbers_text complete s ≡ summary_text complete units
+    s.answers.is_whole ≡ true → s.ases.is_whole ≡ true →
+    numbers_text complete s ≡ summary_text complete units
 unfolding number_lines
-numbers_same complete s units h whole =
+numbers_same complete s units h answered whole =
     let kinds = kinds_same (slice_index s.announced.counts) _ (slice_index s.others.counts) _
     h.announced.each h.others.each in
     let lengths = all_lengths_same (slice_index s.v4_lengths.counts) _
     (slice_index s.v6_lengths.counts) _ h.v4_lengths.each h.v6_lengths.each in
     let ases = ases_same (as_count s.ases.counts) (tally announced_as units) (h.ases whole) in
-    cc (kinds, lengths, ases, h.bytes, h.count, h.first, h.last)
+    cc (kinds, h.answers.lines answered, lengths, ases, h.bytes, h.count)
 
 -- the text of these numbers, which was added to nothing
 pub text_same : (complete told : Bool) (s : Summary) (units : List AnyFields)
     (start line text : List ℕ) → Sums s units → start ≡ [] → told ≡ complete →
-    s.ases.is_whole ≡ true → line ≡ start ++ numbers_text told s → text ≡ line →
-    text ≡ summary_text complete units
-text_same complete told s units start line text h none is whole adds same =
+    s.answers.is_whole ≡ true → s.ases.is_whole ≡ true → line ≡ start ++ numbers_text told s →
+    text ≡ line → text ≡ summary_text complete units
+text_same complete told s units start line text h none is answered whole adds same =
     same ∙ adds ∙ ap (λ (l : List ℕ). l ++ numbers_text told s) none
-    ∙ ap (λ (b : Bool). numbers_text b s) is ∙ numbers_same complete s units h whole
+    ∙ ap (λ (b : Bool). numbers_text b s) is ∙ numbers_same complete s units h answered whole

@@ -1,18 +1,22 @@
 -- What is counted of units one after the other. Only contracts of private functions cite these.
-use Rattle.std.specs.Prelude.{◌≡◌, ℕ, ◌+◌, ◌-◌, ◌<◌, ◌^◌, ◌==◌, min, Bool, true, List, length}
+use Rattle.std.specs.Prelude.{◌≡◌, ℕ, ◌+◌, ◌-◌, ◌<◌, ◌^◌, ◌==◌, min, Bool, true, List, ◌∷◌, length}
 use Rattle.std.specs.Prelude.{slice_index, set, Option, Some, None, Result, if◌then◌else◌}
 use Rattle.std.specs.BTreeMap.{BTreeMap, get}
+use Rattle.std.specs.List.{count_by, flat_map}
 use Rattle.std.specs.Map.{count_at}
-use Rattle.std.specs.Option.{option_map}
 use Rattle.std.specs.Ordering.{nat_cmp}
-use Rattle.rtr_units.specs.AnyEnd.{end_meaning}
+use Rattle.rtr_units.specs.End.{EndMeaning}
 use Rattle.rtr_units.specs.StopCauses.{ReaderState}
 use Rattle.rtr_units.specs.declared.fault.Fault.{Fault}
 use Rattle.rtr_session.specs.AnyFields.{AnyFields}
+use Rattle.rtr_findings.specs.SequenceSoFar.{announces, sequence}
 use Rattle.rtr_listing.specs.Listing.{offset_of}
 use Rattle.rtr_summary.specs.Summaries.{tally, announced_type, other_type, announced_length}
-use Rattle.rtr_summary.specs.Summaries.{announced_as, first_end, last_end, number_lines}
+use Rattle.rtr_summary.specs.Summaries.{announced_as, whole_answer_line, answer_lines, number_lines}
+use Rattle.rtr_summary.specs.Summaries.{withdraws}
 use Rattle.rtr_summary.specs.SummaryStatus.{ReadsUnits}
+use Rattle.rtr_summary.specs.declared.answers.Answer.{Answer}
+use Rattle.rtr_summary.specs.declared.answers.Answers.{Answers}
 use Rattle.rtr_summary.specs.declared.as_counts.AsCounts.{AsCounts}
 use Rattle.rtr_summary.specs.declared.summary.Summary.{Summary}
 
@@ -47,6 +51,32 @@ abbrev pub HasCounted : AsCounts → List AnyFields → Type 0
 HasCounted ases units = ases.is_whole ≡ true → (k : ℕ) →
     as_count ases.counts k ≡ tally announced_as units k
 
+-- the line of an answer that is kept
+abbrev pub kept_line : Answer → List ℕ
+kept_line answer =
+    whole_answer_line answer.session answer.serial answer.announced answer.withdrawn
+
+-- the lines of those that are kept are those of these units, unless memory failed, and what is
+-- counted is of the answer that they leave open
+pub record HasAnswered (answers : Answers) (units : List AnyFields) : Type 0 where
+  pub announced : answers.announced ≡ count_by announces (sequence units)
+  pub withdrawn : answers.withdrawn ≡ count_by withdraws (sequence units)
+  pub lines : answers.is_whole ≡ true → flat_map kept_line answers.ended.items ≡ answer_lines units
+
+-- what an end of data makes of the open answer
+abbrev pub ended_answer : EndMeaning → Answers → Answer
+ended_answer end answers = record {
+  session = end.session;
+  serial = end.serial;
+  announced = answers.announced;
+  withdrawn = answers.withdrawn;
+}
+
+-- whatever units came before, with this one more they are answered
+abbrev pub AnswersMore : AnyFields → (old new : Answers) → Type 0
+AnswersMore unit old new = (units : List AnyFields) → length units < 2 ^ 64 - 1 →
+    HasAnswered old units → HasAnswered new (unit ∷ units)
+
 -- the summary is of these units
 pub record Sums (s : Summary) (units : List AnyFields) : Type 0 where
   pub bytes : s.bytes ≡ offset_of units
@@ -56,16 +86,15 @@ pub record Sums (s : Summary) (units : List AnyFields) : Type 0 where
   pub v4_lengths : HasTallied (announced_length 4) s.v4_lengths.counts units
   pub v6_lengths : HasTallied (announced_length 6) s.v6_lengths.counts units
   pub ases : HasCounted s.ases units
-  pub first : option_map end_meaning s.first ≡ first_end units
-  pub last : option_map end_meaning s.last ≡ last_end units
+  pub answers : HasAnswered s.answers units
 
 -- the text of these numbers
 abbrev pub numbers_text : Bool → Summary → List ℕ
 numbers_text complete s =
     number_lines complete s.bytes s.units
     (slice_index s.announced.counts) (slice_index s.others.counts)
-    (slice_index s.v4_lengths.counts) (slice_index s.v6_lengths.counts)
-    (as_count s.ases.counts) (option_map end_meaning s.first) (option_map end_meaning s.last)
+    (flat_map kept_line s.answers.ended.items)
+    (slice_index s.v4_lengths.counts) (slice_index s.v6_lengths.counts) (as_count s.ases.counts)
 
 -- so a call that reads units ended, and the summary is of them
 abbrev pub ReadsAndSums : Result (Unit {0}) Fault → Summary → (old new : ReaderState) → Type 0

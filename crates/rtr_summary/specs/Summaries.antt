@@ -4,12 +4,10 @@ use Rattle.std.specs.Prelude.{ℕ, Bool, true, false, ◌==◌, ◌&&◌, not, L
 use Rattle.std.specs.Prelude.{Option, Some, None, codes, decimal, if◌then◌else◌, suc, zero, ◌^◌}
 use Rattle.std.specs.Prelude.{nat_lt, take}
 use Rattle.std.specs.List.{count_by, flat_map}
-use Rattle.std.specs.Option.{option_or}
-use Rattle.rtr_units.specs.End.{EndMeaning}
 use Rattle.rtr_units.specs.Header.{type_field}
 use Rattle.rtr_payload.specs.UnitFields.{prefix_unit}
 use Rattle.rtr_session.specs.AnyFields.{AnyFields, any_list, end_of_data, payload}
-use Rattle.rtr_findings.specs.SequenceSoFar.{announces}
+use Rattle.rtr_findings.specs.SequenceSoFar.{announces, sequence}
 use Rattle.rtr_listing.specs.Listing.{offset_of}
 
 -- ---- counts
@@ -66,19 +64,12 @@ ranking ases (suc n) =
 abbrev pub largest : (ℕ → ℕ) → List (ℕ × ℕ)
 largest ases = take 10 (ranking ases (2 ^ 32))
 
--- ---- ends of data (RFC 8210 section 5.8)
+-- ---- answers
 
-abbrev pub end_in : AnyFields → Option EndMeaning
-end_in (end_of_data end) = Some end
-end_in others = None
-
-abbrev pub last_end : List AnyFields → Option EndMeaning
-last_end [] = None
-last_end (newest ∷ before) = option_or (end_in newest) (last_end before)
-
-abbrev pub first_end : List AnyFields → Option EndMeaning
-first_end [] = None
-first_end (newest ∷ before) = option_or (first_end before) (end_in newest)
+-- a payload unit that doesn't announce withdraws (RFC 8210 section 5.1)
+abbrev pub withdraws : AnyFields → Bool
+withdraws (payload fields) = not (announces (payload fields))
+withdraws others = false
 
 -- ---- lines
 
@@ -130,17 +121,28 @@ kind_lines announced others =
     query_lines others ++ prefix_lines announced others ++ key_lines announced others
     ++ other_lines others
 
--- the first and the last end of data
-abbrev pub end_line : List ℕ → Option EndMeaning → List ℕ
-end_line name None = name ++ codes "none\n"
-end_line name (Some end) =
-    name ++ codes "session " ++ decimal end.session ++ codes " serial " ++ decimal end.serial
-    ++ codes "\n"
+-- an answer: session and serial number of its end of data (RFC 8210 section 5.8), and how many of
+-- its units announce and withdraw
+abbrev pub whole_answer_line : (session serial announced withdrawn : ℕ) → List ℕ
+whole_answer_line session serial announced withdrawn =
+    (codes "answer:               session " ++ decimal session)
+    ++ (codes " serial " ++ decimal serial) ++ (codes " announces " ++ decimal announced)
+    ++ count_line (codes " withdraws ") withdrawn
 
-unfoldable pub end_lines_of : (first last : Option EndMeaning) → List ℕ
-end_lines_of first last =
-    end_line (codes "first end of data:    ") first
-    ++ end_line (codes "last end of data:     ") last
+-- a line of each answer, in their order: an end of data ends the sequence before it (RFC 8210
+-- sections 8.1 and 8.2)
+abbrev pub answer_lines : List AnyFields → List ℕ
+answer_lines [] = []
+answer_lines (end_of_data end ∷ before) =
+    answer_lines before
+    ++ whole_answer_line end.session end.serial
+    (count_by announces (sequence before)) (count_by withdraws (sequence before))
+answer_lines (others ∷ before) = answer_lines before
+
+-- the same, or that there is none
+abbrev pub lines_or_none : List ℕ → List ℕ
+lines_or_none [] = codes "answer:               none\n"
+lines_or_none lines = lines
 
 -- what stands before a number, it, and its count
 abbrev pub number_line : List ℕ → (number count : ℕ) → List ℕ
@@ -169,18 +171,18 @@ as_lines ases = flat_map as_line (largest ases)
 
 -- ---- a summary
 
--- the lines of these numbers
+-- the lines of these numbers, with those of answers
 unfoldable pub number_lines : (complete : Bool) → (bytes units : ℕ) →
-    (announced others v4_lengths v6_lengths ases : ℕ → ℕ) → (first last : Option EndMeaning) →
+    (announced others : ℕ → ℕ) → (answers : List ℕ) → (v4_lengths v6_lengths ases : ℕ → ℕ) →
     List ℕ
-number_lines complete bytes units announced others v4_lengths v6_lengths ases first last =
-    size_lines complete bytes units ++ kind_lines announced others ++ end_lines_of first last
+number_lines complete bytes units announced others answers v4_lengths v6_lengths ases =
+    size_lines complete bytes units ++ kind_lines announced others ++ lines_or_none answers
     ++ all_length_lines v4_lengths v6_lengths ++ as_lines ases
 
 -- the text of the summary of these units, after which the input ended, or did not
 abbrev pub summary_text : Bool → List AnyFields → List ℕ
 summary_text complete units =
     number_lines complete (offset_of units) (length units)
-    (tally announced_type units) (tally other_type units)
+    (tally announced_type units) (tally other_type units) (answer_lines units)
     (tally (announced_length 4) units) (tally (announced_length 6) units)
-    (tally announced_as units) (first_end units) (last_end units)
+    (tally announced_as units)

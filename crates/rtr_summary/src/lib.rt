@@ -1,7 +1,8 @@
-//! What `rtr_list --summary` prints: how many units of each kind and prefix length there are, and
-//! which ASes announce most, over any reader and writers.
+//! What `rtr_list --summary` prints: how many units of each kind and prefix length there are, which
+//! answers, and which ASes announce most, over any reader and writers.
 #![tactic(auto)]
 
+mod answers;
 mod as_counts;
 mod numbers;
 mod run;

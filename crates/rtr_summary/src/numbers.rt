@@ -1,14 +1,12 @@
 //! The numbers of a unit by which it is counted.
 
 ghost use Rattle.std.specs.Prelude.{◌≡◌};
-ghost use Rattle.std.specs.Option.{option_map};
-ghost use Rattle.rtr_units.specs.AnyEnd.{end_meaning};
 ghost use Rattle.rtr_payload.specs.UnitBytes.{unit_fields};
 ghost use Rattle.rtr_session.specs.AnyFields.{payload};
 ghost use Rattle.rtr_session.specs.AnyUnits.{any_fields};
 ghost use Rattle.rtr_findings.specs.SequenceSoFar.{announces};
 ghost use Rattle.rtr_summary.specs.Summaries.{announced_as, announced_length, announced_type};
-ghost use Rattle.rtr_summary.specs.Summaries.{end_in, other_type, type_of};
+ghost use Rattle.rtr_summary.specs.Summaries.{other_type, type_of};
 
 use rtr_base::action::Action;
 use rtr_base::asn::Asn;
@@ -61,7 +59,8 @@ fn announces(unit: &AnyUnit) -> bool
     }
 }
 
-fn payload_announces(unit: &Payload) -> bool
+/// Whether a payload unit announces: otherwise it withdraws.
+pub fn payload_announces(unit: &Payload) -> bool
     ensures { result ≡ announces (payload (unit_fields unit.now)) }
 {
     match unit.action() {
@@ -135,21 +134,5 @@ fn payload_as(unit: &Payload) -> Option<Asn>
         Payload::V4(prefix) => is_wanted.then_some(prefix.asn()),
         Payload::V6(prefix) => is_wanted.then_some(prefix.asn()),
         Payload::RouterKey(_) | Payload::Aspa(_) => None,
-    }
-}
-
-/// The end of data, if the unit is one.
-pub fn end_in(unit: &AnyUnit) -> Option<EndOfData>
-    ensures { option_map end_meaning result ≡ end_in (any_fields unit.now) }
-{
-    match unit {
-        AnyUnit::EndOfData(end) => Some(*end),
-        AnyUnit::SerialNotify(_)
-        | AnyUnit::SerialQuery(_)
-        | AnyUnit::ResetQuery(_)
-        | AnyUnit::CacheResponse(_)
-        | AnyUnit::Payload(_)
-        | AnyUnit::CacheReset(_)
-        | AnyUnit::Error(_) => None,
     }
 }

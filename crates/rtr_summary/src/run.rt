@@ -35,7 +35,8 @@ const FAILED: u8 = 3;
 ///
 /// A fault and status 3 come with a line on `faults`, which begins with the program's name. Of a
 /// pipe that nobody reads any more nothing is said. If a line can't be written, nothing else
-/// changes. Where memory for the text or for the count of an AS can't be had nothing is printed.
+/// changes. Where memory for the text, an answer or the count of an AS can't be had nothing is
+/// printed.
 pub fn summarise<R: Source, W: Sink, F: Write>(
     alloc: Global,
     name: &str,

@@ -1,18 +1,16 @@
 //! What is counted of units one after the other.
 
 ghost use Rattle.std.specs.Prelude.{◌≡◌, ◌+◌, ◌-◌, ◌^◌, [], length, min};
-ghost use Rattle.std.specs.Option.{option_map, option_or};
-ghost use Rattle.rtr_units.specs.AnyEnd.{end_meaning};
 ghost use Rattle.rtr_session.specs.AnyUnits.{any_bytes, any_fields};
-ghost use Rattle.rtr_summary.specs.PrivateTallies.{CountsAs, Sums, raised};
+ghost use Rattle.rtr_summary.specs.PrivateTallies.{AnswersMore, CountsAs, Sums, raised};
 ghost use Rattle.rtr_summary.specs.Summaries.{announced_as, announced_length, announced_type};
-ghost use Rattle.rtr_summary.specs.Summaries.{end_in, other_type};
+ghost use Rattle.rtr_summary.specs.Summaries.{other_type};
 
+use crate::answers::Answers;
 use crate::as_counts::AsCounts;
 use crate::numbers;
 use crate::tally::Tally;
 use rtr_session::AnyUnit;
-use rtr_units::end::EndOfData;
 use rtr_units::prefixes::{Ipv4Prefix, Ipv6Prefix};
 use std::alloc::Global;
 
@@ -33,10 +31,8 @@ pub struct Summary {
     pub v6_lengths: Tally,
     /// The prefixes that are announced, by their AS.
     pub ases: AsCounts,
-    /// The first end of data.
-    pub first: Option<EndOfData>,
-    /// The last one.
-    pub last: Option<EndOfData>,
+    /// The answers.
+    pub answers: Answers,
 }
 
 impl Summary {
@@ -52,8 +48,7 @@ impl Summary {
             v4_lengths: Tally::new(),
             v6_lengths: Tally::new(),
             ases: AsCounts::new(alloc),
-            first: None,
-            last: None,
+            answers: Answers::new(alloc),
         }
     }
 
@@ -71,10 +66,7 @@ impl Summary {
         ensures v6_lengths { self.new.v6_lengths.counts ≡
             raised self.old.v6_lengths.counts (announced_length 6 (any_fields unit.now)) }
         ensures ases { CountsAs (announced_as (any_fields unit.now)) self.old.ases self.new.ases }
-        ensures first { option_map end_meaning self.new.first ≡
-            option_or (option_map end_meaning self.old.first) (end_in (any_fields unit.now)) }
-        ensures last { option_map end_meaning self.new.last ≡
-            option_or (end_in (any_fields unit.now)) (option_map end_meaning self.old.last) }
+        ensures answers { AnswersMore (any_fields unit.now) self.old.answers self.new.answers }
     {
         self.bytes = self.bytes.saturating_add(u64::from(unit.size()));
         self.units = self.units.saturating_add(1);
@@ -85,19 +77,6 @@ impl Summary {
         self.v6_lengths
             .count(numbers::announced_length(Ipv6Prefix::PDU, unit));
         self.ases.count(numbers::announced_as(unit));
-        let end = numbers::end_in(unit);
-        self.first = first_of(self.first, end);
-        self.last = first_of(end, self.last);
-    }
-}
-
-/// The first of the two that is there.
-fn first_of(one: Option<EndOfData>, other: Option<EndOfData>) -> Option<EndOfData>
-    ensures { option_map end_meaning result ≡
-        option_or (option_map end_meaning one) (option_map end_meaning other) }
-{
-    match one {
-        Some(end) => Some(end),
-        None => other,
+        self.answers.add(unit);
     }
 }

@@ -1,21 +1,19 @@
 //! The text of a summary.
 
-ghost use Rattle.std.specs.Prelude.{◌≡◌, ◌++◌, OnOk, codes, decimal, slice_index, true};
+ghost use Rattle.std.specs.Prelude.{◌≡◌, ◌++◌, OnOk, slice_index, true};
 ghost use Rattle.std.specs.List.{flat_map};
-ghost use Rattle.std.specs.Option.{option_map};
-ghost use Rattle.rtr_units.specs.AnyEnd.{end_meaning};
-ghost use Rattle.rtr_summary.specs.PrivateTallies.{as_count, numbers_text};
+ghost use Rattle.rtr_summary.specs.PrivateTallies.{as_count, kept_line, numbers_text};
 ghost use Rattle.rtr_summary.specs.Summaries.{all_length_lines, as_line, as_lines, complete_line};
 ghost use Rattle.rtr_summary.specs.Summaries.{count_line};
-ghost use Rattle.rtr_summary.specs.Summaries.{end_line, end_lines_of, key_lines, kind_lines};
-ghost use Rattle.rtr_summary.specs.Summaries.{length_line, length_lines, number_line, other_lines};
+ghost use Rattle.rtr_summary.specs.Summaries.{key_lines, kind_lines, length_line, length_lines};
+ghost use Rattle.rtr_summary.specs.Summaries.{lines_or_none, number_line, other_lines};
 ghost use Rattle.rtr_summary.specs.Summaries.{prefix_lines, query_lines, size_lines};
 
+use crate::answers::{Answer, Answers};
 use crate::as_counts::AsCounts;
 use crate::summary::Summary;
 use crate::tally::Tally;
 use rtr_listing::Line;
-use rtr_units::end::EndOfData;
 use std::alloc::{AllocError, Global};
 
 /// Adds the lines of the summary of units, after which the input ended, or did not.
@@ -26,12 +24,13 @@ pub fn add_summary(
     is_complete: bool,
     summary: &Summary,
 ) -> Result<(), AllocError>
-    ensures whole { OnOk result (summary.now.ases.is_whole ≡ true) }
+    ensures answers { OnOk result (summary.now.answers.is_whole ≡ true) }
+    ensures ases { OnOk result (summary.now.ases.is_whole ≡ true) }
     ensures lines { OnOk result (line.new ≡ line.old ++ numbers_text is_complete summary.now) }
 {
     add_sizes(line, is_complete, summary.bytes, summary.units)?;
     add_kinds(line, &summary.announced, &summary.others)?;
-    add_ends(line, summary.first, summary.last)?;
+    add_answers(line, &summary.answers)?;
     add_all_lengths(line, &summary.v4_lengths, &summary.v6_lengths)?;
     add_ases(alloc, line, &summary.ases)
 }
@@ -118,39 +117,38 @@ fn add_others(line: &mut Line, others: &Tally) -> Result<(), AllocError>
     add_count(line, "error report:         ", others.get(10))
 }
 
-/// Adds the first and the last end of data.
-#[tactic(auto, unfolding(crate::specs::Summaries::end_lines_of))]
-fn add_ends(
-    line: &mut Line,
-    first: Option<EndOfData>,
-    last: Option<EndOfData>,
-) -> Result<(), AllocError>
-    ensures { OnOk result (line.new ≡ line.old
-        ++ end_lines_of (option_map end_meaning first) (option_map end_meaning last)) }
+/// Adds a line of each answer, or that there is none. An error where memory failed, for these or
+/// before.
+fn add_answers(line: &mut Line, answers: &Answers) -> Result<(), AllocError>
+    ensures whole { OnOk result (answers.now.is_whole ≡ true) }
+    ensures lines { OnOk result (line.new ≡ line.old
+        ++ lines_or_none (flat_map kept_line answers.now.ended.items)) }
 {
-    add_end(line, "first end of data:    ", first)?;
-    add_end(line, "last end of data:     ", last)
-}
-
-/// Adds a name and the state of the end of data, if there is one.
-fn add_end(line: &mut Line, name: &str, end: Option<EndOfData>) -> Result<(), AllocError>
-    ensures { OnOk result (line.new ≡ line.old ++ end_line name.now (option_map end_meaning end)) }
-{
-    line.text(name)?;
-    match end {
-        Some(end) => add_state(line, end),
-        None => line.text("none\n"),
+    let ended = answers.ended()?;
+    if ended.is_empty() {
+        line.text("answer:               none\n")
+    } else {
+        add_ended(line, ended)
     }
 }
 
-fn add_state(line: &mut Line, end: EndOfData) -> Result<(), AllocError>
-    ensures { OnOk result (line.new ≡ line.old ++ codes "session "
-        ++ decimal (end_meaning end).session ++ codes " serial "
-        ++ decimal (end_meaning end).serial ++ codes "\n") }
+fn add_ended(line: &mut Line, answers: &[Answer]) -> Result<(), AllocError>
+    ensures { OnOk result (line.new ≡ line.old ++ flat_map kept_line answers.now) }
 {
-    line.labelled("session ", u64::from(end.session()))?;
-    line.labelled(" serial ", u64::from(end.serial().0))?;
-    line.text("\n")
+    for answer in answers.iter() {
+        add_answer(line, answer)?;
+    }
+    Ok(())
+}
+
+/// Adds the line of an answer.
+fn add_answer(line: &mut Line, answer: &Answer) -> Result<(), AllocError>
+    ensures { OnOk result (line.new ≡ line.old ++ kept_line answer.now) }
+{
+    line.labelled("answer:               session ", u64::from(answer.session))?;
+    line.labelled(" serial ", u64::from(answer.serial))?;
+    line.labelled(" announces ", answer.announced)?;
+    add_count(line, " withdraws ", answer.withdrawn)
 }
 
 /// Adds how many prefixes of each length there are.

@@ -18,8 +18,7 @@ loop-count-preserved g c =
             v4_lengths = c.add.ensures.v4_lengths;
             v6_lengths = c.add.ensures.v6_lengths;
             ases = c.add.ensures.ases;
-            first = c.add.ensures.first;
-            last = c.add.ensures.last;
+            answers = c.add.ensures.answers;
           });
       reads = read.1 ∙ c.loop-count.invariant.reads;
     }

@@ -11,7 +11,7 @@ returns-in-Ok-clause-summarises g c =
     let reading = c.read_units-answer.result in
     let same = text_same (is_ok reading) c.is_ok.result c.read_units-answer.new.summary read.0
     c.new-text.result c.add_summary.new.line c.as_bytes.result.now read.2 c.new-text.ensures
-    c.is_ok.ensures.value c.in-Ok.ensures.whole
+    c.is_ok.ensures.value c.in-Ok.ensures.answers c.in-Ok.ensures.ases
     c.in-Ok.ensures.lines c.as_bytes.ensures in
     record {
       units = read.0;
