@@ -5,5 +5,6 @@ pub mod LinesAnswered
 pub mod Files
 pub mod RoutesStatus
 pub mod PrivateVrps
+pub mod PrivateFiles
 pub mod PrivateAnswers
 pub mod PrivateLines

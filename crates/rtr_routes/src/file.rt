@@ -1,17 +1,19 @@
 //! The VRPs of a file.
 
-ghost use Rattle.std.specs.Prelude.{◌≡◌, Ok};
+ghost use Rattle.std.specs.Prelude.{◌≡◌, None, [], false};
 ghost use Rattle.csv.specs.Reading.{strip_bom};
 ghost use Rattle.rtr_vrps.specs.PrivateCsv.{has_mark};
+ghost use Rattle.rtr_vrps.specs.Taking.{HasTaken, IsFor};
 ghost use Rattle.rtr_vrps.specs.declared.words.Format.TheVariants as formats;
-ghost use Rattle.rtr_routes.specs.Files.{GathersRead, LoadsItems, LoadsText, LoadsUnits, file_kind};
+ghost use Rattle.rtr_routes.specs.Files.{LoadsItems, LoadsText, LoadsUnits, file_kind};
 ghost use Rattle.rtr_routes.specs.Files.{kind_by_first};
+ghost use Rattle.rtr_routes.specs.PrivateFiles.{LoadsGathered, LoadsTaken};
 
 use crate::vrps::Vrps;
 use json::Scratch;
 use rtr_recordings::{Stop, read_recording};
 use rtr_units::source::SliceSource;
-use rtr_vrps::{Item, Refusal, gather, read_csv, read_json};
+use rtr_vrps::{Gathered, Gathering, Refusal, read_csv, read_json};
 use std::alloc::Global;
 
 /// The version of the protocol that has all payloads.
@@ -74,7 +76,7 @@ fn kind_by_first(byte: u8) -> Kind
 }
 
 /// Reads the VRPs of a file of these bytes: of units by `read_recording`, of CSV and JSON by
-/// `read_csv`, `read_json` and `gather` of `rtr_vrps`, as `rtr_make` reads them. `scratch` is
+/// `read_csv`, `read_json` and `Gathering` of `rtr_vrps`, as `rtr_make` reads them. `scratch` is
 /// memory for JSON.
 pub fn load<'a>(
     alloc: Global,
@@ -112,8 +114,9 @@ fn load_units<'a>(alloc: Global, text: &'a [u8]) -> Result<Loaded, LoadError<'a>
 fn load_csv<'a>(alloc: Global, text: &'a [u8]) -> Result<Loaded, LoadError<'a>>
     ensures { LoadsItems formats.Csv text.now result }
 {
-    match read_csv(alloc, text) {
-        Ok(items) => load_items(alloc, &items),
+    let mut gathering = gathering_of_all(alloc);
+    match read_csv(alloc, text, &mut gathering) {
+        Ok(()) => load_taken(alloc, gathering),
         Err(refusal) => Err(LoadError::Items(refusal)),
     }
 }
@@ -126,17 +129,39 @@ fn load_json<'a>(
 ) -> Result<Loaded, LoadError<'a>>
     ensures { LoadsItems formats.Json text.now result }
 {
-    match read_json(alloc, text, &[], scratch) {
-        Ok(items) => load_items(alloc, &items),
+    let mut gathering = gathering_of_all(alloc);
+    match read_json(alloc, text, &[], scratch, &mut gathering) {
+        Ok(()) => load_taken(alloc, gathering),
         Err(refusal) => Err(LoadError::Items(refusal)),
     }
 }
 
-/// Gathers the payloads of the items.
-fn load_items<'a>(alloc: Global, items: &[Item<'a>]) -> Result<Loaded, LoadError<'a>>
-    ensures { GathersRead (Ok items.now) result }
+/// Gathers all payloads of items, whenever they expire.
+fn gathering_of_all<'a>(alloc: Global) -> Gathering<'a>
+    ensures settings { IsFor 2 false None result }
+    ensures none { HasTaken [] result }
 {
-    let gathered = match gather(alloc, LAST_VERSION, false, items) {
+    Gathering::new(alloc, LAST_VERSION, false, None)
+}
+
+/// Loads the payloads of the items that were taken.
+fn load_taken<'a>(alloc: Global, gathering: Gathering<'a>) -> Result<Loaded, LoadError<'a>>
+    ensures { LoadsTaken gathering.entry result }
+{
+    match gathering.finish() {
+        Ok(left) => load_gathered(alloc, left.gathered),
+        Err(refusal) => Err(LoadError::Items(refusal)),
+    }
+}
+
+/// Loads the payloads that were gathered.
+fn load_gathered<'a>(
+    alloc: Global,
+    gathered: Result<Gathered, Refusal<'a>>,
+) -> Result<Loaded, LoadError<'a>>
+    ensures { LoadsGathered gathered.entry result }
+{
+    let gathered = match gathered {
         Ok(gathered) => gathered,
         Err(refusal) => return Err(LoadError::Items(refusal)),
     };

@@ -1,6 +1,7 @@
 -- The sequence that is asked for.
 use Rattle.std.proofs.Common.{◌≡◌, ◌<◌, ◌^◌, ℕ, refl, inl, inr, arith}
-use Rattle.std.proofs.Common.{List, [], ◌∷◌, ◌++◌, Result, subst, sym, ap, ◌∙◌, Bool, true, false}
+use Rattle.std.proofs.Common.{List, [], ◌∷◌, ◌++◌, Result, Ok, Err, subst, sym, ap, ◌∙◌}
+use Rattle.std.proofs.Common.{Bool, true, false}
 use Rattle.std.proofs.Common.{not, ◌&&◌, nat_eq, length}
 use Rattle.std.proofs.lemmas.Bool.{and_parts, eqb-true}
 use Rattle.rtr_base.specs.declared.timing.Timing.{Timing}
@@ -11,9 +12,10 @@ use Rattle.rtr_units.specs.declared.fault.Fault.{Fault}
 use Rattle.rtr_payload.specs.Payloads.{Payload}
 use Rattle.rtr_data.specs.Deltas.{all_for, change_forms, data_for}
 use Rattle.rtr_data.proofs.Accepted.{all_sequence}
-use Rattle.rtr_vrps.specs.Gathering.{GathersAll, NamesFirst}
+use Rattle.rtr_vrps.specs.Gathering.{Gathers, GathersAll, NamesFirst}
 use Rattle.rtr_vrps.specs.Making.{HasNone, HasSome, IsSequenceOf, asked_end}
 use Rattle.rtr_vrps.specs.Making.{sequence_of, timing_for, version_number}
+use Rattle.rtr_vrps.specs.declared.gathering.Gathered.{Gathered}
 use Rattle.rtr_vrps.specs.declared.item.Item.{Item}
 use Rattle.rtr_vrps.specs.declared.item.Refusal.{Refusal}
 use Rattle.rtr_vrps.specs.declared.words.Request.{Request}
@@ -45,10 +47,6 @@ not_true false e = refl
 
 module _ (a : Request) (items : List Item) (d : List Payload) (v : ℕ)
     (is : v ≡ version_number a.version) where
-  all : (n : ℕ) → GathersAll v a.leaves_out items d n →
-      GathersAll (version_number a.version) a.leaves_out items d n
-  all n g = subst (λ w. GathersAll w a.leaves_out items d n) is g
-
   has_some : (b : Bool) → b ≡ nat_eq (length (data_for v d)) 0 →
       (not a.takes_empty && b) ≡ false → HasSome a d
   has_some b e f unasked none =
@@ -56,22 +54,22 @@ module _ (a : Request) (items : List Item) (d : List Payload) (v : ℕ)
       (e ∙ ap (λ w. nat_eq (length (data_for w d)) 0) is ∙ ap (λ l. nat_eq (length l) 0) none)
 
   -- no payload is left, and that isn't asked for
-  pub lacks : (n : ℕ) (b : Bool) → GathersAll v a.leaves_out items d n →
+  pub lacks : (n : ℕ) (b : Bool) → GathersAll (version_number a.version) a.leaves_out items d n →
       b ≡ nat_eq (length (data_for v d)) 0 → (not a.takes_empty && b) ≡ true → HasNone a items
   lacks n b g e f =
       let p = and_parts (not a.takes_empty) b f in record {
         d = d;
         left_out = n;
-        gathered = all n g;
+        gathered = g;
         none = ap (λ w. data_for w d) (sym is) ∙ is_nothing (data_for v d) (sym e ∙ p.1);
         unasked = not_true a.takes_empty p.0;
       }
 
-  pub made : (n : ℕ) (b : Bool) → GathersAll v a.leaves_out items d n →
+  pub made : (n : ℕ) (b : Bool) → GathersAll (version_number a.version) a.leaves_out items d n →
       b ≡ nat_eq (length (data_for v d)) 0 → (not a.takes_empty && b) ≡ false →
       IsEndMeaning (asked_end a) → IsSequenceOf a items d n
   made n b g e f fits = record {
-    gathered = all n g;
+    gathered = g;
     some = has_some b e f;
     accepted = all_sequence (version_number a.version) (version_is_byte a.version) d
         (asked_end a) g.sendable fits;
@@ -86,6 +84,15 @@ module _ (a : Request) (items : List Item) (d : List Payload) (v : ℕ)
       (ap (λ l. change_forms v (all_for v d) ++ l) e
       ∙ ap (λ w. change_forms w (all_for w d) ++ end_list (asked_end a)) is) h
 
-  pub named : (r : Refusal) → NamesFirst v a.leaves_out items r r.reason →
-      NamesFirst (version_number a.version) a.leaves_out items r r.reason
-  named r h = subst (λ w. NamesFirst w a.leaves_out items r r.reason) is h
+-- of what was gathered all is in the data, or the first item is refused
+pub gathered_all : (a : Request) (items : List Item) (r : Result Gathered Refusal) (g : Gathered) →
+    r ≡ Ok g → Gathers (version_number a.version) a.leaves_out items r →
+    GathersAll (version_number a.version) a.leaves_out items g.payloads g.left_out
+gathered_all a items r g e h =
+    subst (Gathers (version_number a.version) a.leaves_out items) e h
+
+pub gathered_none : (a : Request) (items : List Item) (r : Result Gathered Refusal)
+    (f : Refusal) → r ≡ Err f → Gathers (version_number a.version) a.leaves_out items r →
+    NamesFirst (version_number a.version) a.leaves_out items f f.reason
+gathered_none a items r f e h =
+    subst (Gathers (version_number a.version) a.leaves_out items) e h

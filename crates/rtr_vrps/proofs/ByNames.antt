@@ -10,7 +10,7 @@ use Rattle.rtr_vrps.specs.JsonRefusals.{OrMemory, RefusesBy, RefusesFamily, Refu
 use Rattle.rtr_vrps.specs.JsonRefusals.{RefusesTop, RefusesUnknown}
 use Rattle.rtr_vrps.specs.MakeWords.{is_one_of}
 use Rattle.rtr_vrps.specs.PrivateJson.{AddsPayloads}
-use Rattle.rtr_vrps.specs.declared.item.Item.{Item}
+use Rattle.rtr_vrps.specs.declared.gathering.Gathering.{Gathering}
 use Rattle.rtr_vrps.specs.declared.item.Reason.{Reason}
 use Rattle.rtr_vrps.specs.declared.item.Refusal.{Refusal}
 use Rattle.rtr_vrps.specs.declared.json_names.Holding.{Holding}
@@ -19,13 +19,13 @@ use Rattle.rtr_vrps.proofs.JsonSoFar.{nothing}
 
 -- payloads of this kind come, or this is why not
 abbrev pub Reads : {T : Type 0} → (List Dated → Type 0) → (Reason → Type 0) →
-    Result T Refusal → List Item → List Item → Type 0
+    Result T Refusal → Gathering → Gathering → Type 0
 Reads Are Refuses r old new =
     MatchResult r (λ _. AddsPayloads Are old new) (λ e. OrMemory Refuses e.reason)
 
 -- a name that isn't ignored, by what it holds
 pub top_by : {T : Type 0} (ignored : List (List ℕ)) (name : List ℕ) (j : Json)
-    (h : Option Holding) (r : Result T Refusal) (old new : List Item) →
+    (h : Option Holding) (r : Result T Refusal) (old new : Gathering) →
     is_one_of ignored name ≡ false → holding_named name ≡ h →
     Reads (ArePayloadsBy h j) (RefusesBy h j) r old new →
     Reads (AreTopPayloads ignored name j) (RefusesTop ignored (name, j)) r old new
@@ -38,7 +38,7 @@ top_by ignored name j h r old new e f reads =
 
 -- the name of a family of addresses, or another
 pub family_by : {T : Type 0} (name : List ℕ) (j : Json) (b : Bool) (r : Result T Refusal)
-    (old new : List Item) → is_family name ≡ b →
+    (old new : Gathering) → is_family name ≡ b →
     Reads (λ ps. MatchBool b (ArePayloadsIn Aspas j ps) (AreNoPayloads j ps))
     (λ why. MatchBool b (RefusesPayloads Aspas j why) (RefusesUnknown j why)) r old new →
     Reads (AreFamilyPayloads name j) (RefusesFamily (name, j)) r old new
@@ -49,7 +49,7 @@ family_by name j b r old new e reads =
     reads
 
 -- a name that isn't known
-pub unknown : {T : Type 0} (j : Json) (r : Result T Refusal) (items : List Item) →
+pub unknown : {T : Type 0} (j : Json) (r : Result T Refusal) (items : Gathering) →
     MatchResult r (λ _. ¬ HasPayloads j) (λ e. RefusesUnknown j e.reason) →
     Reads (AreNoPayloads j) (RefusesUnknown j) r items items
 unknown j (Ok t) items n = nothing (AreNoPayloads j) items (n, refl)

@@ -6,7 +6,7 @@ use Rattle.std.proofs.lemmas.List.Folds.{list_any-append}
 use Rattle.std.specs.BTreeMap.{is_at}
 use Rattle.std.specs.BTreeSet.{replace_key}
 use Rattle.std.specs.Cmp.{Equal-is, IsEquivalence, eq_by_cmp_equiv}
-use Rattle.std.specs.List.{AllByRecursion, list_any}
+use Rattle.std.specs.List.{list_any}
 use Rattle.std.specs.List.Sorted.{IsStrictlySortedBy}
 use Rattle.std.specs.Ordering.{eq_by_cmp, is_eq, match_ordering}
 use Rattle.std.specs.declared.cmp.Ordering.{Ordering}
@@ -16,6 +16,7 @@ use Rattle.rtr_payload.specs.Orders.{payload_cmp}
 use Rattle.rtr_payload.specs.Payloads.{Payload}
 use Rattle.rtr_data.specs.Data.{IsData, has, has_name, name_cmp}
 use Rattle.rtr_data.specs.Sequences.{IsInRange}
+use Rattle.rtr_vrps.specs.Taking.{Held}
 use Rattle.rtr_data.proofs.Membership.{all_replace, replaced_data, replaced_has}
 use Rattle.rtr_data.proofs.Merge.{same_names}
 use Rattle.rtr_data.proofs.Names.{name_total, not_very}
@@ -106,13 +107,6 @@ same_member p q d e h =
     ap (has d) ((payload_same q p).0 ((Equal-is (payload_cmp q p)).0 e)) ∙ h
 
 -- ---- data to which payloads were added
-
--- the data has just these payloads and names
-pub record Held (d ps : List Payload) : Type 0 where
-  pub in_order : IsData d
-  pub members : (p : Payload) → has d p ≡ has ps p
-  pub names : (p : Payload) → has_name d p ≡ has_name ps p
-  pub ranges : AllByRecursion (λ p. IsInRange p) d
 
 pub held_new : (p : Payload) (d ps : List Payload) → Held d ps → has_name d p ≡ false →
     IsInRange p → Held (replace_key name_cmp d p) (ps ++ p ∷ [])

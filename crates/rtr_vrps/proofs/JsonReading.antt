@@ -1,7 +1,7 @@
 -- What is known of a document when some of it was read, or refused.
 use Rattle.std.proofs.Common.{◌≡◌, ◌≢◌, ℕ, Bool, true, false, ◌||◌, List, [], ◌∷◌, ◌++◌, length}
 use Rattle.std.proofs.Common.{Option, Some, None, Result, Ok, Err, MatchResult, inl, inr, refl, sym}
-use Rattle.std.proofs.Common.{ap, subst, ◌∙◌, arith}
+use Rattle.std.proofs.Common.{ap, subst, ◌∙◌, arith, rules}
 use Rattle.std.specs.Prelude.{⊤}
 use Rattle.std.proofs.lemmas.Bool.{true≢false, false≢true}
 use Rattle.std.proofs.lemmas.List.Folds.{list_any-append}
@@ -15,9 +15,12 @@ use Rattle.json.specs.Json.{Items, Json, Members, array, boolean, document, item
 use Rattle.json.specs.Json.{null, number}
 use Rattle.json.specs.Json.{object, string, value}
 use Rattle.json.proofs.Grammar.{value_is}
+use Rattle.json.specs.Value.{value_view}
+use Rattle.json.specs.declared.value.Value.{Null, Value, the_lemmas}
 use Rattle.rtr_vrps.specs.JsonNames.{holding_named}
 use Rattle.rtr_vrps.specs.JsonPayloads.{AreItemPayloads, ArePayloadsBy, ArePayloadsIn}
 use Rattle.rtr_vrps.specs.JsonPayloads.{ArePayloadsOfEach, AreTopPayloads, Dated, HasItemsOf}
+use Rattle.rtr_vrps.specs.JsonPayloads.{IsJsonOf}
 use Rattle.rtr_vrps.specs.JsonPayloads.{is_array}
 use Rattle.rtr_vrps.specs.JsonRefusals.{HasTopPayloads, IsSomeItem, OrMemory}
 use Rattle.rtr_vrps.specs.JsonRefusals.{RefusesArrayItem, RefusesBy, RefusesDocument, RefusesFirst}
@@ -29,7 +32,8 @@ use Rattle.rtr_vrps.specs.PrivateJson.{AddsPayloads, payloads_of}
 use Rattle.rtr_vrps.specs.PrivateReading.{AreItems, IfItems, IfMembers, IfValue, IfSoleValue}
 use Rattle.rtr_vrps.specs.PrivateReading.{IsNoObject, IsValue, IsSoleValue, TellsFound}
 use Rattle.rtr_vrps.specs.PrivateReading.{is_begin_array, is_begin_object, is_null, sole_value}
-use Rattle.rtr_vrps.specs.declared.item.Item.{Item}
+use Rattle.rtr_vrps.specs.Taking.{TakesSome}
+use Rattle.rtr_vrps.specs.declared.gathering.Gathering.{Gathering}
 use Rattle.rtr_vrps.specs.declared.item.Reason.{Reason}
 use Rattle.rtr_vrps.specs.declared.item.Reason.TheVariants.{Memory, NoArray, NotArray, NotObject}
 use Rattle.rtr_vrps.specs.declared.item.Refusal.{Refusal}
@@ -37,7 +41,7 @@ use Rattle.rtr_vrps.specs.declared.json_names.Holding.TheVariants.{Payloads}
 use Rattle.rtr_vrps.specs.declared.json_names.Kind.{Kind}
 use Rattle.rtr_vrps.specs.declared.json_names.Kind.TheVariants.{Origins, RouterKeys, Aspas}
 use Rattle.rtr_vrps.proofs.JsonRefused.{fine_each, fine_items, first, or_memory}
-use Rattle.rtr_vrps.proofs.JsonSoFar.{from_none, nothing}
+use Rattle.rtr_vrps.proofs.JsonSoFar.{nothing}
 use Rattle.rtr_vrps.proofs.JsonTokens.{IsSome, ItemNext, MemberNext, answer, array_is, never}
 use Rattle.rtr_vrps.proofs.JsonTokens.{object_from, object_is, value_array, whole_from}
 use Rattle.rtr_vrps.proofs.JsonTokens.{whole_object}
@@ -199,15 +203,23 @@ null_none Origins = refl
 null_none RouterKeys = refl
 null_none Aspas = refl
 
+view-Null : (A : Type 0) → value_view {A = A} Null ≡ null
+view-Null A = search (rules, the_lemmas)
+
+pub null_seen : {A : Type 0} (kind : Kind) (j : Value A) → j ≡ Null →
+    ArePayloadsIn kind (value_view j) []
+null_seen {A} kind j e =
+    subst (λ k. ArePayloadsIn kind k []) (sym (ap value_view e ∙ view-Null A)) (null_none kind)
+
 -- `null` has no payloads
-pub null_read : (kind : Kind) (old new : List Token) (items : List Item) →
+pub null_read : (kind : Kind) (old new : List Token) (items : Gathering) →
     old ≡ Token.null ∷ new →
     IsValue 127 old new (λ j. AddsPayloads (ArePayloadsIn kind j) items items)
 null_read kind old new items e =
     let none = nothing (ArePayloadsIn kind null) items (null_none kind) in
     (null, ap (value 127) e ∙ value_is 127 _, none)
 
-in_array : (kind : Kind) (js : Items) (before after : List Item) →
+in_array : (kind : Kind) (js : Items) (before after : Gathering) →
     AddsPayloads (AreItemPayloads kind (items_list js)) before after →
     AddsPayloads (ArePayloadsIn kind (array js)) before after
 in_array Origins js before after h = h
@@ -223,7 +235,7 @@ array_refused Aspas js why h = h
 
 -- what was made of the items of an array, or why one is refused
 pub array_read : {T : Type 0} (r : Result T Refusal) (kind : Kind) (old opened new : List Token)
-    (before after : List Item) → old ≡ Token.begin_array ∷ opened →
+    (before after : Gathering) → old ≡ Token.begin_array ∷ opened →
     MatchResult r
     (λ _. AreItems opened new (λ js. AddsPayloads (AreItemPayloads kind js) before after))
     (λ e. IfItems opened (λ js.
@@ -289,7 +301,7 @@ list_refuses ignored name kind j why e f h =
     (subst (λ o. RefusesBy o j why) (sym f) h)
 
 pub list_read : {T : Type 0} (r : Result T Refusal) (ignored : List (List ℕ)) (name : List ℕ)
-    (kind : Kind) (old new : List Token) (before after : List Item) →
+    (kind : Kind) (old new : List Token) (before after : Gathering) →
     is_one_of ignored name ≡ false → holding_named name ≡ Some (Payloads kind) →
     MatchResult r
     (λ _. IsValue 127 old new (λ j. AddsPayloads (ArePayloadsIn kind j) before after))
@@ -374,7 +386,7 @@ more_after ignored old opened new after t ms why is read more j w =
 
 -- no member has payloads by its name
 pub none_named : (ignored : List (List ℕ)) (old opened new : List Token) (ms : Members)
-    (before after : List Item) (why : Reason) → old ≡ Token.begin_object ∷ opened →
+    (before after : Gathering) (why : Reason) → old ≡ Token.begin_object ∷ opened →
     members (value 127) (length opened) opened ≡ Some (ms, new) →
     AddsPayloads (ArePayloadsOfEach (AreTopPayloads ignored) (members_list ms)) before after →
     list_any (λ m. is_array ignored m.0) (members_list ms) ≡ false → why ≡ NoArray →
@@ -393,29 +405,27 @@ none_named ignored old opened new ms before after why is read adds none e j w =
     )))
 
 -- the object at the top is all there is
-pub object_read : {T : Type 0} (r : Result T Refusal) (items_of : T → List Item)
-    (ignored : List (List ℕ)) (old opened new : List Token) (ms : Members) (items : List Item)
+pub object_read : {T : Type 0} (r : Result T Refusal) (ignored : List (List ℕ))
+    (old opened rest : List Token) (ms : Members) (before after : Gathering)
     (has : Bool) → old ≡ Token.begin_object ∷ opened →
-    members (value 127) (length opened) opened ≡ Some (ms, new) → new ≡ [] →
-    AddsPayloads (ArePayloadsOfEach (AreTopPayloads ignored) (members_list ms)) [] items →
+    members (value 127) (length opened) opened ≡ Some (ms, rest) → rest ≡ [] →
+    AddsPayloads (ArePayloadsOfEach (AreTopPayloads ignored) (members_list ms)) before after →
     has ≡ list_any (λ m. is_array ignored m.0) (members_list ms) →
-    MatchResult r (λ v. (has ≡ true) × (items_of v ≡ items))
-    (λ e. (has ≡ false) × (e.reason ≡ NoArray)) →
-    MatchResult r (λ v. IsSoleValue old (λ j. HasItemsOf ignored j (items_of v)))
+    MatchResult r (λ _. has ≡ true) (λ e. (has ≡ false) × (e.reason ≡ NoArray)) →
+    MatchResult r
+    (λ _. IsSoleValue old (λ j. TakesSome (HasItemsOf ignored j) before after))
     (λ e. IfSoleValue old (λ j. OrMemory (RefusesValue ignored j) e.reason))
-object_read (Ok v) items_of ignored old opened new ms items has is read no_more adds any h = (
+object_read (Ok v) ignored old opened rest ms before after has is read no_more adds any h = (
   object ms,
-  ap sole_value is ∙ whole_object opened new ms read no_more,
+  ap sole_value is ∙ whole_object opened rest ms read no_more,
   record {
-    some = sym any ∙ h.0;
-    payloads = subst
-        (λ l. ArePayloadsOfEach (AreTopPayloads ignored) (members_list ms) (payloads_of l))
-        (sym h.1)
-        (from_none (ArePayloadsOfEach (AreTopPayloads ignored) (members_list ms)) items adds);
+    items = adds.more;
+    are = record { some = sym any ∙ h; payloads = adds.payloads };
+    taken = adds.added;
   },
 )
-object_read (Err e) items_of ignored old opened new ms items has is read no_more adds any h =
-    none_named ignored old opened new ms [] items e.reason is read adds (sym any ∙ h.0) h.1
+object_read (Err e) ignored old opened rest ms before after has is read no_more adds any h =
+    none_named ignored old opened rest ms before after e.reason is read adds (sym any ∙ h.0) h.1
 
 -- ---- what is told
 
@@ -434,6 +444,21 @@ refused_document ignored None found why h tells = tells
 refused_document ignored (Some j) found why h (inl e) = inl e
 refused_document ignored (Some j) found why h (inr e) =
     subst (OrMemory (RefusesDocument ignored (Some j))) (sym e) (h j refl)
+
+-- the text is read
+pub json_read : (ignored : List (List ℕ)) (text rest : List ℕ) (reader : List Token)
+    (before after : Gathering) → rest ≡ strip_bom text → reader ≡ tokens rest →
+    IsSoleValue reader (λ j. TakesSome (HasItemsOf ignored j) before after) →
+    TakesSome (IsJsonOf ignored text) before after
+json_read ignored text rest reader before after e is h = record {
+  items = h.2.items;
+  are = record {
+    value = h.0;
+    whole = subst (λ l. document l ≡ Some h.0) e (ap sole_value (sym is) ∙ h.1);
+    has = h.2.are;
+  };
+  taken = h.2.taken;
+}
 
 -- the text is refused
 pub json_refused : (ignored : List (List ℕ)) (text rest : List ℕ) (reader : List Token)

@@ -14,7 +14,7 @@ use Rattle.rtr_vrps.specs.JsonRefusals.{RefusesArrayItem, RefusesAsn}
 use Rattle.rtr_vrps.specs.JsonRefusals.{RefusesCustomer, RefusesFirst}
 use Rattle.rtr_vrps.specs.JsonValues.{AreAsnValues, IsSomeAsn, items_list, members_list}
 use Rattle.rtr_vrps.specs.PrivateJson.{AddsPayloads}
-use Rattle.rtr_vrps.specs.declared.item.Item.{Item}
+use Rattle.rtr_vrps.specs.declared.gathering.Gathering.{Gathering}
 use Rattle.rtr_vrps.specs.declared.item.Reason.{Reason}
 use Rattle.rtr_vrps.specs.declared.item.Refusal.{Refusal}
 use Rattle.rtr_vrps.specs.declared.json_names.Kind.{Kind}
@@ -125,7 +125,7 @@ module _ {A : Type 0} where
       values_refused IsSomeAsn RefusesAsn vs i x why small is (fine_asns _ ns h) r
 
   pub list_refused : (kind : Kind) (vs : List (Value A)) (i : ℕ) (x : Value A)
-      (old mid : List Item) (why : Reason) → i < length vs → x ≡ get_or vs i x →
+      (old mid : Gathering) (why : Reason) → i < length vs → x ≡ get_or vs i x →
       AddsPayloads (AreItemPayloads kind (items_list (items_view (take i vs)))) old mid →
       OrMemory (RefusesArrayItem kind (value_view x)) why →
       OrMemory (RefusesFirst (IsSomeItem kind) (RefusesArrayItem kind)
@@ -136,7 +136,7 @@ module _ {A : Type 0} where
       (λ w k. values_refused (IsSomeItem kind) (RefusesArrayItem kind) vs i x w small is
       (fine_items kind _ _ a.payloads) k) r
 
-  pub customer_refused : (ms : List (Member A)) (i : ℕ) (x : Member A) (old mid : List Item)
+  pub customer_refused : (ms : List (Member A)) (i : ℕ) (x : Member A) (old mid : Gathering)
       (why : Reason) → i < length ms → x ≡ get_or ms i x →
       AddsPayloads (AreCustomerAspas (members_list (members_view (take i ms)))) old mid →
       OrMemory (RefusesCustomer (x.0.now, value_view x.1)) why →
@@ -149,7 +149,7 @@ module _ {A : Type 0} where
 
   pub each_refused : (Each : List ℕ → Json → List Dated → Type 0)
       (Refuses : List ℕ × Json → Reason → Type 0) (ms : List (Member A)) (i : ℕ) (x : Member A)
-      (old mid : List Item) (why : Reason) → i < length ms → x ≡ get_or ms i x →
+      (old mid : Gathering) (why : Reason) → i < length ms → x ≡ get_or ms i x →
       AddsPayloads (ArePayloadsOfEach Each (members_list (members_view (take i ms)))) old mid →
       OrMemory (Refuses (x.0.now, value_view x.1)) why →
       OrMemory (RefusesFirst (λ m. (ps : List Dated) × Each m.0 m.1 ps) Refuses

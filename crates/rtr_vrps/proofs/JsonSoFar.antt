@@ -1,8 +1,8 @@
 -- What items have of a document of which some was read.
 use Rattle.std.proofs.Common.{◌≡◌, ℕ, ◌+◌, ◌<◌, ◌≤◌, List, [], ◌∷◌, ◌++◌, take, length, get_or}
-use Rattle.std.proofs.Common.{refl, sym, ap, subst, ◌∙◌, append_assoc, Vec, Some, Bool, false}
+use Rattle.std.proofs.Common.{refl, sym, ap, subst, ◌∙◌, append_assoc, Vec, Some, Bool, true, false}
 use Rattle.std.proofs.Common.{rules, inl, MatchResult, Result, Ok, Err}
-use Rattle.std.proofs.lemmas.List.{append-nil, take_all, take_more}
+use Rattle.std.proofs.lemmas.List.{append-nil, map-append, take_all, take_more}
 use Rattle.std.specs.Bool.{MatchBool}
 use Rattle.std.specs.Borrow.{Bor}
 use Rattle.json.specs.Json.{Json, array, number, object}
@@ -20,12 +20,13 @@ use Rattle.rtr_vrps.specs.PrivateJson.{AddsOne, AddsPayloads, payloads_of}
 use Rattle.rtr_payload.specs.declared.payload.Payload.{Payload}
 use Rattle.rtr_vrps.specs.JsonRefusals.{OrMemory}
 use Rattle.rtr_vrps.specs.declared.item.Expiry.{Expiry}
-use Rattle.rtr_vrps.specs.declared.item.Item.{Item}
+use Rattle.rtr_vrps.specs.declared.gathering.Gathering.{Gathering}
 use Rattle.rtr_vrps.specs.declared.item.Reason.{Reason}
 use Rattle.rtr_vrps.specs.declared.item.Reason.TheVariants.{Memory}
 use Rattle.rtr_vrps.specs.declared.item.Refusal.{Refusal}
 use Rattle.rtr_vrps.specs.declared.json_names.Kind.{Kind}
 use Rattle.rtr_vrps.specs.declared.json_names.Part.{Part}
+use Rattle.rtr_vrps.proofs.Takings.{takes_both, takes_none}
 
 -- ---- one more
 
@@ -98,38 +99,32 @@ each_more Each (n ∷ ms) ps m more (first, later, is, here, rest) k = (
   each_more Each ms later m more rest k,
 )
 
--- ---- items that are added
+-- ---- items that are taken
 
-map_append : (xs ys : List Item) → payloads_of (xs ++ ys) ≡ payloads_of xs ++ payloads_of ys
-map_append [] ys = refl
-map_append (x ∷ xs) ys = ap (λ l. dated x ∷ l) (map_append xs ys)
-
-pub nothing : (Holds : List Dated → Type 0) (old : List Item) → Holds [] →
+pub nothing : (Holds : List Dated → Type 0) (old : Gathering) → Holds [] →
     AddsPayloads Holds old old
-nothing Holds old h = record { more = []; added = sym (append-nil old); payloads = h }
+nothing Holds old h = record { more = []; added = takes_none old; payloads = h }
 
 -- first these, and then those
-pub both : (First Second Whole : List Dated → Type 0) (old mid new : List Item) →
+pub both : (First Second Whole : List Dated → Type 0) (old mid new : Gathering) →
     ((ps qs : List Dated) → First ps → Second qs → Whole (ps ++ qs)) →
     AddsPayloads First old mid → AddsPayloads Second mid new → AddsPayloads Whole old new
 both First Second Whole old mid new whole a b = record {
   more = a.more ++ b.more;
-  added = b.added ∙ ap (λ l. l ++ b.more) a.added ∙ append_assoc old a.more b.more;
-  payloads = subst Whole (sym (map_append a.more b.more))
+  added = takes_both a.more b.more old mid new a.added b.added;
+  payloads = subst Whole (sym (map-append dated a.more b.more))
       (whole (payloads_of a.more) (payloads_of b.more) a.payloads b.payloads);
 }
 
 -- an item more
 pub one : (First Whole : List Dated → Type 0) (Means : Dated → Type 0)
-    (old mid new : List Item) →
+    (old mid new : Gathering) →
     ((ps : List Dated) (p : Dated) → First ps → Means p → Whole (ps ++ p ∷ [])) →
     AddsPayloads First old mid → AddsOne Means mid new → AddsPayloads Whole old new
-one First Whole Means old mid new whole a b = record {
-  more = a.more ++ b.item ∷ [];
-  added = b.added ∙ ap (λ l. l ++ b.item ∷ []) a.added ∙ append_assoc old a.more (b.item ∷ []);
-  payloads = subst Whole (sym (map_append a.more (b.item ∷ [])))
-      (whole (payloads_of a.more) (dated b.item) a.payloads b.meant);
-}
+one First Whole Means old mid new whole a b =
+    both First (λ l. (p : Dated) × (l ≡ p ∷ []) × Means p) Whole old mid new
+    (λ ps qs h k. subst (λ l. Whole (ps ++ l)) (sym k.1) (whole ps k.0 h k.2)) a
+    (record { more = b.item ∷ []; added = b.added; payloads = (dated b.item, refl, b.meant) })
 
 -- ---- after the first elements
 
@@ -150,7 +145,7 @@ module _ {A : Type 0} where
       subst (λ l. AreAsnValues (items_list (items_view l)) ns) (take_all i vs large) h
 
   pub list_step : (kind : Kind) (vs : List (Value A)) (i : ℕ) (x : Value A)
-      (old mid new : List Item) → i < length vs → x ≡ get_or vs i x →
+      (old mid new : Gathering) → i < length vs → x ≡ get_or vs i x →
       AddsPayloads (AreItemPayloads kind (items_list (items_view (take i vs)))) old mid →
       AddsOne (IsDatedItem kind (value_view x)) mid new →
       AddsPayloads (AreItemPayloads kind (items_list (items_view (take (i + 1) vs)))) old new
@@ -160,7 +155,7 @@ module _ {A : Type 0} where
       subst (λ js. AreItemPayloads kind js (ps ++ p ∷ [])) (sym (values_to vs i x small))
       (item_more kind _ ps _ p h (subst (λ v. IsDatedItem kind (value_view v) p) is k))) a b
 
-  pub list_all : (kind : Kind) (vs : List (Value A)) (i : ℕ) (old new : List Item) →
+  pub list_all : (kind : Kind) (vs : List (Value A)) (i : ℕ) (old new : Gathering) →
       length vs ≤ i →
       AddsPayloads (AreItemPayloads kind (items_list (items_view (take i vs)))) old new →
       AddsPayloads (AreItemPayloads kind (items_list (items_view vs))) old new
@@ -168,7 +163,7 @@ module _ {A : Type 0} where
       subst (λ l. AddsPayloads (AreItemPayloads kind (items_list (items_view l))) old new)
       (take_all i vs large) h
 
-  pub customer_step : (ms : List (Member A)) (i : ℕ) (x : Member A) (old mid new : List Item) →
+  pub customer_step : (ms : List (Member A)) (i : ℕ) (x : Member A) (old mid new : Gathering) →
       i < length ms → x ≡ get_or ms i x →
       AddsPayloads (AreCustomerAspas (members_list (members_view (take i ms)))) old mid →
       AddsOne (IsDatedCustomer x.0.now (value_view x.1)) mid new →
@@ -179,7 +174,7 @@ module _ {A : Type 0} where
       (customer_more _ ps _ p h
       (subst (λ (m : Member A). IsDatedCustomer m.0.now (value_view m.1) p) is k))) a b
 
-  pub customer_all : (ms : List (Member A)) (i : ℕ) (old new : List Item) → length ms ≤ i →
+  pub customer_all : (ms : List (Member A)) (i : ℕ) (old new : Gathering) → length ms ≤ i →
       AddsPayloads (AreCustomerAspas (members_list (members_view (take i ms)))) old new →
       AddsPayloads (AreCustomerAspas (members_list (members_view ms))) old new
   customer_all ms i old new large h =
@@ -187,7 +182,7 @@ module _ {A : Type 0} where
       (take_all i ms large) h
 
   pub each_step : (Each : List ℕ → Json → List Dated → Type 0) (ms : List (Member A)) (i : ℕ)
-      (x : Member A) (old mid new : List Item) → i < length ms → x ≡ get_or ms i x →
+      (x : Member A) (old mid new : Gathering) → i < length ms → x ≡ get_or ms i x →
       AddsPayloads (ArePayloadsOfEach Each (members_list (members_view (take i ms)))) old mid →
       AddsPayloads (Each x.0.now (value_view x.1)) mid new →
       AddsPayloads (ArePayloadsOfEach Each (members_list (members_view (take (i + 1) ms)))) old new
@@ -198,7 +193,7 @@ module _ {A : Type 0} where
       (subst (λ (m : Member A). Each m.0.now (value_view m.1) qs) is k))) a b
 
   pub each_all : (Each : List ℕ → Json → List Dated → Type 0) (ms : List (Member A)) (i : ℕ)
-      (old new : List Item) → length ms ≤ i →
+      (old new : Gathering) → length ms ≤ i →
       AddsPayloads (ArePayloadsOfEach Each (members_list (members_view (take i ms)))) old new →
       AddsPayloads (ArePayloadsOfEach Each (members_list (members_view ms))) old new
   each_all Each ms i old new large h =
@@ -207,17 +202,12 @@ module _ {A : Type 0} where
 
 -- an item more, by what its payload and its expiry mean; or memory ran out
 pub pushed : {T : Type 0} (r : Result T Refusal) (p : Payload) (e : Expiry)
-    (Means : Dated → Type 0) (Refuses : Reason → Type 0) (old new : List Item) → Means (p, e) →
+    (Means : Dated → Type 0) (Refuses : Reason → Type 0) (old new : Gathering) → Means (p, e) →
     MatchResult r (λ _. AddsOne (λ q. q ≡ (p, e)) old new) (λ x. x.reason ≡ Memory) →
     MatchResult r (λ _. AddsOne Means old new) (λ x. OrMemory Refuses x.reason)
 pushed (Ok t) p e Means Refuses old new m a =
     record { item = a.item; meant = subst Means (sym a.meant) m; added = a.added }
 pushed (Err x) p e Means Refuses old new m a = inl a
-
--- all items there are, where there was none
-pub from_none : (Holds : List Dated → Type 0) (items : List Item) →
-    AddsPayloads Holds [] items → Holds (payloads_of items)
-from_none Holds items h = subst (λ l. Holds (payloads_of l)) (sym h.added) h.payloads
 
 -- ---- what a value is that holds others
 
@@ -236,6 +226,13 @@ view-Number A s = search (rules, the_lemmas)
 pub number_seen : {A : Type 0} (j : Value A) (s : Bor (List ℕ)) → j ≡ Number s →
     value_view j ≡ number s.now
 number_seen {A} j s e = ap value_view e ∙ view-Number A s
+
+-- what is to be ignored has no payloads
+pub top_ignored : (ignored : List (List ℕ)) (name : List ℕ) (j : Json) →
+    is_one_of ignored name ≡ true → AreTopPayloads ignored name j []
+top_ignored ignored name j e =
+    subst (λ b. MatchBool b (◌≡◌ {A = List Dated} [] [])
+    (ArePayloadsBy (holding_named name) j [])) (sym e) refl
 
 -- what the validator says of itself has no payloads
 pub top_none : (ignored : List (List ℕ)) (name : List ℕ) (j : Json) →

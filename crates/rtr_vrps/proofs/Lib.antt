@@ -24,4 +24,5 @@ pub mod PartsSoFar
 pub mod ProviderSet
 pub mod QuotesSoFar
 pub mod Rows
+pub mod Takings
 pub mod WordsSoFar

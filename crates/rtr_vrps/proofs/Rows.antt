@@ -2,7 +2,7 @@
 use Rattle.std.proofs.Common.{◌≡◌, ◌≢◌, ℕ, ◌+◌, ◌<◌, ◌==◌, ◌&&◌, Bool, true}
 use Rattle.std.proofs.Common.{false, cond, List, [], ◌∷◌, ◌++◌}
 use Rattle.std.proofs.lemmas.Bool.{and_parts, eqb-true}
-use Rattle.std.proofs.lemmas.List.{length-append}
+use Rattle.std.proofs.lemmas.List.{append-nil, length-append}
 use Rattle.std.proofs.Common.{length, Option, Some, None, Err, refl, sym, ap, ◌∙◌, subst, arith}
 use Rattle.std.specs.List.{AllByRecursion}
 use Rattle.std.specs.Str.Parse.{ParsesUnsigned}
@@ -105,6 +105,12 @@ added false timed rows row old new e a h =
     subst (λ l. AreItemsOf timed (without_header (rows ++ row ∷ [])) l) (sym a.1)
     (subst (λ l. AreItemsOf timed l (old ++ a.0 ∷ [])) (sym (not_passed rows row e))
     (one_item timed (without_header rows) old row a.0 h a.2))
+
+-- the items that a row adds to none are those that it adds to others
+pub adds_after : (passed timed : Bool) (row : List (List ℕ)) (items more : List Item) →
+    AddsItem passed timed row [] more → AddsItem passed timed row items (items ++ more)
+adds_after true timed row items more h = ap (λ l. items ++ l) h ∙ append-nil items
+adds_after false timed row items more h = (h.0, ap (λ l. items ++ l) h.1, h.2)
 
 -- The rows so far, after which a text is in this state with this rest, and their items.
 pub record RowsSoFar (text : List ℕ) (count : ℕ) (timed : Bool) (items : List Item)

@@ -1,10 +1,8 @@
--- What holds of items of which some were gathered.
-use Rattle.std.proofs.Common.{◌≡◌, ℕ, ◌+◌, Bool, true, false, not, ◌&&◌, cond, List, [], ◌∷◌}
-use Rattle.std.proofs.Common.{◌++◌, map, length, Some, None, Err, refl, sym, ap}
-use Rattle.std.proofs.Common.{subst, ◌∙◌, arith, append_assoc, option_map, ◌<◌, ◌≤◌, drop, get_or}
-use Rattle.std.proofs.Common.{drop-cons, suc, min, ◌^◌, ◌-◌}
-use Rattle.std.proofs.Math.ListN.{drop_of_length-le}
-use Rattle.std.proofs.lemmas.List.{append-nil}
+-- What holds of items that are gathered one after the other.
+use Rattle.std.proofs.Common.{◌≡◌, ℕ, Bool, true, false, not, ◌&&◌, cond, List, [], ◌∷◌}
+use Rattle.std.proofs.Common.{◌++◌, map, length, Option, Some, None, refl, sym, ap}
+use Rattle.std.proofs.Common.{subst, ◌∙◌, append_assoc, option_map, min, ◌^◌, ◌-◌}
+use Rattle.std.proofs.lemmas.List.{append-nil, map-append}
 use Rattle.std.specs.BTreeSet.{replace_key}
 use Rattle.std.specs.List.{AllByRecursion}
 use Rattle.rtr_payload.specs.Payloads.{Payload}
@@ -13,11 +11,13 @@ use Rattle.rtr_data.specs.Data.{has, has_name, name_cmp}
 use Rattle.rtr_data.specs.Sequences.{IsInRange, IsSendable}
 use Rattle.rtr_vrps.specs.Gathering.{first_refused, refusal_after, refused_at, lacked}
 use Rattle.rtr_vrps.specs.Gathering.{item_payload, is_lacking, GathersAll, NamesFirst}
-use Rattle.rtr_vrps.specs.PrivateAdding.{AddsPayload, with_payload}
+use Rattle.rtr_vrps.specs.PrivateAdding.{with_payload}
+use Rattle.rtr_vrps.specs.Taking.{Held, HoldsLeft}
 use Rattle.rtr_vrps.specs.declared.item.Item.{Item}
 use Rattle.rtr_vrps.specs.declared.item.Reason.{Reason}
 use Rattle.rtr_vrps.specs.declared.item.Reason.TheVariants.{Version, OtherProviders, Change, Memory}
-use Rattle.rtr_vrps.proofs.HeldData.{Held, held_none, held_new, held_again}
+use Rattle.rtr_vrps.specs.declared.item.Refusal.{Refusal}
+use Rattle.rtr_vrps.proofs.HeldData.{held_none, held_new, held_again}
 
 -- what a payload is refused for depends on what came before by members and names alone
 same_refusal : (v : ℕ) (leaves_out : Bool) (d ps : List Payload) (p : Payload) → Held d ps →
@@ -44,61 +44,90 @@ held_more : (v : ℕ) (leaves_out : Bool) (d ps : List Payload) (p : Payload) �
 held_more v leaves_out d ps p h r k =
     held_at v d ps p h r (not leaves_out && is_lacking v p) (has d p) (has_name d p) refl refl k
 
--- The data has the payloads of those items that came before the rest.
-pub record SoFar (v : ℕ) (leaves_out : Bool) (items rest : List Item) (d : List Payload) : Type 0
-  where
-    pub before : List Payload
-    pub held : Held d before
-    pub parts : before ++ map item_payload rest ≡ map item_payload items
-    pub later : first_refused v leaves_out before rest ≡ first_refused v leaves_out [] items
+-- ---- the first that is refused
 
--- the first item of what is left
-pub next_item : (items : List Item) (i : ℕ) (x : Item) → i < length items →
-    x ≡ get_or items i x → drop i items ≡ x ∷ drop (i + 1) items
-next_item items i x h is =
-    let next : suc i ≡ i + 1 = omega arith in
-    drop-cons items i x h ∙ ap (λ y. y ∷ drop (suc i) items) (sym is)
-    ∙ ap (λ j. x ∷ drop j items) next
+-- of two lists the first that is refused
+abbrev first_of : Option Refusal → Option Refusal → Option Refusal
+first_of (Some r) later = Some r
+first_of None later = later
 
-pub none_left : (items : List Item) (i : ℕ) → length items ≤ i → drop i items ≡ []
-none_left items i h = drop_of_length-le items h
+refused_later : (x : Item) (o : Option Reason) (a b : Option Refusal) →
+    refused_at x o (first_of a b) ≡ first_of (refused_at x o a) b
+refused_later x (Some r) a b = refl
+refused_later x None a b = refl
 
-module _ (v : ℕ) (leaves_out : Bool) (items : List Item) where
-  pub starts : SoFar v leaves_out items items []
-  starts = record { before = []; held = held_none; parts = refl; later = refl }
+-- the first that is refused of items and one more
+refused_more : (v : ℕ) (leaves_out : Bool) (before : List Payload) (left : List Item) (x : Item) →
+    first_refused v leaves_out before (left ++ x ∷ [])
+    ≡ first_of (first_refused v leaves_out before left)
+    (refused_at x (refusal_after v leaves_out (before ++ map item_payload left) (item_payload x))
+    None)
+refused_more v leaves_out before [] x =
+    ap (λ l. refused_at x (refusal_after v leaves_out l (item_payload x)) None)
+    (sym (append-nil before))
+refused_more v leaves_out before (i ∷ left) x =
+    let p = item_payload i in
+    let o = refusal_after v leaves_out before p in
+    let next = before ++ p ∷ [] in
+    ap (refused_at i o) (refused_more v leaves_out next left x)
+    ∙ refused_later i o (first_refused v leaves_out next left) _
+    ∙ ap (λ l. first_of (refused_at i o (first_refused v leaves_out next left))
+    (refused_at x (refusal_after v leaves_out l (item_payload x)) None))
+    (append_assoc before (p ∷ []) (map item_payload left))
 
-  -- an item whose payload is added
-  pub adds : (x : Item) (rest : List Item) (d e : List Payload) →
-      IsInRange (item_payload x) → refusal_after v leaves_out d (item_payload x) ≡ None →
-      e ≡ with_payload (item_payload x) d →
-      SoFar v leaves_out items (x ∷ rest) d → SoFar v leaves_out items rest e
-  adds x rest d e range none made s =
-      let p = item_payload x in record {
-        before = s.before ++ p ∷ [];
-        held = subst (λ l. Held l (s.before ++ p ∷ [])) (sym made)
-            (held_more v leaves_out d s.before p s.held range none);
-        parts = append_assoc s.before (p ∷ []) (map item_payload rest) ∙ s.parts;
-        later = ap (λ r. refused_at x r (first_refused v leaves_out (s.before ++ p ∷ []) rest))
-            (sym none ∙ same_refusal v leaves_out d s.before p s.held) ∙ s.later;
-      }
+-- ---- what is held
 
-  -- an item that is refused
-  refused : (x : Item) (rest : List Item) (d : List Payload) (r : Reason) →
-      refusal_after v leaves_out d (item_payload x) ≡ Some r →
-      SoFar v leaves_out items (x ∷ rest) d →
-      first_refused v leaves_out [] items ≡ Some (record { place = x.place; reason = r })
-  refused x rest d r some s =
-      let p = item_payload x in
-      sym s.later
-      ∙ ap (λ o. refused_at x o (first_refused v leaves_out (s.before ++ p ∷ []) rest))
-      (sym (same_refusal v leaves_out d s.before p s.held) ∙ some)
+module _ (v : ℕ) (leaves_out : Bool) where
+  pub starts : HoldsLeft v leaves_out [] [] None
+  starts = (refl, held_none)
 
-  pub stops : (x : Item) (rest : List Item) (d e : List Payload) (r : Reason) →
-      AddsPayload {T = Unit {0}} v leaves_out (item_payload x) (Err r) d e →
-      SoFar v leaves_out items (x ∷ rest) d →
-      NamesFirst v leaves_out items (record { place = x.place; reason = r }) r
-  stops x rest d e Memory some s = tt
-  stops x rest d e other some s = refused x rest d other some s
+  -- one was refused before
+  pub before : (x : Item) (left : List Item) (d e : List Payload) (r : Refusal) →
+      HoldsLeft v leaves_out left d (Some r) →
+      HoldsLeft v leaves_out (left ++ x ∷ []) e (Some r)
+  before x left d e r h =
+      refused_more v leaves_out [] left x
+      ∙ ap (λ o. first_of o (refused_at x
+      (refusal_after v leaves_out (map item_payload left) (item_payload x)) None)) h
+
+  after : (x : Item) (left : List Item) (d : List Payload) (o : Option Reason) →
+      HoldsLeft v leaves_out left d None → refusal_after v leaves_out d (item_payload x) ≡ o →
+      first_refused v leaves_out [] (left ++ x ∷ []) ≡ refused_at x o None
+  after x left d o h e =
+      refused_more v leaves_out [] left x
+      ∙ ap (λ p. first_of p (refused_at x
+      (refusal_after v leaves_out (map item_payload left) (item_payload x)) None)) h.0
+      ∙ ap (λ p. refused_at x p None)
+      (sym (same_refusal v leaves_out d (map item_payload left) (item_payload x) h.1) ∙ e)
+
+  -- the payload of an item is added
+  pub adds : (x : Item) (left : List Item) (d e : List Payload) → IsInRange (item_payload x) →
+      refusal_after v leaves_out d (item_payload x) ≡ None → e ≡ with_payload (item_payload x) d →
+      HoldsLeft v leaves_out left d None → HoldsLeft v leaves_out (left ++ x ∷ []) e None
+  adds x left d e range none made h = (
+    after x left d None h none,
+    subst (λ l. Held e l) (sym (map-append item_payload left (x ∷ [])))
+        (subst (λ l. Held l (map item_payload left ++ item_payload x ∷ [])) (sym made)
+        (held_more v leaves_out d (map item_payload left) (item_payload x) h.1 range none)),
+  )
+
+  -- an item is the first that is refused
+  pub refuses : (x : Item) (left : List Item) (d e : List Payload) (r : Refusal) →
+      r ≡ record { place = x.place; reason = r.reason } →
+      refusal_after v leaves_out d (item_payload x) ≡ Some r.reason →
+      HoldsLeft v leaves_out left d None → HoldsLeft v leaves_out (left ++ x ∷ []) e (Some r)
+  refuses x left d e r is some h = after x left d (Some r.reason) h some ∙ ap Some (sym is)
+
+  -- ---- the end
+
+  names : (left : List Item) (r : Refusal) (why : Reason) →
+      first_refused v leaves_out [] left ≡ Some r → NamesFirst v leaves_out left r why
+  names left r Memory e = tt
+  names left r other e = e
+
+  pub ends_refused : (left : List Item) (d : List Payload) (r : Refusal) →
+      HoldsLeft v leaves_out left d (Some r) → NamesFirst v leaves_out left r r.reason
+  ends_refused left d r h = names left r r.reason h
 
   sendable : (d : List Payload) → AllByRecursion (λ p. IsInRange p) d → AreFit d →
       AllByRecursion (λ p. IsSendable p) d
@@ -106,16 +135,12 @@ module _ (v : ℕ) (leaves_out : Bool) (items : List Item) where
   sendable (p ∷ d) (g, h) (f, k) =
       (record { range = g.0; fit = f; bytes = g.1 }, sendable d h k)
 
-  pub ends : (d : List Payload) (n : ℕ) → AreFit d →
-      n ≡ min (length (lacked v d)) (2 ^ 64 - 1) → SoFar v leaves_out items [] d →
-      GathersAll v leaves_out items d n
-  ends d n fit number s =
-      let all = sym (append-nil s.before) ∙ s.parts in record {
-        payloads = record {
-          in_order = s.held.in_order;
-          members = λ p. s.held.members p ∙ ap (λ l. has l p) all;
-        };
-        none = sym s.later;
-        others = number;
-        sendable = sendable d s.held.ranges fit;
-      }
+  pub ends : (left : List Item) (d : List Payload) (n : ℕ) → AreFit d →
+      n ≡ min (length (lacked v d)) (2 ^ 64 - 1) → HoldsLeft v leaves_out left d None →
+      GathersAll v leaves_out left d n
+  ends left d n fit number h = record {
+    payloads = record { in_order = h.1.in_order; members = h.1.members };
+    none = h.0;
+    others = number;
+    sendable = sendable d h.1.ranges fit;
+  }

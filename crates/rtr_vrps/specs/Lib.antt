@@ -16,4 +16,6 @@ pub mod PrivateCsv
 pub mod PrivateExpiring
 pub mod PrivateJson
 pub mod PrivateReading
+pub mod PrivateTaking
 pub mod PrivateWords
+pub mod Taking

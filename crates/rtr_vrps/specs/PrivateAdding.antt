@@ -1,5 +1,6 @@
 -- What adding one payload leaves of data. Only contracts of private functions cite these.
-use Rattle.std.specs.Prelude.{◌≡◌, ⊤, ℕ, Bool, Some, None, List, Result, Ok, Err, if◌then◌else◌}
+use Rattle.std.specs.Prelude.{◌≡◌, ⊤, ℕ, Bool, true, false, Some, None, List, Result, Ok, Err}
+use Rattle.std.specs.Prelude.{if◌then◌else◌}
 use Rattle.std.specs.BTreeSet.{replace_key}
 use Rattle.rtr_payload.specs.Payloads.{Payload}
 use Rattle.rtr_data.specs.Data.{has, name_cmp}
@@ -10,6 +11,11 @@ use Rattle.rtr_vrps.specs.declared.item.Reason.TheVariants.{Memory}
 -- the payload is there, once
 abbrev pub with_payload : Payload → List Payload → List Payload
 with_payload p d = if has d p then d else replace_key name_cmp d p
+
+-- whether memory ran out
+abbrev pub is_memory : Reason → Bool
+is_memory Memory = true
+is_memory other = false
 
 -- it isn't refused and is there; or it is refused, or memory ran out
 abbrev pub AddsPayload :

@@ -6,6 +6,8 @@ use Rattle.csv.specs.declared.error.ErrorKind.{ErrorKind}
 use Rattle.csv.specs.declared.error.ErrorKind.TheVariants.{Utf8}
 use Rattle.rtr_vrps.specs.CsvItems.{IsItemOf}
 use Rattle.rtr_vrps.specs.CsvRows.{RefusesRow, is_header, names_expiry}
+use Rattle.rtr_vrps.specs.Taking.{TakesSome}
+use Rattle.rtr_vrps.specs.declared.gathering.Gathering.{Gathering}
 use Rattle.rtr_vrps.specs.declared.item.Item.{Item}
 use Rattle.rtr_vrps.specs.declared.item.Reason.{Reason}
 use Rattle.rtr_vrps.specs.declared.item.Reason.TheVariants.{NotText, Memory}
@@ -31,10 +33,10 @@ abbrev pub RefusesItem : Bool → List (List ℕ) → Reason → Type 0
 RefusesItem passed row Memory = ⊤
 RefusesItem passed row why = (passed ≡ false) × RefusesRow row why
 
-abbrev pub AddsRow : {T : Type 0} → (passed timed : Bool) → List (List ℕ) → Result T Refusal →
-    List Item → List Item → Type 0
-AddsRow passed timed row (Ok t) old new = AddsItem passed timed row old new
-AddsRow passed timed row (Err r) old new = RefusesItem passed row r.reason
+abbrev pub TakesRow : {T : Type 0} → (passed timed : Bool) → List (List ℕ) → Result T Refusal →
+    Gathering → Gathering → Type 0
+TakesRow passed timed row (Ok t) old new = TakesSome (AddsItem passed timed row []) old new
+TakesRow passed timed row (Err r) old new = RefusesItem passed row r.reason
 
 -- whether there is a column of times, after one row more: the first says it
 abbrev pub timed_after : (first timed : Bool) → List (List ℕ) → Bool

@@ -1,5 +1,5 @@
 -- What functions on parts of a document leave. Only contracts of private functions cite these.
-use Rattle.std.specs.Prelude.{◌≡◌, ◌≢◌, true, ℕ, ◌<◌, ◌==◌, List, [], ◌∷◌, ◌++◌, map, Option, Some}
+use Rattle.std.specs.Prelude.{◌≡◌, ◌≢◌, true, ℕ, ◌<◌, ◌==◌, List, [], ◌∷◌, map, Option, Some}
 use Rattle.std.specs.Prelude.{None, ◌⊎◌, if◌then◌else◌, length, Err}
 use Rattle.base64.specs.GeneralPurpose.{decode_of}
 use Rattle.base64.specs.declared.decode.DecodeError.{DecodeError}
@@ -10,6 +10,8 @@ use Rattle.rtr_base.specs.declared.parse.ParseKeyIdentifierError.{ParseKeyIdenti
 use Rattle.rtr_vrps.specs.JsonPayloads.{Dated, dated, values_of}
 use Rattle.rtr_vrps.specs.JsonRefusals.{IsNoBase64, has_base64_length}
 use Rattle.rtr_vrps.specs.JsonValues.{IsBase64}
+use Rattle.rtr_vrps.specs.Taking.{TakesItems}
+use Rattle.rtr_vrps.specs.declared.gathering.Gathering.{Gathering}
 use Rattle.rtr_vrps.specs.declared.item.Item.{Item}
 use Rattle.rtr_vrps.specs.declared.item.Reason.{Reason}
 use Rattle.rtr_vrps.specs.declared.item.Reason.TheVariants.{Base64, KeyIdentifier, Missing}
@@ -54,14 +56,14 @@ LacksPart p ms why = ((why ≡ Missing) × (values_of p ms ≡ [])) ⊎ IsTwice 
 abbrev pub payloads_of : List Item → List Dated
 payloads_of items = map dated items
 
--- items came, of which this holds
-pub record AddsPayloads (Holds : List Dated → Type 0) (old new : List Item) : Type 0 where
+-- items were taken, of which this holds
+pub record AddsPayloads (Holds : List Dated → Type 0) (old new : Gathering) : Type 0 where
   pub more : List Item
-  pub added : new ≡ old ++ more
+  pub added : TakesItems more old new
   pub payloads : Holds (payloads_of more)
 
--- one item came, whose payload and expiry mean this
-pub record AddsOne (Means : Dated → Type 0) (old new : List Item) : Type 0 where
+-- one item was taken, whose payload and expiry mean this
+pub record AddsOne (Means : Dated → Type 0) (old new : Gathering) : Type 0 where
   pub item : Item
   pub meant : Means (dated item)
-  pub added : new ≡ old ++ item ∷ []
+  pub added : TakesItems (item ∷ []) old new

@@ -6,8 +6,10 @@ ghost use Rattle.csv.specs.Records.{fields_of};
 ghost use Rattle.rtr_vrps.specs.CsvItems.{HasItems, IsCsvOf, RefusesCsv, RefusesRows};
 ghost use Rattle.rtr_vrps.specs.CsvRows.{ReadsMaxLength, ReadsRow, field, is_header, is_uri};
 ghost use Rattle.rtr_vrps.specs.CsvRows.{names_expiry, row_expiry};
-ghost use Rattle.rtr_vrps.specs.PrivateCsv.{AddsRow, reason_of, timed_after};
+ghost use Rattle.rtr_vrps.specs.PrivateCsv.{TakesRow, reason_of, timed_after};
+ghost use Rattle.rtr_vrps.specs.Taking.{TakesSome};
 
+use crate::gathering::Gathering;
 use crate::item::{Expiry, Item, Place, Reason, Refusal};
 use crate::json_values::expiry_of_number;
 use crate::quotes::{check_quotes, without_mark};
@@ -25,22 +27,29 @@ use std::alloc::Global;
 /// The first quote at fault decides, as `check_quotes` has it; else the first line that is
 /// something else, with the reasons `NotText`, `UriColumn`, `Asn`, `Prefix`, `MaxLength` and
 /// `MaxLengthRule`, in this order; `Memory` ends reading, too.
-pub fn read_csv<'a>(alloc: Global, text: &'a [u8]) -> Result<Vec<Item<'a>>, Refusal<'a>>
-    ensures items { IfOk result (λ v. IsCsvOf text.now v.items) }
+pub fn read_csv<'a>(
+    alloc: Global,
+    text: &'a [u8],
+    gathering: &mut Gathering<'a>,
+) -> Result<(), Refusal<'a>>
+    ensures items { IfOk result (λ _. TakesSome (IsCsvOf text.now) gathering.old gathering.new) }
     ensures refused { IfErr result (λ r. RefusesCsv text.now r.reason) }
 {
     match check_quotes(text) {
-        Ok(()) => read_rows(alloc, text),
+        Ok(()) => read_rows(alloc, text, gathering),
         Err(refusal) => Err(refusal),
     }
 }
 
 /// Reads the rows of a text whose quotes stand where they may.
-fn read_rows<'a>(alloc: Global, text: &'a [u8]) -> Result<Vec<Item<'a>>, Refusal<'a>>
-    ensures items { IfOk result (λ v. HasItems text.now v.items) }
+fn read_rows<'a>(
+    alloc: Global,
+    text: &'a [u8],
+    gathering: &mut Gathering<'a>,
+) -> Result<(), Refusal<'a>>
+    ensures items { IfOk result (λ _. TakesSome (HasItems text.now) gathering.old gathering.new) }
     ensures refused { IfErr result (λ r. RefusesRows text.now r.reason) }
 {
-    let mut items = Vec::new(alloc);
     let mut reader = ReaderBuilder::new()
         .has_headers(false)
         .flexible(true)
@@ -51,12 +60,12 @@ fn read_rows<'a>(alloc: Global, text: &'a [u8]) -> Result<Vec<Item<'a>>, Refusal
         match reader.read_record(&mut row) {
             Ok(true) => {
                 timed = timed_after(count == 0, timed, &row);
-                match add_row(count == 0, timed, text, &row, &mut items) {
+                match take_row(count == 0, timed, text, &row, gathering) {
                     Ok(()) => {}
                     Err(refusal) => return Err(refusal),
                 }
             }
-            Ok(false) => return Ok(items),
+            Ok(false) => return Ok(()),
             Err(error) => return Err(refusal(text, &error)),
         }
     }
@@ -74,24 +83,24 @@ fn timed_after(first: bool, timed: bool, row: &StringRecord) -> bool
     }
 }
 
-/// Adds the origin that a row is, with its time where there is a column of times. The first row may
-/// name the columns, and is then passed over.
-fn add_row<'a>(
+/// Takes the origin that a row is, with its time where there is a column of times. The first row
+/// may name the columns, and is then passed over.
+fn take_row<'a>(
     first: bool,
     timed: bool,
     text: &[u8],
     row: &StringRecord,
-    items: &mut Vec<Item<'a>>,
+    gathering: &mut Gathering<'a>,
 ) -> Result<(), Refusal<'a>>
-    ensures { AddsRow (first && is_header (fields_of row.now)) timed (fields_of row.now) result
-        items.old.items items.new.items }
+    ensures { TakesRow (first && is_header (fields_of row.now)) timed (fields_of row.now) result
+        gathering.old gathering.new }
 {
     if first && is_header(row) {
         return Ok(());
     }
     let place = Place::Line(line_of(text, row));
     match origin(row) {
-        Ok(payload) => match items.push(item(place, payload, expiry(timed, row))) {
+        Ok(payload) => match gathering.take(item(place, payload, expiry(timed, row))) {
             Ok(()) => Ok(()),
             Err(_) => Err(out_of_memory()),
         },

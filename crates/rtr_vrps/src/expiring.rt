@@ -1,9 +1,9 @@
-//! Leaving out what has expired.
+//! What has expired of items that come one after the other.
 
-ghost use Rattle.std.specs.Prelude.{◌≡◌, None, Some, MatchResult};
-ghost use Rattle.rtr_vrps.specs.Expiries.{IsNextExpiry, LeavesAsked, LeavesOut, expiry_fault};
-ghost use Rattle.rtr_vrps.specs.Expiries.{first_expiry_fault, lasts, times_of};
-ghost use Rattle.rtr_vrps.specs.PrivateExpiring.{sooner};
+ghost use Rattle.std.specs.Prelude.{◌≡◌, MatchResult};
+ghost use Rattle.rtr_vrps.specs.Expiries.{expiry_fault, lasts};
+ghost use Rattle.rtr_vrps.specs.PrivateExpiring.{AreNewTimes, LooksAtTime, sooner};
+ghost use Rattle.rtr_vrps.specs.Taking.{times_answer};
 
 use crate::item::{Expiry, Item, Place, Reason, Refusal};
 use crate::json_names::Part;
@@ -17,54 +17,76 @@ pub struct Expired {
     pub next: Option<u64>,
 }
 
-/// Leaves out the items that have expired at the time that is asked for, if one is, as `leave_out`
-/// does.
-pub fn leave_out_asked<'a>(
+/// The times of items that were looked at.
+#[derive(Drop)]
+pub(crate) struct Times<'a> {
+    /// The time that is asked for, if one is.
     asked: Option<u64>,
-    items: &mut Vec<Item<'a>>,
-) -> Result<Option<Expired>, Refusal<'a>>
-    ensures { LeavesAsked asked items.old.items items.new.items result }
-{
-    let Some(now) = asked else {
-        return Ok(None);
-    };
-    match leave_out(now, items) {
-        Ok(expired) => Ok(Some(expired)),
-        Err(refusal) => Err(refusal),
-    }
+    /// How many items had expired at it.
+    left_out: usize,
+    /// When the next of the others expires, if one does.
+    next: Option<u64>,
+    /// The first item whose expiry has no meaning.
+    refused: Option<Refusal<'a>>,
 }
 
-/// Leaves out the items that have expired at this time: those that expire at it or before it.
-///
-/// The first item whose expiry is no number of seconds, or is given twice, is refused, with `Time`
-/// or `Twice`. Then all items stay.
-pub fn leave_out<'a>(now: u64, items: &mut Vec<Item<'a>>) -> Result<Expired, Refusal<'a>>
-    ensures { LeavesOut now items.old.items items.new.items result }
-{
-    match check_times(items) {
-        Ok(()) => {}
-        Err(refusal) => return Err(refusal),
-    }
-    let before = items.len();
-    items.retain(|item| lasts(now, item.expiry));
-    Ok(Expired {
-        left_out: before - items.len(),
-        next: next_time(items),
-    })
-}
-
-/// Refuses the first item whose expiry has no meaning.
-fn check_times<'a>(items: &[Item<'a>]) -> Result<(), Refusal<'a>>
-    ensures { MatchResult result (λ _. first_expiry_fault items.now ≡ None)
-        (λ r. first_expiry_fault items.now ≡ Some r.reason) }
-{
-    for item in items {
-        if let Some(reason) = expiry_fault(item.expiry) {
-            let place = time_place(item.place);
-            return Err(Refusal { place, reason });
+impl<'a> Times<'a> {
+    /// Those of no items, to be looked at for this time.
+    pub(crate) fn new(asked: Option<u64>) -> Times<'a>
+        ensures { AreNewTimes asked result }
+    {
+        Times {
+            asked,
+            left_out: 0,
+            next: None,
+            refused: None,
         }
     }
-    Ok(())
+
+    /// Looks at one item more, and answers whether it stays: one that expires at the time that is
+    /// asked for, or before it, doesn't. Fails where there are more than can be counted.
+    ///
+    /// An item whose expiry is no number of seconds, or is given twice, is refused, with `Time` or
+    /// `Twice`. Then no other is looked at.
+    pub(crate) fn look(&mut self, item: &Item<'a>) -> Result<bool, Reason>
+        ensures { MatchResult result (λ stays. LooksAtTime item.now stays self.old self.new)
+            (λ r. r ≡ Reason.Memory) }
+    {
+        let Some(now) = self.asked else {
+            return Ok(true);
+        };
+        if self.refused.is_some() {
+            return Ok(false);
+        }
+        if let Some(reason) = expiry_fault(item.expiry) {
+            let place = time_place(item.place);
+            self.refused = Some(Refusal { place, reason });
+            return Ok(false);
+        }
+        if lasts(now, item.expiry) {
+            self.next = sooner(self.next, item.expiry);
+            return Ok(true);
+        }
+        match self.left_out.checked_add(1) {
+            Some(left_out) => self.left_out = left_out,
+            None => return Err(Reason::Memory),
+        }
+        Ok(false)
+    }
+
+    /// What has expired of the items, where a time is asked for, or the first that is refused.
+    pub(crate) fn answer(self) -> Result<Option<Expired>, Refusal<'a>>
+        ensures { result ≡ times_answer self.entry }
+    {
+        match (self.refused, self.asked) {
+            (Some(refusal), _) => Err(refusal),
+            (None, None) => Ok(None),
+            (None, Some(_)) => Ok(Some(Expired {
+                left_out: self.left_out,
+                next: self.next,
+            })),
+        }
+    }
 }
 
 /// What is wrong with an expiry, if something is.
@@ -94,17 +116,6 @@ fn lasts(now: u64, expiry: Expiry) -> bool
         Expiry::At(time) => now < time,
         Expiry::Never | Expiry::Invalid | Expiry::Twice => true,
     }
-}
-
-/// When the first of the items expires, if one does.
-fn next_time(items: &[Item<'_>]) -> Option<u64>
-    ensures { IsNextExpiry result (times_of items.now) }
-{
-    let mut next: Option<u64> = None;
-    for item in items {
-        next = sooner(next, item.expiry);
-    }
-    next
 }
 
 /// The earlier of a time and that of an expiry.

@@ -1,14 +1,18 @@
-//! The payloads of items as data: each once, in their order.
+//! The payloads of items that come one after the other as data: each once, in their order.
 
-ghost use Rattle.std.specs.Prelude.{◌≡◌, ◌^◌, ◌+◌, ◌-◌, length, min, nat_eq, if◌then◌else◌};
+ghost use Rattle.std.specs.Prelude.{◌≡◌, ◌∷◌, [], ◌^◌, ◌+◌, ◌-◌, MatchResult, length, min, nat_eq};
+ghost use Rattle.std.specs.Prelude.{if◌then◌else◌};
 ghost use Rattle.rtr_base.specs.Bytes.{IsBytes};
 ghost use Rattle.rtr_payload.specs.Meanings.{origin_of, payload_of};
 ghost use Rattle.rtr_data.specs.Contents.{AreFit};
 ghost use Rattle.rtr_data.specs.Deltas.{data_for};
 ghost use Rattle.rtr_data.specs.Sequences.{HasBytes, IsInRange};
-ghost use Rattle.rtr_vrps.specs.Gathering.{Gathers, is_lacking, lacked};
-ghost use Rattle.rtr_vrps.specs.PrivateAdding.{AddsPayload};
+ghost use Rattle.rtr_vrps.specs.Gathering.{is_lacking, lacked};
+ghost use Rattle.rtr_vrps.specs.PrivateAdding.{AddsPayload, is_memory};
+ghost use Rattle.rtr_vrps.specs.PrivateTaking.{EndsGathering, GathersOne};
+ghost use Rattle.rtr_vrps.specs.Taking.{EndsTaking, HasTaken, IsFor, TakesItems};
 
+use crate::expiring::{Expired, Times};
 use crate::item::{Item, Reason, Refusal};
 use rtr_data::{ChangeError, Data};
 use rtr_payload::payload::laws::in_range;
@@ -24,31 +28,116 @@ pub struct Gathered {
     pub left_out: usize,
 }
 
-/// Gathers the payloads of the items. One that this version lacks is refused, unless such payloads
-/// are to be left out: then they are counted. A payload that comes again is the same payload.
-///
-/// The first item that is refused decides, with the reason `Version`, `OtherProviders`, or `Change`
-/// with `KeyTooLong` or `NoProviders`, whether the version has it or not; `Memory` ends it, too.
-pub fn gather<'a>(
-    alloc: Global,
+/// What is left of items at the time that is asked for.
+#[derive(Drop)]
+pub struct Left<'a> {
+    /// What has expired of them, where a time is asked for.
+    pub expired: Option<Expired>,
+    /// The payloads of the others, or the first item that is refused.
+    pub gathered: Result<Gathered, Refusal<'a>>,
+}
+
+/// Items that were taken one after the other. It keeps their payloads, each once, and no item.
+#[derive(Drop)]
+pub struct Gathering<'a> {
+    /// The version of the protocol.
     version: u8,
+    /// Whether payloads that it lacks are left out.
     leaves_out: bool,
-    items: &[Item<'a>],
-) -> Result<Gathered, Refusal<'a>>
-    ensures { Gathers version leaves_out items.now result }
-{
-    let mut payloads = Data::new(alloc);
-    for item in items {
-        match add(version, leaves_out, &mut payloads, &item.payload) {
-            Ok(()) => {}
-            Err(reason) => {
-                let place = item.place;
-                return Err(Refusal { place, reason });
-            }
+    /// What has expired.
+    times: Times<'a>,
+    /// The payloads of the others.
+    payloads: Data,
+    /// The first of the others that is refused.
+    refused: Option<Refusal<'a>>,
+}
+
+impl<'a> Gathering<'a> {
+    /// Gathers items for this version. If a time is asked for, those are left out that have expired
+    /// at it.
+    pub fn new(alloc: Global, version: u8, leaves_out: bool, asked: Option<u64>) -> Gathering<'a>
+        ensures settings { IsFor version leaves_out asked result }
+        ensures none { HasTaken [] result }
+    {
+        Gathering {
+            version,
+            leaves_out,
+            times: Times::new(asked),
+            payloads: Data::new(alloc),
+            refused: None,
         }
     }
-    let left_out = count_lacking(version, &payloads);
-    Ok(Gathered { payloads, left_out })
+
+    /// Takes one item more. `finish` says whether one was refused. Fails only with `Memory`.
+    pub fn take(&mut self, item: Item<'a>) -> Result<(), Reason>
+        ensures { MatchResult result (λ _. TakesItems (item.entry ∷ []) self.old self.new)
+            (λ r. r ≡ Reason.Memory) }
+    {
+        match self.times.look(&item) {
+            Ok(true) => self.gather(item),
+            Ok(false) => Ok(()),
+            Err(reason) => Err(reason),
+        }
+    }
+
+    /// Gathers the payload of an item that stays, unless one was refused before.
+    fn gather(&mut self, item: Item<'a>) -> Result<(), Reason>
+        ensures { MatchResult result (λ _. GathersOne item.entry self.old self.new)
+            (λ r. r ≡ Reason.Memory) }
+    {
+        if self.refused.is_some() {
+            return Ok(());
+        }
+        let place = item.place;
+        if let Err(reason) = add(
+            self.version,
+            self.leaves_out,
+            &mut self.payloads,
+            item.payload,
+        ) {
+            if is_memory(&reason) {
+                return Err(Reason::Memory);
+            }
+            self.refused = Some(Refusal { place, reason });
+        }
+        Ok(())
+    }
+
+    /// What is left of the items that were taken. The first item whose expiry has no meaning is
+    /// refused, with `Time` or `Twice`, if a time is asked for.
+    ///
+    /// Of those that are left, a payload that comes again is the same payload. One that the version
+    /// lacks is refused, unless such payloads are to be left out: then they are counted. The first
+    /// item that is refused decides, with the reason `Version`, `OtherProviders`, or `Change` with
+    /// `KeyTooLong` or `NoProviders`, whether the version has it or not.
+    pub fn finish(self) -> Result<Left<'a>, Refusal<'a>>
+        ensures { EndsTaking self.entry result }
+    {
+        match self.times.answer() {
+            Ok(expired) => Ok(Left {
+                expired,
+                gathered: all_gathered(self.version, self.payloads, self.refused),
+            }),
+            Err(refusal) => Err(refusal),
+        }
+    }
+}
+
+/// The payloads that were gathered for this version, unless an item was refused.
+fn all_gathered<'a>(
+    version: u8,
+    payloads: Data,
+    refused: Option<Refusal<'a>>,
+) -> Result<Gathered, Refusal<'a>>
+    ensures { EndsGathering version payloads refused.entry result }
+{
+    match refused {
+        Some(refusal) => Err(refusal),
+        None => {
+            let left_out = count_lacking(version, &payloads);
+            Ok(Gathered { payloads, left_out })
+        }
+    }
 }
 
 /// How many of the payloads the version lacks, or 2^64 - 1 where there are more.
@@ -98,34 +187,39 @@ fn lacks(version: u8, payload: &Payload) -> bool
 }
 
 /// Adds a payload, unless it is there.
-fn add(version: u8, leaves_out: bool, payloads: &mut Data, payload: &Payload) -> Result<(), Reason>
-    ensures adds { AddsPayload version leaves_out (payload_of payload.now) result
+fn add(version: u8, leaves_out: bool, payloads: &mut Data, payload: Payload) -> Result<(), Reason>
+    ensures adds { AddsPayload version leaves_out (payload_of payload) result
         payloads.old payloads.new }
-    ensures range { IsInRange (payload_of payload.now) }
+    ensures range { IsInRange (payload_of payload) }
 {
-    let lent = payload.as_ref();
-    in_range(&lent);
-    has_bytes(payload);
-    if !leaves_out && lacks(version, payload) {
+    in_range(&payload.as_ref());
+    has_bytes(&payload);
+    if !leaves_out && lacks(version, &payload) {
         return Err(Reason::Version(version));
     }
-    if let Payload::Origin(origin) = payload {
+    if let Payload::Origin(origin) = &payload {
         return add_origin(version, leaves_out, *origin, payloads);
     }
-    if payloads.contains(&lent) {
+    if payloads.contains(&payload.as_ref()) {
         return Ok(());
     }
-    if payloads.contains_name(&lent) {
+    if payloads.contains_name(&payload.as_ref()) {
         return Err(Reason::OtherProviders);
     }
-    let payload = match payload.clone() {
-        Ok(payload) => payload,
-        Err(_) => return Err(Reason::Memory),
-    };
     match payloads.announce(payload) {
         Ok(()) => Ok(()),
         Err(ChangeError::Memory) => Err(Reason::Memory),
         Err(error) => Err(Reason::Change(error)),
+    }
+}
+
+/// Whether memory ran out.
+fn is_memory(reason: &Reason) -> bool
+    ensures { result ≡ is_memory reason.now }
+{
+    match reason {
+        Reason::Memory => true,
+        _ => false,
     }
 }
 

@@ -27,7 +27,9 @@ ghost use Rattle.rtr_vrps.specs.PrivateReading.{AreItems, AreMembers, IfItems, I
 ghost use Rattle.rtr_vrps.specs.PrivateReading.{IfSoleValue, IsNoObject, IsSoleValue, IsValue};
 ghost use Rattle.rtr_vrps.specs.PrivateReading.{TellsFound, is_begin_array, is_begin_object};
 ghost use Rattle.rtr_vrps.specs.PrivateReading.{is_null};
+ghost use Rattle.rtr_vrps.specs.Taking.{TakesSome};
 
+use crate::gathering::Gathering;
 use crate::item::{Expiry, Item, Place, Reason, Refusal};
 use crate::json_looks::has_payloads;
 use crate::json_names::{Holding, Kind, family_named, holding_named};
@@ -39,7 +41,7 @@ use json::{Error, MAX_DEPTH, Reader, Scratch, Token, Value, is_valid};
 use rtr_payload::payload::Payload;
 use std::alloc::Global;
 
-/// Reads the payloads of an object in JSON, under the names that validators give them, without
+/// Takes the payloads of an object in JSON, under the names that validators give them, without
 /// regard to case, `_` and `-`:
 /// - origins under `roas`, each with `prefix`, `maxLength`, if it has one, and `asn`;
 /// - router keys under `bgpsec_keys` and `router-keys`, each with `asn`, `ski`, and `pubkey`,
@@ -59,9 +61,11 @@ pub fn read_json<'a>(
     text: &'a [u8],
     words: &[String],
     scratch: &'a mut Scratch,
-) -> Result<Vec<Item<'a>>, Refusal<'a>>
+    gathering: &mut Gathering<'a>,
+) -> Result<(), Refusal<'a>>
     ensures { MatchResult result
-        (λ v. IsJsonOf (ignored_by_words words.now) text.now v.items)
+        (λ _. TakesSome (IsJsonOf (ignored_by_words words.now) text.now)
+        gathering.old gathering.new)
         (λ r. OrMemory (RefusesJson (ignored_by_words words.now) text.now) r.reason) }
 {
     let rest = without_mark(text);
@@ -71,8 +75,8 @@ pub fn read_json<'a>(
     let Ok(mut reader) = Reader::new(rest, scratch) else {
         return Err(refusal(Place::Input, Reason::Memory));
     };
-    match read_document(alloc, words, &mut reader) {
-        Ok(items) => Ok(items),
+    match read_document(alloc, words, &mut reader, gathering) {
+        Ok(()) => Ok(()),
         Err(found) => Err(told(alloc, text.len(), rest, found)),
     }
 }
@@ -140,39 +144,40 @@ fn is_too_deep(alloc: Global, text: &str) -> Option<bool> {
     Some(false)
 }
 
-/// The items of the object that the document has to be. What stands after a refusal isn't read.
+/// Takes the items of the object that the document has to be. What stands after a refusal isn't
+/// read.
 fn read_document<'a>(
     alloc: Global,
     words: &[String],
     reader: &mut Reader<'a>,
-) -> Result<Vec<Item<'a>>, Refusal<'a>>
+    gathering: &mut Gathering<'a>,
+) -> Result<(), Refusal<'a>>
     ensures { MatchResult result
-        (λ v. IsSoleValue reader.old (λ j. HasItemsOf (ignored_by_words words.now) j v.items))
+        (λ _. IsSoleValue reader.old (λ j.
+        TakesSome (HasItemsOf (ignored_by_words words.now) j) gathering.old gathering.new))
         (λ r. IfSoleValue reader.old (λ j. OrMemory (RefusesValue (ignored_by_words words.now) j)
         r.reason)) }
 {
     if !begins_object(reader) {
         return Err(refusal(Place::Input, Reason::NotObject));
     }
-    let mut items = Vec::new(alloc);
-    let has_array = match read_members(alloc, words, reader, &mut items) {
+    let has_array = match read_members(alloc, words, reader, gathering) {
         Ok(has_array) => has_array,
         Err(refusal) => return Err(refusal),
     };
     match reader.next() {
         Some(_) => Err(refusal(Place::Input, Reason::NotJson)),
-        None => items_found(has_array, items),
+        None => check_found(has_array),
     }
 }
 
-/// The items, unless there was no array of payloads.
-fn items_found(has_array: bool, items: Vec<Item<'_>>) -> Result<Vec<Item<'_>>, Refusal<'_>>
-    ensures { MatchResult result
-        (λ v. (has_array ≡ true) × (v.items ≡ items.entry.items))
+/// Refuses a document without an array of payloads.
+fn check_found<'a>(has_array: bool) -> Result<(), Refusal<'a>>
+    ensures { MatchResult result (λ _. has_array ≡ true)
         (λ r. (has_array ≡ false) × (r.reason ≡ Reason.NoArray)) }
 {
     if has_array {
-        Ok(items)
+        Ok(())
     } else {
         Err(refusal(Place::Input, Reason::NoArray))
     }
@@ -204,12 +209,12 @@ fn read_members<'a>(
     alloc: Global,
     words: &[String],
     reader: &mut Reader<'a>,
-    items: &mut Vec<Item<'a>>,
+    gathering: &mut Gathering<'a>,
 ) -> Result<bool, Refusal<'a>>
     ensures { MatchResult result
         (λ has. AreMembers reader.old reader.new (λ ms.
         AddsPayloads (ArePayloadsOfEach (AreTopPayloads (ignored_by_words words.now)) ms)
-        items.old.items items.new.items
+        gathering.old gathering.new
         × (has ≡ list_any (λ m. is_array (ignored_by_words words.now) m.0) ms)))
         (λ r. IfMembers reader.old (λ ms.
         OrMemory (RefusesFirst (HasTopPayloads (ignored_by_words words.now))
@@ -222,7 +227,7 @@ fn read_members<'a>(
             Ok(None) => return Ok(has_array),
             Err(_) => return Err(refusal(Place::Input, Reason::NotJson)),
         };
-        match read_member(alloc, words, name, reader, items) {
+        match read_member(alloc, words, name, reader, gathering) {
             Ok(()) => {}
             Err(refusal) => return Err(refusal),
         }
@@ -237,20 +242,20 @@ fn read_member<'a>(
     words: &[String],
     name: &'a str,
     reader: &mut Reader<'a>,
-    items: &mut Vec<Item<'a>>,
+    gathering: &mut Gathering<'a>,
 ) -> Result<(), Refusal<'a>>
     ensures { MatchResult result
         (λ _. IsValue 127 reader.old reader.new (λ j.
         AddsPayloads (AreTopPayloads (ignored_by_words words.now) name.now j)
-        items.old.items items.new.items))
+        gathering.old gathering.new))
         (λ r. IfValue 127 reader.old (λ j.
         OrMemory (RefusesTop (ignored_by_words words.now) (name.now, j)) r.reason)) }
 {
     match listed_kind(words, name) {
-        Some(kind) => read_payloads(alloc, name, kind, reader, items),
+        Some(kind) => read_payloads(alloc, name, kind, reader, gathering),
         None => {
             let value = read_value(alloc, reader, MAX_DEPTH - 1)?;
-            add_member(alloc, words, name, &value, items)
+            add_member(alloc, words, name, &value, gathering)
         }
     }
 }
@@ -279,12 +284,12 @@ fn read_payloads<'a>(
     array: &'a str,
     kind: Kind,
     reader: &mut Reader<'a>,
-    items: &mut Vec<Item<'a>>,
+    gathering: &mut Gathering<'a>,
 ) -> Result<(), Refusal<'a>>
     requires { kind ≢ Kind.Aspas }
     ensures { MatchResult result
         (λ _. IsValue 127 reader.old reader.new (λ j.
-        AddsPayloads (ArePayloadsIn kind j) items.old.items items.new.items))
+        AddsPayloads (ArePayloadsIn kind j) gathering.old gathering.new))
         (λ r. IfValue 127 reader.old (λ j. OrMemory (RefusesPayloads kind j) r.reason)) }
 {
     let token = match reader.next() {
@@ -292,7 +297,7 @@ fn read_payloads<'a>(
         None => return Err(refusal(Place::Input, Reason::NotJson)),
     };
     if is_begin_array(token) {
-        return read_list(alloc, array, kind, reader, items);
+        return read_list(alloc, array, kind, reader, gathering);
     }
     if is_null(token) {
         return Ok(());
@@ -325,17 +330,17 @@ fn read_list<'a>(
     array: &'a str,
     kind: Kind,
     reader: &mut Reader<'a>,
-    items: &mut Vec<Item<'a>>,
+    gathering: &mut Gathering<'a>,
 ) -> Result<(), Refusal<'a>>
     ensures { MatchResult result
         (λ _. AreItems reader.old reader.new (λ js.
-        AddsPayloads (AreItemPayloads kind js) items.old.items items.new.items))
+        AddsPayloads (AreItemPayloads kind js) gathering.old gathering.new))
         (λ r. IfItems reader.old (λ js.
         OrMemory (RefusesFirst (IsSomeItem kind) (RefusesArrayItem kind) js) r.reason)) }
 {
     let mut spot = Spot { array, index: 0 };
     while !reader.take_end_array() {
-        match read_item(alloc, spot, kind, reader, items) {
+        match read_item(alloc, spot, kind, reader, gathering) {
             Ok(()) => {}
             Err(refusal) => return Err(refusal),
         }
@@ -350,15 +355,15 @@ fn read_item<'a>(
     spot: Spot<'a>,
     kind: Kind,
     reader: &mut Reader<'a>,
-    items: &mut Vec<Item<'a>>,
+    gathering: &mut Gathering<'a>,
 ) -> Result<(), Refusal<'a>>
     ensures { MatchResult result
         (λ _. IsValue 126 reader.old reader.new (λ j.
-        AddsOne (IsDatedItem kind j) items.old.items items.new.items))
+        AddsOne (IsDatedItem kind j) gathering.old gathering.new))
         (λ r. IfValue 126 reader.old (λ j. OrMemory (RefusesArrayItem kind j) r.reason)) }
 {
     let item = read_value(alloc, reader, MAX_DEPTH - 2)?;
-    add_item(alloc, spot, kind, &item, items)
+    add_item(alloc, spot, kind, &item, gathering)
 }
 
 /// The next value. Arrays and objects may nest this deep.
@@ -400,12 +405,12 @@ fn add_member<'a>(
     words: &[String],
     name: &'a str,
     value: &Value<'a>,
-    items: &mut Vec<Item<'a>>,
+    gathering: &mut Gathering<'a>,
 ) -> Result<(), Refusal<'a>>
     ensures { MatchResult result
         (λ _. AddsPayloads
         (AreTopPayloads (ignored_by_words words.now) name.now (value_view value.now))
-        items.old.items items.new.items)
+        gathering.old gathering.new)
         (λ r. OrMemory (RefusesTop (ignored_by_words words.now)
         (name.now, value_view value.now)) r.reason) }
 {
@@ -413,8 +418,8 @@ fn add_member<'a>(
         return Ok(());
     }
     match holding_named(name) {
-        Some(Holding::Payloads(kind)) => add_payloads(alloc, name, kind, value, items),
-        Some(Holding::Authorizations) => add_authorizations(alloc, name, value, items),
+        Some(Holding::Payloads(kind)) => add_payloads(alloc, name, kind, value, gathering),
+        Some(Holding::Authorizations) => add_authorizations(alloc, name, value, gathering),
         Some(Holding::Metadata) => Ok(()),
         None => check_unknown(Place::Unknown(name), value),
     }
@@ -436,15 +441,15 @@ fn add_authorizations<'a>(
     alloc: Global,
     array: &'a str,
     value: &Value<'a>,
-    items: &mut Vec<Item<'a>>,
+    gathering: &mut Gathering<'a>,
 ) -> Result<(), Refusal<'a>>
     ensures { MatchResult result
         (λ _. AddsPayloads (AreAuthorizations (value_view value.now))
-        items.old.items items.new.items)
+        gathering.old gathering.new)
         (λ r. OrMemory (RefusesAuthorizations (value_view value.now)) r.reason) }
 {
     match value {
-        Value::Object(members) => add_families(alloc, array, members, items),
+        Value::Object(members) => add_families(alloc, array, members, gathering),
         _ => Err(refusal(Place::Array(array), Reason::NotObject)),
     }
 }
@@ -453,17 +458,17 @@ fn add_families<'a>(
     alloc: Global,
     array: &'a str,
     members: &[(&'a str, Value<'a>)],
-    items: &mut Vec<Item<'a>>,
+    gathering: &mut Gathering<'a>,
 ) -> Result<(), Refusal<'a>>
     ensures { MatchResult result
         (λ _. AddsPayloads
         (ArePayloadsOfEach AreFamilyPayloads (members_list (members_view members.now)))
-        items.old.items items.new.items)
+        gathering.old gathering.new)
         (λ r. OrMemory (RefusesFirst HasFamilyPayloads RefusesFamily
         (members_list (members_view members.now))) r.reason) }
 {
     for member in members {
-        match add_family(alloc, array, member.0, &member.1, items) {
+        match add_family(alloc, array, member.0, &member.1, gathering) {
             Ok(()) => {}
             Err(refusal) => return Err(refusal),
         }
@@ -477,15 +482,15 @@ fn add_family<'a>(
     array: &'a str,
     name: &'a str,
     value: &Value<'a>,
-    items: &mut Vec<Item<'a>>,
+    gathering: &mut Gathering<'a>,
 ) -> Result<(), Refusal<'a>>
     ensures { MatchResult result
         (λ _. AddsPayloads (AreFamilyPayloads name.now (value_view value.now))
-        items.old.items items.new.items)
+        gathering.old gathering.new)
         (λ r. OrMemory (RefusesFamily (name.now, value_view value.now)) r.reason) }
 {
     match family_named(name) {
-        Some(family) => add_payloads(alloc, family, Kind::Aspas, value, items),
+        Some(family) => add_payloads(alloc, family, Kind::Aspas, value, gathering),
         None => check_unknown(Place::Entry(array, name), value),
     }
 }
@@ -497,17 +502,17 @@ fn add_payloads<'a>(
     array: &'a str,
     kind: Kind,
     value: &Value<'a>,
-    items: &mut Vec<Item<'a>>,
+    gathering: &mut Gathering<'a>,
 ) -> Result<(), Refusal<'a>>
     ensures { MatchResult result
         (λ _. AddsPayloads (ArePayloadsIn kind (value_view value.now))
-        items.old.items items.new.items)
+        gathering.old gathering.new)
         (λ r. OrMemory (RefusesPayloads kind (value_view value.now)) r.reason) }
 {
     match (kind, value) {
         (_, Value::Null) => Ok(()),
-        (_, Value::Array(list)) => add_list(alloc, array, kind, list, items),
-        (Kind::Aspas, Value::Object(members)) => add_customers(alloc, array, members, items),
+        (_, Value::Array(list)) => add_list(alloc, array, kind, list, gathering),
+        (Kind::Aspas, Value::Object(members)) => add_customers(alloc, array, members, gathering),
         _ => Err(refusal(Place::Array(array), Reason::NotArray)),
     }
 }
@@ -518,17 +523,17 @@ fn add_list<'a>(
     array: &'a str,
     kind: Kind,
     list: &[Value<'a>],
-    items: &mut Vec<Item<'a>>,
+    gathering: &mut Gathering<'a>,
 ) -> Result<(), Refusal<'a>>
     ensures { MatchResult result
         (λ _. AddsPayloads (AreItemPayloads kind (items_list (items_view list.now)))
-        items.old.items items.new.items)
+        gathering.old gathering.new)
         (λ r. OrMemory (RefusesFirst (IsSomeItem kind) (RefusesArrayItem kind)
         (items_list (items_view list.now))) r.reason) }
 {
     let mut spot = Spot { array, index: 0 };
     for item in list {
-        match add_item(alloc, spot, kind, item, items) {
+        match add_item(alloc, spot, kind, item, gathering) {
             Ok(()) => {}
             Err(refusal) => return Err(refusal),
         }
@@ -543,14 +548,14 @@ fn add_item<'a>(
     spot: Spot<'a>,
     kind: Kind,
     item: &Value<'a>,
-    items: &mut Vec<Item<'a>>,
+    gathering: &mut Gathering<'a>,
 ) -> Result<(), Refusal<'a>>
     ensures { MatchResult result
-        (λ _. AddsOne (IsDatedItem kind (value_view item.now)) items.old.items items.new.items)
+        (λ _. AddsOne (IsDatedItem kind (value_view item.now)) gathering.old gathering.new)
         (λ r. OrMemory (RefusesArrayItem kind (value_view item.now)) r.reason) }
 {
     match payload_of(alloc, spot, kind, item) {
-        Ok(payload) => push(items, spot.place(), payload, expiry_of(spot, item)),
+        Ok(payload) => take(gathering, spot.place(), payload, expiry_of(spot, item)),
         Err(refusal) => Err(refusal),
     }
 }
@@ -581,14 +586,14 @@ fn payload_of<'a>(
     }
 }
 
-fn push<'a>(
-    items: &mut Vec<Item<'a>>,
+fn take<'a>(
+    gathering: &mut Gathering<'a>,
     place: Place<'a>,
     payload: Payload,
     expiry: Expiry,
 ) -> Result<(), Refusal<'a>>
     ensures { MatchResult result
-        (λ _. AddsOne (λ p. p ≡ (payload, expiry)) items.old.items items.new.items)
+        (λ _. AddsOne (λ p. p ≡ (payload, expiry)) gathering.old gathering.new)
         (λ r. r.reason ≡ Reason.Memory) }
 {
     let item = Item {
@@ -596,9 +601,9 @@ fn push<'a>(
         payload,
         expiry,
     };
-    match items.push(item) {
+    match gathering.take(item) {
         Ok(()) => Ok(()),
-        Err(_) => Err(refusal(Place::Input, Reason::Memory)),
+        Err(reason) => Err(refusal(Place::Input, reason)),
     }
 }
 
@@ -607,16 +612,16 @@ fn add_customers<'a>(
     alloc: Global,
     array: &'a str,
     members: &[(&'a str, Value<'a>)],
-    items: &mut Vec<Item<'a>>,
+    gathering: &mut Gathering<'a>,
 ) -> Result<(), Refusal<'a>>
     ensures { MatchResult result
         (λ _. AddsPayloads (AreCustomerAspas (members_list (members_view members.now)))
-        items.old.items items.new.items)
+        gathering.old gathering.new)
         (λ r. OrMemory (RefusesFirst IsSomeCustomer RefusesCustomer
         (members_list (members_view members.now))) r.reason) }
 {
     for member in members {
-        match add_customer(alloc, array, member.0, &member.1, items) {
+        match add_customer(alloc, array, member.0, &member.1, gathering) {
             Ok(()) => {}
             Err(refusal) => return Err(refusal),
         }
@@ -630,16 +635,16 @@ fn add_customer<'a>(
     array: &'a str,
     name: &'a str,
     value: &Value<'a>,
-    items: &mut Vec<Item<'a>>,
+    gathering: &mut Gathering<'a>,
 ) -> Result<(), Refusal<'a>>
     ensures { MatchResult result
         (λ _. AddsOne (IsDatedCustomer name.now (value_view value.now))
-        items.old.items items.new.items)
+        gathering.old gathering.new)
         (λ r. OrMemory (RefusesCustomer (name.now, value_view value.now)) r.reason) }
 {
     let place = Place::Entry(array, name);
     match aspa_of(alloc, name, value) {
-        Ok(payload) => push(items, place, payload, Expiry::Never),
+        Ok(payload) => take(gathering, place, payload, Expiry::Never),
         Err(reason) => Err(refusal(place, reason)),
     }
 }

@@ -18,8 +18,8 @@ mod sequence;
 mod words;
 
 pub use csv_items::read_csv;
-pub use expiring::{Expired, leave_out};
-pub use gathering::{Gathered, gather};
+pub use expiring::Expired;
+pub use gathering::{Gathered, Gathering, Left};
 pub use info::{Info, info_asked};
 pub use item::{Expiry, Item, Place, Reason, Refusal};
 pub use json_items::read_json;

@@ -3,15 +3,18 @@
 ghost use Rattle.std.specs.Prelude.{◌≡◌, drop, IfSome, IsNone, None, OnOk, []};
 ghost use Rattle.std.specs.Io.KnownBytes.{Appends};
 ghost use Rattle.std.specs.Process.{exit_status};
-ghost use Rattle.rtr_vrps.specs.MakeStatus.{MakesItems, MakesOf, MakesText, RunsMaking, TellsMade};
+ghost use Rattle.rtr_vrps.specs.MakeStatus.{MakesText, RunsMaking, TellsMade};
 ghost use Rattle.rtr_vrps.specs.MakeStatus.{expired_line, lacking_line, refusal_status};
 ghost use Rattle.rtr_vrps.specs.MakeInfo.{TellsText, info_by_words};
 ghost use Rattle.rtr_vrps.specs.MakeWords.{ignored_by_words, request_by_words};
+ghost use Rattle.rtr_vrps.specs.PrivateTaking.{IsAskedFor, MakesOfLeft, MakesTaken};
+ghost use Rattle.rtr_vrps.specs.Taking.{HasTaken};
 
 use crate::csv_items::read_csv;
-use crate::expiring::{Expired, leave_out_asked};
+use crate::expiring::Expired;
+use crate::gathering::{Gathering, Left};
 use crate::info::{USAGE, info_asked, tell_info};
-use crate::item::{Item, Reason, Refusal};
+use crate::item::{Reason, Refusal};
 use crate::json_items::read_json;
 use crate::sequence::{Trouble, write_sequence};
 use crate::words::{Format, Request, asked};
@@ -124,8 +127,7 @@ fn run_asked<N: Display, R: Read, W: Sink, F: Write>(
 
 /// Reads all of the input, writes the sequence of its payloads, flushes the output once, and
 /// answers the exit status. What JSON has under a name that stands after an `--ignore` of the words
-/// is passed over. At a time that is asked for `leave_out` leaves out what has expired. The status
-/// is
+/// is passed over. What has expired at a time that is asked for is left out. The status is
 /// - 0 if that succeeded, with a line on `faults` if payloads were left out that the version lacks,
 ///   and one on those that have expired where a time is asked for;
 /// - 1 if the input was refused;
@@ -180,8 +182,9 @@ fn make_of_csv<W: Sink, F: Write>(
     ensures { MakesText Format.Csv asked.now [] text.now result (W.state output.old)
         (W.state output.new) (F.contents faults.old) (F.contents faults.new) }
 {
-    match read_csv(alloc, text) {
-        Ok(items) => make_of_items(alloc, asked, items, output, faults),
+    let mut gathering = gathering_for(alloc, asked);
+    match read_csv(alloc, text, &mut gathering) {
+        Ok(()) => make_of_taken(asked, gathering, output, faults),
         Err(refusal) => tell_refusal(&refusal, faults),
     }
 }
@@ -200,42 +203,44 @@ fn make_of_json<W: Sink, F: Write>(
         (F.contents faults.new) }
 {
     let mut scratch = Scratch::new(alloc);
-    match read_json(alloc, text, words, &mut scratch) {
-        Ok(items) => make_of_items(alloc, asked, items, output, faults),
+    let mut gathering = gathering_for(alloc, asked);
+    match read_json(alloc, text, words, &mut scratch, &mut gathering) {
+        Ok(()) => make_of_taken(asked, gathering, output, faults),
         Err(refusal) => tell_refusal(&refusal, faults),
     }
+}
+
+/// Gathers items as the request asks.
+fn gathering_for<'a>(alloc: Global, asked: &Request) -> Gathering<'a>
+    ensures settings { IsAskedFor asked.now result }
+    ensures none { HasTaken [] result }
+{
+    Gathering::new(alloc, asked.version.number(), asked.leaves_out, asked.at)
 }
 
 /// Writes the sequence of the items that are left at the time that is asked for, if one is.
-fn make_of_items<W: Sink, F: Write>(
-    alloc: Global,
+fn make_of_taken<W: Sink, F: Write>(
     asked: &Request,
-    mut items: Vec<Item<'_>>,
+    gathering: Gathering<'_>,
     output: &mut W,
     faults: &mut F,
 ) -> u8
-    ensures { MakesItems asked.now items.entry.items result (W.state output.old)
+    ensures { MakesTaken asked.now gathering.entry result (W.state output.old)
         (W.state output.new) (F.contents faults.old) (F.contents faults.new) }
 {
-    match leave_out_asked(asked.at, &mut items) {
-        Ok(expired) => write(alloc, asked, expired, &items, output, faults),
+    match gathering.finish() {
+        Ok(left) => write(asked, left, output, faults),
         Err(refusal) => tell_refusal(&refusal, faults),
     }
 }
 
-/// Writes the sequence of the items, and flushes it.
-fn write<W: Sink, F: Write>(
-    alloc: Global,
-    asked: &Request,
-    expired: Option<Expired>,
-    items: &[Item<'_>],
-    output: &mut W,
-    faults: &mut F,
-) -> u8
-    ensures { MakesOf asked.now expired items.now result (W.state output.old) (W.state output.new)
+/// Writes the sequence of the items that are left, and flushes it.
+fn write<W: Sink, F: Write>(asked: &Request, left: Left<'_>, output: &mut W, faults: &mut F) -> u8
+    ensures { MakesOfLeft asked.now left.entry result (W.state output.old) (W.state output.new)
         (F.contents faults.old) (F.contents faults.new) }
 {
-    let answer = write_sequence(alloc, asked, items, output);
+    let expired = left.expired;
+    let answer = write_sequence(asked, left.gathered, output);
     let flushed = output.flush().is_ok();
     match answer {
         Ok(left_out) if flushed => tell_made(asked.version.number(), left_out, expired, faults),

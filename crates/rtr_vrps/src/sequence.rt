@@ -1,21 +1,21 @@
-//! The sequence that is made of items.
+//! The sequence that is made of items that were gathered.
 
 ghost use Rattle.std.specs.Prelude.{◌≡◌, ◌&&◌, not, ◌≤◌, ◌<◌, ◌^◌, ◌++◌};
 ghost use Rattle.rtr_units.specs.AnyEnd.{end_bytes};
 ghost use Rattle.rtr_units.specs.End.{IsEndMeaning, end_list};
 ghost use Rattle.rtr_units.specs.Stream.{PutsForm};
 ghost use Rattle.rtr_data.specs.Deltas.{all_for, change_forms};
-ghost use Rattle.rtr_vrps.specs.Making.{MakesSequence, asked_end};
+ghost use Rattle.rtr_vrps.specs.Making.{asked_end};
+ghost use Rattle.rtr_vrps.specs.Taking.{WritesGathered};
 
-use crate::gathering::{gather, has_none};
-use crate::item::{Item, Place, Reason, Refusal};
+use crate::gathering::{Gathered, has_none};
+use crate::item::{Place, Reason, Refusal};
 use crate::words::Request;
 use rtr_base::timing::Timing;
 use rtr_data::Data;
 use rtr_units::end::EndOfData;
 use rtr_units::fault::Fault;
 use rtr_units::source::Sink;
-use std::alloc::Global;
 
 /// Why no sequence was written, or not all of it.
 #[derive(Debug, Drop)]
@@ -26,20 +26,20 @@ pub enum Trouble<'a> {
     Output(Fault),
 }
 
-/// Writes the units that announce the payloads of the items, each once and in order, and an end of
-/// data, as the request has them. Answers how many payloads were left out. On a refusal nothing is
-/// written: the first item that is refused, or `NoPayloads` where there would be none and the
-/// request takes no empty sequence.
+/// Writes the units that announce the payloads that were gathered for the request, each once and in
+/// order, and an end of data, as the request has them. Answers how many payloads were left out. On a
+/// refusal nothing is written: the first item that is refused, or `NoPayloads` where there would be
+/// none and the request takes no empty sequence.
 pub fn write_sequence<'a, W: Sink>(
-    alloc: Global,
     asked: &Request,
-    items: &[Item<'a>],
+    gathered: Result<Gathered, Refusal<'a>>,
     output: &mut W,
 ) -> Result<usize, Trouble<'a>>
-    ensures { MakesSequence asked.now items.now result (W.state output.old) (W.state output.new) }
+    ensures { WritesGathered asked.now gathered.entry result (W.state output.old)
+        (W.state output.new) }
 {
     let version = asked.version.number();
-    let gathered = match gather(alloc, version, asked.leaves_out, items) {
+    let gathered = match gathered {
         Ok(gathered) => gathered,
         Err(refusal) => return Err(Trouble::Input(refusal)),
     };

@@ -1,6 +1,8 @@
 use Rattle.std.proofs.Common.{◌≡◌, Bor, ℕ, List, Some}
 use Rattle.csv.specs.Reading.{Ready, default_config, source_of}
 use Rattle.csv.specs.declared.reader.Trim.TheVariants as trim
+use Rattle.rtr_vrps.specs.Taking.{TakesItems}
+use Rattle.rtr_vrps.specs.declared.item.Item.{Item}
 use Rattle.rtr_vrps.proofs.Rows.{RowsSoFar}
 use Rattle.rtr_vrps.proofs.csv_items.read_rows.Given as goal
 
@@ -8,4 +10,5 @@ abbrev pub invariant-loop-count : goal.invariant-loop-count
 invariant-loop-count l =
     (l.reader.trim ≡ trim.None) × Ready l.reader × (l.reader.config ≡ default_config)
     × (y : List ℕ) × (source_of (λ (s : Bor (List ℕ)). Some s.now) l.reader ≡ Some y)
-    × RowsSoFar l.fn.text l.count l.timed l.items.items l.reader.state y
+    × (items : List Item) × TakesItems items l.initial.gathering l.gathering
+    × RowsSoFar l.fn.text l.count l.timed items l.reader.state y

@@ -7,8 +7,8 @@ use Rattle.rtr_vrps.proofs.json_items.add_authorizations.Goals as goal
 
 pub returns-in-Object : goal.returns-in-Object
 returns-in-Object c =
-    let new = c.add_families.new.items.items in
-    let old = c.args.items.now.items in
+    let new = c.add_families.new.gathering in
+    let old = c.args.gathering.now in
     subst
     (λ j. MatchResult c.add_families.result
     (λ _. AddsPayloads (AreAuthorizations j) old new)

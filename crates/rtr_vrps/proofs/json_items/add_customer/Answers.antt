@@ -9,5 +9,5 @@ use Rattle.rtr_vrps.proofs.json_items.add_customer.Goals as goal
 pub returns-in-Ok : goal.returns-in-Ok
 returns-in-Ok c =
     let j = value_view c.args.value.now in
-    pushed c.push.result c.in-Ok.payload Never (IsDatedCustomer c.args.name.now j)
-    (RefusesCustomer (c.args.name.now, j)) _ _ (c.in-Ok.ensures, refl) c.push.ensures
+    pushed c.take.result c.in-Ok.payload Never (IsDatedCustomer c.args.name.now j)
+    (RefusesCustomer (c.args.name.now, j)) _ _ (c.in-Ok.ensures, refl) c.take.ensures

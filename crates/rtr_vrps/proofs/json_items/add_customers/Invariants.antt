@@ -9,4 +9,4 @@ abbrev pub invariant-loop-member : goal.invariant-loop-member
 invariant-loop-member l =
     AddsPayloads
     (AreCustomerAspas (members_list (members_view (take l.member-index l.members))))
-    l.initial.items.items l.items.items
+    l.initial.gathering l.gathering

@@ -11,4 +11,4 @@ invariant-loop-member l =
     AddsPayloads
     (ArePayloadsOfEach AreFamilyPayloads
     (members_list (members_view (take l.member-index l.members))))
-    l.initial.items.items l.items.items
+    l.initial.gathering l.gathering

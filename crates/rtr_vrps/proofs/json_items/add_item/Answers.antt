@@ -7,5 +7,5 @@ use Rattle.rtr_vrps.proofs.json_items.add_item.Goals as goal
 pub returns-in-Ok : goal.returns-in-Ok
 returns-in-Ok c =
     let j = value_view c.args.item.now in
-    pushed c.push.result c.in-Ok.payload c.expiry_of.result (IsDatedItem c.args.kind j)
-    (RefusesArrayItem c.args.kind j) _ _ (c.in-Ok.ensures, c.expiry_of.ensures) c.push.ensures
+    pushed c.take.result c.in-Ok.payload c.expiry_of.result (IsDatedItem c.args.kind j)
+    (RefusesArrayItem c.args.kind j) _ _ (c.in-Ok.ensures, c.expiry_of.ensures) c.take.ensures

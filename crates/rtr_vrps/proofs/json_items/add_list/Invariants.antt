@@ -9,4 +9,4 @@ abbrev pub invariant-loop-item : goal.invariant-loop-item
 invariant-loop-item l =
     AddsPayloads
     (AreItemPayloads l.kind (items_list (items_view (take l.item-index l.list))))
-    l.initial.items.items l.items.items
+    l.initial.gathering l.gathering

@@ -1,8 +1,4 @@
-use Rattle.std.proofs.Common.{subst}
-use Rattle.rtr_vrps.specs.JsonPayloads.{ArePayloadsOfEach, AreTopPayloads}
-use Rattle.rtr_vrps.specs.JsonValues.{members_list}
 use Rattle.rtr_vrps.specs.MakeWords.{ignored_by_words}
-use Rattle.rtr_vrps.specs.PrivateJson.{AddsPayloads}
 use Rattle.rtr_vrps.proofs.JsonReading.{members_refuse, more_after, no_object_refused, object_read}
 use Rattle.rtr_vrps.proofs.json_items.read_document.Goals as goal
 
@@ -21,14 +17,8 @@ returns-in-Some c =
     more_after (ignored_by_words c.args.words.now) _ _ _ _ _ c.in-Ok.ensures.0 _
     c.if-not-begins_object.ensures c.in-Ok.ensures.1 c.in-Some.ensures.value
 
-pub returns : goal.returns
-returns c =
-    let ignored = ignored_by_words c.args.words.now in
-    let ms = c.in-Ok.ensures.0 in
-    let items = c.read_members.new.items.items in
-    object_read c.items_found.result (λ v. v.items) ignored _ _ _ ms items c.in-Ok.has_array
-    c.if-not-begins_object.ensures c.in-Ok.ensures.1 c.in-None.ensures.value.0
-    (subst
-    (λ l. AddsPayloads (ArePayloadsOfEach (AreTopPayloads ignored) (members_list ms)) l items)
-    c.new-items.ensures.items c.in-Ok.ensures.2.0)
-    c.in-Ok.ensures.2.1 c.items_found.ensures
+pub returns-in-None : goal.returns-in-None
+returns-in-None c =
+    object_read c.check_found.result (ignored_by_words c.args.words.now) _ _ _ c.in-Ok.ensures.0
+    _ _ c.in-Ok.has_array c.if-not-begins_object.ensures c.in-Ok.ensures.1
+    c.in-None.ensures.value.0 c.in-Ok.ensures.2.0 c.in-Ok.ensures.2.1 c.check_found.ensures

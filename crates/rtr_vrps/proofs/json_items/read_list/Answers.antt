@@ -53,6 +53,6 @@ returns c =
     c.take_end_array.new.self (grind arith) in (
       all.0,
       all.1,
-      subst (λ js. AddsPayloads (AreItemPayloads c.args.kind js) c.args.items.now.items
-          l.items.items) all.2 l.invariant.2,
+      subst (λ js. AddsPayloads (AreItemPayloads c.args.kind js) c.args.gathering.now
+          l.gathering) all.2 l.invariant.2,
     )

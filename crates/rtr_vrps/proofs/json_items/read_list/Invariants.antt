@@ -7,7 +7,7 @@ use Rattle.rtr_vrps.proofs.json_items.read_list.Given as goal
 
 abbrev pub invariant-loop-spot : goal.invariant-loop-spot
 invariant-loop-spot l = (done : List Json) × ItemsSoFar (value 126) l.initial.reader l.reader done
-    × AddsPayloads (AreItemPayloads l.kind done) l.initial.items.items l.items.items
+    × AddsPayloads (AreItemPayloads l.kind done) l.initial.gathering l.gathering
 
 abbrev pub decreases-loop-spot : goal.decreases-loop-spot
 decreases-loop-spot l = length l.reader

@@ -54,7 +54,7 @@ returns-in-Ok-None c =
       all.1,
       (
         subst (λ ms. AddsPayloads (ArePayloadsOfEach (AreTopPayloads ignored) ms)
-            c.args.items.now.items l.items.items) all.2 l.invariant.2,
+            c.args.gathering.now l.gathering) all.2 l.invariant.2,
         subst (λ ms. l.has_array ≡ list_any (λ m. is_array ignored m.0) ms) all.2 l.invariant.3,
       ),
     )

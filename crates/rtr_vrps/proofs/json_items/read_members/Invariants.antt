@@ -11,7 +11,7 @@ abbrev pub invariant-loop-name : goal.invariant-loop-name
 invariant-loop-name l = (done : List (List ℕ × Json))
     × MembersSoFar (value 127) l.initial.reader l.reader done
     × AddsPayloads (ArePayloadsOfEach (AreTopPayloads (ignored_by_words l.words)) done)
-    l.initial.items.items l.items.items
+    l.initial.gathering l.gathering
     × (l.has_array ≡ list_any (λ m. is_array (ignored_by_words l.words) m.0) done)
 
 abbrev pub decreases-loop-name : goal.decreases-loop-name

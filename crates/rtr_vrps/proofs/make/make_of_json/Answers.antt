@@ -1,9 +1,17 @@
-use Rattle.std.proofs.Common.{Err, Ok, refl}
+use Rattle.std.proofs.Common.{[], Err, Ok, refl}
+use Rattle.rtr_vrps.proofs.Takings.{for_after}
 use Rattle.rtr_vrps.proofs.make.make_of_json.Goals as goal
 
 pub returns-in-Ok : goal.returns-in-Ok
 returns-in-Ok g c =
-    (Ok c.in-Ok.items.items, c.in-Ok.ensures, c.make_of_items.ensures)
+    let some = c.in-Ok.ensures in
+    let start = c.gathering_for-gathering.ensures in (
+      Ok some.items,
+      some.are,
+      c.make_of_taken.ensures some.items (some.taken.taken [] start.none)
+          (for_after _ _ _ _ _ start.settings some.taken.settings),
+    )
 
 pub returns : goal.returns
-returns g c = (Err c.in-Err.refusal, c.in-Err.ensures, (refl, c.tell_refusal.ensures))
+returns g c =
+    (Err c.in-Err.refusal, c.in-Err.ensures, (refl, c.tell_refusal.ensures))

@@ -1,0 +1,46 @@
+-- What gathering leaves of items, and what is made of it. Only contracts of private functions cite
+-- these.
+use Rattle.std.specs.Prelude.{◌≡◌, ℕ, Bool, List, [], ◌∷◌, ◌++◌, Option, Result}
+use Rattle.rtr_units.specs.StopCauses.{WriterState}
+use Rattle.rtr_payload.specs.Payloads.{Payload}
+use Rattle.rtr_vrps.specs.Gathering.{Gathers}
+use Rattle.rtr_vrps.specs.MakeStatus.{MakesItems, MakesOf}
+use Rattle.rtr_vrps.specs.Making.{version_number}
+use Rattle.rtr_vrps.specs.Taking.{HasTaken, HoldsLeft, IsFor}
+use Rattle.rtr_vrps.specs.declared.gathering.Gathered.{Gathered}
+use Rattle.rtr_vrps.specs.declared.gathering.Gathering.{Gathering}
+use Rattle.rtr_vrps.specs.declared.gathering.Left.{Left}
+use Rattle.rtr_vrps.specs.declared.item.Item.{Item}
+use Rattle.rtr_vrps.specs.declared.item.Refusal.{Refusal}
+use Rattle.rtr_vrps.specs.declared.words.Request.{Request}
+
+-- what is held of items is held of these and one more
+pub record GathersOne (x : Item) (old new : Gathering) : Type 0 where
+  pub version : new.version ≡ old.version
+  pub leaves : new.leaves_out ≡ old.leaves_out
+  pub times : new.times ≡ old.times
+  pub held : (left : List Item) →
+      HoldsLeft old.version old.leaves_out left old.payloads old.refused →
+      HoldsLeft old.version old.leaves_out (left ++ x ∷ []) new.payloads new.refused
+
+-- items are gathered of which all is held
+abbrev pub EndsGathering : ℕ → List Payload → Option Refusal → Result Gathered Refusal → Type 0
+EndsGathering v d refused r = (leaves_out : Bool) (left : List Item) →
+    HoldsLeft v leaves_out left d refused → Gathers v leaves_out left r
+
+-- of whatever items these are left, their sequence is made
+abbrev pub MakesOfLeft : Request → Left → ℕ → WriterState → WriterState →
+    (old new : Option (List ℕ)) → Type 0
+MakesOfLeft a l status before after old new = (items : List Item) →
+    Gathers (version_number a.version) a.leaves_out items l.gathered →
+    MakesOf a l.expired items status before after old new
+
+-- the gathering is for a request
+abbrev pub IsAskedFor : Request → Gathering → Type 0
+IsAskedFor a g = IsFor (version_number a.version) a.leaves_out a.at g
+
+-- whatever items were taken for a request, their sequence is made
+abbrev pub MakesTaken : Request → Gathering → ℕ → WriterState → WriterState →
+    (old new : Option (List ℕ)) → Type 0
+MakesTaken a g status before after old new = (items : List Item) → HasTaken items g →
+    IsAskedFor a g → MakesItems a items status before after old new
