@@ -9,6 +9,7 @@ pub use rtr_group as group;
 pub use rtr_router as router;
 pub use rtr_session as session;
 pub use rtr_slices as slices;
+pub use rtr_times as times;
 pub use rtr_validation as validation;
 pub use rtr_wire::{
     ComparisonFault, IntoFault, Progress, Side, base, compare_meanings, laws, normalise,

@@ -27,7 +27,7 @@ const FAILED: u8 = 3;
 /// What the program says of itself.
 const MANUAL: Manual = Manual {
     name: "rtr_clean",
-    version: "rtr_clean 0.2.0\n",
+    version: "rtr_clean 0.3.0\n",
     usage: "usage: rtr_clean [--version 0|1|2] [FILE]\n",
     help: "\
 rtr_clean - write the units of an RTR session with zero where they mean nothing
@@ -58,13 +58,11 @@ fn buffered_input<'a>(
     name: &str,
     front: &'a Cell<Front>,
 ) -> io::Result<BufReader<Watched<'a, Input>>> {
-    let input = Watched::new(Input::open(rt, name)?, front);
-    match BufReader::with_capacity(rt.alloc(), BUFFER_SIZE, input) {
+    let input = Input::open(rt, name)?;
+    let spare = input.try_clone(rt);
+    match BufReader::with_capacity(rt.alloc(), BUFFER_SIZE, Watched::new(input, front)) {
         Ok(reader) => Ok(reader),
-        Err(_) => {
-            let input = Watched::new(Input::open(rt, name)?, front);
-            BufReader::with_capacity(rt.alloc(), 0, input)
-        }
+        Err(_) => BufReader::with_capacity(rt.alloc(), 0, Watched::new(spare?, front)),
     }
 }
 

@@ -34,4 +34,13 @@ impl Input {
             Ok(Input::Opened(File::open(rt, name)?))
         }
     }
+
+    /// The same input for a second reader. A file isn't opened again, so that the writer of a named
+    /// pipe never sees it closed; both share its offset.
+    pub fn try_clone(&self, rt: &HostRuntime) -> io::Result<Input> {
+        match self {
+            Input::Opened(file) => Ok(Input::Opened(file.try_clone()?)),
+            Input::Standard(_) => Ok(Input::Standard(rt.stdin())),
+        }
+    }
 }

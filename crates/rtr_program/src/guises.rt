@@ -85,7 +85,7 @@ impl fmt::Display for Guise {
                 "looks like JSON: `rtr_make --json` makes units of what validators print",
             ),
             Guise::Capture => f.write_str(
-                "looks like a packet capture: `tcpflow -r FILE` writes what each side sent",
+                "looks like a packet capture: `rtr-pcap FILE` lists the sessions in it",
             ),
         }
     }

@@ -121,8 +121,8 @@ impl<R: Read> Source for BufferedSource<R> {
     }
 }
 
-/// A buffered writer that counts its failures. It takes what a `Counted` of it takes, but a piece
-/// for which the buffer has room is copied there, without a call of the writer.
+/// A buffered writer that counts its failures. It takes what a `Counted` of it takes; a piece for
+/// which the buffer has room is copied there.
 #[derive(Debug, Drop)]
 pub struct BufferedSink<W: Write + Drop> {
     counted: Counted<BufWriter<W>>,

@@ -50,7 +50,7 @@ pub fn first_end(input: &[u8]) -> Result<EndOfData, ViewFault>
     }
 }
 
-/// The unit of these bytes.
+/// The unit of these bytes. `front::unit_of` does the same, but inlined here it slows each unit.
 fn unit_of<U: Unit>(bytes: &[u8]) -> U
     requires { length bytes.now ≡ U.LENGTH }
     ensures { U.bytes result ≡ bytes.now }

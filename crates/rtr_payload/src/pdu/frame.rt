@@ -1,6 +1,6 @@
 //! Frames: what follows the header of a router key or an ASPA unit, in one piece.
 
-ghost use Rattle.std.specs.Prelude.{◌≡◌, ◌≤◌, ◌-◌, IfOk, IfErr, length, take, drop};
+ghost use Rattle.std.specs.Prelude.{◌≡◌, ◌≤◌, ◌-◌, IfOk, IfErr, Err, length, take, drop};
 ghost use Rattle.rtr_base.specs.Bytes.{IsBytes};
 ghost use Rattle.rtr_units.specs.Reading.{by_bytes};
 ghost use Rattle.rtr_payload.specs.PrivateFrames.{ReadsFrame};
@@ -34,13 +34,15 @@ pub fn read_rest<R: Source>(alloc: Global, size: usize, reader: &mut R) -> Resul
     }
 }
 
-/// Puts the header at the front of the unit, and reads the rest of its bytes.
+/// Puts the header at the front of the unit, and reads the rest of its bytes. No memory is asked
+/// for.
 #[inline(always)]
 pub fn fill_unit<R: Source>(head: &[u8], unit: &mut [u8], reader: &mut R) -> Result<(), Fault>
     requires head { length head.now ≡ 8 }
     requires size { 8 ≤ length unit.old }
     ensures bytes { ReadsFrame (length unit.old - 8) (by_bytes (λ _. drop 8 unit.new) result)
         (R.state reader.old) (R.state reader.new) }
+    ensures memory { ¬ (result ≡ Err Fault.Memory) }
     ensures head { take 8 unit.new ≡ head.now }
     ensures size { length unit.new ≡ length unit.old }
     ensures range { IsBytes (drop 8 unit.new) }

@@ -194,6 +194,8 @@ impl<const FIXED: usize, B: Body<FIXED>> VariableUnit<FIXED, B> {
             (by_bytes (λ u. u.now) result) (R.state reader.old) (R.state reader.new) }
         ensures fields { IfOk result (λ u. type_field (header_bytes header) ≡ B.PDU →
             HasFields u.now (B.fields u.now)) }
+        ensures memory { IfErr result
+            (λ e. e ≡ Fault.Memory → R.state reader.new ≡ R.state reader.old) }
         ensures least { IfOk result (λ u. FIXED ≤ length u.now) }
         ensures most { IfOk result (λ u. length u.now < 2 ^ 32) }
         ensures error { IfErr result (HoldsReadError (R.fails reader.new)) }
