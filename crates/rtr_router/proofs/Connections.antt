@@ -24,6 +24,9 @@ opening s r = if r.fell then r.version else s.highest
 abbrev pub all : Settings → Router → ℕ
 all s r = opening s r + 1 + restarts r * (s.highest + 1)
 
+abbrev pub then_waiting : Settings → Router → ℕ
+then_waiting s r = after s r + (if r.silent then s.highest + 1 else 0)
+
 abbrev pub left : Phase → Settings → Router → ℕ
 left phases.Offline s r = all s r * connection_time s
 left phases.Connecting s r =
@@ -33,7 +36,7 @@ left phases.Asked s r =
 left phases.Reading s r = s.pause + after s r * connection_time s
 left phases.Applying s r = s.pause + after s r * connection_time s
 left phases.Waiting s r =
-    s.response_limit + s.response_limit + s.pause + after s r * connection_time s
+    s.response_limit + s.response_limit + s.pause + then_waiting s r * connection_time s
 
 -- what holds while a query or its answer is under way
 pub record UnderWay (r : Router) : Type 0 where
@@ -115,6 +118,16 @@ pub fail_le :
     → max n' d' + y ≤ max n d + l
 fail_le n n' d d' p x y l h e f g = omega arith
 
+pub ask_less_le :
+    (n n' d d' a p z x x' : ℕ) → n' ≤ max n d → d' ≡ n' + a → z ≤ a → x' ≤ x
+    → max n' d' + (z + p + x') ≤ max n d + (a + a + p + x)
+ask_less_le n n' d d' a p z x x' h e f g = omega arith
+
+pub rise_le :
+    (n n' d d' a p x y : ℕ) → n' ≤ max n d → d' ≡ n' → y ≤ x
+    → max n' d' + y ≤ max n d + (a + a + p + x)
+rise_le n n' d d' a p x y h e f = omega arith
+
 pub min_le : (d a b : ℕ) → d ≡ min a b → d ≤ a
 min_le d a b e = omega arith
 
@@ -144,6 +157,12 @@ pub after_same :
     → r'.resync ≡ r.resync → after s r' ≡ after s r
 after_same s r r' e f g =
     ap₂ (λ (v x : ℕ). v + x * (s.highest + 1)) e (restarts_same r r' f g)
+
+pub after_waiting : (s : Settings) (r : Router) → after s r ≤ then_waiting s r
+after_waiting s r = more (after s r) (if r.silent then s.highest + 1 else 0)
+  where
+    more : (a b : ℕ) → a ≤ a + b
+    more a b = omega arith
 
 pub all_same :
     (s : Settings) (r r' : Router) → r'.fell ≡ r.fell → r'.version ≡ r.version

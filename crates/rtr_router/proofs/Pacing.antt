@@ -1,8 +1,9 @@
 -- How often a router asks: an invariant about its last query.
-use Rattle.std.proofs.Common.{◌≡◌, ◌≢◌, ◌⊎◌, ℕ, Bool, true, false, ◌+◌, ◌-◌, ◌*◌, ◌<◌, ◌≤◌}
+use Rattle.std.proofs.Common.{◌≡◌, ◌⊎◌, ℕ, Bool, true, false, ◌+◌, ◌-◌, ◌*◌, ◌<◌, ◌≤◌}
 use Rattle.std.proofs.Common.{min, max}
 use Rattle.std.proofs.Common.{Option, Some, None, List, if◌then◌else◌, refl, sym, ap, ◌∙◌}
-use Rattle.std.proofs.Common.{subst, inl, inr, arith, ◌||◌}
+use Rattle.std.proofs.Common.{subst, inl, inr, arith, ◌||◌, nat_le}
+use Rattle.std.proofs.lemmas.Bool.{leb-true}
 use Rattle.rtr_router.specs.declared.head.Query.{Query}
 use Rattle.rtr_router.specs.declared.settings.Settings.{Settings}
 use Rattle.rtr_router.specs.declared.router.Router.{Router}
@@ -18,7 +19,7 @@ use Rattle.rtr_router.specs.declared.event.Cause.TheVariants as causes
 use Rattle.rtr_router.specs.Rules.{Asks, ClosesBy, Connects, FallsOver, Loses, Rule, Waits}
 use Rattle.rtr_router.specs.Rules.{awaits_changes, query}
 use Rattle.rtr_router.specs.Pace.{Paces, PacesAsk, PacesDrop, PacesEnd, PacesWait}
-use Rattle.rtr_router.specs.Pace.{rest}
+use Rattle.rtr_router.specs.Pace.{due_waiting, grows, grows_slow, rest, soonest}
 use Rattle.rtr_router.specs.Histories.{Caller, Host, IsHistory, Moment}
 use Rattle.rtr_router.specs.Histories.IsHistory.{run_begins, run_goes_on}
 use Rattle.rtr_router.specs.Asking.{Asking, IsPaced, IsTimed, PacedHere, asked_last, last_query}
@@ -118,45 +119,78 @@ query_changes r false e = ap (λ (b : Bool). (query_by r b).changes) e
 
 -- ---- each action
 
-due_same : (r r' : Router) (n : ℕ) → r.phase ≢ phases.Waiting → PacesWait r n r' → r'.due ≡ r.due
-due_same r r' n not_waiting d = go d.due
+-- a caller's wish makes no connection within a pause of the last query
+wished_later :
+    (b : Bool) (a k p n : ℕ) → nat_le p (n - max a k) ≡ b → a ≤ n
+    → a + p ≤ (if b then n else n + p)
+wished_later true a k p n e h = paused_max p a k n (leb-true p (n - max a k) e) h
   where
-    go : (r'.due ≡ r.due) ⊎ ((r.phase ≡ phases.Waiting) × (r'.due ≡ min r.due n)) → r'.due ≡ r.due
-    go (inl e) = e
-    go (inr e) = absurd (not_waiting e.0)
+    paused_max : (p a k n : ℕ) → p ≤ n - max a k → a ≤ n → a + p ≤ n
+    paused_max p a k n h l = omega arith
+wished_later false a k p n e h = more a n p h
+  where
+    more : (a n p : ℕ) → a ≤ n → a + p ≤ n + p
+    more a n p h = omega arith
+
+least_of_two : (a d m d' : ℕ) → d' ≡ min d m → a ≤ d → a ≤ m → a ≤ d'
+least_of_two a d m d' e h k = omega arith
+
+-- without a connection nothing but a wish makes it act sooner, and not within a pause
+due_offline :
+    (p : ℕ) (x : Asking) (r r' : Router) (t n : ℕ) (e : Event) → r.settings.pause ≡ p
+    → r.asked ≡ x.at → x.at ≤ t → t ≤ n → r'.due ≡ due_waiting phases.Offline r n e
+    → x.at + p ≤ r.due → x.at + p ≤ r'.due
+due_offline p x r r' t n events.Asked g k a l d y =
+    least_of_two (x.at + p) r.due (soonest r n) r'.due d y
+    (subst (λ (p : ℕ). x.at + p ≤ soonest r n) g
+    (subst (λ (a : ℕ). a + r.settings.pause ≤ soonest r n) k
+    (wished_later (nat_le r.settings.pause (n - max r.asked r.tried)) r.asked r.tried
+    r.settings.pause n refl (before r.asked x.at t n k a l))))
+  where
+    before : (b a t n : ℕ) → b ≡ a → a ≤ t → t ≤ n → b ≤ n
+    before b a t n e h k = omega arith
+due_offline p x r r' t n (events.Came u) g k a l d y = due_by (x.at + p) r.due r'.due d y
+due_offline p x r r' t n events.Connected g k a l d y = due_by (x.at + p) r.due r'.due d y
+due_offline p x r r' t n events.Tick g k a l d y = due_by (x.at + p) r.due r'.due d y
+due_offline p x r r' t n events.Lost g k a l d y = due_by (x.at + p) r.due r'.due d y
+due_offline p x r r' t n (events.Faulty f) g k a l d y = due_by (x.at + p) r.due r'.due d y
+due_offline p x r r' t n events.Applied g k a l d y = due_by (x.at + p) r.due r'.due d y
+due_offline p x r r' t n (events.NotApplied code) g k a l d y =
+    due_by (x.at + p) r.due r'.due d y
 
 wait_at :
-    (f : Phase) (p : ℕ) (x : Asking) (e : Event) (r r' : Router) (t n : ℕ) → r.phase ≡ f → t ≤ n
-    → Waits r e r' → PacesWait r n r' → At f p x r t → At f p x r' n
-wait_at phases.Offline p x e r r' t n q l w d (inl y) = inl (record {
+    (f : Phase) (p : ℕ) (x : Asking) (e : Event) (r r' : Router) (t n : ℕ) → r.phase ≡ f
+    → r.settings.pause ≡ p → r.asked ≡ x.at → x.at ≤ t → t ≤ n
+    → Waits r e r' → PacesWait r n e r' → At f p x r t → At f p x r' n
+wait_at phases.Offline p x e r r' t n q g k a l w d (inl y) = inl (record {
   fell = d.same.fell ∙ y.fell;
   version = lt_by r'.version r.version x.query.version w.talk.version y.version;
 })
-wait_at phases.Offline p x e r r' t n q l w d (inr y) =
-    inr (due_by (x.at + p) r.due r'.due (due_same r r' n
-    (λ f. let g : r.phase ≡ phases.Offline = q in cc) d) y)
-wait_at phases.Connecting p x e r r' t n q l w d (inl y) = inl (later x.at t n p l y)
-wait_at phases.Connecting p x e r r' t n q l w d (inr y) =
+wait_at phases.Offline p x e r r' t n q g k a l w d (inr y) =
+    inr (due_offline p x r r' t n e g k a l
+    (d.due ∙ ap (λ (f : Phase). due_waiting f r n e) q) y)
+wait_at phases.Connecting p x e r r' t n q g k a l w d (inl y) = inl (later x.at t n p l y)
+wait_at phases.Connecting p x e r r' t n q g k a l w d (inr y) =
     inr (lt_by r'.version r.version x.query.version w.talk.version y)
-wait_at phases.Asked p x e r r' t n q l w d y = record {
+wait_at phases.Asked p x e r r' t n q g k a l w d y = record {
   version = w.talk.version ∙ y.version;
   changes = w.talk.changes ∙ y.changes;
 }
-wait_at phases.Reading p x e r r' t n q l w d y = tt
-wait_at phases.Applying p x e r r' t n q l w d y = tt
-wait_at phases.Waiting p x e r r' t n q l w d y = tt
+wait_at phases.Reading p x e r r' t n q g k a l w d y = tt
+wait_at phases.Applying p x e r r' t n q g k a l w d y = tt
+wait_at phases.Waiting p x e r r' t n q g k a l w d y = tt
 
 -- the last query is the same, and what holds of it in the new phase is known
 on :
     (last : Option Asking) (p : ℕ) (f : Phase) (r r' : Router) (t n : ℕ) → t ≤ n
     → r'.phase ≡ f → r'.asked ≡ r.asked
-    → ((x : Asking) → x.at ≤ t → At r.phase p x r t → At f p x r' n)
+    → ((x : Asking) → r.asked ≡ x.at → x.at ≤ t → At r.phase p x r t → At f p x r' n)
     → Last p last r t → Last p last r' n
 on None p f r r' t n l q e go y = tt
 on (Some x) p f r r' t n l q e go y = record {
   asked = e ∙ y.asked;
   since = le_then x.at t n y.since l;
-  there = subst (λ (f : Phase). At f p x r' n) (sym q) (go x y.since y.there);
+  there = subst (λ (f : Phase). At f p x r' n) (sym q) (go x y.asked y.since y.there);
 }
 
 at_phase : (f : Phase) (p : ℕ) (x : Asking) (r : Router) (t : ℕ) → r.phase ≡ f → At r.phase p x r t
@@ -188,6 +222,7 @@ lower r r' events.Lost w = below r'.version r.version w.by_one
     below : (a b : ℕ) → a + 1 ≡ b → a < b
     below a b e = omega arith
 lower r r' events.Tick w = absurd w
+lower r r' events.Asked w = absurd w
 lower r r' events.Connected w = absurd w
 lower r r' (events.Faulty f) w = absurd w
 lower r r' events.Applied w = absurd w
@@ -207,21 +242,30 @@ after_failure a t n p d m h k l e = omega arith
 end_at :
     (y : Cause) (p : ℕ) (e : Event) (z : Ending) (r r' : Router) (t n : ℕ) → r.settings.pause ≡ p
     → t ≤ n → ClosesBy y r e z r' → PacesEnd y r n z r'
-    → (x : Asking) → x.at ≤ t → At r.phase p x r t → At phases.Offline p x r' n
-end_at causes.Lower p e z r r' t n g l w d x a y =
+    → (x : Asking) → r.asked ≡ x.at → x.at ≤ t → At r.phase p x r t → At phases.Offline p x r' n
+end_at causes.Lower p e z r r' t n g l w d x k a y =
     let asked : SameAsked x r = at_phase phases.Asked p x r t w.from y in
     inl (record {
       fell = d.fell;
       version = lt_to r'.version r.version x.query.version asked.version (lower r r' e w.over);
     })
-end_at causes.Slow p e z r r' t n g l w d x a y =
-    inr (after_failure x.at t n p r'.due (rest r) a l
-    (subst (λ (x : ℕ). x ≤ rest r) g (rest_most r _)) d.due)
-end_at _ p e z r r' t n g l w d x a y =
+end_at causes.Higher p e z r r' t n g l w d x k a y =
+    inr (paused_then x.at n p r'.due
+    (subst (λ (p : ℕ). p ≤ n - x.at) g (subst (λ (a : ℕ). r.settings.pause ≤ n - a) k d.pause))
+    (le_then x.at t n a l) d.due)
+  where
+    paused_then : (a n p d : ℕ) → p ≤ n - a → a ≤ n → d ≡ n → a + p ≤ d
+    paused_then a n p d h l e = omega arith
+end_at causes.Slow p e z r r' t n g l w d x k a y =
+    inr (after_failure x.at t n p r'.due (rest (grows_slow r) r) a l
+    (subst (λ (x : ℕ). x ≤ rest (grows_slow r) r) g (rest_most r _)) d.due)
+end_at _ p e z r r' t n g l w d x k a y =
     inr (after_failure x.at t n p r'.due
-    (if z.drop || awaits_changes r then r.settings.pause else rest r) a l
-    (subst (λ (x : ℕ). x ≤ (if z.drop || awaits_changes r then r.settings.pause else rest r)) g
-    (pause_least (z.drop || awaits_changes r) r.settings.pause (rest r) (rest_most r _)))
+    (if z.drop || awaits_changes r then r.settings.pause else rest (grows r) r) a l
+    (subst
+    (λ (x : ℕ). x ≤ (if z.drop || awaits_changes r then r.settings.pause else rest (grows r) r))
+    g
+    (pause_least (z.drop || awaits_changes r) r.settings.pause (rest (grows r) r) (rest_most r _)))
     d.due)
 
 -- ---- queries
@@ -271,6 +315,7 @@ here p events.Tick q (Some x) r r' t n g l w y =
     inl (subst (λ (z : ℕ). z ≤ n - x.at) g
     (subst (λ (a : ℕ). r.settings.pause ≤ n - a) y.asked w.may.1))
 here p events.Lost q (Some x) r r' t n g l w y = absurd w.may
+here p events.Asked q (Some x) r r' t n g l w y = absurd w.may
 here p (events.Faulty f) q (Some x) r r' t n g l w y = absurd w.may
 here p events.Applied q (Some x) r r' t n g l w y = absurd w.may
 here p (events.NotApplied code) q (Some x) r r' t n g l w y = absurd w.may
@@ -286,17 +331,17 @@ step :
 step p e actions.Wait last r r' t n g l w d y = record {
   here = tt;
   after = on last p r.phase r r' t n l w.talk.phase d.same.asked
-      (λ x a z. wait_at r.phase p x e r r' t n refl l w d z) y;
+      (λ x k a z. wait_at r.phase p x e r r' t n refl g k a l w d z) y;
 }
 step p e actions.Drop last r r' t n g l w d y = record {
   here = tt;
   after = on last p phases.Offline r r' t n l w.phase d.asked
-      (λ x a z. drop_at p r r' t n g l w d x a (at_phase phases.Offline p x r t w.from z)) y;
+      (λ x k a z. drop_at p r r' t n g l w d x a (at_phase phases.Offline p x r t w.from z)) y;
 }
 step p e (actions.End z) last r r' t n g l w d y = record {
   here = tt;
   after = on last p phases.Offline r r' t n l w.phase (ends_settled z.cause z r r' n d).asked
-      (λ x a v. end_at z.cause p e z r r' t n g l w.by d x a v) y;
+      (λ x k a v. end_at z.cause p e z r r' t n g l w.by d x k a v) y;
 }
 step p e (actions.Ask q) last r r' t n g l w d y = record {
   here = here p e q last r r' t n g l w y;
@@ -305,27 +350,28 @@ step p e (actions.Ask q) last r r' t n g l w d y = record {
 step p events.Tick actions.Connect last r r' t n g l w d y = record {
   here = tt;
   after = on last p phases.Connecting r r' t n l w.phase d.asked
-      (λ x a z. connect_at p r r' t n w x a (at_phase phases.Offline p x r t w.from z)) y;
+      (λ x k a z. connect_at p r r' t n w x a (at_phase phases.Offline p x r t w.from z)) y;
 }
 step p (events.Came u) actions.Begin last r r' t n g l w d y = record {
   here = tt;
-  after = on last p phases.Reading r r' t n l w.phase d.same.asked (λ x a z. tt) y;
+  after = on last p phases.Reading r r' t n l w.phase d.same.asked (λ x k a z. tt) y;
 }
 step p (events.Came u) actions.Keep last r r' t n g l w d y = record {
   here = tt;
-  after = on last p phases.Reading r r' t n l (w.talk.phase ∙ w.phase) d.same.asked (λ x a z. tt) y;
+  after = on last p phases.Reading r r' t n l (w.talk.phase ∙ w.phase) d.same.asked
+      (λ x k a z. tt) y;
 }
 step p (events.Came u) (actions.Apply c) last r r' t n g l w d y = record {
   here = tt;
-  after = on last p phases.Applying r r' t n l w.phase d.same.asked (λ x a z. tt) y;
+  after = on last p phases.Applying r r' t n l w.phase d.same.asked (λ x k a z. tt) y;
 }
 step p (events.Came u) actions.NoData last r r' t n g l w d y = record {
   here = tt;
-  after = on last p phases.Waiting r r' t n l w.phase d.same.asked (λ x a z. tt) y;
+  after = on last p phases.Waiting r r' t n l w.phase d.same.asked (λ x k a z. tt) y;
 }
 step p events.Applied actions.Show last r r' t n g l w d y = record {
   here = tt;
-  after = on last p phases.Waiting r r' t n l w.phase d.asked (λ x a z. tt) y;
+  after = on last p phases.Waiting r r' t n l w.phase d.asked (λ x k a z. tt) y;
 }
 step p _ _ last r r' t n g l w d y = absurd w
 

@@ -1,5 +1,5 @@
 -- After any history what is under way is as a router needs it that a cache serves by the rules.
-use Rattle.std.proofs.Common.{◌≡◌, ◌≤◌, ℕ, true, false, List, refl, sym, subst, ◌∙◌}
+use Rattle.std.proofs.Common.{◌≡◌, ◌≤◌, ℕ, max, true, false, List, refl, sym, subst, ◌∙◌}
 use Rattle.rtr_router.specs.declared.event.Action.{Action}
 use Rattle.rtr_router.specs.declared.event.Action.TheVariants as actions
 use Rattle.rtr_router.specs.declared.event.Event.{Event}
@@ -9,10 +9,12 @@ use Rattle.rtr_router.specs.declared.router.Phase.TheVariants as phases
 use Rattle.rtr_router.specs.declared.router.Router.{Router}
 use Rattle.rtr_router.specs.Histories.{Caller, Host, IsHistory, Moment}
 use Rattle.rtr_router.specs.Histories.IsHistory.{run_begins, run_goes_on}
-use Rattle.rtr_router.specs.Recovery.{IsServed, served_until}
+use Rattle.rtr_router.specs.Pace.{wakes_at}
+use Rattle.rtr_router.specs.Recovery.{served_until}
+use Rattle.rtr_router.proofs.Served.{IsServed}
 use Rattle.rtr_router.specs.Rules.{Rule}
 use Rattle.rtr_router.proofs.Connections.{Holds, UnderWay}
-use Rattle.rtr_router.proofs.Serving.{recovers}
+use Rattle.rtr_router.proofs.Serving.{acts_by, recovers}
 use Rattle.rtr_router.proofs.Versions.{stands_online}
 use Rattle.rtr_router.proofs.WholeAnswers.{has_for_changes}
 
@@ -105,3 +107,9 @@ pub recovers_after : {B D : Type 0} (c : Caller B D) (ms : List (Moment B)) (r�
     → IsServed most r₀ start r n → n ≤ served_until r₀ start
 recovers_after c ms r₀ h most start r n was run =
     recovers most r₀ start r n (holds c ms r₀ h was) run
+
+pub acts_after : {B D : Type 0} (c : Caller B D) (ms : List (Moment B)) (r₀ : Router)
+    (h : Host B D) (most start : ℕ) (r : Router) (n : ℕ) → IsHistory c ms r₀ h
+    → IsServed most r₀ start r n → max n (wakes_at r) ≤ served_until r₀ start
+acts_after c ms r₀ h most start r n was run =
+    acts_by most r₀ start r n (holds c ms r₀ h was) run

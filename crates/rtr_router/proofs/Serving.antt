@@ -1,13 +1,12 @@
 -- A router that a cache serves by the rules has data in time: what is left of the time, at most,
 -- never grows.
 use Rattle.std.proofs.Common.{◌≡◌, ◌≢◌, ◌⊎◌, ℕ, Bool, true, false, ◌+◌, ◌*◌, ◌<◌, ◌≤◌, min}
-use Rattle.std.proofs.Common.{max, ◌-◌, ◌^◌}
-use Rattle.std.proofs.Common.{Some, None, if◌then◌else◌, refl, sym, ap, ap₂, ◌∙◌, subst}
-use Rattle.std.proofs.Common.{inl, inr, arith, ◌&&◌}
-use Rattle.std.proofs.lemmas.Bool.{cases_lt}
+use Rattle.std.proofs.Common.{max, ◌-◌}
+use Rattle.std.proofs.Common.{Some, None, if◌then◌else◌, refl, sym, ap, ◌∙◌, subst}
+use Rattle.std.proofs.Common.{inl, inr, arith}
+use Rattle.std.proofs.lemmas.Bool.{cases_eq, cases_lt}
 use Rattle.rtr_router.specs.declared.head.Head.{Head}
 use Rattle.rtr_router.specs.declared.head.Kind.TheVariants as kinds
-use Rattle.rtr_router.specs.declared.head.Query.{Query}
 use Rattle.rtr_router.specs.declared.settings.Settings.{Settings}
 use Rattle.rtr_router.specs.declared.router.Router.{Router}
 use Rattle.rtr_router.specs.declared.router.Phase.{Phase}
@@ -17,351 +16,34 @@ use Rattle.rtr_router.specs.declared.event.Event.TheVariants as events
 use Rattle.rtr_router.specs.declared.event.Action.{Action}
 use Rattle.rtr_router.specs.declared.event.Action.TheVariants as actions
 use Rattle.rtr_router.specs.declared.event.Cause.TheVariants as causes
-use Rattle.rtr_router.specs.Rules.{Asks, Begins, Completes, Connects}
-use Rattle.rtr_router.specs.Rules.{Fails, FallsOver, HasLost}
-use Rattle.rtr_router.specs.Rules.{Fresh, Keeps, Loses, MayAnswer, Rule, SameKnown, Waits}
-use Rattle.rtr_router.specs.Rules.{awaits_changes, is_answering, query}
-use Rattle.rtr_router.specs.Heeding.{HeedsAsked, HeedsLoss, HeedsTick, asks_for_all, ends_for}
-use Rattle.rtr_router.specs.Heeding.{ends_with}
-use Rattle.rtr_router.specs.Pace.{Paces, PacesAsk, PacesConnect, PacesDrop, PacesFailure}
-use Rattle.rtr_router.specs.Pace.{PacesFall, PacesWait, SameDue, SamePace, due_in, rest, wakes_at}
+use Rattle.rtr_router.specs.Rules.{Fresh, Keeps, MayAnswer, Rule}
+use Rattle.rtr_router.specs.Rules.{query}
+use Rattle.rtr_router.specs.Heeding.{HeedsAsked, HeedsLoss, HeedsTick, HeedsWaiting, asks_for_all}
+use Rattle.rtr_router.specs.Heeding.{ends_for, ends_with}
+use Rattle.rtr_router.specs.Pace.{Paces}
+use Rattle.rtr_router.specs.Pace.{SameDue, due_in}
+use Rattle.rtr_router.specs.Pace.{wakes_at}
 use Rattle.rtr_router.specs.Step.{IsInTime, IsStep}
-use Rattle.rtr_router.specs.Recovery.{AnswersWell, GoesOnWell, IsMadeWell, IsServed, IsServedBy}
-use Rattle.rtr_router.specs.Recovery.{LeavesWell, connection_time, restarts, served_until}
-use Rattle.rtr_router.specs.Recovery.{time_needed}
-use Rattle.rtr_router.specs.Recovery.LeavesWell.{not_asked_yet, notifies_then}
-use Rattle.rtr_router.specs.Recovery.AnswersWell.{answers_anew, refuses_session, closes_session}
-use Rattle.rtr_router.specs.Recovery.AnswersWell.{not_yet, notifies, responds, resets_well}
-use Rattle.rtr_router.specs.Recovery.AnswersWell.{refuses_version, answers_lower, closes_silently}
-use Rattle.rtr_router.specs.Recovery.GoesOnWell.{not_more_yet, notifies_inside, sends_payload}
-use Rattle.rtr_router.specs.Recovery.GoesOnWell.{ends_data}
-use Rattle.rtr_router.specs.Recovery.IsMadeWell.{not_made_yet, are_made, are_refused}
-use Rattle.rtr_router.specs.Recovery.IsServed.{served_from, served_on}
+use Rattle.rtr_router.specs.Recovery.{connection_time, served_until, time_needed}
+use Rattle.rtr_router.proofs.Served.{AnswersWell, GoesOnWell, IsAboveFloor, IsMadeWell, IsServed}
+use Rattle.rtr_router.proofs.Served.{IsServedBy, LeavesWell}
+use Rattle.rtr_router.proofs.Served.LeavesWell.{not_asked_yet, notifies_then, wished_then}
+use Rattle.rtr_router.proofs.Served.AnswersWell.{answers_anew, refuses_session, closes_session}
+use Rattle.rtr_router.proofs.Served.AnswersWell.{not_yet, notifies, responds, resets_well, wished}
+use Rattle.rtr_router.proofs.Served.AnswersWell.{refuses_version, answers_lower, closes_silently}
+use Rattle.rtr_router.proofs.Served.GoesOnWell.{not_more_yet, notifies_inside, sends_payload}
+use Rattle.rtr_router.proofs.Served.GoesOnWell.{ends_data, wished_inside}
+use Rattle.rtr_router.proofs.Served.IsMadeWell.{not_made_yet, are_made, are_refused}
+use Rattle.rtr_router.proofs.Served.IsMadeWell.{wished_meanwhile}
+use Rattle.rtr_router.proofs.Served.IsServed.{served_from, served_on}
 use Rattle.rtr_router.proofs.Settled.{same_settings}
-use Rattle.rtr_router.proofs.Connections.{Holds, Kept, UnderWay, after, after_same, all, all_same}
-use Rattle.rtr_router.proofs.Connections.{ask_le, begin_le, connect_le, fail_le, fall_le, kept}
-use Rattle.rtr_router.proofs.Connections.{left, less_le, min_le, more_le, no_restarts, once_more}
-use Rattle.rtr_router.proofs.Connections.{opening, reset_le, restarts_reset, restarts_same, same_le}
-use Rattle.rtr_router.proofs.Connections.{self_le, some_restarts, still_le, times}
-
--- ---- each action
-
--- where all but `due` stays
-on_still :
-    (p : Phase) (s : Settings) (r r' : Router) (n n' : ℕ) → r.phase ≡ p → r'.phase ≡ p
-    → n' ≤ max n (due_in p r) → SameKnown r r' → r'.version ≡ r.version
-    → r'.resync ≡ r.resync → r'.changes ≡ r.changes → r'.fell ≡ r.fell
-    → due_in p r' ≤ due_in p r → Holds p r → Kept s r r' n n'
-on_still p s r r' n n' e e' t same v y c f d h =
-    kept p p s r r' n n' e e' (holding p h)
-    (still_le n n' (due_in p r) (due_in p r') (left p s r) (left p s r') t d (leaving p))
-  where
-    under : UnderWay r → UnderWay r'
-    under x = record {
-      fell = f ∙ x.fell;
-      has_data = λ q. same.has_data ∙ x.has_data (sym c ∙ q);
-      resync = λ q. y ∙ x.resync (sym c ∙ q);
-    }
-
-    holding : (p : Phase) → Holds p r → Holds p r'
-    holding phases.Offline x = tt
-    holding phases.Connecting x = f ∙ x
-    holding phases.Asked x = under x
-    holding phases.Reading x = under x
-    holding phases.Applying x = under x
-    holding phases.Waiting x = f ∙ x
-
-    next : after s r' ≡ after s r
-    next = after_same s r r' v same.has_data y
-
-    leaving : (p : Phase) → left p s r' ≡ left p s r
-    leaving phases.Offline = ap (λ (x : ℕ). x * connection_time s)
-        (all_same s r r' f v same.has_data y)
-    leaving phases.Connecting = ap (λ (x : ℕ). s.response_limit + s.response_limit + s.pause + x *
-        connection_time s) next
-    leaving phases.Asked = ap₂ (λ (b : Bool) (x : ℕ). (if b then s.response_limit else 0) + s.pause
-        + x * connection_time s) c next
-    leaving phases.Reading = ap (λ (x : ℕ). s.pause + x * connection_time s) next
-    leaving phases.Applying = ap (λ (x : ℕ). s.pause + x * connection_time s) next
-    leaving phases.Waiting = ap (λ (x : ℕ). s.response_limit + s.response_limit + s.pause + x *
-        connection_time s) next
-
--- while it waits a notify makes it ask sooner, and not later
-sooner :
-    (p : Phase) (r r' : Router) (n' : ℕ) → SamePace r r' → r'.due ≤ r.due
-    → due_in p r' ≤ due_in p r
-sooner phases.Waiting r r' n' same h =
-    least r.due r'.due (r.asked + r.settings.pause) (r'.asked + r'.settings.pause) (2 ^ 64 - 1) h
-    (ap₂ (λ (a : ℕ) (x : Settings). a + x.pause) same.asked same.settings)
-  where
-    least : (d d' a a' c : ℕ) → d' ≤ d → a' ≡ a → max d' (min a' c) ≤ max d (min a c)
-    least d d' a a' c h e = omega arith
-sooner phases.Offline r r' n' same h = h
-sooner phases.Connecting r r' n' same h = h
-sooner phases.Asked r r' n' same h = h
-sooner phases.Reading r r' n' same h = h
-sooner phases.Applying r r' n' same h = h
-
-equal_le : (d d' : ℕ) → d' ≡ d → d' ≤ d
-equal_le d d' e = omega arith
-
-on_wait :
-    (p : Phase) (s : Settings) (r r' : Router) (n n' : ℕ) (e : Event) → r.phase ≡ p
-    → n' ≤ max n (due_in p r) → Waits r e r' → PacesWait r n' r' → Holds p r → Kept s r r' n n'
-on_wait p s r r' n n' e f t w d h =
-    on_still p s r r' n n' f (w.talk.phase ∙ f) t w.same w.talk.version w.talk.resync w.talk.changes
-    d.same.fell (sooner p r r' n' d.same (due d.due)) h
-  where
-    due : (r'.due ≡ r.due) ⊎ ((r.phase ≡ phases.Waiting) × (r'.due ≡ min r.due n'))
-        → r'.due ≤ r.due
-    due (inl q) = equal_le r.due r'.due q
-    due (inr q) = min_le r'.due r.due n' q.1
-
-on_connect :
-    (s : Settings) (r r' : Router) (n n' : ℕ) → r.settings ≡ s → n' ≤ max n r.due
-    → Connects r n' r' → PacesConnect r n' r' → Kept s r r' n n'
-on_connect s r r' n n' g t w d =
-    kept phases.Offline phases.Connecting s r r' n n' w.from w.phase d.fell
-    (connect_le n n' r.due r'.due s.connect_limit s.response_limit s.pause
-    (after s r' * connection_time s) (all s r * connection_time s) t
-    (d.due ∙ ap (λ (x : Settings). n' + x.connect_limit) g)
-    (ap (λ (x : ℕ). x * connection_time s) count ∙ once_more (after s r') (connection_time s)))
-  where
-    opens : r'.version ≡ opening s r
-    opens = w.version ∙ ap (λ (x : Settings). if r.fell then r.version else x.highest) g
-
-    shift : (o x : ℕ) → o + 1 + x ≡ o + x + 1
-    shift o x = omega arith
-
-    count : all s r ≡ after s r' + 1
-    count = shift (opening s r) (restarts r * (s.highest + 1))
-        ∙ ap₂ (λ (v x : ℕ). v + x * (s.highest + 1) + 1) (sym opens)
-        (sym (restarts_same r r' w.same.has_data w.resync))
-
-on_connected :
-    (s : Settings) (r r' : Router) (n n' : ℕ) (q : Query) → r.settings ≡ s → n' ≤ max n r.due
-    → Asks r n' events.Connected q r' → PacesAsk r n' events.Connected r' → r.fell ≡ false
-    → Kept s r r' n n'
-on_connected s r r' n n' q g t w d f =
-    kept phases.Connecting phases.Asked s r r' n n' w.may.0 w.phase
-    (record {
-      fell = d.fell ∙ f;
-      has_data = λ c. (w.own c).has_data;
-      resync = λ c. (w.own c).resync;
-    })
-    (ask_le n n' r.due r'.due s.response_limit s.pause (if r'.changes then s.response_limit else 0)
-    (after s r * connection_time s) (after s r' * connection_time s) t
-    (d.due ∙ ap (λ (x : Settings). n' + x.response_limit) g)
-    (most r'.changes s.response_limit)
-    (ap (λ (x : ℕ). x * connection_time s) (after_same s r r' w.version w.same.has_data w.may.2)))
-  where
-    most : (b : Bool) (a : ℕ) → (if b then a else 0) ≤ a
-    most true a = omega arith
-    most false a = omega arith
-
--- while it waits, when it is time
-on_asked :
-    (s : Settings) (r r' : Router) (n n' : ℕ) (q : Query) → r.settings ≡ s
-    → n' ≤ max n (due_in phases.Waiting r) → Asks r n' events.Tick q r'
-    → PacesAsk r n' events.Tick r' → r.fell ≡ false → Kept s r r' n n'
-on_asked s r r' n n' q g t w d f =
-    kept phases.Waiting phases.Asked s r r' n n' w.may.0 w.phase
-    (record {
-      fell = d.fell ∙ f;
-      has_data = λ c. (w.own c).has_data;
-      resync = λ c. (w.own c).resync;
-    })
-    (ask_le n n' (due_in phases.Waiting r) r'.due s.response_limit s.pause
-    (if r'.changes then s.response_limit else 0)
-    (after s r * connection_time s) (after s r' * connection_time s) t
-    (d.due ∙ ap (λ (x : Settings). n' + x.response_limit) g)
-    (most r'.changes s.response_limit)
-    (ap (λ (x : ℕ). x * connection_time s) (after_same s r r' w.version w.same.has_data w.may.2)))
-  where
-    most : (b : Bool) (a : ℕ) → (if b then a else 0) ≤ a
-    most true a = omega arith
-    most false a = omega arith
-
-on_reset :
-    (s : Settings) (r r' : Router) (n n' : ℕ) (u : Head) (q : Query) → r.settings ≡ s
-    → n' ≤ max n r.due → Asks r n' (events.Came u) q r' → PacesAsk r n' (events.Came u) r'
-    → UnderWay r → Kept s r r' n n'
-on_reset s r r' n n' u q g t w d x =
-    kept phases.Asked phases.Asked s r r' n n' w.may.0 w.phase
-    (record {
-      fell = d.fell ∙ x.fell;
-      has_data = λ c. absurd (still c);
-      resync = λ c. absurd (still c);
-    })
-    (reset_le n n' r.due r'.due s.response_limit s.pause
-    (if r.changes then s.response_limit else 0) (if r'.changes then s.response_limit else 0)
-    (after s r * connection_time s) (after s r' * connection_time s) t
-    (d.due ∙ ap (λ (x : Settings). n' + x.response_limit) g)
-    (ap (λ (b : Bool). if b then s.response_limit else 0) w.may.1)
-    (ap (λ (b : Bool). if b then s.response_limit else 0) w.may.4)
-    (times (after s r') (after s r) (connection_time s) fewer))
-  where
-    still : r'.changes ≡ true → ⊥
-    still c = let e : r'.changes ≡ false = w.may.4 in cc
-
-    sum_le : (v v' a b : ℕ) → v' ≡ v → a ≤ b → v' + a ≤ v + b
-    sum_le v v' a b e h = omega arith
-
-    fewer : after s r' ≤ after s r
-    fewer = sum_le r.version r'.version (restarts r' * (s.highest + 1))
-        (restarts r * (s.highest + 1)) w.version
-        (times (restarts r') (restarts r) (s.highest + 1)
-        (restarts_reset r r' w.same.has_data w.may.5))
-
-on_begin :
-    (s : Settings) (r r' : Router) (n n' : ℕ) (u : Head) → n' ≤ max n r.due
-    → Begins r u r' → SameDue r r' → UnderWay r → Kept s r r' n n'
-on_begin s r r' n n' u t w d x =
-    kept phases.Asked phases.Reading s r r' n n' w.from w.phase
-    (record {
-      fell = d.same.fell ∙ x.fell;
-      has_data = λ c. w.same.has_data ∙ x.has_data (sym w.changes ∙ c);
-      resync = λ c. w.resync ∙ x.resync (sym w.changes ∙ c);
-    })
-    (begin_le n n' r.due r'.due s.pause (if r.changes then s.response_limit else 0)
-    (after s r * connection_time s) (after s r' * connection_time s) t d.due
-    (times (after s r') (after s r) (connection_time s) fewer))
-  where
-    sum_le : (v v' u a b : ℕ) → v' ≡ u → u ≤ v → a ≡ b → v' + a ≤ v + b
-    sum_le v v' u a b e h f = omega arith
-
-    fewer : after s r' ≤ after s r
-    fewer = sum_le r.version r'.version u.version (restarts r' * (s.highest + 1))
-        (restarts r * (s.highest + 1)) w.version w.may.most
-        (ap (λ (x : ℕ). x * (s.highest + 1)) (restarts_same r r' w.same.has_data w.resync))
-
-on_apply :
-    (s : Settings) (r r' : Router) (n n' : ℕ) (u : Head) (on : Bool) → n' ≤ max n r.due
-    → Completes r u on r' → SameDue r r' → UnderWay r → Kept s r r' n n'
-on_apply s r r' n n' u on t w d x =
-    kept phases.Reading phases.Applying s r r' n n' w.from w.phase
-    (record {
-      fell = d.same.fell ∙ x.fell;
-      has_data = λ c. w.same.has_data ∙ x.has_data (sym w.same_changes ∙ c);
-      resync = λ c. w.resync ∙ x.resync (sym w.same_changes ∙ c);
-    })
-    (same_le n n' r.due r'.due (left phases.Reading s r) (left phases.Applying s r') t d.due
-    (ap (λ (x : ℕ). s.pause + x * connection_time s)
-    (after_same s r r' w.same_version w.same.has_data w.resync)))
-
--- it falls to a lower version
-lower : (r r' : Router) (e : Event) → FallsOver r e r' → r'.version < r.version
-lower r r' (events.Came u) w = w.lower
-lower r r' events.Lost w = below r'.version r.version w.by_one
-  where
-    below : (a b : ℕ) → a + 1 ≡ b → a < b
-    below a b e = omega arith
-lower r r' events.Tick w = absurd w
-lower r r' events.Connected w = absurd w
-lower r r' (events.Faulty f) w = absurd w
-lower r r' events.Applied w = absurd w
-lower r r' (events.NotApplied code) w = absurd w
-
-on_fall :
-    (s : Settings) (r r' : Router) (n n' : ℕ) (e : Event) → n' ≤ max n r.due
-    → Rule r n' e (ends_for causes.Lower) r' → PacesFall r n' r' → Kept s r r' n n'
-on_fall s r r' n n' e t w d =
-    kept phases.Asked phases.Offline s r r' n n' w.by.from w.phase tt
-    (fall_le n n' r.due r'.due s.pause (if r.changes then s.response_limit else 0)
-    (after s r * connection_time s) (all s r' * connection_time s) t d.due
-    (times (all s r') (after s r) (connection_time s) fewer))
-  where
-    sum_le : (v v' o a b : ℕ) → o ≡ v' → v' < v → a ≡ b → o + 1 + a ≤ v + b
-    sum_le v v' o a b e h f = omega arith
-
-    fewer : all s r' ≤ after s r
-    fewer = sum_le r.version r'.version (opening s r') (restarts r' * (s.highest + 1))
-        (restarts r * (s.highest + 1))
-        (ap (λ (b : Bool). if b then r'.version else s.highest) d.fell)
-        (lower r r' e w.by.over)
-        (ap (λ (x : ℕ). x * (s.highest + 1)) (restarts_same r r' w.data_then.has_data w.by.resync))
-
--- a serial query fails, or the changes that answer it: a reset query follows
-on_failure :
-    (p : Phase) (s : Settings) (r r' : Router) (n n' : ℕ) → r.settings ≡ s
-    → r.phase ≡ p → is_answering p ≡ true → r.changes ≡ true → n' ≤ max n (due_in p r)
-    → s.pause + after s r * connection_time s ≤ left p s r
-    → SameKnown r r' → r'.phase ≡ phases.Offline → Fails r r' → PacesFailure r n' false r'
-    → UnderWay r → Kept s r r' n n'
-on_failure p s r r' n n' g q answers c t room same phase w d x =
-    kept p phases.Offline s r r' n n' q phase tt
-    (fail_le n n' (due_in p r) r'.due s.pause (after s r * connection_time s)
-    (all s r' * connection_time s) (left p s r) t
-    (d.due ∙ ap (λ (b : Bool). n' + (if b then r.settings.pause else rest r)) since
-    ∙ ap (λ (x : Settings). n' + x.pause) g)
-    (times (all s r') (after s r) (connection_time s) fewer) room)
-  where
-    since : awaits_changes r ≡ true
-    since = ap₂ (λ (x y : Bool). x && y) (ap (λ (p : Phase). is_answering p) q ∙ answers) c
-
-    was : restarts r ≡ 2
-    was = ap₂ (λ (d y : Bool). if d then (if y then 1 else 2) else 0) (x.has_data c) (x.resync c)
-
-    is : restarts r' ≡ 1
-    is = ap₂ (λ (d y : Bool). if d then (if y then 1 else 2) else 0)
-        (same.has_data ∙ x.has_data c) (w.since since)
-
-    opens : opening s r' ≡ s.highest
-    opens = ap (λ (b : Bool). if b then r'.version else s.highest) (d.fell ∙ x.fell)
-
-    two : (v h o a b : ℕ) → o ≡ h → a ≡ 1 * (h + 1) → b ≡ 2 * (h + 1) → o + 1 + a ≤ v + b
-    two v h o a b e f g = omega arith
-
-    fewer : all s r' ≤ after s r
-    fewer = two r.version s.highest (opening s r') (restarts r' * (s.highest + 1))
-        (restarts r * (s.highest + 1)) opens
-        (ap (λ (x : ℕ). x * (s.highest + 1)) is)
-        (ap (λ (x : ℕ). x * (s.highest + 1)) was)
-
--- data are dropped on a connection
-on_loss :
-    (p : Phase) (s : Settings) (r r' : Router) (n n' : ℕ) → r.settings ≡ s
-    → r.phase ≡ p → r.fell ≡ false → r.has_data ≡ true → n' ≤ max n (due_in p r)
-    → s.pause + after s r * connection_time s ≤ left p s r
-    → HasLost r r' → r'.phase ≡ phases.Offline → PacesFailure r n' true r'
-    → Kept s r r' n n'
-on_loss p s r r' n n' g q f h t room lost phase d =
-    kept p phases.Offline s r r' n n' q phase tt
-    (fail_le n n' (due_in p r) r'.due s.pause (after s r * connection_time s)
-    (all s r' * connection_time s)
-    (left p s r) t (d.due ∙ ap (λ (x : Settings). n' + x.pause) g)
-    (times (all s r') (after s r) (connection_time s) fewer) room)
-  where
-    opens : opening s r' ≡ s.highest
-    opens = ap (λ (b : Bool). if b then r'.version else s.highest) (d.fell ∙ f)
-
-    one : (v h o a b : ℕ) → o ≡ h → a ≡ 0 * (h + 1) → 1 * (h + 1) ≤ b → o + 1 + a ≤ v + b
-    one v h o a b e f g = omega arith
-
-    fewer : all s r' ≤ after s r
-    fewer = one r.version s.highest (opening s r') (restarts r' * (s.highest + 1))
-        (restarts r * (s.highest + 1)) opens
-        (ap (λ (x : ℕ). x * (s.highest + 1)) (no_restarts r' lost.has_data))
-        (times 1 (restarts r) (s.highest + 1) (some_restarts r h))
-
--- and without one
-on_drop :
-    (s : Settings) (r r' : Router) (n n' : ℕ) → n' ≤ max n r.due → Loses r r' → PacesDrop r n' r'
-    → Kept s r r' n n'
-on_drop s r r' n n' t w d =
-    kept phases.Offline phases.Offline s r r' n n' w.from w.phase tt
-    (less_le n n' r.due r'.due (all s r * connection_time s) (all s r' * connection_time s) t
-    (min_le r'.due r.due (n' + r.settings.pause) d.due)
-    (times (all s r') (all s r) (connection_time s) fewer))
-  where
-    sum_le : (o o' a b h : ℕ) → o' ≡ o → a ≡ 0 * (h + 1) → o' + 1 + a ≤ o + 1 + b
-    sum_le o o' a b h e f = omega arith
-
-    fewer : all s r' ≤ all s r
-    fewer = sum_le (opening s r) (opening s r') (restarts r' * (s.highest + 1))
-        (restarts r * (s.highest + 1)) s.highest
-        (ap₂ (λ (b : Bool) (v : ℕ). if b then v else s.highest) d.fell w.version)
-        (ap (λ (x : ℕ). x * (s.highest + 1)) (no_restarts r' w.lost.has_data))
+use Rattle.rtr_router.proofs.Connections.{Holds, Kept, UnderWay, after}
+use Rattle.rtr_router.proofs.Connections.{left, more_le}
+use Rattle.rtr_router.proofs.Connections.{self_le, then_waiting}
+use Rattle.rtr_router.proofs.Connections.{after_waiting, times}
+use Rattle.rtr_router.proofs.Acting.{on_still, equal_le, on_wait, on_connect, on_connected}
+use Rattle.rtr_router.proofs.Acting.{on_asked, on_reset, on_begin, on_apply, on_fall, on_rise}
+use Rattle.rtr_router.proofs.Acting.{on_failure, on_loss, on_drop}
 
 -- ---- what is done at what such a cache sends
 
@@ -388,7 +70,7 @@ soonest r = bounded r.has_data (due_in r.phase r) r.expires
 max_le : (n n' w d : ℕ) → n' ≤ max n w → w ≤ d → n' ≤ max n d
 max_le n n' w d h k = omega arith
 
-fresh_or_not : (r : Router) (n : ℕ) → Fresh r n ⊎ ((r.has_data ≡ true) × (r.expires ≤ n))
+pub fresh_or_not : (r : Router) (n : ℕ) → Fresh r n ⊎ ((r.has_data ≡ true) × (r.expires ≤ n))
 fresh_or_not r n = go r.has_data refl (cases_lt n r.expires)
   where
     go : (b : Bool) → r.has_data ≡ b → (n < r.expires) ⊎ (r.expires ≤ n)
@@ -419,6 +101,9 @@ expired p s r r' n n' e a g q h t has late w = go p q h t
     room_two : (a p x : ℕ) → p + x ≤ a + a + p + x
     room_two a p x = omega arith
 
+    room_more_then : (a p x y : ℕ) → x ≤ y → p + x ≤ a + a + p + y
+    room_more_then a p x y h = omega arith
+
     room_self : (x : ℕ) → x ≤ x
     room_self x = omega arith
 
@@ -440,7 +125,9 @@ expired p s r r' n n' e a g q h t has late w = go p q h t
     go phases.Applying q h t = online phases.Applying q (not_in phases.Applying q (λ f. cc)) h.fell
         (room_self (s.pause + after s r * connection_time s)) t
     go phases.Waiting q h t = online phases.Waiting q (not_in phases.Waiting q (λ f. cc)) h
-        (room_two s.response_limit s.pause (after s r * connection_time s)) t
+        (room_more_then s.response_limit s.pause (after s r * connection_time s)
+        (then_waiting s r * connection_time s)
+        (times (after s r) (then_waiting s r) (connection_time s) (after_waiting s r))) t
 
 -- it waits
 passed :
@@ -474,11 +161,13 @@ began s r r' n n' u a t h w f =
 asked :
     (most : ℕ) (s : Settings) (r r' : Router) (n n' : ℕ) (e : Event) (a : Action)
     → r.settings ≡ s → r.phase ≡ phases.Asked → UnderWay r → n' ≤ max n r.due
-    → Fresh r n' → IsInTime r n' → AnswersWell most r e → IsStep r n' e a r'
+    → Fresh r n' → IsInTime r n' → AnswersWell IsAboveFloor most r e → IsStep r n' e a r'
     → Kept s r r' n n'
 asked most s r r' n n' e a g q h t fresh soon not_yet w =
     passed phases.Asked s r r' n n' events.Tick a q h t w
     (w.idles fresh soon (idle phases.Asked r q (λ f. cc) (λ f. cc)))
+asked most s r r' n n' e a g q h t fresh soon wished w =
+    passed phases.Asked s r r' n n' events.Asked a q h t w (w.idles fresh soon tt)
 asked most s r r' n n' e a g q h t fresh soon (notifies u k v) w =
     passed phases.Asked s r r' n n' (events.Came u) a q h t w (go r.agreed refl)
   where
@@ -603,6 +292,8 @@ reading :
 reading s r r' n n' e a q h t fresh soon not_more_yet w =
     passed phases.Reading s r r' n n' events.Tick a q h t w
     (w.idles fresh soon (idle phases.Reading r q (λ f. cc) (λ f. cc)))
+reading s r r' n n' e a q h t fresh soon wished_inside w =
+    passed phases.Reading s r r' n n' events.Asked a q h t w (w.idles fresh soon tt)
 reading s r r' n n' e a q h t fresh soon (notifies_inside u x) w =
     passed phases.Reading s r r' n n' (events.Came u) a q h t w
     (((w.heeds fresh soon).reading q).notes x)
@@ -612,7 +303,8 @@ reading s r r' n n' e a q h t fresh soon (sends_payload u k v x) w =
     let rule : Keeps r u r' = d.rule in
     let paces : SameDue r r' = d.paces in
     on_still phases.Reading s r r' n n' q (rule.talk.phase ∙ q) t rule.same rule.talk.version
-    rule.talk.resync rule.talk.changes paces.same.fell (equal_le r.due r'.due paces.due) h
+    rule.talk.silent rule.talk.resync rule.talk.changes paces.same.fell
+    (equal_le r.due r'.due paces.due) h
 reading s r r' n n' e a q h t fresh soon (ends_data u x y z) w =
     let d : Done r n' (events.Came u) (actions.Apply r.changes) r' = done r r' n' (events.Came u) a
     (actions.Apply r.changes) w (((w.heeds fresh soon).reading q).applies x y z) in
@@ -626,6 +318,8 @@ applying :
 applying s r r' n n' e a g q h t fresh soon not_made_yet w unshown =
     passed phases.Applying s r r' n n' events.Tick a q h t w
     (w.idles fresh soon (idle phases.Applying r q (λ f. cc) (λ f. cc)))
+applying s r r' n n' e a g q h t fresh soon wished_meanwhile w unshown =
+    passed phases.Applying s r r' n n' events.Asked a q h t w (w.idles fresh soon tt)
 applying s r r' n n' e a g q h t fresh soon are_made w unshown =
     absurd (unshown (w.heeds fresh soon q))
 applying s r r' n n' e a g q h t fresh soon (are_refused code c) w unshown =
@@ -657,9 +351,37 @@ waiting :
     → r.settings ≡ s → r.phase ≡ phases.Waiting → r.fell ≡ false
     → n' ≤ max n (due_in phases.Waiting r)
     → Fresh r n' → IsInTime r n' → LeavesWell r e → IsStep r n' e a r' → Kept s r r' n n'
-waiting s r r' n n' e a g q h t fresh soon (notifies_then u x) w =
-    passed phases.Waiting s r r' n n' (events.Came u) a q h t w
-    (((w.heeds fresh soon).waiting q).notified x)
+waiting s r r' n n' e a g q h t fresh soon (notifies_then u k v) w =
+    go r.has_data refl (cases_eq u.session r.known.session)
+  where
+    heeds : HeedsWaiting r n' u a r'
+    heeds = (w.heeds fresh soon).waiting q
+
+    noted : (r.has_data ≡ true → u.session ≡ r.known.session) → Kept s r r' n n'
+    noted x = passed phases.Waiting s r r' n n' (events.Came u) a q h t w
+        (heeds.notified (record { kind = k; version = v; session = x }))
+
+    room : (a p x y : ℕ) → x ≤ y → p + x ≤ a + a + p + y
+    room a p x y h = omega arith
+
+    go : (b : Bool) → r.has_data ≡ b
+        → (u.session ≡ r.known.session) ⊎ (u.session ≡ r.known.session → ⊥) → Kept s r r' n n'
+    go false f x = noted (λ e. cc)
+    go true f (inl x) = noted (λ e. x)
+    go true f (inr x) =
+        let flushed : a ≡ ends_with true (Some 0) causes.OtherSession =
+        heeds.other_session k v f x
+        ∙ ap (λ (b : Bool). ends_with b (Some 0) causes.OtherSession) f in
+        let d : Done r n' (events.Came u) (ends_with true (Some 0) causes.OtherSession) r' =
+        done r r' n' (events.Came u) a (ends_with true (Some 0) causes.OtherSession) w
+        flushed in
+        on_loss phases.Waiting s r r' n n' g q h f t
+        (room s.response_limit s.pause (after s r * connection_time s)
+        (then_waiting s r * connection_time s)
+        (times (after s r) (then_waiting s r) (connection_time s) (after_waiting s r)))
+        d.rule.data_then d.rule.phase d.paces
+waiting s r r' n n' e a g q h t fresh soon wished_then w =
+    passed phases.Waiting s r r' n n' events.Asked a q h t w (w.idles fresh soon tt)
 waiting s r r' n n' e a g q h t fresh soon not_asked_yet w =
     go (cases_lt n' r.due) (cases_lt (n' - r.asked) r.settings.pause)
   where
@@ -672,23 +394,41 @@ waiting s r r' n n' e a g q h t fresh soon not_asked_yet w =
     go (inl x) y = passed phases.Waiting s r r' n n' events.Tick a q h t w (heeds.waits q x)
     go (inr x) (inl y) =
         passed phases.Waiting s r r' n n' events.Tick a q h t w (heeds.pauses q y)
-    go (inr x) (inr y) =
-        let d : Done r n' events.Tick (actions.Ask (query r')) r' =
-        done r r' n' events.Tick a (actions.Ask (query r')) w (heeds.asks q x y) in
-        on_asked s r r' n n' (query r') g t d.rule d.paces h
+    go (inr x) (inr y) = by_silence r.silent refl (cases_lt n' r.rises)
+      where
+        asks : (r.silent ≡ true → n' < r.rises) → Kept s r r' n n'
+        asks z =
+            let d : Done r n' events.Tick (actions.Ask (query r')) r' =
+            done r r' n' events.Tick a (actions.Ask (query r')) w (heeds.asks q x y z) in
+            on_asked s r r' n n' (query r') g t d.rule d.paces h
+
+        by_silence : (b : Bool) → r.silent ≡ b → (n' < r.rises) ⊎ (r.rises ≤ n')
+            → Kept s r r' n n'
+        by_silence false f z = asks (λ e. cc)
+        by_silence true f (inl z) = asks (λ e. z)
+        by_silence true f (inr z) =
+            let d : Done r n' events.Tick (ends_for causes.Higher) r' =
+            done r r' n' events.Tick a (ends_for causes.Higher) w (heeds.rises q x y f z) in
+            on_rise s r r' n n' t d.rule d.paces h
 
 served :
     (most : ℕ) (p : Phase) (s : Settings) (r r' : Router) (n n' : ℕ) (e : Event) (a : Action)
     → r.settings ≡ s → r.phase ≡ p → Holds p r → n' ≤ max n (due_in p r)
-    → Fresh r n' → IsInTime r n' → IsServedBy most p r e → IsStep r n' e a r' → a ≢ actions.Show
-    → Kept s r r' n n'
-served most phases.Offline s r r' n n' e a g q h t fresh soon x w unshown =
+    → Fresh r n' → IsInTime r n' → IsServedBy IsAboveFloor most p r e → IsStep r n' e a r'
+    → a ≢ actions.Show → Kept s r r' n n'
+served most phases.Offline s r r' n n' e a g q h t fresh soon (inl x) w unshown =
     offline s r r' n n' a g q t fresh soon (subst (λ (y : Event). IsStep r n' y a r') x w)
+served most phases.Offline s r r' n n' e a g q h t fresh soon (inr x) w unshown =
+    let w' : IsStep r n' events.Asked a r' = subst (λ (y : Event). IsStep r n' y a r') x w in
+    passed phases.Offline s r r' n n' events.Asked a q h t w' (w'.idles fresh soon tt)
 served most phases.Connecting s r r' n n' e a g q h t fresh soon (inl x) w unshown =
     let w' : IsStep r n' events.Tick a r' = subst (λ (y : Event). IsStep r n' y a r') x w in
     passed phases.Connecting s r r' n n' events.Tick a q h t w'
     (w'.idles fresh soon (idle phases.Connecting r q (λ f. cc) (λ f. cc)))
-served most phases.Connecting s r r' n n' e a g q h t fresh soon (inr x) w unshown =
+served most phases.Connecting s r r' n n' e a g q h t fresh soon (inr (inl x)) w unshown =
+    let w' : IsStep r n' events.Asked a r' = subst (λ (y : Event). IsStep r n' y a r') x w in
+    passed phases.Connecting s r r' n n' events.Asked a q h t w' (w'.idles fresh soon tt)
+served most phases.Connecting s r r' n n' e a g q h t fresh soon (inr (inr x)) w unshown =
     let w' : IsStep r n' events.Connected a r' = subst (λ (y : Event). IsStep r n' y a r') x w in
     let d : Done r n' events.Connected (actions.Ask (query r')) r' = done r r' n' events.Connected a
     (actions.Ask (query r')) w' (w'.heeds fresh soon q) in
@@ -705,7 +445,7 @@ served most phases.Waiting s r r' n n' e a g q h t fresh soon x w unshown =
 step :
     (most : ℕ) (s : Settings) (r r' : Router) (n n' : ℕ) (e : Event) (a : Action)
     → r.settings ≡ s → Holds r.phase r → n' ≤ max n (wakes_at r) → IsInTime r n'
-    → IsServedBy most r.phase r e → IsStep r n' e a r' → a ≢ actions.Show
+    → IsServedBy IsAboveFloor most r.phase r e → IsStep r n' e a r' → a ≢ actions.Show
     → Kept s r r' n n'
 step most s r r' n n' e a g h t soon x w unshown = go (fresh_or_not r n')
   where
@@ -749,16 +489,18 @@ lasts most r₀ start r n q (served_on r₁ n₁ n₂ e a r₂ run l t soon x w 
     through : (a b c : ℕ) → a ≤ b → b ≤ c → a ≤ c
     through a b c h k = omega arith
 
-pub recovers :
+-- nor does the time at which it acts by itself come later
+pub acts_by :
     (most : ℕ) (r₀ : Router) (start : ℕ) (r : Router) (n : ℕ) → Holds r₀.phase r₀
-    → IsServed most r₀ start r n → n ≤ served_until r₀ start
-recovers most r₀ start r n q run =
+    → IsServed most r₀ start r n → max n (wakes_at r) ≤ served_until r₀ start
+acts_by most r₀ start r n q run =
     let y : Lasts r₀.settings r₀ r start n = lasts most r₀ start r n q run in
-    bound n (due_in r.phase r) (left r.phase r₀.settings r) (max start (due_in r₀.phase r₀))
-    (left r₀.phase r₀.settings r₀) (time_needed r₀.phase r₀) y.less (same r₀.phase)
+    bound n (wakes_at r) (due_in r.phase r) (left r.phase r₀.settings r)
+    (max start (due_in r₀.phase r₀)) (left r₀.phase r₀.settings r₀) (time_needed r₀.phase r₀)
+    (soonest r) y.less (same r₀.phase)
   where
-    bound : (n d x t l y : ℕ) → max n d + x ≤ t + l → l ≡ y → n ≤ t + y
-    bound n d x t l y h e = omega arith
+    bound : (n w d x t l y : ℕ) → w ≤ d → max n d + x ≤ t + l → l ≡ y → max n w ≤ t + y
+    bound n w d x t l y k h e = omega arith
 
     same : (p : Phase) → left p r₀.settings r₀ ≡ time_needed p r₀
     same phases.Offline = refl
@@ -767,6 +509,15 @@ recovers most r₀ start r n q run =
     same phases.Reading = refl
     same phases.Applying = refl
     same phases.Waiting = refl
+
+pub recovers :
+    (most : ℕ) (r₀ : Router) (start : ℕ) (r : Router) (n : ℕ) → Holds r₀.phase r₀
+    → IsServed most r₀ start r n → n ≤ served_until r₀ start
+recovers most r₀ start r n q run =
+    least n (wakes_at r) (served_until r₀ start) (acts_by most r₀ start r n q run)
+  where
+    least : (n w t : ℕ) → max n w ≤ t → n ≤ t
+    least n w t h = omega arith
 
 pub recovers_offline :
     (most : ℕ) (r₀ : Router) (start : ℕ) (r : Router) (n : ℕ) → r₀.phase ≡ phases.Offline

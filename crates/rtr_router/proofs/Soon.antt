@@ -2,7 +2,7 @@
 use Rattle.std.proofs.Common.{◌≡◌, ◌⊎◌, ℕ, Bool, true, false, ◌+◌, ◌-◌, ◌*◌, ◌/◌, ◌≤◌, ◌==◌, min}
 use Rattle.std.proofs.Common.{max}
 use Rattle.std.proofs.Common.{List, if◌then◌else◌, nat_lt, ap, subst}
-use Rattle.std.proofs.Common.{inl, inr, arith, ◌||◌, ◌^◌}
+use Rattle.std.proofs.Common.{inl, inr, arith, ◌||◌, ◌^◌, ◌&&◌}
 use Rattle.rtr_router.specs.declared.head.Known.{Known}
 use Rattle.rtr_router.specs.declared.settings.Settings.{Settings}
 use Rattle.rtr_router.specs.declared.router.Router.{Router}
@@ -15,7 +15,9 @@ use Rattle.rtr_router.specs.declared.event.Ending.{Ending}
 use Rattle.rtr_router.specs.declared.event.Cause.{Cause}
 use Rattle.rtr_router.specs.declared.event.Cause.TheVariants as causes
 use Rattle.rtr_router.specs.Rules.{awaits_changes}
-use Rattle.rtr_router.specs.Pace.{Paces, PacesEnd, due_in, grows, has_more, rest, wakes_at}
+use Rattle.rtr_router.specs.declared.event.Event.TheVariants as events
+use Rattle.rtr_router.specs.Pace.{Paces, PacesEnd, due_in, due_waiting, grows, grows_slow}
+use Rattle.rtr_router.specs.Pace.{has_more, is_waiting, longest_rest, rest, soonest, wakes_at}
 use Rattle.rtr_router.specs.Times.{expire_ms, milliseconds, named_refresh_ms, refresh_ms, retry_ms}
 use Rattle.rtr_router.specs.Times.{set_or}
 use Rattle.rtr_router.specs.Histories.{Caller, Host, IsHistory, Moment}
@@ -66,7 +68,7 @@ named_le s k = set_le s.refresh (milliseconds k k.refresh 3600 1 86400) 86400000
     small : 3600 ≤ 86400
     small = omega arith
 
-refresh_le : (s : Settings) (k : Known) → refresh_ms s k ≤ s.refresh + s.expire + 86400000
+pub refresh_le : (s : Settings) (k : Known) → refresh_ms s k ≤ s.refresh + s.expire + 86400000
 refresh_le s k = go (nat_lt (named_refresh_ms s k) (expire_ms s k)) (named_refresh_ms s k)
     (expire_ms s k) s.refresh s.expire (named_le s k) (expire_le s k)
   where
@@ -75,31 +77,54 @@ refresh_le s k = go (nat_lt (named_refresh_ms s k) (expire_ms s k)) (named_refre
     go true x y a e h k = omega arith
     go false x y a e h k = omega arith
 
-rest_le : (r : Router) → rest r ≤ r.settings.pause + r.settings.retry + 7200000
-rest_le r = go (grows r) r.settings.pause (min (retry_ms r.settings r.known) r.wait)
-    (min (retry_ms r.settings r.known) r.wait * r.settings.chance / 131072)
-    (retry_ms r.settings r.known) r.settings.retry (min_le (retry_ms r.settings r.known) r.wait)
+longest_rest_le : (r : Router)
+    → longest_rest r ≤ r.settings.retry + r.settings.refresh + r.settings.expire + 86400000
+longest_rest_le r = go (r.has_data && is_waiting r.phase) (retry_ms r.settings r.known)
+    (refresh_ms r.settings r.known) r.settings.retry r.settings.refresh r.settings.expire
+    (retry_le r.settings r.known) (refresh_le r.settings r.known)
+  where
+    go : (b : Bool) (x y t f e : ℕ) → x ≤ t + 7200000 → y ≤ f + e + 86400000
+        → (if b then max x y else x) ≤ t + f + e + 86400000
+    go true x y t f e h k = omega arith
+    go false x y t f e h k = omega arith
+
+rest_le : (g : Bool) (r : Router)
+    → rest g r
+    ≤ r.settings.pause + r.settings.retry + r.settings.refresh + r.settings.expire + 86400000
+rest_le g r = go g r.settings.pause (min (longest_rest r) r.wait)
+    (min (longest_rest r) r.wait * r.settings.chance / 131072)
+    (longest_rest r) (retry_ms r.settings r.known) r.settings.retry r.settings.refresh
+    r.settings.expire (min_le (longest_rest r) r.wait) (longest_rest_le r)
     (retry_le r.settings r.known)
   where
     min_le : (a b : ℕ) → min a b ≤ a
     min_le a b = omega arith
 
-    go : (b : Bool) (p x y t s : ℕ) → x ≤ t → t ≤ s + 7200000
-        → max p (if b then x - y else t) ≤ p + s + 7200000
-    go true p x y t s h k = omega arith
-    go false p x y t s h k = omega arith
+    go : (b : Bool) (p x y l t s f e : ℕ) → x ≤ l → l ≤ s + f + e + 86400000 → t ≤ s + 7200000
+        → max p (if b then x - y else t) ≤ p + s + f + e + 86400000
+    go true p x y l t s f e h k m = omega arith
+    go false p x y l t s f e h k m = omega arith
 
 -- ---- each action
 
-record Soon (s : Settings) (r : Router) (t : ℕ) : Type 0 where
-  due : r.due ≤ t + longest s
-  asked : r.asked ≤ t
+pub record Soon (s : Settings) (r : Router) (t : ℕ) : Type 0 where
+  pub due : r.due ≤ t + longest s
+  pub asked : r.asked ≤ t
 
 due_before : (d d' t n l : ℕ) → t ≤ n → d' ≤ d → d ≤ t + l → d' ≤ n + l
 due_before d d' t n l h k m = omega arith
 
 due_equal : (d d' : ℕ) → d' ≡ d → d' ≤ d
 due_equal d d' e = omega arith
+
+pub at_most : (x d d' : ℕ) → d' ≡ x → x ≤ d → d' ≤ d
+at_most x d d' e h = omega arith
+
+below : (d : ℕ) → d ≤ d
+below d = omega arith
+
+min_below : (d m : ℕ) → min d m ≤ d
+min_below d m = omega arith
 
 due_least : (d d' m : ℕ) → d' ≡ min d m → d' ≤ d
 due_least d d' m e = omega arith
@@ -126,12 +151,13 @@ retry_within p c a f t e x h = omega arith
 refresh_within : (p c a f t e x : ℕ) → x ≤ f + e + 86400000 → x ≤ p + c + a + f + t + e + 86400000
 refresh_within p c a f t e x h = omega arith
 
-rest_within : (p c a f t e x : ℕ) → x ≤ p + t + 7200000 → x ≤ p + c + a + f + t + e + 86400000
+rest_within : (p c a f t e x : ℕ) → x ≤ p + t + f + e + 86400000
+    → x ≤ p + c + a + f + t + e + 86400000
 rest_within p c a f t e x h = omega arith
 
-rests : (r : Router) → rest r ≤ longest r.settings
-rests r = rest_within r.settings.pause r.settings.connect_limit r.settings.response_limit
-    r.settings.refresh r.settings.retry r.settings.expire (rest r) (rest_le r)
+rests : (g : Bool) (r : Router) → rest g r ≤ longest r.settings
+rests g r = rest_within r.settings.pause r.settings.connect_limit r.settings.response_limit
+    r.settings.refresh r.settings.retry r.settings.expire (rest g r) (rest_le g r)
 
 pause_or : (b : Bool) (p x l : ℕ) → p ≤ l → x ≤ l → (if b then p else x) ≤ l
 pause_or true p x l h k = h
@@ -141,11 +167,11 @@ pause_within : (p c a f t e : ℕ) → p ≤ p + c + a + f + t + e + 86400000
 pause_within p c a f t e = omega arith
 
 failure_within : (r : Router) (b : Bool)
-    → (if b then r.settings.pause else rest r) ≤ longest r.settings
-failure_within r b = pause_or b r.settings.pause (rest r) (longest r.settings)
+    → (if b then r.settings.pause else rest (grows r) r) ≤ longest r.settings
+failure_within r b = pause_or b r.settings.pause (rest (grows r) r) (longest r.settings)
     (pause_within r.settings.pause r.settings.connect_limit r.settings.response_limit
     r.settings.refresh r.settings.retry r.settings.expire)
-    (rests r)
+    (rests (grows r) r)
 
 now_within : (n l d : ℕ) → d ≡ n → d ≤ n + l
 now_within n l d e = omega arith
@@ -154,24 +180,51 @@ ends_soon :
     (y : Cause) (z : Ending) (r r' : Router) (n : ℕ) → PacesEnd y r n z r'
     → r'.due ≤ n + longest r.settings
 ends_soon causes.Lower z r r' n d = now_within n (longest r.settings) r'.due d.due
-ends_soon causes.Slow z r r' n d = due_new r.settings n r'.due (rest r) d.due (rests r)
+ends_soon causes.Higher z r r' n d = now_within n (longest r.settings) r'.due d.due
+ends_soon causes.Slow z r r' n d = due_new r.settings n r'.due (rest (grows_slow r) r) d.due
+    (rests (grows_slow r) r)
 ends_soon _ z r r' n d = due_new r.settings n r'.due
-    (if z.drop || awaits_changes r then r.settings.pause else rest r) d.due
+    (if z.drop || awaits_changes r then r.settings.pause else rest (grows r) r) d.due
     (failure_within r (z.drop || awaits_changes r))
 
-shows_soon : (b : Bool) (n x l d : ℕ) → d ≡ (if b then n else n + x) → x ≤ l → d ≤ n + l
-shows_soon true n x l d e h = omega arith
-shows_soon false n x l d e h = omega arith
+shows_soon : (b : Bool) (c n x l d : ℕ) → d ≡ (if b then n else min c n + x) → x ≤ l → d ≤ n + l
+shows_soon true c n x l d e h = omega arith
+shows_soon false c n x l d e h = omega arith
+
+-- what happens while it does nothing makes it act no later
+pub waits_no_later : (p : Phase) (r : Router) (n : ℕ) (e : Event) → due_waiting p r n e ≤ r.due
+waits_no_later phases.Waiting r n (events.Came u) =
+    go (r.has_data && (u.serial == r.known.serial)) r.due n
+  where
+    go : (b : Bool) (d n : ℕ) → (if b then d else min d n) ≤ d
+    go true d n = omega arith
+    go false d n = omega arith
+waits_no_later phases.Waiting r n events.Asked = min_below r.due n
+waits_no_later phases.Waiting r n events.Tick = below r.due
+waits_no_later phases.Waiting r n events.Connected = below r.due
+waits_no_later phases.Waiting r n events.Lost = below r.due
+waits_no_later phases.Waiting r n (events.Faulty f) = below r.due
+waits_no_later phases.Waiting r n events.Applied = below r.due
+waits_no_later phases.Waiting r n (events.NotApplied code) = below r.due
+waits_no_later phases.Offline r n events.Asked = min_below r.due (soonest r n)
+waits_no_later phases.Offline r n events.Tick = below r.due
+waits_no_later phases.Offline r n events.Connected = below r.due
+waits_no_later phases.Offline r n events.Lost = below r.due
+waits_no_later phases.Offline r n (events.Came u) = below r.due
+waits_no_later phases.Offline r n (events.Faulty f) = below r.due
+waits_no_later phases.Offline r n events.Applied = below r.due
+waits_no_later phases.Offline r n (events.NotApplied code) = below r.due
+waits_no_later phases.Connecting r n e = below r.due
+waits_no_later phases.Asked r n e = below r.due
+waits_no_later phases.Reading r n e = below r.due
+waits_no_later phases.Applying r n e = below r.due
 
 -- it acts by itself no later than before, or not long after
 acts :
     (r r' : Router) (n : ℕ) (e : Event) (a : Action) → Paces r n e a r'
     → (r'.due ≤ r.due) ⊎ (r'.due ≤ n + longest r.settings)
-acts r r' n e actions.Wait d = inl (go d.due)
-  where
-    go : (r'.due ≡ r.due) ⊎ ((r.phase ≡ phases.Waiting) × (r'.due ≡ min r.due n)) → r'.due ≤ r.due
-    go (inl q) = due_equal r.due r'.due q
-    go (inr q) = due_least r.due r'.due n q.1
+acts r r' n e actions.Wait d = inl (at_most (due_waiting r.phase r n e) r.due r'.due d.due
+    (waits_no_later r.phase r n e))
 acts r r' n e actions.Drop d = inl (due_least r.due r'.due (n + r.settings.pause) d.due)
 acts r r' n e actions.Connect d = inr (due_new r.settings n r'.due r.settings.connect_limit d.due
     (connect_within r.settings.pause r.settings.connect_limit r.settings.response_limit
@@ -182,8 +235,8 @@ acts r r' n e (actions.Ask q) d = inr (due_new r.settings n r'.due r.settings.re
 acts r r' n e actions.Begin d = inl (due_equal r.due r'.due d.due)
 acts r r' n e actions.Keep d = inl (due_equal r.due r'.due d.due)
 acts r r' n e (actions.Apply on) d = inl (due_equal r.due r'.due d.due)
-acts r r' n e actions.Show d = inr (shows_soon (has_more r) n (refresh_ms r.settings r.answer)
-    (longest r.settings) r'.due d.due
+acts r r' n e actions.Show d = inr (shows_soon (has_more r) r.came n
+    (refresh_ms r.settings r.answer) (longest r.settings) r'.due d.due
     (refresh_within r.settings.pause r.settings.connect_limit r.settings.response_limit
     r.settings.refresh r.settings.retry r.settings.expire
     (refresh_ms r.settings r.answer) (refresh_le r.settings r.answer)))
@@ -195,7 +248,7 @@ acts r r' n e actions.NoData d = inr (due_new r.settings n r'.due (retry_ms r.se
 acts r r' n e (actions.End z) d = inr (ends_soon z.cause z r r' n d)
 
 -- when it asked changes only as it asks
-asked_of :
+pub asked_of :
     (r r' : Router) (n : ℕ) (e : Event) (a : Action) → Paces r n e a r'
     → (r'.asked ≡ r.asked) ⊎ (r'.asked ≡ n)
 asked_of r r' n e actions.Wait d = inl d.same.asked
@@ -209,7 +262,7 @@ asked_of r r' n e actions.Show d = inl d.asked
 asked_of r r' n e actions.NoData d = inl d.same.asked
 asked_of r r' n e (actions.End z) d = inl (ends_settled z.cause z r r' n d).asked
 
-asked_before : (a a' t n : ℕ) → t ≤ n → (a' ≡ a) ⊎ (a' ≡ n) → a ≤ t → a' ≤ n
+pub asked_before : (a a' t n : ℕ) → t ≤ n → (a' ≡ a) ⊎ (a' ≡ n) → a ≤ t → a' ≤ n
 asked_before a a' t n l (inl e) h = omega arith
 asked_before a a' t n l (inr e) h = omega arith
 
@@ -226,7 +279,7 @@ zero_soon d l e = omega arith
 zero_asked : (d : ℕ) → d ≡ 0 → d ≤ 0
 zero_asked d e = omega arith
 
-soon_always :
+pub soon_always :
     {B D : Type 0} (c : Caller B D) (ms : List (Moment B)) (r : Router) (h : Host B D)
     → IsHistory c ms r h → IsTimed ms
     → Soon c.settings r (latest ms)

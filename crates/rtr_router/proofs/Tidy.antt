@@ -10,8 +10,9 @@ use Rattle.rtr_router.specs.declared.event.Event.TheVariants as events
 use Rattle.rtr_router.specs.declared.event.Action.{Action}
 use Rattle.rtr_router.specs.declared.event.Action.TheVariants as actions
 use Rattle.rtr_router.specs.Rules.{MayAsk, Rule}
-use Rattle.rtr_router.specs.Histories.{Caller, Host, IsHistory, Moment}
-use Rattle.rtr_router.specs.Histories.IsHistory.{run_begins, run_goes_on}
+use Rattle.rtr_router.specs.Histories.{Caller, Host, Moment}
+use Rattle.rtr_router.specs.Safety.{IsAllowed}
+use Rattle.rtr_router.specs.Safety.IsAllowed.{allowed_begins, allowed_on}
 use Rattle.rtr_router.specs.Asking.{IsTidy, TidyHere, connection_after, has_connection}
 
 abbrev OpenAt : Phase → Bool → Type 0
@@ -35,6 +36,7 @@ may_ask r r' n (events.Came u) w p = let f = w.0 in cc
 may_ask r r' n events.Connected w p = let f = w.0 in cc
 may_ask r r' n events.Tick w p = let f = w.0 in cc
 may_ask r r' n events.Lost w p = absurd w
+may_ask r r' n events.Asked w p = absurd w
 may_ask r r' n (events.Faulty f) w p = absurd w
 may_ask r r' n events.Applied w p = absurd w
 may_ask r r' n (events.NotApplied code) w p = absurd w
@@ -101,17 +103,17 @@ record Tidies {B : Type 0} (ms : List (Moment B)) (r : Router) : Type 0 where
   last : OpenAt r.phase (has_connection ms)
 
 tidies : {B D : Type 0} (c : Caller B D) (ms : List (Moment B)) (r : Router) (h : Host B D)
-    → IsHistory c ms r h → Tidies ms r
-tidies c ms r h (run_begins r₀ new) = record {
+    → IsAllowed c ms r h → Tidies ms r
+tidies c ms r h (allowed_begins r₀ new) = record {
   all = tt;
   last = at_open phases.Offline r₀.phase false new.phase refl;
 }
-tidies c ms r h (run_goes_on n b e a r' ms₀ r₀ h₀ run said went) =
+tidies c ms r h (allowed_on n b e a r' ms₀ r₀ h₀ run said went) =
     let y : Tidies ms₀ r₀ = tidies c ms₀ r₀ h₀ run in
     let s : Tidied e a (has_connection ms₀) r' = step e a (has_connection ms₀) r₀ r' n went.rule
     y.last in
     record { all = (s.here, y.all); last = s.after }
 
 pub tidy : {B D : Type 0} (c : Caller B D) (ms : List (Moment B)) (r : Router) (h : Host B D)
-    → IsHistory c ms r h → IsTidy ms
+    → IsAllowed c ms r h → IsTidy ms
 tidy c ms r h run = (tidies c ms r h run).all

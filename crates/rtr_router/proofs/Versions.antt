@@ -22,7 +22,8 @@ use Rattle.rtr_router.specs.declared.event.Cause.TheVariants as causes
 use Rattle.rtr_router.specs.Rules.{Asks, Begins, ClosesBy, Drops, HasNoData}
 use Rattle.rtr_router.specs.Rules.{MayAsk, Rule, SameKnown, SameTalk, opening_version}
 use Rattle.rtr_router.specs.Pace.{Paces, PacesEnd}
-use Rattle.rtr_router.specs.Step.{IsStep}
+use Rattle.rtr_router.specs.Safety.{IsAllowed, MayStep}
+use Rattle.rtr_router.specs.Safety.IsAllowed.{allowed_begins, allowed_on}
 use Rattle.rtr_router.specs.Histories.{Caller, Host, IsHistory, Moment}
 use Rattle.rtr_router.specs.Histories.IsHistory.{run_begins, run_goes_on}
 use Rattle.rtr_router.specs.Asking.{AgreesHere, HighestHere, IsOfOneVersion, TriesHighest}
@@ -79,6 +80,7 @@ on_ask (events.Came u) o r r' n w v a y = known_still o r r' v a (at_phase phase
 on_ask events.Connected o r r' n w v a y = none_known o r' (at_phase phases.Connecting o r w.0 y)
 on_ask events.Tick o r r' n w v a y = known_still o r r' v a (at_phase phases.Waiting o r w.0 y)
 on_ask events.Lost o r r' n w v a y = absurd w
+on_ask events.Asked o r r' n w v a y = absurd w
 on_ask (events.Faulty f) o r r' n w v a y = absurd w
 on_ask events.Applied o r r' n w v a y = absurd w
 on_ask (events.NotApplied code) o r r' n w v a y = absurd w
@@ -162,17 +164,17 @@ record Goes {B : Type 0} (ms : List (Moment B)) (r : Router) : Type 0 where
   last : At r.phase (agreed_version ms) r
 
 goes : {B D : Type 0} (c : Caller B D) (ms : List (Moment B)) (r : Router) (h : Host B D)
-    → IsHistory c ms r h → Goes ms r
-goes c ms r h (run_begins r₀ new) = record
+    → IsAllowed c ms r h → Goes ms r
+goes c ms r h (allowed_begins r₀ new) = record
     { all = tt; last = to_phase phases.Offline None r₀ new.phase tt }
-goes c ms r h (run_goes_on n b e a r' ms₀ r₀ h₀ run said went) =
+goes c ms r h (allowed_on n b e a r' ms₀ r₀ h₀ run said went) =
     let y : Goes ms₀ r₀ = goes c ms₀ r₀ h₀ run in
     let s : Stepped e a (agreed_version ms₀) r' = step e a (agreed_version ms₀) r₀ r' n went.rule
     y.last in
     record { all = (s.here, y.all); last = s.after }
 
 pub one_version : {B D : Type 0} (c : Caller B D) (ms : List (Moment B)) (r : Router)
-    (h : Host B D) → IsHistory c ms r h
+    (h : Host B D) → IsAllowed c ms r h
     → IsOfOneVersion ms
 one_version c ms r h run = (goes c ms r h run).all
 
@@ -254,6 +256,7 @@ ask_stands (events.Came u) r r' n w s = stands_in phases.Asked r w.0 s
 ask_stands events.Connected r r' n w s = stands_in phases.Connecting r w.0 s
 ask_stands events.Tick r r' n w s = stands_in phases.Waiting r w.0 s
 ask_stands events.Lost r r' n w s = absurd w
+ask_stands events.Asked r r' n w s = absurd w
 ask_stands (events.Faulty f) r r' n w s = absurd w
 ask_stands events.Applied r r' n w s = absurd w
 ask_stands (events.NotApplied code) r r' n w s = absurd w
@@ -270,6 +273,7 @@ ask_tries m events.Connected q r r' n o w y = go (subst (λ (p : Phase). Tries p
 ask_tries m (events.Came u) q r r' n o w y = tt
 ask_tries m events.Tick q r r' n o w y = tt
 ask_tries m events.Lost q r r' n o w y = tt
+ask_tries m events.Asked q r r' n o w y = tt
 ask_tries m (events.Faulty f) q r r' n o w y = tt
 ask_tries m events.Applied q r r' n o w y = tt
 ask_tries m (events.NotApplied code) q r r' n o w y = tt
@@ -279,6 +283,7 @@ here_still m events.Connected o = tt
 here_still m (events.Came u) o = tt
 here_still m events.Tick o = tt
 here_still m events.Lost o = tt
+here_still m events.Asked o = tt
 here_still m (events.Faulty f) o = tt
 here_still m events.Applied o = tt
 here_still m (events.NotApplied code) o = tt
@@ -288,6 +293,7 @@ here_drop m events.Connected o = tt
 here_drop m (events.Came u) o = tt
 here_drop m events.Tick o = tt
 here_drop m events.Lost o = tt
+here_drop m events.Asked o = tt
 here_drop m (events.Faulty f) o = tt
 here_drop m events.Applied o = tt
 here_drop m (events.NotApplied code) o = tt
@@ -297,6 +303,7 @@ here_end m events.Connected z o = tt
 here_end m (events.Came u) z o = tt
 here_end m events.Tick z o = tt
 here_end m events.Lost z o = tt
+here_end m events.Asked z o = tt
 here_end m (events.Faulty f) z o = tt
 here_end m events.Applied z o = tt
 here_end m (events.NotApplied code) z o = tt
@@ -392,7 +399,7 @@ stands_online p c ms r h run q = stands_in p r q (trying c ms r h run).last.stan
 
 -- ---- the version of the data is never given up in silence
 
-abbrev Floors : Router → Type 0
+abbrev pub Floors : Router → Type 0
 Floors r = r.has_data ≡ true → r.known.version ≤ r.floor
 
 floor_same : (v v' f f' : ℕ) → v' ≡ v → f' ≡ f → v ≤ f → v' ≤ f'
@@ -424,6 +431,7 @@ ask_floor (events.Came u) r r' n same w y = raises_floor r r' r.version same w.6
 ask_floor events.Connected r r' n same w y = keeps_floor r r' same w.3 y
 ask_floor events.Tick r r' n same w y = keeps_floor r r' same w.3 y
 ask_floor events.Lost r r' n same w y = absurd w
+ask_floor events.Asked r r' n same w y = absurd w
 ask_floor (events.Faulty f) r r' n same w y = absurd w
 ask_floor events.Applied r r' n same w y = absurd w
 ask_floor (events.NotApplied code) r r' n same w y = absurd w
@@ -431,7 +439,8 @@ ask_floor (events.NotApplied code) r r' n same w y = absurd w
 end_keeps : (y : Cause) (e : Event) (z : Ending) (r r' : Router) → ClosesBy y r e z r'
     → r'.has_data ≡ true → r'.floor ≡ r.floor
 end_keeps causes.Lower e z r r' w h = w.floor
-end_keeps causes.Slow e z r r' w h = w.floor h
+end_keeps causes.Higher e z r r' w h = w.floor
+end_keeps causes.Slow e z r r' w h = w.1.floor h
 end_keeps _ e z r r' w h = w.floor h
 
 end_floor : (d : Bool) (e : Event) (z : Ending) (r r' : Router) → Drops d r r'
@@ -441,7 +450,7 @@ end_floor false e z r r' x w y h =
     floor_same r.known.version r'.known.version r.floor r'.floor (version_same r r' x)
     (end_keeps z.cause e z r r' w h) (y (sym x.has_data ∙ h))
 
-floor_step : (e : Event) (a : Action) (r r' : Router) (n : ℕ) → Rule r n e a r' → Floors r
+pub floor_step : (e : Event) (a : Action) (r r' : Router) (n : ℕ) → Rule r n e a r' → Floors r
     → Floors r'
 floor_step e actions.Wait r r' n w y = keeps_floor r r' w.same w.talk.floor y
 floor_step e actions.Drop r r' n w y = λ h. let g : r'.has_data ≡ false = w.lost.has_data in cc
@@ -456,10 +465,10 @@ floor_step events.Applied actions.Show r r' n w y = λ h. floor_equal r'.known.v
     (ap (λ (k : Known). k.version) w.known ∙ sym w.floor)
 floor_step _ _ r r' n w y = absurd w
 
-floors : {B D : Type 0} (c : Caller B D) (ms : List (Moment B)) (r : Router) (h : Host B D)
-    → IsHistory c ms r h → Floors r
-floors c ms r h (run_begins r₀ new) = λ e. let g : r₀.has_data ≡ false = new.has_data in cc
-floors c ms r h (run_goes_on n b e a r' ms₀ r₀ h₀ run said went) = floor_step e a r₀ r' n went.rule
+pub floors : {B D : Type 0} (c : Caller B D) (ms : List (Moment B)) (r : Router) (h : Host B D)
+    → IsAllowed c ms r h → Floors r
+floors c ms r h (allowed_begins r₀ new) = λ e. let g : r₀.has_data ≡ false = new.has_data in cc
+floors c ms r h (allowed_on n b e a r' ms₀ r₀ h₀ run said went) = floor_step e a r₀ r' n went.rule
     (floors c ms₀ r₀ h₀ run)
 
 falls_by : (y : Cause) (x : Ending) (r r' : Router) → y ≡ causes.Lower
@@ -469,7 +478,7 @@ falls_by y x r r' e w = (subst (λ (y : Cause). ClosesBy y r events.Lost x r') e
 pub never_below_data :
     {B D : Type 0} (c : Caller B D) (ms : List (Moment B)) (r : Router) (h : Host B D) (n : ℕ)
     (x : Ending) (r' : Router)
-    → IsHistory c ms r h → IsStep r n events.Lost (actions.End x) r' → x.cause ≡ causes.Lower
+    → IsAllowed c ms r h → MayStep r n events.Lost (actions.End x) r' → x.cause ≡ causes.Lower
     → r.has_data ≡ true → r.known.version ≤ r'.version
 never_below_data c ms r h n x r' run went e has =
     through r.known.version r.floor r'.version (floors c ms r h run has)

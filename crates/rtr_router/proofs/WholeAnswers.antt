@@ -1,7 +1,7 @@
 -- What is shown is what a whole answer made: an invariant of the run, by what the router did last.
 use Rattle.std.proofs.Common.{◌≡◌, ◌≢◌, ◌⊎◌, ℕ, Bool, true, false, ◌+◌, ◌<◌, ◌≤◌, if◌then◌else◌}
 use Rattle.std.proofs.Common.{Option, Some, None, List, [], ◌∷◌, ◌++◌, refl, sym, ap, ap₂, ◌∙◌}
-use Rattle.std.proofs.Common.{subst, inl, inr, arith}
+use Rattle.std.proofs.Common.{subst, inl, inr, arith, min}
 use Rattle.std.specs.declared.cmp.Ordering.TheVariants.{Less}
 use Rattle.rtr_base.specs.Serial.{serial_cmp}
 use Rattle.rtr_router.specs.declared.head.Head.{Head}
@@ -18,8 +18,7 @@ use Rattle.rtr_router.specs.declared.event.Action.TheVariants as actions
 use Rattle.rtr_router.specs.declared.event.Ending.{Ending}
 use Rattle.rtr_router.specs.Rules.{Adopts, Asks, AsksOwn, Begins, Closes, Completes, Drops, Fresh}
 use Rattle.rtr_router.specs.Rules.{Keeps, PassesOver, Rule, SameKnown, Waits, query}
-use Rattle.rtr_router.specs.Pace.{Paces, PacesShow}
-use Rattle.rtr_router.specs.Times.{expire_ms}
+use Rattle.rtr_router.specs.Times.{expire_ms, expires_at_show}
 use Rattle.rtr_router.specs.Histories.{Caller, HistoryHas, Host, IsAnswered, IsOut}
 use Rattle.rtr_router.specs.Histories.{IsRead, IsHistory}
 use Rattle.rtr_router.specs.Histories.{IsStill, WasAnswered, LeavesData, MaySay, Moment, at}
@@ -29,8 +28,9 @@ use Rattle.rtr_router.specs.Histories.IsOut.{was_asked, still_out}
 use Rattle.rtr_router.specs.Histories.IsRead.{was_begun, was_kept, still_read}
 use Rattle.rtr_router.specs.Histories.WasAnswered.{was_ended, still_whole}
 use Rattle.rtr_router.specs.Histories.HistoryHas.{made_anew, made_of, still_had}
-use Rattle.rtr_router.specs.Histories.IsHistory.{run_begins, run_goes_on}
-use Rattle.rtr_router.proofs.Settled.{settled}
+use Rattle.rtr_router.specs.Safety.{IsAllowed}
+use Rattle.rtr_router.specs.Safety.IsAllowed.{allowed_begins, allowed_on}
+use Rattle.rtr_router.proofs.Allowed.{allowed, settled_allowed}
 
 -- the query that is out is the router's, and about the data that it has
 pub record IsOf (q : Query) (r : Router) : Type 0 where
@@ -62,7 +62,7 @@ pub record AtApplying {B D : Type 0} (c : Caller B D) (ms : List (Moment B)) (r 
     (h : Host B D) : Type 0 where
   pub q : Query
   pub last : B
-  pub whole : WasAnswered q r.answer ms h.kept last
+  pub whole : WasAnswered q r.answer r.came ms h.kept last
   pub made : h.made ≡ c.make (if r.changes then h.shown else None) h.kept last
   pub of : IsOf q r
   pub own : IsOwn r r.answer.version r.answer.session
@@ -184,6 +184,7 @@ still r h (events.Came u) p said (inl x) = absurd (not_offline r.phase p x)
 still r h (events.Came u) p said (inr (inl x)) = absurd (not_connecting r.phase p x)
 still r h (events.Came u) p said (inr (inr x)) = x.1
 still r h events.Lost p said x = absurd (not_offline r.phase p x)
+still r h events.Asked p said x = tt
 still r h (events.Faulty f) p said (inl x) = absurd (not_offline r.phase p x)
 still r h (events.Faulty f) p said (inr x) = absurd (not_connecting r.phase p x)
 still r h events.Tick p said x = tt
@@ -224,8 +225,9 @@ wait_at {B = B} c n b e ms r r' h phases.Applying pe said w x =
     record {
       q = x.q;
       last = x.last;
-      whole = subst (λ k. WasAnswered x.q k (m ∷ ms) h.kept x.last) (sym w.talk.answer)
-          (still_whole n b e ms h.kept x.last (still r h e (applying pe) said w.passes) x.whole);
+      whole = subst (λ k. WasAnswered x.q k r'.came (m ∷ ms) h.kept x.last) (sym w.talk.answer)
+          (subst (λ t. WasAnswered x.q r.answer t (m ∷ ms) h.kept x.last) (sym w.talk.came)
+          (still_whole n b e ms h.kept x.last (still r h e (applying pe) said w.passes) x.whole));
       made = x.made ∙ ap (λ (s : Bool). c.make (if s then h.shown else None) h.kept x.last)
           (sym w.talk.changes);
       of = is_of x.q r r' w.same w.talk.changes x.of;
@@ -345,7 +347,7 @@ on_keep {B = B} {D = D} c n b u ms r r' h w fresh x =
 
 on_apply : {B D : Type 0} (c : Caller B D) (n : ℕ) (b : B) (u : Head) (on : Bool)
     (ms : List (Moment B)) (r r' : Router)
-    (h : Host B D) → Completes r u on r' → Fresh r' n → Holds c ms r h
+    (h : Host B D) → Completes r n u on r' → Fresh r' n → Holds c ms r h
     → Holds c (at n (events.Came u) b (actions.Apply on) ∷ ms) r'
     (record {
       kept = h.kept;
@@ -369,9 +371,9 @@ on_apply {B = B} {D = D} c n b u on ms r r' h w fresh x =
       talk = at_rest c (m ∷ ms) r' h' phases.Applying w.phase (record {
         q = y.q;
         last = b;
-        whole = subst (λ (on : Bool). WasAnswered y.q r'.answer
+        whole = subst (λ (on : Bool). WasAnswered y.q r'.answer r'.came
             (at n (events.Came u) b (actions.Apply on) ∷ ms) h.kept b) on_is
-            (was_ended n b u ms h.kept read w.kind w.answer);
+            (was_ended n b u ms h.kept read w.kind w.answer w.came);
         made = ap (λ (s : Bool). c.make (if s then h.shown else None) h.kept b)
             (w.base ∙ sym w.same_changes);
         of = is_of y.q r r' w.same w.same_changes y.of;
@@ -387,14 +389,16 @@ on_apply {B = B} {D = D} c n b u on ms r r' h w fresh x =
 shown_now : {B D : Type 0} (c : Caller B D) (n : ℕ) (b : B) (ms : List (Moment B))
     (r r' : Router) (h : Host B D) (d : D) (s : Bool)
     → r.changes ≡ s → h.made ≡ Some d → AtApplying c ms r h → Shows c ms r h
-    → HistoryHas c.settings (Made c) (at n events.Applied b actions.Show ∷ ms) r.answer n d
-shown_now c n b ms r r' h d false s m y x =
-    made_anew n b ms y.q r.answer h.kept y.last d (y.of.changes ∙ s) y.whole
+    → n < r.came + expire_ms c.settings r.answer
+    → HistoryHas c.settings (Made c) (at n events.Applied b actions.Show ∷ ms) r.answer r.came d
+shown_now c n b ms r r' h d false s m y x soon =
+    made_anew n b ms y.q r.answer r.came h.kept y.last d (y.of.changes ∙ s) y.whole
     (ap (λ (s : Bool). c.make (if s then h.shown else None) h.kept y.last) (sym s) ∙ sym y.made ∙ m)
-shown_now c n b ms r r' h d true s m y (inl x) = let no : r.has_data ≡ false =
+    soon
+shown_now c n b ms r r' h d true s m y (inl x) soon = let no : r.has_data ≡ false =
     x.has_data in let some : r.has_data ≡ true = y.of.has_data s in cc
-shown_now {D = D} c n b ms r r' h d true s m y (inr x) =
-    made_of n b ms y.q r.answer h.kept y.last d r.known x.since x.value x.has
+shown_now {D = D} c n b ms r r' h d true s m y (inr x) soon =
+    made_of n b ms y.q r.answer r.came h.kept y.last d r.known x.since x.value x.has
     (record {
       changes = y.of.changes ∙ s;
       session = y.of.session s;
@@ -407,37 +411,44 @@ shown_now {D = D} c n b ms r r' h d true s m y (inr x) =
     y.whole
     (ap (λ (o : Option D). c.make o h.kept y.last) (sym x.shows) ∙ ap
     (λ (s : Bool). c.make (if s then h.shown else None) h.kept y.last) (sym s) ∙ sym y.made ∙ m)
+    soon
 
 later : {B D : Type 0} (c : Caller B D) (n : ℕ) (r r' : Router) → r.settings ≡ c.settings
     → r'.known ≡ r.answer
-    → r'.expires ≡ n + expire_ms r.settings r.answer
-    → r'.expires ≤ n + expire_ms c.settings r'.known
+    → r'.expires ≡ expires_at_show r n
+    → r'.expires ≤ r.came + expire_ms c.settings r'.known
 later c n r r' s k e =
-    let same : r'.expires ≡ n + expire_ms c.settings r'.known =
-    e ∙ ap (λ (x : Settings). n + expire_ms x r.answer) s ∙ ap
-    (λ (x : Known). n + expire_ms c.settings x) (sym k) in
-    subst (λ x. r'.expires ≤ x) same (le_self r'.expires)
+    least r.came n (expire_ms c.settings r'.known) r'.expires
+    (e ∙ ap (λ (x : Settings). min r.came n + expire_ms x r.answer) s ∙ ap
+    (λ (x : Known). min r.came n + expire_ms c.settings x) (sym k))
+  where
+    least : (t n x d : ℕ) → d ≡ min t n + x → d ≤ t + x
+    least t n x d e = omega arith
 
 on_show : {B D : Type 0} (c : Caller B D) (n : ℕ) (b : B) (ms : List (Moment B))
     (r r' : Router) (h : Host B D)
-    → r.settings ≡ c.settings → (d : D) × (h.made ≡ Some d) → Adopts r r' → PacesShow r n r'
+    → r.settings ≡ c.settings → (d : D) × (h.made ≡ Some d) → Adopts r n r' → Fresh r' n
     → Holds c ms r h → Holds c (at n events.Applied b actions.Show ∷ ms) r'
     (record { kept = h.kept; made = h.made; shown = h.made })
-on_show {B = B} {D = D} c n b ms r r' h s said w d x =
+on_show {B = B} {D = D} c n b ms r r' h s said w fresh x =
     let m : Moment B = at n events.Applied b actions.Show in
     let h' : Host B D = record { kept = h.kept; made = h.made; shown = h.made } in
     let y : AtApplying c ms r h = subst (λ p. At c ms r h p) w.from x.talk in
-    let has : HistoryHas c.settings (Made c) (m ∷ ms) r.answer n said.0 =
+    let soon : r'.expires ≤ r.came + expire_ms c.settings r'.known =
+    later c n r r' s w.known w.expires in
+    let has : HistoryHas c.settings (Made c) (m ∷ ms) r.answer r.came said.0 =
     shown_now c n b ms r r' h said.0 r.changes
-    refl said.1 y x.has in
+    refl said.1 y x.has (subst (λ (k : Known). n < r.came + expire_ms c.settings k) w.known
+    (lt_le n r'.expires (r.came + expire_ms c.settings r'.known) (fresh w.has_data) soon)) in
     record {
       has = inr (record {
         has_data = w.has_data;
-        since = n;
+        since = r.came;
         value = said.0;
         shows = said.1;
-        has = subst (λ k. HistoryHas c.settings (Made c) (m ∷ ms) k n said.0) (sym w.known) has;
-        expires = later c n r r' s w.known d.expires;
+        has = subst (λ k. HistoryHas c.settings (Made c) (m ∷ ms) k r.came said.0) (sym w.known)
+            has;
+        expires = soon;
       });
       talk = at_rest c (m ∷ ms) r' h' phases.Waiting w.phase tt;
     }
@@ -474,44 +485,44 @@ on_rest c n b e a p ms r r' h same phase there leaves fresh x = record {
 step : {B D : Type 0} (c : Caller B D) (n : ℕ) (b : B) (e : Event) (a : Action)
     (ms : List (Moment B)) (r r' : Router) (h : Host B D)
     → r.settings ≡ c.settings → Holds c ms r h → MaySay r h e → Rule r n e a r' → Fresh r' n
-    → Paces r n e a r' → Holds c (at n e b a ∷ ms) r' (host_after c h b a)
-step c n b e actions.Wait ms r r' h s x said rule fresh paces = on_wait c n b e ms r r' h said rule
+    → Holds c (at n e b a ∷ ms) r' (host_after c h b a)
+step c n b e actions.Wait ms r r' h s x said rule fresh = on_wait c n b e ms r r' h said rule
     fresh x
-step c n b e (actions.Ask q) ms r r' h s x said rule fresh paces = on_ask c n b e q ms r r' h rule
+step c n b e (actions.Ask q) ms r r' h s x said rule fresh = on_ask c n b e q ms r r' h rule
     fresh x
-step c n b e (actions.End end) ms r r' h s x said rule fresh paces =
+step c n b e (actions.End end) ms r r' h s x said rule fresh =
     on_end c n b e end ms r r' h rule fresh x
-step c n b e actions.Drop ms r r' h s x said rule fresh paces = record {
+step c n b e actions.Drop ms r r' h s x said rule fresh = record {
   has = inl (record { has_data = rule.lost.has_data; shows = refl });
   talk = at_rest c (at n e b actions.Drop ∷ ms) r'
       (record { kept = h.kept; made = h.made; shown = None }) phases.Offline rule.phase tt;
 }
-step c n b events.Tick actions.Connect ms r r' h s x said rule fresh paces =
+step c n b events.Tick actions.Connect ms r r' h s x said rule fresh =
     on_rest c n b events.Tick actions.Connect phases.Connecting ms r r' h rule.same rule.phase tt tt
     fresh x
-step c n b (events.Came u) actions.Begin ms r r' h s x said rule fresh paces =
+step c n b (events.Came u) actions.Begin ms r r' h s x said rule fresh =
     on_begin c n b u ms r r' h rule fresh x
-step c n b (events.Came u) actions.Keep ms r r' h s x said rule fresh paces =
+step c n b (events.Came u) actions.Keep ms r r' h s x said rule fresh =
     on_keep c n b u ms r r' h rule fresh x
-step c n b (events.Came u) (actions.Apply on) ms r r' h s x said rule fresh paces =
+step c n b (events.Came u) (actions.Apply on) ms r r' h s x said rule fresh =
     on_apply c n b u on ms r r' h rule fresh x
-step c n b (events.Came u) actions.NoData ms r r' h s x said rule fresh paces =
+step c n b (events.Came u) actions.NoData ms r r' h s x said rule fresh =
     on_rest c n b (events.Came u) actions.NoData phases.Waiting ms r r' h rule.same rule.phase tt tt
     fresh x
-step c n b events.Applied actions.Show ms r r' h s x said rule fresh paces =
-    on_show c n b ms r r' h s said rule paces x
-step c n b _ _ ms r r' h s x said rule fresh paces = absurd rule
+step c n b events.Applied actions.Show ms r r' h s x said rule fresh =
+    on_show c n b ms r r' h s said rule fresh x
+step c n b _ _ ms r r' h s x said rule fresh = absurd rule
 
 holds : {B D : Type 0} (c : Caller B D) (ms : List (Moment B)) (r : Router) (h : Host B D)
-    → IsHistory c ms r h
+    → IsAllowed c ms r h
     → Holds c ms r h
-holds c ms r h (run_begins r₀ new) = record {
+holds c ms r h (allowed_begins r₀ new) = record {
   has = inl (record { has_data = new.has_data; shows = refl });
   talk = at_rest c [] r₀ empty_host phases.Offline new.phase tt;
 }
-holds c ms r h (run_goes_on n b e a r' ms₀ r₀ h₀ run said went) =
-    step c n b e a ms₀ r₀ r' h₀ (settled c ms₀ r₀ h₀ run) (holds c ms₀ r₀ h₀ run) said went.rule
-    went.fresh went.paces
+holds c ms r h (allowed_on n b e a r' ms₀ r₀ h₀ run said went) =
+    step c n b e a ms₀ r₀ r' h₀ (settled_allowed c ms₀ r₀ h₀ run) (holds c ms₀ r₀ h₀ run) said
+    went.rule went.fresh
 
 answered : {B D : Type 0} (c : Caller B D) (ms : List (Moment B)) (r : Router) (h : Host B D)
     → Shows c ms r h
@@ -531,16 +542,21 @@ HasForChanges phases.Reading r = r.changes ≡ true → r.has_data ≡ true
 HasForChanges phases.Applying r = r.changes ≡ true → r.has_data ≡ true
 HasForChanges _ r = Unit {0}
 
+pub whole_answers_allowed : {B D : Type 0} (c : Caller B D) (ms : List (Moment B)) (r : Router)
+    (h : Host B D) → IsAllowed c ms r h
+    → (h.shown ≡ None) ⊎ IsAnswered c ms r.known h.shown
+whole_answers_allowed c ms r h run = answered c ms r h (holds c ms r h run).has
+
 pub whole_answers : {B D : Type 0} (c : Caller B D) (ms : List (Moment B)) (r : Router)
     (h : Host B D) → IsHistory c ms r h
     → (h.shown ≡ None) ⊎ IsAnswered c ms r.known h.shown
-whole_answers c ms r h run = answered c ms r h (holds c ms r h run).has
+whole_answers c ms r h run = whole_answers_allowed c ms r h (allowed c ms r h run)
 
 -- a serial query is about data that are there
 pub has_for_changes : {B D : Type 0} (p : Phase) (c : Caller B D) (ms : List (Moment B))
     (r : Router) (h : Host B D) → IsHistory c ms r h → r.phase ≡ p → HasForChanges p r
 has_for_changes p c ms r h run e =
-    go p e (subst (λ (p : Phase). At c ms r h p) e (holds c ms r h run).talk)
+    go p e (subst (λ (p : Phase). At c ms r h p) e (holds c ms r h (allowed c ms r h run)).talk)
   where
     go : (p : Phase) → r.phase ≡ p → At c ms r h p → HasForChanges p r
     go phases.Offline e x = tt

@@ -1,6 +1,8 @@
 -- How often a router asks, in which versions, and what it sends when, in a whole history.
 use Rattle.std.specs.Prelude.{◌≡◌, ◌⊎◌, ℕ, Bool, true, false, ◌+◌, ◌-◌, ◌*◌, ◌^◌, ◌<◌, ◌≤◌}
-use Rattle.std.specs.Prelude.{Option, Some, None, List, [], ◌∷◌, if◌then◌else◌}
+use Rattle.std.specs.Prelude.{Option, Some, None, List, [], ◌∷◌, ◌||◌, if◌then◌else◌}
+use Rattle.rtr_router.specs.declared.head.Kind.{Kind}
+use Rattle.rtr_router.specs.declared.head.Kind.TheVariants as kinds
 use Rattle.rtr_router.specs.declared.head.Query.{Query}
 use Rattle.rtr_router.specs.declared.settings.Settings.{Settings}
 use Rattle.rtr_router.specs.declared.event.Event.{Event}
@@ -9,7 +11,8 @@ use Rattle.rtr_router.specs.declared.event.Action.{Action}
 use Rattle.rtr_router.specs.declared.event.Action.TheVariants as actions
 use Rattle.rtr_router.specs.declared.event.Cause.{Cause}
 use Rattle.rtr_router.specs.declared.event.Cause.TheVariants as causes
-use Rattle.rtr_router.specs.Rules.{NoneAboutReports}
+use Rattle.rtr_router.specs.Rules.{NoneAboutReports, known_of}
+use Rattle.rtr_router.specs.Times.{refresh_ms}
 use Rattle.rtr_router.specs.Histories.{Moment}
 
 -- ---- times
@@ -56,6 +59,51 @@ PacedHere pause _ n _ = Unit {0}
 abbrev pub IsPaced : {Body : Type 0} → ℕ → List (Moment Body) → Type 0
 IsPaced pause [] = Unit {0}
 IsPaced pause (m ∷ ms) = PacedHere pause m.action m.now (last_query ms) × IsPaced pause ms
+
+-- ---- reasons to ask
+
+abbrev pub is_notify : Kind → Bool
+is_notify kinds.SerialNotify = true
+is_notify _ = false
+
+-- what may make a router ask before the refresh time is over: a failure, the answer that there are
+-- no data, a notify, and its caller's wish
+abbrev pub is_reason : Event → Action → Bool
+is_reason e (actions.End x) = true
+is_reason e actions.NoData = true
+is_reason (events.Came u) a = is_notify u.kind
+is_reason events.Asked a = true
+is_reason _ a = false
+
+-- whether any of these came since the last query, or there was no query yet
+abbrev pub reason_after : Action → Event → Bool → Bool
+reason_after (actions.Ask q) e before = false
+reason_after a e before = is_reason e a || before
+
+abbrev pub has_reason : {Body : Type 0} → List (Moment Body) → Bool
+has_reason [] = true
+has_reason (m ∷ ms) = reason_after m.action m.event (has_reason ms)
+
+-- when the refresh time of the last whole answer is over: it runs from the receipt of its end of
+-- data (RFC 8210 section 6)
+abbrev pub refresh_after : Action → Event → Settings → (now : ℕ) → ℕ → ℕ
+refresh_after (actions.Apply changes) (events.Came u) s n before = n + refresh_ms s (known_of u)
+refresh_after _ e s n before = before
+
+abbrev pub refresh_at : {Body : Type 0} → Settings → List (Moment Body) → ℕ
+refresh_at s [] = 0
+refresh_at s (m ∷ ms) = refresh_after m.action m.event s m.now (refresh_at s ms)
+
+-- a query follows a cache reset, or has a reason, or comes when the refresh time is over
+abbrev pub QuietHere : Action → Event → (refresh now : ℕ) → Bool → Type 0
+QuietHere (actions.Ask q) (events.Came u) refresh n reason = u.kind ≡ kinds.CacheReset
+QuietHere (actions.Ask q) e refresh n reason = (reason ≡ true) ⊎ (refresh ≤ n)
+QuietHere _ e refresh n reason = Unit {0}
+
+abbrev pub IsQuiet : {Body : Type 0} → Settings → List (Moment Body) → Type 0
+IsQuiet s [] = Unit {0}
+IsQuiet s (m ∷ ms) =
+    QuietHere m.action m.event (refresh_at s ms) m.now (has_reason ms) × IsQuiet s ms
 
 -- ---- connections
 

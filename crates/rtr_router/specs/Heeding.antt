@@ -268,7 +268,13 @@ pub record HeedsTick (r : Router) (n : ℕ) (a : Action) (r' : Router) : Type 0 
   -- a query comes a pause after the one before it
   pub asks :
       r.phase ≡ phases.Waiting → r.due ≤ n → r.settings.pause ≤ n - r.asked
+      → (r.silent ≡ true → n < r.rises)
       → a ≡ actions.Ask (query r')
+  -- or the highest version is tried again, where the router fell from it in silence
+  pub rises :
+      r.phase ≡ phases.Waiting → r.due ≤ n → r.settings.pause ≤ n - r.asked
+      → r.silent ≡ true → r.rises ≤ n
+      → a ≡ ends_for causes.Higher
   pub pauses : r.phase ≡ phases.Waiting → n - r.asked < r.settings.pause → a ≡ actions.Wait
   pub waits : r.phase ≡ phases.Waiting → n < r.due → a ≡ actions.Wait
 
@@ -282,6 +288,7 @@ pub record HeedsExpiry (r : Router) (a : Action) : Type 0 where
 -- what says nothing to a router that is where it is
 abbrev pub IsIdle : Event → Router → Type 0
 IsIdle events.Tick r = (r.phase ≢ phases.Offline) × (r.phase ≢ phases.Waiting)
+IsIdle events.Asked r = Unit {0}
 IsIdle events.Connected r = r.phase ≢ phases.Connecting
 IsIdle events.Lost r = r.phase ≡ phases.Offline
 IsIdle (events.Came u) r = (r.phase ≡ phases.Offline) ⊎ (r.phase ≡ phases.Connecting)
@@ -299,3 +306,4 @@ Heeds r n (events.NotApplied code) a r' =
     (r.phase ≡ phases.Reading) ⊎ (r.phase ≡ phases.Applying)
     → a ≡ ends_with false code causes.NotApplied
 Heeds r n events.Tick a r' = HeedsTick r n a r'
+Heeds r n events.Asked a r' = a ≡ actions.Wait

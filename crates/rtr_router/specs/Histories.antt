@@ -63,17 +63,18 @@ pub data IsRead {Body : Type 0} (q : Query) (v s : ℕ) : List (Moment Body) →
       → IsRead q v s ms bodies
       → IsRead q v s (at n e b actions.Wait ∷ ms) bodies
 
--- the answer is whole: an end of data of that version and session came
-pub data WasAnswered {Body : Type 0} (q : Query) (k : Known) : List (Moment Body) →
+-- the answer is whole: an end of data of that version and session came, at this time
+pub data WasAnswered {Body : Type 0} (q : Query) (k : Known) (since : ℕ) : List (Moment Body) →
     (bodies : List Body) → (last : Body) → Type 0 where
   was_ended :
       (n : ℕ) (b : Body) (u : Head) (ms : List (Moment Body)) (bodies : List Body)
       → IsRead q u.version u.session ms bodies → u.kind ≡ kinds.EndOfData → k ≡ known_of u
-      → WasAnswered q k (at n (events.Came u) b (actions.Apply q.changes) ∷ ms) bodies b
+      → since ≡ n
+      → WasAnswered q k since (at n (events.Came u) b (actions.Apply q.changes) ∷ ms) bodies b
   still_whole :
       (n : ℕ) (b : Body) (e : Event) (ms : List (Moment Body)) (bodies : List Body) (last : Body)
-      → IsStill e → WasAnswered q k ms bodies last
-      → WasAnswered q k (at n e b actions.Wait ∷ ms) bodies last
+      → IsStill e → WasAnswered q k since ms bodies last
+      → WasAnswered q k since (at n e b actions.Wait ∷ ms) bodies last
 
 -- The query is for the changes since these data, and the answer is of their session and version,
 -- and not of a serial number before theirs (RFC 1982).
@@ -98,21 +99,24 @@ LeavesData _ = Unit {0}
 abbrev pub Making : (Body Data : Type 0) → Type 1
 Making Body Data = Known → Option Data → List Body → Body → Data → Type 0
 
--- The data that a router has by a history: what names them, when they came, and the data, which one
--- whole answer made of no data, or of the data before it.
+-- The data that a router has by a history: what names them, when their end of data came, and the
+-- data, which one whole answer made of no data, or of the data before it. They haven't expired: the
+-- expire time runs from the receipt of the end of data (RFC 8210 section 6).
 pub data HistoryHas {Body Data : Type 0} (s : Settings) (Makes : Making Body Data) :
     List (Moment Body) → Known → ℕ → Data → Type 0 where
   made_anew :
-      (n : ℕ) (b : Body) (ms : List (Moment Body)) (q : Query) (k : Known) (bodies : List Body)
-      (last : Body) (d : Data)
-      → q.changes ≡ false → WasAnswered q k ms bodies last → Makes k None bodies last d
-      → HistoryHas s Makes (at n events.Applied b actions.Show ∷ ms) k n d
+      (n : ℕ) (b : Body) (ms : List (Moment Body)) (q : Query) (k : Known) (since : ℕ)
+      (bodies : List Body) (last : Body) (d : Data)
+      → q.changes ≡ false → WasAnswered q k since ms bodies last → Makes k None bodies last d
+      → n < since + expire_ms s k
+      → HistoryHas s Makes (at n events.Applied b actions.Show ∷ ms) k since d
   made_of :
-      (n : ℕ) (b : Body) (ms : List (Moment Body)) (q : Query) (k : Known) (bodies : List Body)
-      (last : Body) (d : Data) (k₀ : Known) (n₀ : ℕ) (d₀ : Data)
+      (n : ℕ) (b : Body) (ms : List (Moment Body)) (q : Query) (k : Known) (since : ℕ)
+      (bodies : List Body) (last : Body) (d : Data) (k₀ : Known) (n₀ : ℕ) (d₀ : Data)
       → HistoryHas s Makes ms k₀ n₀ d₀
-      → AnswersSince q k₀ k → WasAnswered q k ms bodies last → Makes k (Some d₀) bodies last d
-      → HistoryHas s Makes (at n events.Applied b actions.Show ∷ ms) k n d
+      → AnswersSince q k₀ k → WasAnswered q k since ms bodies last
+      → Makes k (Some d₀) bodies last d → n < since + expire_ms s k
+      → HistoryHas s Makes (at n events.Applied b actions.Show ∷ ms) k since d
   still_had :
       (n : ℕ) (b : Body) (e : Event) (a : Action) (ms : List (Moment Body)) (k : Known) (n₀ : ℕ)
       (d₀ : Data)
@@ -166,6 +170,7 @@ pub record IsNew (s : Settings) (r : Router) : Type 0 where
   pub has_data : r.has_data ≡ false
   pub due : r.due ≡ 0
   pub asked : r.asked ≡ 0
+  pub rises : r.rises ≡ 0
   pub fell : r.fell ≡ false
 
 -- any run of a router with these settings and its caller, whatever comes

@@ -3,7 +3,11 @@ pub mod Texts
 pub mod Rules
 pub mod Heeding
 pub mod Pace
+pub mod After
 pub mod Step
 pub mod Histories
+pub mod Safety
+pub mod Examples
 pub mod Recovery
+pub mod Exchange
 pub mod Asking

@@ -4,6 +4,7 @@ use Rattle.std.specs.Prelude.{Option, Some, if◌then◌else◌}
 use Rattle.std.specs.declared.cmp.Ordering.TheVariants.{Less}
 use Rattle.rtr_base.specs.Serial.{serial_cmp}
 use Rattle.rtr_router.specs.declared.head.Head.{Head}
+use Rattle.rtr_router.specs.declared.head.Kind.{Kind}
 use Rattle.rtr_router.specs.declared.head.Kind.TheVariants as kinds
 use Rattle.rtr_router.specs.declared.settings.Settings.{Settings}
 use Rattle.rtr_router.specs.declared.router.Router.{Router}
@@ -14,98 +15,118 @@ use Rattle.rtr_router.specs.declared.event.Event.TheVariants as events
 use Rattle.rtr_router.specs.declared.event.Action.{Action}
 use Rattle.rtr_router.specs.declared.event.Action.TheVariants as actions
 use Rattle.rtr_router.specs.Rules.{IsPayloadOf, opening_version}
-use Rattle.rtr_router.specs.Heeding.{HasRoom, IsComplaint, IsNews, IsOfResponse, StandsStill}
-use Rattle.rtr_router.specs.Pace.{due_in, wakes_at}
-use Rattle.rtr_router.specs.Step.{IsInTime, IsStep}
+use Rattle.rtr_router.specs.Exchange.{Exchange, exchange_after}
+use Rattle.rtr_router.specs.Pace.{IsLimited, due_in, wakes_at}
+use Rattle.rtr_router.specs.Step.{IsStep}
 
 -- ---- the cache
 
--- What a cache that has data, and no version above `most`, may send where an answer is awaited
--- (sections 5.1, 7 and 8): notifies; in the version of the query, where it has that one, a cache
--- response, or a cache reset to a serial query; to a serial query of a session that it doesn't know
--- also a cache response of its own session, a report, or a close; for a higher version a report of
--- code 4 or of a lower version, an answer in its own, or a close without a word, if that is news to
--- the router.
-pub data AnswersWell (most : ℕ) (r : Router) : Event → Type 0 where
-  not_yet : AnswersWell most r events.Tick
+-- What a cache that has data, and every version up to `most`, may send where a query awaits its
+-- answer (sections 5.1, 7 and 8): notifies; in the version of the query a cache response, or a
+-- cache reset to a serial query; to a serial query, of whose session it may know nothing, also a
+-- report that doesn't say that it has no data or not the version, or a close; and to a query of a
+-- higher version a report of code 4 or of a lower version, an answer in its own, or a close.
+pub data AnswersWell (most : ℕ) (x : Exchange) : Event → Type 0 where
   notifies :
-      (u : Head) → u.kind ≡ kinds.SerialNotify → (r.agreed ≡ true → u.version ≡ r.version)
-      → AnswersWell most r (events.Came u)
+      (u : Head) → u.kind ≡ kinds.SerialNotify → (x.answered ≡ true → u.version ≡ x.version)
+      → AnswersWell most x (events.Came u)
   responds :
-      (u : Head) → u.kind ≡ kinds.CacheResponse → u.version ≡ r.version
-      → (r.changes ≡ true → u.session ≡ r.known.session)
-      → AnswersWell most r (events.Came u)
+      (u : Head) → u.kind ≡ kinds.CacheResponse → u.version ≡ x.version
+      → AnswersWell most x (events.Came u)
   resets_well :
-      (u : Head) → u.kind ≡ kinds.CacheReset → u.version ≡ r.version → r.changes ≡ true
-      → AnswersWell most r (events.Came u)
-  answers_anew :
-      (u : Head) → u.kind ≡ kinds.CacheResponse → u.version ≡ r.version → r.changes ≡ true
-      → u.session ≢ r.known.session
-      → AnswersWell most r (events.Came u)
+      (u : Head) → u.kind ≡ kinds.CacheReset → u.version ≡ x.version → x.query.changes ≡ true
+      → AnswersWell most x (events.Came u)
   refuses_session :
-      (u : Head) → u.kind ≡ kinds.ErrorReport → r.changes ≡ true
-      → IsComplaint r u → StandsStill r u
-      → AnswersWell most r (events.Came u)
-  closes_session : r.changes ≡ true → AnswersWell most r events.Lost
+      (u : Head) → u.kind ≡ kinds.ErrorReport → x.query.changes ≡ true
+      → (u.code ≢ 2) ⊎ (u.version ≢ x.version)
+      → (x.answered ≡ true) ⊎ (x.version ≡ 0) ⊎ ((u.code ≢ 4) × (x.version ≤ u.version))
+      → AnswersWell most x (events.Came u)
   refuses_version :
-      (u : Head) → most < r.version → r.agreed ≡ false
-      → u.kind ≡ kinds.ErrorReport → (u.code ≡ 4) ⊎ (u.version < r.version)
-      → AnswersWell most r (events.Came u)
+      (u : Head) → u.kind ≡ kinds.ErrorReport → most < x.version → x.answered ≡ false
+      → (u.code ≡ 4) ⊎ (u.version < x.version)
+      → AnswersWell most x (events.Came u)
   answers_lower :
-      (u : Head) → u.version ≡ most → most < r.version → r.agreed ≡ false
-      → (u.kind ≡ kinds.CacheResponse) ⊎ ((u.kind ≡ kinds.CacheReset) × (r.changes ≡ true))
-      → AnswersWell most r (events.Came u)
-  closes_silently :
-      most < r.version → r.agreed ≡ false → r.floor < r.version
-      → AnswersWell most r events.Lost
+      (u : Head) → u.version ≡ most → most < x.version → x.answered ≡ false
+      → (u.kind ≡ kinds.CacheResponse) ⊎ ((u.kind ≡ kinds.CacheReset) × (x.query.changes ≡ true))
+      → AnswersWell most x (events.Came u)
+  closes :
+      (x.query.changes ≡ true) ⊎ ((most < x.version) × (x.answered ≡ false))
+      → AnswersWell most x events.Lost
 
--- What it may send in a response: notifies of its session, payload units of the version within the
+-- a unit of this kind, of the version and the session of the answer
+pub record IsOfAnswer (x : Exchange) (u : Head) (wanted : Kind) : Type 0 where
+  pub kind : u.kind ≡ wanted
+  pub version : u.version ≡ x.version
+  pub session : u.session ≡ x.session
+
+-- What it may send in an answer: notifies of its session, payload units of the version within the
 -- limits, and an end of data, whose serial number isn't before that of a serial query, and is that
 -- of the query only where nothing changed.
-pub data GoesOnWell (r : Router) : Event → Type 0 where
-  not_more_yet : GoesOnWell r events.Tick
-  notifies_inside :
-      (u : Head) → IsOfResponse r u kinds.SerialNotify → GoesOnWell r (events.Came u)
+pub data GoesOnWell (s : Settings) (x : Exchange) : Event → Type 0 where
+  notifies_inside : (u : Head) → IsOfAnswer x u kinds.SerialNotify → GoesOnWell s x (events.Came u)
   sends_payload :
-      (u : Head) → IsPayloadOf r.version u.kind → u.version ≡ r.version → HasRoom r u.size
-      → GoesOnWell r (events.Came u)
+      (u : Head) → IsPayloadOf x.version u.kind → u.version ≡ x.version
+      → x.units + 1 ≤ s.most_units → x.bytes + u.size ≤ s.most_bytes
+      → GoesOnWell s x (events.Came u)
   ends_data :
-      (u : Head) → IsOfResponse r u kinds.EndOfData
-      → (r.changes ≡ true → serial_cmp u.serial r.known.serial ≢ Some Less)
-      → (r.changes ≡ true → u.serial ≡ r.known.serial → r.units ≡ 0)
-      → GoesOnWell r (events.Came u)
+      (u : Head) → IsOfAnswer x u kinds.EndOfData
+      → (x.query.changes ≡ true → serial_cmp u.serial x.query.serial ≢ Some Less)
+      → (x.query.changes ≡ true → u.serial ≡ x.query.serial → x.units ≡ 0)
+      → GoesOnWell s x (events.Came u)
 
 -- The changes are made; they may be refused only where they were to be made of data, which need not
 -- be this cache's.
-pub data IsMadeWell (r : Router) : Event → Type 0 where
-  not_made_yet : IsMadeWell r events.Tick
-  are_made : IsMadeWell r events.Applied
-  are_refused : (code : Option ℕ) → r.changes ≡ true → IsMadeWell r (events.NotApplied code)
+pub data IsMadeWell (x : Exchange) : Event → Type 0 where
+  are_made : IsMadeWell x events.Applied
+  are_refused : (code : Option ℕ) → x.query.changes ≡ true → IsMadeWell x (events.NotApplied code)
 
--- While the router waits such a cache may send notifies, of the session of the data.
-pub data LeavesWell (r : Router) : Event → Type 0 where
-  not_asked_yet : LeavesWell r events.Tick
-  notifies_then : (u : Head) → IsNews r u → LeavesWell r (events.Came u)
+-- while nothing is asked such a cache may send notifies
+pub data LeavesWell (x : Exchange) : Event → Type 0 where
+  notifies_then :
+      (u : Head) → u.kind ≡ kinds.SerialNotify → u.version ≡ x.version
+      → LeavesWell x (events.Came u)
 
--- what may happen to a router whose cache keeps the rules and accepts its connections
-abbrev pub IsServedBy : ℕ → Phase → Router → Event → Type 0
-IsServedBy most phases.Offline r e = e ≡ events.Tick
-IsServedBy most phases.Connecting r e = (e ≡ events.Tick) ⊎ (e ≡ events.Connected)
-IsServedBy most phases.Asked r e = AnswersWell most r e
-IsServedBy most phases.Reading r e = GoesOnWell r e
-IsServedBy most phases.Applying r e = IsMadeWell r e
-IsServedBy most phases.Waiting r e = LeavesWell r e
+-- what such a cache may do, which accepts connections
+abbrev pub DoesWell : (most : ℕ) → Settings → Exchange → Phase → Event → Type 0
+DoesWell most s x phases.Offline e = ⊥
+DoesWell most s x phases.Connecting e = e ≡ events.Connected
+DoesWell most s x phases.Asked e = AnswersWell most x e
+DoesWell most s x phases.Reading e = GoesOnWell s x e
+DoesWell most s x phases.Applying e = IsMadeWell x e
+DoesWell most s x phases.Waiting e = LeavesWell x e
 
--- The router at a time, while such a cache serves it from `start` and `r₀` on, and no data were
--- shown yet. Something happens when the router wakes, at the latest, and each answer comes in time.
-pub data IsServed (most : ℕ) (r₀ : Router) (start : ℕ) : Router → ℕ → Type 0 where
-  served_from : IsServed most r₀ start r₀ start
-  served_on :
-      (r : Router) (n : ℕ) (n' : ℕ) (e : Event) (a : Action) (r' : Router)
-      → IsServed most r₀ start r n
-      → n ≤ n' → n' ≤ max n (wakes_at r) → IsInTime r n'
-      → IsServedBy most r.phase r e → IsStep r n' e a r' → a ≢ actions.Show
-      → IsServed most r₀ start r' n'
+-- time passes, or its caller wants data, or the cache does something
+abbrev pub IsServedBy : (most : ℕ) → Settings → Exchange → Event → Type 0
+IsServedBy most s x e = (e ≡ events.Tick) ⊎ (e ≡ events.Asked) ⊎ DoesWell most s x x.phase e
+
+-- what is awaited comes in time
+abbrev pub ComesInTime : Exchange → (now : ℕ) → Type 0
+ComesInTime x n = IsLimited x.phase ⊎ (x.phase ≡ phases.Applying) → n < x.until
+
+-- The router at a time, and what was exchanged by then, while such a cache serves it from `start`,
+-- `r₀` and `x₀` on, and each step is one of these. Something happens when the router wakes, at the
+-- latest, and what is awaited comes in time.
+pub data IsBeside (Only : Exchange → Event → Action → Type 0) (most : ℕ) (r₀ : Router)
+    (x₀ : Exchange) (start : ℕ) : Router → Exchange → ℕ → Type 0 where
+  beside_from : IsBeside Only most r₀ x₀ start r₀ x₀ start
+  beside_on :
+      (r : Router) (x : Exchange) (n : ℕ) (n' : ℕ) (e : Event) (a : Action) (r' : Router)
+      → IsBeside Only most r₀ x₀ start r x n
+      → n ≤ n' → n' ≤ max n (wakes_at r) → ComesInTime x n'
+      → IsServedBy most r.settings x e → IsStep r n' e a r' → Only x e a
+      → IsBeside Only most r₀ x₀ start r' (exchange_after r.settings n' e a x) n'
+
+abbrev pub AnyStep : Exchange → Event → Action → Type 0
+AnyStep x e a = Unit {0}
+
+-- a close at a query for all data comes only above the versions in which the cache answered
+abbrev pub ClosesAbove : Exchange → Event → Type 0
+ClosesAbove x events.Lost = (x.query.changes ≡ true) ⊎ (x.spoken < x.version)
+ClosesAbove x _ = Unit {0}
+
+-- no data are shown
+abbrev pub Unshown : Exchange → Event → Action → Type 0
+Unshown x e a = (a ≢ actions.Show) × ClosesAbove x e
 
 -- ---- the time
 
@@ -128,6 +149,11 @@ connections r = opening_version r + 1 + restarts r * (r.settings.highest + 1)
 abbrev pub connections_after : Router → ℕ
 connections_after r = r.version + restarts r * (r.settings.highest + 1)
 
+-- and those that come after one on which the router waits: it may try the highest version again
+abbrev pub connections_waiting : Router → ℕ
+connections_waiting r =
+    connections_after r + (if r.silent then r.settings.highest + 1 else 0)
+
 -- How long it takes from when the router connects or asks by itself, or what is under way is over
 -- by its limit: two answers where it is still to ask, one more where a serial query is out, a pause
 -- where the connection ends, and the connections that come then.
@@ -145,8 +171,36 @@ time_needed phases.Applying r =
     r.settings.pause + connections_after r * connection_time r.settings
 time_needed phases.Waiting r =
     r.settings.response_limit + r.settings.response_limit + r.settings.pause
-    + connections_after r * connection_time r.settings
+    + connections_waiting r * connection_time r.settings
 
 -- when it has data at the latest
 abbrev pub served_until : Router → ℕ → ℕ
 served_until r n = max n (due_in r.phase r) + time_needed r.phase r
+
+-- and where the cache may be one of a lower version than that of the data, which closes without a
+-- word: once the data have expired, after a pause and a connection for each version
+abbrev pub expired_until : Router → ℕ → ℕ
+expired_until r n =
+    max n r.expires + r.settings.pause
+    + (max r.version r.settings.highest + 1) * connection_time r.settings
+
+-- From here the run goes on to a step at which data are shown, by this time.
+pub record IsShownBy (most : ℕ) (r : Router) (x : Exchange) (now limit : ℕ) : Type 0 where
+  pub last : Router
+  pub exchange : Exchange
+  pub shown_at : ℕ
+  pub after : Router
+  pub run : IsBeside Unshown most r x now last exchange shown_at
+  pub in_time : ComesInTime exchange shown_at
+  pub made : IsServedBy most last.settings exchange events.Applied
+  pub shows : IsStep last shown_at events.Applied actions.Show after
+  pub by : shown_at ≤ limit
+
+-- ---- in numbers
+
+-- the usual limits, and versions 0 and 1
+pub record HasUsualLimits (r : Router) : Type 0 where
+  pub pause : r.settings.pause ≡ 1000
+  pub connect_limit : r.settings.connect_limit ≡ 30000
+  pub response_limit : r.settings.response_limit ≡ 120000
+  pub highest : r.settings.highest ≡ 1

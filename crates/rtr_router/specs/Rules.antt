@@ -18,6 +18,7 @@ use Rattle.rtr_router.specs.declared.event.Action.TheVariants as actions
 use Rattle.rtr_router.specs.declared.event.Ending.{Ending}
 use Rattle.rtr_router.specs.declared.event.Cause.{Cause}
 use Rattle.rtr_router.specs.declared.event.Cause.TheVariants as causes
+use Rattle.rtr_router.specs.Times.{expires_at_show}
 
 -- payloads, by the least version that has them (RFC 8210 section 5.10; ASPAs are of version 2)
 abbrev pub IsPayloadOf : ℕ → Kind → Type 0
@@ -48,11 +49,13 @@ pub record SameTalk (r r' : Router) : Type 0 where
   pub phase : r'.phase ≡ r.phase
   pub version : r'.version ≡ r.version
   pub agreed : r'.agreed ≡ r.agreed
+  pub silent : r'.silent ≡ r.silent
   pub floor : r'.floor ≡ r.floor
   pub changes : r'.changes ≡ r.changes
   pub resync : r'.resync ≡ r.resync
   pub session : r'.session ≡ r.session
   pub answer : r'.answer ≡ r.answer
+  pub came : r'.came ≡ r.came
 
 -- so does the response so far
 pub record SameResponse (r r' : Router) : Type 0 where
@@ -61,7 +64,7 @@ pub record SameResponse (r r' : Router) : Type 0 where
 
 -- What may be passed over: a notify, since the answer tells of more (RFC 8210 section 7), or is
 -- followed by a query, or comes when the router waits, which then asks when it may; what comes
--- without a connection; what its caller says out of turn.
+-- without a connection; what its caller says out of turn; and its wish, which says when to ask.
 abbrev pub PassesOver : Router → Event → Type 0
 PassesOver r (events.Came u) =
     (r.phase ≡ phases.Offline) ⊎ (r.phase ≡ phases.Connecting)
@@ -72,6 +75,7 @@ PassesOver r (events.NotApplied code) = (r.phase ≢ phases.Applying) × (r.phas
 PassesOver r events.Applied = r.phase ≢ phases.Applying
 PassesOver r events.Connected = r.phase ≢ phases.Connecting
 PassesOver r events.Tick = Unit {0}
+PassesOver r events.Asked = Unit {0}
 
 -- whether a notify is taken note of: inside a response, and before it where a version is agreed on
 abbrev pub takes_note : Phase → (agreed : Bool) → Bool
@@ -139,7 +143,7 @@ MayAsk r n events.Connected r' =
     × (r'.floor ≡ r.floor)
 MayAsk r n events.Tick r' =
     (r.phase ≡ phases.Waiting) × (r.settings.pause ≤ n - r.asked) × (r'.resync ≡ r.resync)
-    × (r'.floor ≡ r.floor)
+    × (r'.floor ≡ r.floor) × (r.due ≤ n)
 MayAsk r n _ r' = ⊥
 
 pub record Asks (r : Router) (n : ℕ) (e : Event) (q : Query) (r' : Router) : Type 0 where
@@ -197,7 +201,8 @@ pub record Keeps (r : Router) (u : Head) (r' : Router) : Type 0 where
 -- The end of data, of the version and the session of the cache response (RFC 8210 section 5.8). Its
 -- serial number isn't before that of a serial query (RFC 1982), and at that very number nothing
 -- changes.
-pub record Completes (r : Router) (u : Head) (changes : Bool) (r' : Router) : Type 0 where
+pub record Completes (r : Router) (n : ℕ) (u : Head) (changes : Bool) (r' : Router) :
+    Type 0 where
   pub same : SameKnown r r'
   pub from : r.phase ≡ phases.Reading
   pub phase : r'.phase ≡ phases.Applying
@@ -209,6 +214,7 @@ pub record Completes (r : Router) (u : Head) (changes : Bool) (r' : Router) : Ty
   pub news : r.changes ≡ true → u.serial ≡ r.known.serial → r.units ≡ 0
   pub same_changes : r'.changes ≡ r.changes
   pub answer : r'.answer ≡ known_of u
+  pub came : r'.came ≡ n
   pub noted : r'.noted ≡ r.noted
   pub note : r'.note ≡ r.note
   pub same_version : r'.version ≡ r.version
@@ -216,18 +222,20 @@ pub record Completes (r : Router) (u : Head) (changes : Bool) (r' : Router) : Ty
   pub floor : r'.floor ≡ r.floor
   pub resync : r'.resync ≡ r.resync
 
--- What the changes made are the data. `Pace` says until when.
-pub record Adopts (r r' : Router) : Type 0 where
+-- What the changes made are the data, until they expire.
+pub record Adopts (r : Router) (n : ℕ) (r' : Router) : Type 0 where
   pub from : r.phase ≡ phases.Applying
   pub phase : r'.phase ≡ phases.Waiting
   pub has_data : r'.has_data ≡ true
   pub known : r'.known ≡ r.answer
+  pub expires : r'.expires ≡ expires_at_show r n
   pub same_version : r'.version ≡ r.version
   pub agreed : r.agreed ≡ true → r'.agreed ≡ true
   pub floor : r'.floor ≡ r.answer.version
   pub resync : r'.resync ≡ false
 
--- the cache has no data yet (RFC 8210 section 8.4)
+-- The cache has no data yet. Each query is a reset query until there is a usable load (RFC 8210
+-- section 8.4).
 pub record HasNoData (r : Router) (u : Head) (r' : Router) : Type 0 where
   pub same : SameKnown r r'
   pub kind : u.kind ≡ kinds.ErrorReport
@@ -238,7 +246,7 @@ pub record HasNoData (r : Router) (u : Head) (r' : Router) : Type 0 where
   pub same_version : r'.version ≡ r.version
   pub agreed : r'.agreed ≡ true
   pub floor : r'.floor ≡ max r.floor r.version
-  pub resync : r'.resync ≡ r.resync
+  pub resync : r'.resync ≡ true
 
 -- there are no data any more, and their times are still known
 pub record HasLost (r r' : Router) : Type 0 where
@@ -296,6 +304,17 @@ pub record Falls (r : Router) (e : Event) (x : Ending) (r' : Router) : Type 0 wh
   pub floor : r'.floor ≡ r.floor
   pub resync : r'.resync ≡ r.resync
 
+-- It rises: on a connection in a version that it fell to in silence, when it is time to ask. Its
+-- data stay, and the next connection begins in the highest version.
+pub record Rises (r : Router) (x : Ending) (r' : Router) : Type 0 where
+  pub from : r.phase ≡ phases.Waiting
+  pub silent : r.silent ≡ true
+  pub keeps : x.drop ≡ false
+  pub report : x.report ≡ None
+  pub fell : r'.fell ≡ r.fell
+  pub floor : r'.floor ≡ r.floor
+  pub resync : r'.resync ≡ r.resync
+
 -- a serial query is out
 abbrev pub is_answering : Phase → Bool
 is_answering phases.Asked = true
@@ -315,7 +334,7 @@ pub record Fails (r r' : Router) : Type 0 where
   pub resync : r.resync ≡ true → r'.resync ≡ true
   pub floor : r'.has_data ≡ true → r'.floor ≡ r.floor
 
--- Where the time for something is over, it is done again later.
+-- Where the time for something is over, it is done again later, and the data stay.
 pub record GivesUp (r r' : Router) : Type 0 where
   pub fell : r'.fell ≡ r.fell
   pub version : r'.version ≡ r.version
@@ -324,7 +343,8 @@ pub record GivesUp (r r' : Router) : Type 0 where
 
 abbrev pub ClosesBy : Cause → Router → Event → Ending → Router → Type 0
 ClosesBy causes.Lower r e x r' = Falls r e x r'
-ClosesBy causes.Slow r e x r' = GivesUp r r'
+ClosesBy causes.Higher r e x r' = Rises r x r'
+ClosesBy causes.Slow r e x r' = (x.drop ≡ false) × GivesUp r r'
 ClosesBy _ r e x r' = Fails r r'
 
 pub record Closes (r : Router) (e : Event) (x : Ending) (r' : Router) : Type 0 where
@@ -341,8 +361,8 @@ Rule r n events.Tick actions.Connect r' = Connects r n r'
 Rule r n e (actions.Ask q) r' = Asks r n e q r'
 Rule r n (events.Came u) actions.Begin r' = Begins r u r'
 Rule r n (events.Came u) actions.Keep r' = Keeps r u r'
-Rule r n (events.Came u) (actions.Apply on) r' = Completes r u on r'
-Rule r n events.Applied actions.Show r' = Adopts r r'
+Rule r n (events.Came u) (actions.Apply on) r' = Completes r n u on r'
+Rule r n events.Applied actions.Show r' = Adopts r n r'
 Rule r n (events.Came u) actions.NoData r' = HasNoData r u r'
 Rule r n e actions.Drop r' = Loses r r'
 Rule r n e (actions.End x) r' = Closes r e x r'

@@ -1,6 +1,7 @@
 -- The times of data, in milliseconds (RFC 8210 section 6).
-use Rattle.std.specs.Prelude.{ℕ, ◌-◌, ◌*◌, ◌/◌, ◌==◌, if◌then◌else◌, min, max, nat_lt}
+use Rattle.std.specs.Prelude.{ℕ, ◌-◌, ◌*◌, ◌/◌, ◌+◌, ◌==◌, if◌then◌else◌, min, max, nat_lt}
 use Rattle.rtr_router.specs.declared.head.Known.{Known}
+use Rattle.rtr_router.specs.declared.router.Router.{Router}
 use Rattle.rtr_router.specs.declared.settings.Settings.{Settings}
 
 -- what a caller sets, or else this
@@ -28,6 +29,14 @@ refresh_ms s k =
     if nat_lt (named_refresh_ms s k) (expire_ms s k)
     then named_refresh_ms s k
     else expire_ms s k / 2
+
+-- when the end of data came that an answer has
+abbrev pub received : Router → (now : ℕ) → ℕ
+received r n = min r.came n
+
+-- when data expire that are adopted now: the expire time runs from the receipt of the end of data
+abbrev pub expires_at_show : Router → (now : ℕ) → ℕ
+expires_at_show r n = received r n + expire_ms r.settings r.answer
 
 -- a wait that chance makes shorter, by less than half
 abbrev pub shortened : (chance wait : ℕ) → ℕ

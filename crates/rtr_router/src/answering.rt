@@ -6,9 +6,13 @@ ghost use Rattle.std.specs.declared.cmp.Ordering.TheVariants.{Less};
 ghost use Rattle.rtr_base.specs.Serial.{serial_cmp};
 ghost use Rattle.rtr_router.specs.Heeding.{Heeds, HeedsAsked, HeedsReading, HeedsUnit};
 ghost use Rattle.rtr_router.specs.Heeding.{HeedsWaiting, IsIdle};
-ghost use Rattle.rtr_router.specs.Pace.{Paces, PacesNoData, PacesShow, SameDue};
+ghost use Rattle.rtr_router.specs.After.{once_adopted, once_begun, once_noted, once_without_data};
+ghost use Rattle.rtr_router.specs.After.{router_after};
+ghost use Rattle.rtr_router.specs.Pace.{Paces, PacesNoData, PacesShow, SameDue, is_news};
+ghost use Rattle.rtr_router.specs.Pace.{rise_wait_at_show, rises_at_show};
 ghost use Rattle.rtr_router.specs.Rules.{Begins, Fresh, IsPayloadOf, MayAnswer, Rule, SameKnown};
 ghost use Rattle.rtr_router.specs.Rules.{Adopts};
+ghost use Rattle.rtr_router.specs.Step.{made_until};
 ghost use Rattle.rtr_router.specs.declared.event.Action.TheVariants as actions;
 ghost use Rattle.rtr_router.specs.declared.event.Event.TheVariants as events;
 ghost use Rattle.rtr_router.specs.declared.head.Kind.TheVariants as kinds;
@@ -29,6 +33,7 @@ impl Router {
         ensures rule { Rule self.old now (events.Came unit.now) result self.new }
         ensures fresh { Fresh self.new now }
         ensures paces { Paces self.old now (events.Came unit.now) result self.new }
+        ensures becomes { self.new ≡ router_after self.old now (events.Came unit.now) result }
         ensures heeds { HeedsUnit self.old now unit.now result self.new }
         ensures idles { IsIdle (events.Came unit.now) self.old → result ≡ actions.Wait }
     {
@@ -51,6 +56,7 @@ impl Router {
         ensures rule { Rule self.old now (events.Came unit.now) result self.new }
         ensures fresh { Fresh self.new now }
         ensures paces { Paces self.old now (events.Came unit.now) result self.new }
+        ensures becomes { self.new ≡ router_after self.old now (events.Came unit.now) result }
         ensures heeds { HeedsAsked self.old unit.now result }
     {
         match unit.kind {
@@ -79,6 +85,7 @@ impl Router {
         ensures rule { Rule self.old now (events.Came unit.now) result self.new }
         ensures fresh { Fresh self.new now }
         ensures paces { Paces self.old now (events.Came unit.now) result self.new }
+        ensures becomes { self.new ≡ router_after self.old now (events.Came unit.now) result }
         ensures heeds { HeedsAsked self.old unit.now result }
     {
         let lower = unit.version < self.version || unit.code == NO_VERSION;
@@ -91,20 +98,23 @@ impl Router {
         }
     }
 
-    /// The cache has no data yet (RFC 8210 section 8.4). It is asked again after the retry time.
+    /// The cache has no data yet. It is asked for all data after the retry time, until it has some
+    /// (RFC 8210 section 8.4).
     fn has_none(&mut self, now: u64) -> Action
         requires time { now < 2 ^ 63 }
         ensures action { result ≡ actions.NoData }
+        ensures becomes { self.new ≡ once_without_data self.old now }
         ensures same { SameKnown self.old self.new }
         ensures phase { self.new.phase ≡ phases.Waiting }
         ensures version { self.new.version ≡ self.old.version }
         ensures agreed { self.new.agreed ≡ true }
         ensures floor { self.new.floor ≡ max self.old.floor self.old.version }
-        ensures resync { self.new.resync ≡ self.old.resync }
+        ensures resync { self.new.resync ≡ true }
         ensures paces { PacesNoData self.old now self.new }
     {
         self.agreed = true;
         self.floor = self.floor.max(self.version);
+        self.resync = true;
         self.phase = Phase::Waiting;
         self.due = now + self.settings.retry(&self.known);
         Action::NoData
@@ -122,6 +132,7 @@ impl Router {
         ensures rule { Rule self.old now (events.Came unit.now) result self.new }
         ensures fresh { Fresh self.new now }
         ensures paces { Paces self.old now (events.Came unit.now) result self.new }
+        ensures becomes { self.new ≡ router_after self.old now (events.Came unit.now) result }
         ensures heeds { HeedsAsked self.old unit.now result }
     {
         if unit.version < self.version {
@@ -140,6 +151,7 @@ impl Router {
         requires may { MayAnswer self.old unit.now }
         requires own { self.old.changes ≡ true → unit.now.session ≡ self.old.known.session }
         ensures action { result ≡ actions.Begin }
+        ensures becomes { self.new ≡ once_begun self.old unit.now }
         ensures begins { Begins self.old unit.now self.new }
         ensures same { SameDue self.old self.new }
     {
@@ -165,6 +177,7 @@ impl Router {
         ensures rule { Rule self.old now (events.Came unit.now) result self.new }
         ensures fresh { Fresh self.new now }
         ensures paces { Paces self.old now (events.Came unit.now) result self.new }
+        ensures becomes { self.new ≡ router_after self.old now (events.Came unit.now) result }
         ensures heeds { HeedsAsked self.old unit.now result }
     {
         if unit.version < self.version {
@@ -185,6 +198,7 @@ impl Router {
         ensures rule { Rule self.old now (events.Came unit.now) result self.new }
         ensures fresh { Fresh self.new now }
         ensures paces { Paces self.old now (events.Came unit.now) result self.new }
+        ensures becomes { self.new ≡ router_after self.old now (events.Came unit.now) result }
         ensures heeds { HeedsReading self.old unit.now result }
     {
         match unit.kind {
@@ -218,6 +232,7 @@ impl Router {
         ensures rule { Rule self.old now (events.Came unit.now) result self.new }
         ensures fresh { Fresh self.new now }
         ensures paces { Paces self.old now (events.Came unit.now) result self.new }
+        ensures becomes { self.new ≡ router_after self.old now (events.Came unit.now) result }
         ensures heeds { HeedsReading self.old unit.now result }
     {
         let size = unit.size as u64;
@@ -243,6 +258,7 @@ impl Router {
         ensures rule { Rule self.old now (events.Came unit.now) result self.new }
         ensures fresh { Fresh self.new now }
         ensures paces { Paces self.old now (events.Came unit.now) result self.new }
+        ensures becomes { self.new ≡ router_after self.old now (events.Came unit.now) result }
         ensures heeds { HeedsReading self.old unit.now result }
     {
         if unit.session != self.session {
@@ -254,7 +270,7 @@ impl Router {
     /// Keeps what a notify says until the data are there.
     fn note_serial(&mut self, unit: &Head) -> Action
         ensures action { result ≡ actions.Wait }
-        ensures notes { self.new ≡ record self.old { noted = true; note = unit.now.serial } }
+        ensures notes { self.new ≡ once_noted self.old unit.now }
     {
         self.noted = true;
         self.note = unit.serial;
@@ -271,6 +287,7 @@ impl Router {
         ensures rule { Rule self.old now (events.Came unit.now) result self.new }
         ensures fresh { Fresh self.new now }
         ensures paces { Paces self.old now (events.Came unit.now) result self.new }
+        ensures becomes { self.new ≡ router_after self.old now (events.Came unit.now) result }
         ensures heeds { HeedsReading self.old unit.now result }
     {
         if unit.session != self.session {
@@ -290,6 +307,7 @@ impl Router {
             retry: unit.retry,
             expire: unit.expire,
         };
+        self.came = now;
         self.phase = Phase::Applying;
         Action::Apply(self.changes)
     }
@@ -298,9 +316,11 @@ impl Router {
     pub(crate) fn applied(&mut self, now: u64) -> Action
         requires time { now < 2 ^ 63 }
         requires fresh { Fresh self.old now }
+        requires in_time { self.old.phase ≡ phases.Applying → now < made_until self.old }
         ensures rule { Rule self.old now events.Applied result self.new }
         ensures fresh { Fresh self.new now }
         ensures paces { Paces self.old now events.Applied result self.new }
+        ensures becomes { self.new ≡ router_after self.old now events.Applied result }
         ensures heeds { Heeds self.old now events.Applied result self.new }
         ensures idles { IsIdle events.Applied self.old → result ≡ actions.Wait }
     {
@@ -317,25 +337,58 @@ impl Router {
     fn take(&mut self, now: u64)
         requires time { now < 2 ^ 63 }
         requires applying { self.old.phase ≡ phases.Applying }
-        ensures shows { Adopts self.old self.new }
+        requires in_time { now < made_until self.old }
+        ensures becomes { self.new ≡ once_adopted self.old now }
+        ensures shows { Adopts self.old now self.new }
         ensures paces { PacesShow self.old now self.new }
         ensures expires { now < self.new.expires }
     {
+        let came = self.came.min(now);
         let more = self.noted && self.note != self.answer.serial;
-        let refresh = if more {
-            0
+        self.due = if more {
+            now
         } else {
-            self.settings.refresh(&self.answer)
+            came + self.settings.refresh(&self.answer)
         };
+        self.expires = came + self.settings.expire(&self.answer);
+        if self.is_news() {
+            self.wait = FIRST_WAIT;
+        }
+        self.rise_by(now);
         self.known = self.answer;
         self.has_data = true;
         self.resync = false;
         self.answered = true;
-        self.wait = FIRST_WAIT;
         self.floor = self.answer.version;
         self.phase = Phase::Waiting;
-        self.due = now + refresh;
-        self.expires = now + self.settings.expire(&self.answer);
+    }
+
+    /// When a version that silence made it leave is tried again, once data come: their refresh time
+    /// counts where it is shorter, until the wait has grown.
+    fn rise_by(&mut self, now: u64)
+        requires time { now < 2 ^ 63 }
+        ensures { self.new ≡ record self.old {
+          rise_wait = rise_wait_at_show self.old;
+          rises = rises_at_show self.old now;
+        } }
+    {
+        let refresh = self.settings.refresh(&self.answer);
+        if !self.silent {
+            self.rise_wait = 0;
+        } else if self.rise_wait as u64 <= self.settings.refresh(&self.known) {
+            self.rise_wait = self.rise_wait.min(refresh as u32);
+            self.rises = self.rises.min(self.came.min(now) + refresh);
+        }
+    }
+
+    /// Whether the answer has other data than those that are there.
+    fn is_news(&self) -> bool
+        ensures { result ≡ is_news self.now }
+    {
+        !self.has_data
+            || self.known.session != self.answer.session
+            || self.known.serial != self.answer.serial
+            || self.known.version != self.answer.version
     }
 
     /// A unit came unasked: a notify of a serial number that it hasn't makes it ask.
@@ -346,6 +399,7 @@ impl Router {
         ensures rule { Rule self.old now (events.Came unit.now) result self.new }
         ensures fresh { Fresh self.new now }
         ensures paces { Paces self.old now (events.Came unit.now) result self.new }
+        ensures becomes { self.new ≡ router_after self.old now (events.Came unit.now) result }
         ensures heeds { HeedsWaiting self.old now unit.now result self.new }
     {
         match unit.kind {

@@ -3,10 +3,13 @@
 ghost use Rattle.std.specs.Prelude.{◌≡◌, ◌≢◌, ◌≤◌, ◌<◌, ◌+◌, ◌*◌, ◌-◌, ◌^◌, ◌⊎◌, true, false, None};
 ghost use Rattle.std.specs.Prelude.{Some, min, max, if◌then◌else◌, ℕ};
 ghost use Rattle.rtr_router.specs.Heeding.{Heeds, HeedsExpiry, IsIdle, ends_with};
-ghost use Rattle.rtr_router.specs.Pace.{Paces, PacesFailure, PacesFall, PacesGivingUp, next_wait};
-ghost use Rattle.rtr_router.specs.Pace.{rest};
+ghost use Rattle.rtr_router.specs.After.{forgets, once_failed, once_fallen_by_word};
+ghost use Rattle.rtr_router.specs.After.{once_fallen_silently, once_rested, once_risen};
+ghost use Rattle.rtr_router.specs.After.{router_after};
+ghost use Rattle.rtr_router.specs.Pace.{Paces, PacesFailure, PacesFall, PacesGivingUp, grows};
+ghost use Rattle.rtr_router.specs.Pace.{grows_slow, longest_rest, next_rise, next_wait, rest};
 ghost use Rattle.rtr_router.specs.Rules.{Drops, Fails, Fresh, GivesUp, HasLost, Rule, SameKnown};
-ghost use Rattle.rtr_router.specs.Rules.{awaits_changes};
+ghost use Rattle.rtr_router.specs.Rules.{awaits_changes, is_answering};
 ghost use Rattle.rtr_router.specs.Times.{shortened};
 ghost use Rattle.rtr_router.specs.declared.event.Action.TheVariants as actions;
 ghost use Rattle.rtr_router.specs.declared.event.Cause.TheVariants as causes;
@@ -29,11 +32,15 @@ pub(crate) const NO_TYPE: u16 = 5;
 
 pub(crate) const OTHER_VERSION: u16 = 8;
 
+/// The longest time for which a version isn't tried: a day, in milliseconds.
+const LONGEST_RISE: u32 = 86_400_000;
+
 impl Router {
     /// Ends the connection because of a failure.
     pub(crate) fn end(&mut self, now: u64, report: Option<u16>, cause: Cause) -> Action
         requires time { now < 2 ^ 63 }
         ensures action { result ≡ ends_with false report cause }
+        ensures becomes { self.new ≡ once_failed false self.old now }
         ensures same { SameKnown self.old self.new }
         ensures phase { self.new.phase ≡ phases.Offline }
         ensures fails { Fails self.old self.new }
@@ -43,7 +50,8 @@ impl Router {
             self.resync = true;
             self.settings.pause as u64
         } else {
-            self.rest()
+            let grows = self.grows();
+            self.rest(grows)
         };
         self.phase = Phase::Offline;
         self.due = now + rest;
@@ -58,12 +66,14 @@ impl Router {
     pub(crate) fn give_up(&mut self, now: u64) -> Action
         requires time { now < 2 ^ 63 }
         ensures action { result ≡ ends_with false None causes.Slow }
+        ensures becomes { self.new ≡ once_rested (grows_slow self.old) self.old now }
         ensures same { SameKnown self.old self.new }
         ensures phase { self.new.phase ≡ phases.Offline }
         ensures gives_up { GivesUp self.old self.new }
         ensures paces { PacesGivingUp self.old now self.new }
     {
-        let rest = self.rest();
+        let grows = self.is_answering() || self.grows();
+        let rest = self.rest(grows);
         self.phase = Phase::Offline;
         self.due = now + rest;
         Action::End(Ending {
@@ -77,6 +87,7 @@ impl Router {
     fn drop_all(&mut self, now: u64, report: Option<u16>, cause: Cause) -> Action
         requires time { now < 2 ^ 63 }
         ensures action { result ≡ ends_with true report cause }
+        ensures becomes { self.new ≡ once_failed true self.old now }
         ensures lost { HasLost self.old self.new }
         ensures phase { self.new.phase ≡ phases.Offline }
         ensures fails { Fails self.old self.new }
@@ -99,6 +110,7 @@ impl Router {
     pub(crate) fn other_session(&mut self, now: u64) -> Action
         requires time { now < 2 ^ 63 }
         ensures action { result ≡ ends_with self.old.has_data (Some 0) causes.OtherSession }
+        ensures becomes { self.new ≡ once_failed self.old.has_data self.old now }
         ensures data_then { Drops self.old.has_data self.old self.new }
         ensures fresh { Fresh self.old now → Fresh self.new now }
         ensures phase { self.new.phase ≡ phases.Offline }
@@ -119,6 +131,7 @@ impl Router {
         ensures has_data { self.new.has_data ≡ false }
         ensures heeds { HeedsExpiry self.old result }
         ensures paces { (e : Event) → Paces self.old now e result self.new }
+        ensures becomes { (e : Event) → self.new ≡ router_after self.old now e result }
         ensures acts { result ≢ actions.Wait }
     {
         match self.phase {
@@ -137,6 +150,7 @@ impl Router {
     pub(crate) fn fall(&mut self, now: u64, version: u8) -> Action
         requires time { now < 2 ^ 63 }
         ensures action { result ≡ ends_with false None causes.Lower }
+        ensures becomes { self.new ≡ once_fallen_by_word self.old now version }
         ensures same { SameKnown self.old self.new }
         ensures phase { self.new.phase ≡ phases.Offline }
         ensures version { self.new.version ≡ version }
@@ -146,12 +160,66 @@ impl Router {
     {
         self.version = version;
         self.fell = true;
+        self.silent = false;
         self.phase = Phase::Offline;
         self.due = now;
         Action::End(Ending {
             drop: false,
             report: None,
             cause: Cause::Lower,
+        })
+    }
+
+    /// Falls to the next lower version at a close without a word. The highest one is tried again
+    /// after the refresh time, or later each time that it ends so.
+    fn fall_silently(&mut self, now: u64) -> Action
+        requires time { now < 2 ^ 63 }
+        requires version { 1 ≤ self.old.version }
+        ensures action { result ≡ ends_with false None causes.Lower }
+        ensures becomes { self.new ≡ once_fallen_silently self.old now }
+        ensures same { SameKnown self.old self.new }
+        ensures phase { self.new.phase ≡ phases.Offline }
+        ensures version { self.new.version + 1 ≡ self.old.version }
+        ensures floor { self.new.floor ≡ self.old.floor }
+        ensures resync { self.new.resync ≡ self.old.resync }
+        ensures paces { PacesFall self.old now self.new }
+    {
+        if !self.silent {
+            self.rise_wait = self.next_rise();
+            self.rises = now + self.rise_wait as u64;
+        }
+        self.version -= 1;
+        self.fell = true;
+        self.silent = true;
+        self.phase = Phase::Offline;
+        self.due = now;
+        Action::End(Ending {
+            drop: false,
+            report: None,
+            cause: Cause::Lower,
+        })
+    }
+
+    /// How long the highest version isn't tried: the refresh time, and twice as long each time, up
+    /// to a day.
+    fn next_rise(&self) -> u32
+        ensures { result ≡ next_rise self.now }
+    {
+        let refresh = self.settings.refresh(&self.known) as u32;
+        refresh.max(self.rise_wait.saturating_mul(2).min(LONGEST_RISE))
+    }
+
+    /// Ends the connection, and makes another one at once in the highest version. Data stay.
+    pub(crate) fn rise(&mut self, now: u64) -> Action
+        ensures action { result ≡ ends_with false None causes.Higher }
+        ensures becomes { self.new ≡ once_risen self.old now }
+    {
+        self.phase = Phase::Offline;
+        self.due = now;
+        Action::End(Ending {
+            drop: false,
+            report: None,
+            cause: Cause::Higher,
         })
     }
 
@@ -163,14 +231,13 @@ impl Router {
         ensures rule { Rule self.old now events.Lost result self.new }
         ensures fresh { Fresh self.new now }
         ensures paces { Paces self.old now events.Lost result self.new }
+        ensures becomes { self.new ≡ router_after self.old now events.Lost result }
         ensures heeds { Heeds self.old now events.Lost result self.new }
         ensures idles { IsIdle events.Lost self.old → result ≡ actions.Wait }
     {
         match self.phase {
             Phase::Offline => Action::Wait,
-            Phase::Asked if !self.agreed && self.version > self.floor => {
-                self.fall(now, self.version - 1)
-            }
+            Phase::Asked if !self.agreed && self.version > self.floor => self.fall_silently(now),
             _ => self.end(now, None, Cause::Lost),
         }
     }
@@ -183,6 +250,7 @@ impl Router {
         ensures rule { Rule self.old now (events.Faulty fault.now) result self.new }
         ensures fresh { Fresh self.new now }
         ensures paces { Paces self.old now (events.Faulty fault.now) result self.new }
+        ensures becomes { self.new ≡ router_after self.old now (events.Faulty fault.now) result }
         ensures heeds { Heeds self.old now (events.Faulty fault.now) result self.new }
         ensures idles { IsIdle (events.Faulty fault.now) self.old → result ≡ actions.Wait }
     {
@@ -207,6 +275,7 @@ impl Router {
         ensures rule { Rule self.old now (events.NotApplied code) result self.new }
         ensures fresh { Fresh self.new now }
         ensures paces { Paces self.old now (events.NotApplied code) result self.new }
+        ensures becomes { self.new ≡ router_after self.old now (events.NotApplied code) result }
         ensures heeds { Heeds self.old now (events.NotApplied code) result self.new }
         ensures idles { IsIdle (events.NotApplied code) self.old → result ≡ actions.Wait }
     {
@@ -220,44 +289,66 @@ impl Router {
     fn awaits_changes(&self) -> bool
         ensures { result ≡ awaits_changes self.now }
     {
-        match self.phase {
-            Phase::Asked | Phase::Reading | Phase::Applying => self.changes,
-            _ => false,
-        }
+        self.is_answering() && self.changes
+    }
+
+    /// Whether a query is out, or its answer isn't made yet.
+    fn is_answering(&self) -> bool
+        ensures { result ≡ is_answering self.now.phase }
+    {
+        matches!(self.phase, Phase::Asked | Phase::Reading | Phase::Applying)
+    }
+
+    /// Whether waits grow: without data, or after a cache that was alive a moment ago.
+    fn grows(&self) -> bool
+        ensures { result ≡ grows self.now }
+    {
+        !self.has_data || self.answered || self.agreed
     }
 
     /// How long to wait after a failure that isn't a serial query's: longer each time, up to the
-    /// retry time, or that time where there are data, and the last connection brought none.
-    fn rest(&mut self) -> u64
-        ensures value { result ≡ rest self.old }
+    /// retry time, or that time. A cache without data here that was silent for so long may be one
+    /// of a lower version, whatever answered before.
+    fn rest(&mut self, grows: bool) -> u64
+        ensures value { result ≡ rest grows self.old }
         ensures most { result < 2 ^ 32 }
-        ensures wait { self.new.wait ≡ next_wait self.old }
-        ensures floor { self.old.has_data ≡ true → self.new.floor ≡ self.old.floor }
-        ensures same { self.new ≡ record self.old { wait = self.new.wait; floor = self.new.floor } }
+        ensures same { self.new ≡ record self.old {
+          wait = next_wait grows self.old;
+          floor = if forgets self.old then 0 else self.old.floor;
+        } }
     {
         let retry = self.settings.retry(&self.known);
-        let wait = if self.has_data && !self.answered {
-            retry
+        if !self.has_data && retry <= self.wait as u64 {
+            self.floor = 0;
+        }
+        let wait = if grows {
+            self.grown(self.longest_rest())
         } else {
-            self.grown(retry)
+            retry
         };
         wait.max(self.settings.pause as u64)
     }
 
-    /// The next wait that grows. A cache without data here that was silent for so long may be one
-    /// of a lower version, whatever answered before.
-    fn grown(&mut self, retry: u64) -> u64
-        requires { retry < 2 ^ 32 }
-        ensures value { result ≡ shortened self.old.settings.chance (min retry self.old.wait) }
+    /// The longest wait that grows: the retry time, or the refresh time where nothing was asked.
+    fn longest_rest(&self) -> u64
+        ensures value { result ≡ longest_rest self.now }
         ensures most { result < 2 ^ 32 }
-        ensures wait { self.new.wait ≡ min (2 * self.old.wait) (2 ^ 32 - 1) }
-        ensures floor { self.old.has_data ≡ true → self.new.floor ≡ self.old.floor }
-        ensures same { self.new ≡ record self.old { wait = self.new.wait; floor = self.new.floor } }
     {
-        let wait = retry.min(self.wait as u64);
-        if !self.has_data && wait == retry {
-            self.floor = 0;
+        let retry = self.settings.retry(&self.known);
+        match self.phase {
+            Phase::Waiting if self.has_data => retry.max(self.settings.refresh(&self.known)),
+            _ => retry,
         }
+    }
+
+    /// The next wait that grows.
+    fn grown(&mut self, most: u64) -> u64
+        requires { most < 2 ^ 32 }
+        ensures value { result ≡ shortened self.old.settings.chance (min most self.old.wait) }
+        ensures most { result < 2 ^ 32 }
+        ensures same { self.new ≡ record self.old { wait = next_wait true self.old } }
+    {
+        let wait = most.min(self.wait as u64);
         self.wait = self.wait.saturating_mul(2);
         wait - wait * (self.settings.chance as u64) / 131_072
     }

@@ -10,6 +10,8 @@ use crate::head::{Fault, Head, Query};
 pub enum Event {
     /// Time passed.
     Tick,
+    /// Its caller wants the present data: it asks as soon as it may.
+    Asked,
     /// The connection is there.
     Connected,
     /// None could be made, or it is gone. Where the close cut off a unit, that is `Faulty`.
@@ -38,7 +40,8 @@ pub enum Action {
     /// Keep the unit that came.
     Keep,
     /// Make all changes that were kept, in their order, or none: of the data if true, and otherwise
-    /// of no data. Then say `Applied` or `NotApplied`.
+    /// of no data. Then say `Applied` or `NotApplied`, before the expire time of the answer is
+    /// over.
     Apply(bool),
     /// What the changes made are the data now.
     Show,
@@ -94,6 +97,9 @@ pub enum Cause {
     /// The cache may have a lower version, which the next connection begins in at once. This is no
     /// failure.
     Lower,
+    /// The cache may have a higher version than the one that a silent close left, and the next
+    /// connection begins in the highest at once. This is no failure.
+    Higher,
 }
 
 impl Cause {
@@ -117,6 +123,7 @@ impl Cause {
             Cause::NotApplied => "changes are refused",
             Cause::Expired => "the data have expired",
             Cause::Lower => "the cache may have a lower version",
+            Cause::Higher => "the cache may have a higher version",
         }
     }
 }

@@ -2,14 +2,16 @@
 
 ghost use Rattle.std.specs.Prelude.{◌≡◌, ◌≢◌, ◌≤◌, ◌<◌, ◌+◌, ◌^◌, true, false, min, if◌then◌else◌};
 ghost use Rattle.rtr_router.specs.Heeding.{Heeds, IsIdle};
-ghost use Rattle.rtr_router.specs.Pace.{IsLimited, Paces, SamePace, due_in, wakes_at};
+ghost use Rattle.rtr_router.specs.After.{has_data_at, new_router, once_asked, once_connected};
+ghost use Rattle.rtr_router.specs.After.{router_after};
+ghost use Rattle.rtr_router.specs.Pace.{IsLimited, Paces, SamePace, due_in, soonest, wakes_at};
 ghost use Rattle.rtr_router.specs.Rules.{AsksAll, AsksOwn, Fresh, Rule, SameKnown, query};
-ghost use Rattle.rtr_router.specs.Step.{IsStep};
+ghost use Rattle.rtr_router.specs.Step.{IsStep, made_until};
 ghost use Rattle.rtr_router.specs.declared.event.Action.TheVariants as actions;
 ghost use Rattle.rtr_router.specs.declared.event.Event.TheVariants as events;
 ghost use Rattle.rtr_router.specs.declared.router.Phase.TheVariants as phases;
 
-use crate::event::{Action, Event};
+use crate::event::{Action, Cause, Event};
 use crate::head::{Head, Known, Query};
 use crate::settings::Settings;
 
@@ -43,6 +45,12 @@ pub struct Router {
     pub agreed: bool,
     /// Whether the next connection begins in `version`, which it fell to.
     pub fell: bool,
+    /// Whether it fell to `version` at a close without a word.
+    pub silent: bool,
+    /// How long after such a fall the highest version is tried again, in milliseconds, or 0; and
+    /// when.
+    pub rise_wait: u32,
+    pub rises: u64,
     /// The version in which the cache answered, or 0: silence makes no fall to a lower one.
     pub floor: u8,
     /// Whether the last query was a serial query.
@@ -66,10 +74,14 @@ pub struct Router {
     pub has_data: bool,
     /// What names the data; after they were dropped, what named the last ones.
     pub known: Known,
+    /// When the end of data came that `answer` is of.
+    pub came: u64,
     /// When the data are dropped.
     pub expires: u64,
     /// When it asked last.
     pub asked: u64,
+    /// When it began its last connection.
+    pub tried: u64,
     /// When it connects, gives up, or asks.
     pub due: u64,
 }
@@ -77,17 +89,7 @@ pub struct Router {
 impl Router {
     /// A router without data, which connects at its first `Tick`.
     pub fn new(settings: Settings) -> Router
-        ensures settings { result.settings ≡ record settings { highest = min settings.highest 2 } }
-        ensures phase { result.phase ≡ phases.Offline }
-        ensures has_data { result.has_data ≡ false }
-        ensures fell { result.fell ≡ false }
-        ensures floor { result.floor ≡ 0 }
-        ensures resync { result.resync ≡ false }
-        ensures answered { result.answered ≡ false }
-        ensures wait { result.wait ≡ 1000 }
-        ensures version { result.known.version ≡ 0 }
-        ensures asked { result.asked ≡ 0 }
-        ensures due { result.due ≡ 0 }
+        ensures { result ≡ new_router settings }
     {
         let none = Known {
             version: 0,
@@ -106,6 +108,9 @@ impl Router {
             version: 0,
             agreed: false,
             fell: false,
+            silent: false,
+            rise_wait: 0,
+            rises: 0,
             floor: 0,
             changes: false,
             resync: false,
@@ -119,9 +124,21 @@ impl Router {
             answer: none,
             has_data: false,
             known: none,
+            came: 0,
             expires: 0,
             asked: 0,
+            tried: 0,
             due: 0,
+        }
+    }
+
+    /// A router without data that goes on with a cache which was asked before: its waits grow on.
+    pub fn again(&self) -> Router
+        ensures { result ≡ record (new_router self.now.settings) { wait = self.now.wait } }
+    {
+        Router {
+            wait: self.wait,
+            ..Router::new(self.settings)
         }
     }
 
@@ -137,8 +154,12 @@ impl Router {
         if self.is_late(now) {
             return self.give_up(now);
         }
+        if self.is_stale(now) {
+            return self.end(now, None, Cause::Expired);
+        }
         match event {
             Event::Tick => self.tick(now),
+            Event::Asked => self.wished(now),
             Event::Connected => self.connected(now),
             Event::Lost => self.lost(now),
             Event::Came(unit) => self.came(now, &unit),
@@ -155,7 +176,7 @@ impl Router {
         requires time { now < 2 ^ 63 }
         ensures steps { IsStep self.old now (events.Came unit.now) result self.new }
     {
-        if (self.has_data && now >= self.expires) || self.is_late(now) {
+        if (self.has_data && now >= self.expires) || self.is_late(now) || self.is_stale(now) {
             return self.step(now, Event::Came(*unit));
         }
         self.came(now, unit)
@@ -178,6 +199,60 @@ impl Router {
         }
     }
 
+    /// Whether there are data at this time: they are there until they expire, also where no step
+    /// has dropped them yet.
+    pub fn has_data_at(&self, now: u64) -> bool
+        ensures { result ≡ has_data_at self.now now }
+    {
+        self.has_data && now < self.expires
+    }
+
+    /// Whether the answer whose changes are being made has expired.
+    fn is_stale(&self, now: u64) -> bool
+        ensures stale { result ≡ true → self.now.phase ≡ phases.Applying }
+        ensures over { result ≡ true → made_until self.now ≤ now }
+        ensures in_time { result ≡ false → self.now.phase ≡ phases.Applying
+            → now < made_until self.now }
+    {
+        match self.phase {
+            Phase::Applying => {
+                now.saturating_sub(self.came) >= self.settings.expire(&self.answer)
+            }
+            _ => false,
+        }
+    }
+
+    /// Its caller wants the present data.
+    fn wished(&mut self, now: u64) -> Action
+        requires time { now < 2 ^ 63 }
+        requires fresh { Fresh self.old now }
+        ensures action { result ≡ actions.Wait }
+        ensures rule { Rule self.old now events.Asked result self.new }
+        ensures fresh { Fresh self.new now }
+        ensures paces { Paces self.old now events.Asked result self.new }
+        ensures becomes { self.new ≡ router_after self.old now events.Asked result }
+    {
+        match self.phase {
+            Phase::Waiting => self.due = self.due.min(now),
+            Phase::Offline => self.due = self.due.min(self.soonest(now)),
+            _ => {}
+        }
+        Action::Wait
+    }
+
+    /// Now, or a pause from now where the last query or connection was less than a pause ago.
+    fn soonest(&self, now: u64) -> u64
+        requires time { now < 2 ^ 63 }
+        ensures { result ≡ soonest self.now now }
+    {
+        let pause = self.settings.pause as u64;
+        if now.saturating_sub(self.asked.max(self.tried)) >= pause {
+            now
+        } else {
+            now + pause
+        }
+    }
+
     /// Whether the time for what is under way is over.
     fn is_late(&self, now: u64) -> bool
         ensures late { result ≡ true → IsLimited self.now.phase }
@@ -197,6 +272,7 @@ impl Router {
         ensures rule { Rule self.old now events.Tick result self.new }
         ensures fresh { Fresh self.new now }
         ensures paces { Paces self.old now events.Tick result self.new }
+        ensures becomes { self.new ≡ router_after self.old now events.Tick result }
         ensures heeds { Heeds self.old now events.Tick result self.new }
         ensures idles { IsIdle events.Tick self.old → result ≡ actions.Wait }
         ensures acts { due_in self.old.phase self.old ≤ now → self.old.phase ≢ phases.Applying
@@ -206,9 +282,13 @@ impl Router {
             Phase::Offline if now >= self.due => self.connect(now),
             Phase::Waiting
                 if now >= self.due
-                    && now.saturating_sub(self.asked) >= self.settings.pause as u64 => self.ask(
-                now,
-            ),
+                    && now.saturating_sub(self.asked) >= self.settings.pause as u64 => {
+                if self.silent && now >= self.rises {
+                    self.rise(now)
+                } else {
+                    self.ask(now)
+                }
+            }
             _ => Action::Wait,
         }
     }
@@ -223,13 +303,16 @@ impl Router {
         ensures rule { Rule self.old now events.Tick result self.new }
         ensures fresh { Fresh self.new now }
         ensures paces { Paces self.old now events.Tick result self.new }
+        ensures becomes { self.new ≡ once_connected self.old now }
     {
         if !self.fell {
             self.version = self.settings.highest;
+            self.silent = false;
         }
         self.fell = false;
         self.agreed = false;
         self.phase = Phase::Connecting;
+        self.tried = now;
         self.due = now + self.settings.connect_limit as u64;
         Action::Connect
     }
@@ -240,6 +323,7 @@ impl Router {
         ensures rule { Rule self.old now events.Connected result self.new }
         ensures fresh { Fresh self.new now }
         ensures paces { Paces self.old now events.Connected result self.new }
+        ensures becomes { self.new ≡ router_after self.old now events.Connected result }
         ensures heeds { Heeds self.old now events.Connected result self.new }
         ensures idles { IsIdle events.Connected self.old → result ≡ actions.Wait }
     {
@@ -257,6 +341,7 @@ impl Router {
     pub(crate) fn ask(&mut self, now: u64) -> Action
         requires time { now < 2 ^ 63 }
         ensures action { result ≡ actions.Ask (query self.new) }
+        ensures becomes { self.new ≡ once_asked self.old now }
         ensures same { SameKnown self.old self.new }
         ensures phase { self.new.phase ≡ phases.Asked }
         ensures own { self.new.changes ≡ true → AsksOwn self.new }

@@ -149,6 +149,172 @@ fn a_serial_query_that_fails(rt: HostRuntime) {
 }
 
 #[test]
+fn no_data_available(rt: HostRuntime) {
+    let mut router = Router::new(Settings::usual(1));
+    load(&rt, &mut router, 1, 0);
+    follow(
+        &rt,
+        &mut router,
+        &[
+            (3_600_000, Event::Tick, "serial query 1"),
+            (3_600_001, report(1, 2), "no data"),
+            (4_200_001, Event::Tick, "reset query 1"),
+            (4_200_002, report(1, 2), "no data"),
+            (4_800_001, Event::Tick, "wait"),
+            (4_800_002, Event::Tick, "reset query 1"),
+            (4_800_003, came(Kind::CacheResponse, 1, 7, 0), "begin"),
+            (4_800_004, Event::Lost, "end"),
+            (4_801_004, Event::Tick, "connect"),
+            (4_801_005, Event::Connected, "reset query 1"),
+            (4_921_005, Event::Tick, "end"),
+            (4_923_005, Event::Tick, "connect"),
+        ],
+    );
+}
+
+#[test]
+fn its_caller_asks(rt: HostRuntime) {
+    let mut router = Router::new(Settings::usual(1));
+    load(&rt, &mut router, 1, 0);
+    follow(
+        &rt,
+        &mut router,
+        &[
+            (500, Event::Asked, "wait"),
+            (999, Event::Tick, "wait"),
+            (1000, Event::Tick, "serial query 1"),
+            (1001, Event::Asked, "wait"),
+            (1002, Event::Lost, "end"),
+            (2002, Event::Tick, "connect"),
+            (2003, Event::Lost, "end"),
+            (2500, Event::Asked, "wait"),
+        ],
+    );
+    assert_eq!(rt; router.wakes(), 3003);
+    follow(
+        &rt,
+        &mut router,
+        &[
+            (3003, Event::Tick, "connect"),
+            (3004, Event::Lost, "end"),
+            (4100, Event::Asked, "wait"),
+            (4100, Event::Tick, "connect"),
+        ],
+    );
+}
+
+#[test]
+fn data_expire_from_their_receipt(rt: HostRuntime) {
+    let mut router = Router::new(Settings::usual(1));
+    follow(
+        &rt,
+        &mut router,
+        &[
+            (0, Event::Tick, "connect"),
+            (0, Event::Connected, "reset query 1"),
+            (1, came(Kind::CacheResponse, 1, 7, 0), "begin"),
+            (1000, came(Kind::EndOfData, 1, 7, 5), "apply to none"),
+            (5000, Event::Applied, "show"),
+        ],
+    );
+    assert_eq!(rt; router.wakes(), 3_601_000);
+    assert!(rt; router.has_data_at(7_200_999), "data are there");
+    assert!(rt; !router.has_data_at(7_201_000), "data are there no more");
+    follow(
+        &rt,
+        &mut router,
+        &[
+            (3_601_000, Event::Tick, "serial query 1"),
+            (3_601_001, came(Kind::CacheResponse, 1, 7, 0), "begin"),
+            (3_601_002, came(Kind::EndOfData, 1, 7, 6), "apply"),
+            (7_201_000, Event::Applied, "drop, end"),
+            (7_202_000, Event::Tick, "connect"),
+            (7_202_000, Event::Connected, "reset query 1"),
+            (7_202_001, came(Kind::CacheResponse, 1, 7, 0), "begin"),
+            (7_202_002, came(Kind::EndOfData, 1, 7, 6), "apply to none"),
+            (14_402_002, Event::Applied, "end"),
+        ],
+    );
+}
+
+#[test]
+fn a_close_after_each_answer(rt: HostRuntime) {
+    let mut router = Router::new(Settings::usual(1));
+    load(&rt, &mut router, 1, 0);
+    let rows: [(u32, u32); 14] = [
+        (0, 1000),
+        (1000, 3000),
+        (3000, 7000),
+        (7000, 15_000),
+        (15_000, 31_000),
+        (31_000, 63_000),
+        (63_000, 127_000),
+        (127_000, 255_000),
+        (255_000, 511_000),
+        (511_000, 1_023_000),
+        (1_023_000, 2_047_000),
+        (2_047_000, 4_095_000),
+        (4_095_000, 7_695_000),
+        (7_695_000, 11_295_000),
+    ];
+    for (now, wakes) in rows {
+        assert_eq!(rt; word(router.step(now as u64, Event::Lost)), "end");
+        assert_eq!(rt; router.wakes(), wakes as u64);
+        follow(
+            &rt,
+            &mut router,
+            &[
+                (wakes, Event::Tick, "connect"),
+                (wakes, Event::Connected, "serial query 1"),
+                (wakes, came(Kind::CacheResponse, 1, 7, 0), "begin"),
+                (wakes, came(Kind::EndOfData, 1, 7, 5), "apply"),
+                (wakes, Event::Applied, "show"),
+            ],
+        );
+    }
+}
+
+#[test]
+fn a_version_rises(rt: HostRuntime) {
+    let mut router = Router::new(Settings::usual(2));
+    follow(
+        &rt,
+        &mut router,
+        &[
+            (0, Event::Tick, "connect"),
+            (1, Event::Connected, "reset query 2"),
+            (2, Event::Lost, "end"),
+            (2, Event::Tick, "connect"),
+            (3, Event::Connected, "reset query 1"),
+            (4, came(Kind::CacheResponse, 1, 7, 0), "begin"),
+            (5, came(Kind::EndOfData, 1, 7, 5), "apply to none"),
+            (5, Event::Applied, "show"),
+            (3_600_004, Event::Tick, "wait"),
+            (3_600_005, Event::Tick, "end"),
+            (3_600_005, Event::Tick, "connect"),
+            (3_600_006, Event::Connected, "reset query 2"),
+            (3_600_007, Event::Lost, "end"),
+            (3_600_007, Event::Tick, "connect"),
+            (3_600_008, Event::Connected, "serial query 1"),
+            (3_600_009, came(Kind::CacheResponse, 1, 7, 0), "begin"),
+            (3_600_010, came(Kind::EndOfData, 1, 7, 6), "apply"),
+            (3_600_010, Event::Applied, "show"),
+            (7_200_010, Event::Tick, "serial query 1"),
+            (7_200_011, came(Kind::CacheResponse, 1, 7, 0), "begin"),
+            (7_200_012, came(Kind::EndOfData, 1, 7, 7), "apply"),
+            (7_200_012, Event::Applied, "show"),
+            (10_800_012, Event::Tick, "end"),
+            (10_800_012, Event::Tick, "connect"),
+            (10_800_013, Event::Connected, "reset query 2"),
+            (10_800_014, came(Kind::CacheResponse, 2, 7, 0), "begin"),
+            (10_800_015, came(Kind::EndOfData, 2, 7, 7), "apply to none"),
+            (10_800_015, Event::Applied, "show"),
+            (14_400_015, Event::Tick, "serial query 2"),
+        ],
+    );
+}
+
+#[test]
 fn another_session(rt: HostRuntime) {
     let mut router = Router::new(Settings::usual(1));
     load(&rt, &mut router, 1, 0);
