@@ -15,15 +15,17 @@ use Rattle.rtr_router.specs.declared.event.Action.{Action}
 use Rattle.rtr_router.specs.declared.event.Action.TheVariants as actions
 use Rattle.rtr_router.specs.declared.event.Event.{Event}
 use Rattle.rtr_router.specs.declared.event.Event.TheVariants as events
-use Rattle.rtr_router.specs.Recovery.{AnswersWell, GoesOnWell, IsServed, IsServedBy}
 use Rattle.rtr_router.specs.Recovery.{served_until}
-use Rattle.rtr_router.specs.Recovery.AnswersWell.{not_yet, notifies as notifies_well, resets_well}
-use Rattle.rtr_router.specs.Recovery.AnswersWell.{responds}
-use Rattle.rtr_router.specs.Recovery.GoesOnWell.{ends_data, not_more_yet, sends_payload}
-use Rattle.rtr_router.specs.Recovery.IsMadeWell.{are_made, not_made_yet}
-use Rattle.rtr_router.specs.Recovery.LeavesWell.{not_asked_yet, notifies_then}
-use Rattle.rtr_router.specs.Recovery.IsServed.{served_from, served_on}
+use Rattle.rtr_router.proofs.Served.{AnswersWell, GoesOnWell, IsAboveFloor, IsServed, IsServedBy}
+use Rattle.rtr_router.proofs.Served.AnswersWell.{not_yet, notifies as notifies_well, resets_well}
+use Rattle.rtr_router.proofs.Served.AnswersWell.{responds, wished}
+use Rattle.rtr_router.proofs.Served.GoesOnWell.{ends_data, not_more_yet, sends_payload}
+use Rattle.rtr_router.proofs.Served.GoesOnWell.{wished_inside}
+use Rattle.rtr_router.proofs.Served.IsMadeWell.{are_made, not_made_yet, wished_meanwhile}
+use Rattle.rtr_router.proofs.Served.LeavesWell.{not_asked_yet, notifies_then, wished_then}
+use Rattle.rtr_router.proofs.Served.IsServed.{served_from, served_on}
 use Rattle.rtr_router.specs.Pace.{Paces}
+use Rattle.rtr_router.specs.Histories.{Host}
 use Rattle.rtr_router.specs.Rules.{AsksOwn, Drops, IsPayloadOf, Rule, query}
 use Rattle.rtr_router.specs.Step.{IsStep}
 use Rattle.rtr_router.proofs.Connections.{Holds}
@@ -34,20 +36,24 @@ use Rattle.rtr_cache.specs.declared.event.Answer.TheVariants as answers
 use Rattle.rtr_cache.specs.declared.event.CacheEvent.TheVariants as told
 use Rattle.rtr_cache.specs.declared.event.Present.{Present}
 use Rattle.rtr_cache.specs.CacheRules.{CacheRule}
+use Rattle.rtr_cache.specs.CacheSteps.{IsCacheStep}
 use Rattle.rtr_cache.specs.Calm.{AreNotifies, HasRoomFor, IsAtRest, IsCalm, ShowsPresent}
 use Rattle.rtr_cache.specs.Calm.{MayBeginCalm, StaysOpen, TellsCalmly}
 use Rattle.rtr_cache.specs.Calm.MayBeginCalm.{asked_then, connecting_then, offline_then}
 use Rattle.rtr_cache.specs.Calm.MayBeginCalm.{waiting_then}
 use Rattle.rtr_cache.specs.Calm.IsCalm.{calm_cache_hears, calm_cache_told, calm_connected}
 use Rattle.rtr_cache.specs.Calm.IsCalm.{calm_from, calm_hears, calm_told}
-use Rattle.rtr_cache.specs.Worlds.{Agrees, Holding, IsListening, IsReached, IsSource, Next, Sent}
+use Rattle.rtr_cache.specs.Worlds.{Agrees, Edition, IsListening, IsLived, IsOneDataPerName}
+use Rattle.rtr_cache.specs.Worlds.{IsReached, IsSource, Next, Sent, WasHad}
+use Rattle.rtr_cache.proofs.Runs.{by_rules}
 use Rattle.rtr_cache.specs.Worlds.{Source, TellsItself, World, cache_writes, change_unit}
 use Rattle.rtr_cache.specs.Worlds.{data_end, response}
 use Rattle.rtr_cache.specs.Worlds.Next.{cache_hears, cache_told, connected, renewed, router_hears}
 use Rattle.rtr_cache.specs.Worlds.Next.{router_told}
-use Rattle.rtr_cache.specs.Worlds.IsReached.{world_begins, world_goes_on}
+use Rattle.rtr_cache.specs.Worlds.IsReachedBy.{world_begins, world_goes_on}
 use Rattle.rtr_cache.proofs.Agreement.{agreement, asks_own_then}
 use Rattle.rtr_cache.proofs.Answering.{Quiet, quiet_more}
+use Rattle.rtr_cache.proofs.Had.{present_old}
 use Rattle.rtr_cache.proofs.Peace.{Talk, in_peace}
 use Rattle.rtr_cache.proofs.Speaking.{Left, UnderWay, query_changes, query_serial}
 use Rattle.rtr_cache.proofs.Speaking.{query_session, query_version}
@@ -107,40 +113,44 @@ coming_after C p (x ∷ xs) ys q w = inl (q.0, coming_after C p xs ys q.1 w)
 
 -- ---- what the cache writes
 
-left_written : (D C : Type 0) (S : Source D C) → IsSource D C S → (v : ℕ) (p : Present)
-    (bs : List C) → LeftOf C p (map (change_unit D C S v) bs ++ data_end D C S v p ∷ [])
-left_written D C S I v p [] = inr (record { kind = refl; session = refl; serial = refl }, tt)
-left_written D C S I v p (b ∷ bs) = inl (I.is_payload b, left_written D C S I v p bs)
+left_written : (D C : Type 0) (S : Source D C) (had : List (Edition D)) → IsSource D C S had
+    → (v : ℕ) (p : Edition D) (bs : List C)
+    → LeftOf C p.name (map (change_unit D C S v) bs ++ data_end D C v p ∷ [])
+left_written D C S had I v p [] =
+    inr (record { kind = refl; session = refl; serial = refl }, tt)
+left_written D C S had I v p (b ∷ bs) = inl (I.is_payload b, left_written D C S had I v p bs)
 
-response_comes : (D C : Type 0) (S : Source D C) → IsSource D C S → (v : ℕ) (p : Present)
-    (old : Option D) → ComingOf C p (response D C S v p old)
-response_comes D C S I v p old =
-    inr (inr (refl, refl, left_written D C S I v p (S.delta old (S.data_at v p.session p.serial))))
+response_comes : (D C : Type 0) (S : Source D C) (had : List (Edition D)) → IsSource D C S had
+    → (v : ℕ) (p : Edition D) (old : Option D) → ComingOf C p.name (response D C S v p old)
+response_comes D C S had I v p old =
+    inr (inr (refl, refl, left_written D C S had I v p (S.delta old (p.for_version v))))
 
-written : (D C : Type 0) (S : Source D C) → IsSource D C S → (c c' : Cache) (k v m : ℕ)
-    (p : Present) (u : Head) (kept : Bool) (a : Answer) → p.has ≡ true
-    → CacheRule c k p (told.Came u kept) a c' → StaysOpen a
-    → ComingOf C p (cache_writes D C S v m p a)
-written D C S I c c' k v m p u kept answers.Wait has w stays = tt
-written D C S I c c' k v m p u kept answers.All has w stays = response_comes D C S I v p None
-written D C S I c c' k v m p u kept (answers.Changes since) has w stays =
-    response_comes D C S I v p (Some (S.data_at v p.session since))
-written D C S I c c' k v m p u kept answers.Reset has w stays = inr (inl (refl, tt))
-written D C S I c c' k v m p u kept answers.NoData has w stays =
+written : (D C : Type 0) (S : Source D C) (had : List (Edition D)) → IsSource D C S had
+    → (c c' : Cache) (k v m : ℕ) (old p : Edition D) (u : Head) (kept : Bool) (a : Answer)
+    → p.name.has ≡ true → CacheRule c k p.name (told.Came u kept) a c' → StaysOpen a
+    → ComingOf C p.name (cache_writes D C S v m old p a)
+written D C S had I c c' k v m old p u kept answers.Wait has w stays = tt
+written D C S had I c c' k v m old p u kept answers.All has w stays =
+    response_comes D C S had I v p None
+written D C S had I c c' k v m old p u kept (answers.Changes since) has w stays =
+    response_comes D C S had I v p (Some (old.for_version v))
+written D C S had I c c' k v m old p u kept answers.Reset has w stays = inr (inl (refl, tt))
+written D C S had I c c' k v m old p u kept answers.NoData has w stays =
     let none = w.1.has in absurd cc
-written D C S I c c' k v m p u kept answers.Notify has w stays = absurd w
-written D C S I c c' k v m p u kept (answers.End x) has w stays = absurd stays
+written D C S had I c c' k v m old p u kept answers.Notify has w stays = absurd w
+written D C S had I c c' k v m old p u kept (answers.End x) has w stays = absurd stays
 
 -- by itself it writes notifies of the present data
-told_more : (D C : Type 0) (S : Source D C) (c c' : Cache) (k v m : ℕ) (p : Present) (a : Answer)
-    → CacheRule c k p told.Tick a c' → StaysOpen a → AreNotifies C p (cache_writes D C S v m p a)
-told_more D C S c c' k v m p answers.Wait w stays = tt
-told_more D C S c c' k v m p answers.Notify w stays = (refl, refl, tt)
-told_more D C S c c' k v m p answers.All w stays = absurd w
-told_more D C S c c' k v m p (answers.Changes since) w stays = absurd w
-told_more D C S c c' k v m p answers.Reset w stays = absurd w
-told_more D C S c c' k v m p answers.NoData w stays = absurd w
-told_more D C S c c' k v m p (answers.End x) w stays = absurd stays
+told_more : (D C : Type 0) (S : Source D C) (c c' : Cache) (k v m : ℕ) (old p : Edition D)
+    (a : Answer) → CacheRule c k p.name told.Tick a c' → StaysOpen a
+    → AreNotifies C p.name (cache_writes D C S v m old p a)
+told_more D C S c c' k v m old p answers.Wait w stays = tt
+told_more D C S c c' k v m old p answers.Notify w stays = (refl, refl, tt)
+told_more D C S c c' k v m old p answers.All w stays = absurd w
+told_more D C S c c' k v m old p (answers.Changes since) w stays = absurd w
+told_more D C S c c' k v m old p answers.Reset w stays = absurd w
+told_more D C S c c' k v m old p answers.NoData w stays = absurd w
+told_more D C S c c' k v m old p (answers.End x) w stays = absurd stays
 
 -- ---- what holds in each phase, until data are shown
 
@@ -209,7 +219,7 @@ waits C p e r r' tr w x = record {
 
 -- ---- the router is told of itself
 
-tells : (D C : Type 0) (p : Present) (h : Holding D C) (n : ℕ) (e : Event) (a : Action)
+tells : (D C : Type 0) (p : Present) (h : Host (List C) D) (n : ℕ) (e : Event) (a : Action)
     (r r' : Router) (tr : List (Sent C)) → TellsCalmly D C h r e → Rule r n e a r'
     → a ≢ actions.Show → CalmIn C p r tr r.phase → Went C p r r' tr
 tells D C p h n e actions.Wait r r' tr t w s x = waits C p e r r' tr w x
@@ -232,6 +242,7 @@ tells D C p h n events.Tick (actions.Ask q) r r' tr t w s x =
       calm = to_phase C p r' tr phases.Asked w.phase (from_quiet C p tr (as_quiet C p tr y.quiet));
     }
 tells D C p h n events.Applied (actions.Ask q) r r' tr t w s x = absurd w.may
+tells D C p h n events.Asked (actions.Ask q) r r' tr t w s x = absurd w.may
 tells D C p h n events.Applied actions.Show r r' tr t w s x = absurd (s refl)
 tells D C p h n (events.Came u) _ r r' tr t w s x = absurd t
 tells D C p h n (events.Faulty f) _ r r' tr t w s x = absurd t
@@ -387,7 +398,7 @@ hears C p n x xs actions.Show r r' l w y = absurd w
 
 answers_well : (C : Type 0) (p : Present) (r : Router) (tc : List Head) (x : Sent C)
     (xs : List (Sent C)) → UnderWay C (query r) tc (x ∷ xs) → ComingOf C p (x ∷ xs)
-    → AnswersWell 2 r (events.Came x.head)
+    → AnswersWell IsAboveFloor 2 r (events.Came x.head)
 answers_well C p r tc x xs (inl w) y =
     notifies_well x.head w.1.0 (λ e. w.1.1 ∙ query_version r r.changes refl)
 answers_well C p r tc x xs (inr (t, inl w)) y =
@@ -427,24 +438,26 @@ served : (C : Type 0) (p : Present) (r : Router) (c : Cache) (tc : List Head) (x
     (xs : List (Sent C)) (f : Phase) → IsListening f
     → (r.known.session ≡ p.session → serial_cmp p.serial r.known.serial ≢ Some Less)
     → HasRoomFor r x.head → Talk C r c tc (x ∷ xs) f → CalmIn C p r (x ∷ xs) f
-    → IsServedBy 2 f r (events.Came x.head)
+    → IsServedBy IsAboveFloor 2 f r (events.Came x.head)
 served C p r c tc x xs phases.Asked l order room t y = answers_well C p r tc x xs t.coming y
 served C p r c tc x xs phases.Reading l order room t y =
     goes_on_well C p r x xs order room t.left y
 served C p r c tc x xs phases.Waiting l order room t y =
-    notifies_then x.head (record {
-      kind = y.quiet.0;
-      version = t.quiet.1;
-      session = λ h. y.quiet.1 ∙ sym (y.own h);
-    })
+    notifies_then x.head y.quiet.0 t.quiet.1
 served C p r c tc x xs phases.Offline l order room t y = absurd l
 served C p r c tc x xs phases.Connecting l order room t y = absurd l
 served C p r c tc x xs phases.Applying l order room t y = absurd l
 
-served_told : (D C : Type 0) (p : Present) (h : Holding D C) (r : Router) (tr : List (Sent C))
+served_told : (D C : Type 0) (p : Present) (h : Host (List C) D) (r : Router) (tr : List (Sent C))
     (e : Event) (f : Phase) → r.phase ≡ f → TellsCalmly D C h r e → CalmIn C p r tr f
-    → IsServedBy 2 f r e
-served_told D C p h r tr events.Tick phases.Offline at t y = refl
+    → IsServedBy IsAboveFloor 2 f r e
+served_told D C p h r tr events.Asked phases.Offline at t y = inr refl
+served_told D C p h r tr events.Asked phases.Connecting at t y = inr (inl refl)
+served_told D C p h r tr events.Asked phases.Asked at t y = wished
+served_told D C p h r tr events.Asked phases.Reading at t y = wished_inside
+served_told D C p h r tr events.Asked phases.Applying at t y = wished_meanwhile
+served_told D C p h r tr events.Asked phases.Waiting at t y = wished_then
+served_told D C p h r tr events.Tick phases.Offline at t y = inl refl
 served_told D C p h r tr events.Tick phases.Connecting at t y = inl refl
 served_told D C p h r tr events.Tick phases.Asked at t y = not_yet
 served_told D C p h r tr events.Tick phases.Reading at t y = not_more_yet
@@ -468,8 +481,9 @@ record InCalm (D C : Type 0) (S : Source D C) (before : World D C) (start : ℕ)
     (n : ℕ) : Type 0 where
   reached : IsReached D C S w
   present : w.present ≡ before.present
+  had : w.had ≡ before.had
   known : w.router.known ≡ before.router.known
-  calm : CalmIn C w.present w.router w.to_router w.router.phase
+  calm : CalmIn C w.present.name w.router w.to_router w.router.phase
   served : IsServed 2 before.router start w.router n
 
 shows_none : (r r' : Router) (n : ℕ) (e : Event) (a : Action) → Rule r n e a r'
@@ -547,6 +561,7 @@ stands_step n events.Connected (actions.Ask q) r r' w t x =
 stands_step n (events.Came u) (actions.Ask q) r r' w t x =
     stands_at phases.Asked r' w.phase (t.fell ∙ stands_from phases.Asked r w.may.0 x)
 stands_step n events.Lost (actions.Ask q) r r' w t x = absurd w.may
+stands_step n events.Asked (actions.Ask q) r r' w t x = absurd w.may
 stands_step n (events.Faulty f) (actions.Ask q) r r' w t x = absurd w.may
 stands_step n events.Applied (actions.Ask q) r r' w t x = absurd w.may
 stands_step n (events.NotApplied code) (actions.Ask q) r r' w t x = absurd w.may
@@ -562,12 +577,12 @@ stands_step n events.Applied actions.Show r r' w t x =
     stands_at phases.Waiting r' w.phase (t.fell ∙ stands_from phases.Applying r w.from x)
 stands_step n _ _ r r' w t x = absurd w
 
-stands : (D C : Type 0) (S : Source D C) (w : World D C) → IsReached D C S w
+stands : (D C : Type 0) (S : Source D C) (w : World D C) → IsLived D C S w
     → Stands w.router.phase w.router
 stands D C S w (world_begins r c p phase none) = stands_at phases.Offline r phase tt
 stands D C S w (world_goes_on w₀ w₁ run on) = go w₀ w₁ on (stands D C S w₀ run)
   where
-    go : (w w' : World D C) → Next D C S w w' → Stands w.router.phase w.router
+    go : (w w' : World D C) → Next D C S IsStep IsCacheStep w w' → Stands w.router.phase w.router
         → Stands w'.router.phase w'.router
     go w w' (router_told w₀ n e a r itself step) x =
         stands_step n e a w₀.router r step.rule step.paces x
@@ -575,69 +590,88 @@ stands D C S w (world_goes_on w₀ w₁ run on) = go w₀ w₁ on (stands D C S 
         stands_step n events.Connected a w₀.router r step.rule step.paces x
     go w w' (router_hears w₀ n u xs a r is step) x =
         stands_step n (events.Came u.head) a w₀.router r step.rule step.paces x
-    go w w' (cache_hears w₀ n m u us kept a c is step) x = x
+    go w w' (cache_hears w₀ n m u us kept a c old is step from) x = x
     go w w' (cache_told w₀ n m e a c tells step) x = x
     go w w' (renewed w₀ p) x = x
 
 -- ---- where a calm begins
 
 begins_calm : (D C : Type 0) (w : World D C) → MayBeginCalm D C w
-    → CalmIn C w.present w.router w.to_router w.router.phase
-begins_calm D C w (offline_then e) = to_phase C w.present w.router w.to_router phases.Offline e tt
+    → CalmIn C w.present.name w.router w.to_router w.router.phase
+begins_calm D C w (offline_then e) = to_phase C w.present.name w.router w.to_router phases.Offline e
+    tt
 begins_calm D C w (connecting_then e) =
-    to_phase C w.present w.router w.to_router phases.Connecting e tt
+    to_phase C w.present.name w.router w.to_router phases.Connecting e tt
 begins_calm D C w (asked_then e q) =
-    to_phase C w.present w.router w.to_router phases.Asked e
-    (from_quiet C w.present w.to_router (as_quiet C w.present w.to_router q))
+    to_phase C w.present.name w.router w.to_router phases.Asked e
+    (from_quiet C w.present.name w.to_router (as_quiet C w.present.name w.to_router q))
 begins_calm D C w (waiting_then e q own) =
-    to_phase C w.present w.router w.to_router phases.Waiting e (record { quiet = q; own = own })
+    to_phase C w.present.name w.router w.to_router phases.Waiting e
+    (record { quiet = q; own = own })
 
-begins_held : (D C : Type 0) (S : Source D C) → IsSource D C S → (w : World D C)
-    → IsReached D C S w → MayBeginCalm D C w → Holds w.router.phase w.router
-begins_held D C S I w run (offline_then e) = subst (λ f. Holds f w.router) (sym e) tt
-begins_held D C S I w run (connecting_then e) =
+begins_held : (D C : Type 0) (S : Source D C) (w : World D C) → IsSource D C S w.had
+    → IsOneDataPerName w.had → IsLived D C S w → MayBeginCalm D C w
+    → Holds w.router.phase w.router
+begins_held D C S w I one run (offline_then e) = subst (λ f. Holds f w.router) (sym e) tt
+begins_held D C S w I one run (connecting_then e) =
     subst (λ f. Holds f w.router) (sym e)
     (stands_from phases.Connecting w.router e (stands D C S w run))
-begins_held D C S I w run (asked_then e q) =
-    let own : w.router.changes ≡ true → AsksOwn w.router = asks_own_then D C S I w run e in
+begins_held D C S w I one run (asked_then e q) =
+    let own : w.router.changes ≡ true → AsksOwn w.router =
+    asks_own_then D C S w I one (by_rules D C S w run) e in
     subst (λ f. Holds f w.router) (sym e) (record {
       fell = stands_from phases.Asked w.router e (stands D C S w run);
       has_data = λ c. (own c).has_data;
       resync = λ c. (own c).resync;
     })
-begins_held D C S I w run (waiting_then e q own) =
+begins_held D C S w I one run (waiting_then e q own) =
     subst (λ f. Holds f w.router) (sym e)
     (stands_from phases.Waiting w.router e (stands D C S w run))
 
-module _ (D C : Type 0) (S : Source D C) (I : IsSource D C S) (before : World D C) (start : ℕ)
-    (old : IsReached D C S before) (rest : IsAtRest D C before) where
+module _ (D C : Type 0) (S : Source D C) (before : World D C) (I : IsSource D C S before.had)
+    (one : IsOneDataPerName before.had) (start : ℕ)
+    (old : IsLived D C S before) (rest : IsAtRest D C before) where
+  -- no data come
+  source_then : (w : World D C) (n : ℕ) → InCalm D C S before start w n → IsSource D C S w.had
+  source_then w n x = subst (λ had. IsSource D C S had) (sym x.had) I
+
+  one_then : (w : World D C) (n : ℕ) → InCalm D C S before start w n → IsOneDataPerName w.had
+  one_then w n x = subst (λ (had : List (Edition D)). IsOneDataPerName had) (sym x.had) one
+
+  peace_then : (w : World D C) (n : ℕ) → InCalm D C S before start w n
+      → Talk C w.router w.cache w.to_cache w.to_router w.router.phase
+  peace_then w n x = in_peace D C S w (source_then w n x) (one_then w n x) x.reached
+
   in_calm : (w : World D C) (n : ℕ) → IsCalm D C S before start w n → InCalm D C S before start w n
   in_calm w n calm_from = record {
-    reached = old;
+    reached = by_rules D C S before old;
     present = refl;
+    had = refl;
     known = refl;
     calm = begins_calm D C before rest.rests;
     served = served_from;
   }
   in_calm w n' (calm_told w₀ n n₁ e a r run on t step other) =
       let x : InCalm D C S before start w₀ n = in_calm w₀ n run in
-      let y : Went C w₀.present w₀.router r w₀.to_router =
-      tells D C w₀.present w₀.holding n' e a w₀.router r w₀.to_router t step.rule other x.calm in
+      let y : Went C w₀.present.name w₀.router r w₀.to_router =
+      tells D C w₀.present.name w₀.host n' e a w₀.router r w₀.to_router t step.rule other x.calm in
       record {
         reached = world_goes_on w₀ w x.reached
-            (router_told w₀ n' e a r (itself e t) step);
+            (router_told w₀ n' e a r (itself e t) step.rule);
         present = x.present;
+        had = x.had;
         known = y.known ∙ x.known;
         calm = y.calm;
         served = served_on w₀.router n n' e a r x.served on.later on.awake on.in_time
-            (served_told D C w₀.present w₀.holding w₀.router w₀.to_router e w₀.router.phase refl t
+            (served_told D C w₀.present.name w₀.host w₀.router w₀.to_router e w₀.router.phase refl t
             x.calm)
             step other;
       }
     where
-      itself : (e : Event) → TellsCalmly D C w₀.holding w₀.router e
-          → TellsItself D C w₀.holding e
+      itself : (e : Event) → TellsCalmly D C w₀.host w₀.router e
+          → TellsItself D C w₀.host e
       itself events.Tick t = tt
+      itself events.Asked t = tt
       itself events.Applied t = t.1
       itself (events.Came u) t = absurd t
       itself (events.Faulty f) t = absurd t
@@ -646,103 +680,118 @@ module _ (D C : Type 0) (S : Source D C) (I : IsSource D C S) (before : World D 
       itself events.Lost t = absurd t
   in_calm w n' (calm_connected w₀ n n₁ a r c run on at anew step) =
       let x : InCalm D C S before start w₀ n = in_calm w₀ n run in
-      let y : Went C w₀.present w₀.router r [] =
-      connects C w₀.present n' a w₀.router r step.rule at in
+      let y : Went C w₀.present.name w₀.router r [] =
+      connects C w₀.present.name n' a w₀.router r step.rule at in
       record {
-        reached = world_goes_on w₀ w x.reached (connected w₀ n' a r c at anew step);
+        reached = world_goes_on w₀ w x.reached (connected w₀ n' a r c at anew step.rule);
         present = x.present;
+        had = x.had;
         known = y.known ∙ x.known;
         calm = y.calm;
         served = served_on w₀.router n n' events.Connected a r x.served on.later on.awake on.in_time
-            (subst (λ f. IsServedBy 2 f w₀.router events.Connected) (sym at) (inr refl)) step
+            (subst (λ f. IsServedBy IsAboveFloor 2 f w₀.router events.Connected) (sym at)
+            (inr (inr refl))) step
             (shows_none w₀.router r n' events.Connected a step.rule (λ z. z));
       }
   in_calm w n' (calm_hears w₀ n n₁ u xs a r run on is listens room step) =
       let x : InCalm D C S before start w₀ n = in_calm w₀ n run in
-      let calm : CalmIn C w₀.present w₀.router (u ∷ xs) w₀.router.phase =
-      subst (λ tr. CalmIn C w₀.present w₀.router tr w₀.router.phase) is x.calm in
+      let calm : CalmIn C w₀.present.name w₀.router (u ∷ xs) w₀.router.phase =
+      subst (λ tr. CalmIn C w₀.present.name w₀.router tr w₀.router.phase) is x.calm in
       let talk : Talk C w₀.router w₀.cache w₀.to_cache (u ∷ xs) w₀.router.phase =
       subst (λ tr. Talk C w₀.router w₀.cache w₀.to_cache tr w₀.router.phase) is
-      (in_peace D C S I w₀ x.reached) in
-      let y : Went C w₀.present w₀.router r xs =
-      hears C w₀.present n' u xs a w₀.router r listens step.rule calm in
+      (peace_then w₀ n x) in
+      let y : Went C w₀.present.name w₀.router r xs =
+      hears C w₀.present.name n' u xs a w₀.router r listens step.rule calm in
       record {
-        reached = world_goes_on w₀ w x.reached (router_hears w₀ n' u xs a r is step);
+        reached = world_goes_on w₀ w x.reached (router_hears w₀ n' u xs a r is step.rule);
         present = x.present;
+        had = x.had;
         known = y.known ∙ x.known;
         calm = y.calm;
         served = served_on w₀.router n n' (events.Came u.head) a r x.served on.later on.awake
             on.in_time
-            (served C w₀.present w₀.router w₀.cache w₀.to_cache u xs w₀.router.phase listens
+            (served C w₀.present.name w₀.router w₀.cache w₀.to_cache u xs w₀.router.phase listens
             (order w₀ x) room talk calm)
             step (shows_none w₀.router r n' (events.Came u.head) a step.rule (λ z. z));
       }
     where
       order : (w₀ : World D C) → InCalm D C S before start w₀ n
-          → w₀.router.known.session ≡ w₀.present.session
-          → serial_cmp w₀.present.serial w₀.router.known.serial ≢ Some Less
+          → w₀.router.known.session ≡ w₀.present.name.session
+          → serial_cmp w₀.present.name.serial w₀.router.known.serial ≢ Some Less
       order w₀ x = subst
-          (λ (k : Known). k.session ≡ w₀.present.session
-          → serial_cmp w₀.present.serial k.serial ≢ Some Less) (sym x.known)
+          (λ (k : Known). k.session ≡ w₀.present.name.session
+          → serial_cmp w₀.present.name.serial k.serial ≢ Some Less) (sym x.known)
           (subst
-          (λ (p : Present). before.router.known.session ≡ p.session
-          → serial_cmp p.serial before.router.known.serial ≢ Some Less) (sym x.present) rest.order)
-  in_calm w n (calm_cache_hears w₀ n₀ k m u us kept a c run is step stays) =
+          (λ (p : Edition D). before.router.known.session ≡ p.name.session
+          → serial_cmp p.name.serial before.router.known.serial ≢ Some Less) (sym x.present)
+          rest.order)
+  in_calm w n (calm_cache_hears w₀ n₀ k m u us kept a c old run is step from stays) =
       let x : InCalm D C S before start w₀ n = in_calm w₀ n run in
-      let has : w₀.present.has ≡ true =
-      ap (λ (p : Present). p.has) x.present ∙ rest.has in
+      let has : w₀.present.name.has ≡ true =
+      ap (λ (p : Edition D). p.name.has) x.present ∙ rest.has in
       record {
-        reached = world_goes_on w₀ w x.reached (cache_hears w₀ k m u us kept a c is step);
+        reached = world_goes_on w₀ w x.reached
+            (cache_hears w₀ k m u us kept a c old is step.rule from);
         present = x.present;
+        had = x.had;
         known = x.known;
-        calm = asked_more C w₀.present w₀.router w₀.cache w₀.to_cache w₀.to_router
-            (cache_writes D C S c.version m w₀.present a) u us w₀.router.phase is
-            (in_peace D C S I w₀ x.reached)
-            (written D C S I w₀.cache c k c.version m w₀.present u kept a has step.rule stays)
+        calm = asked_more C w₀.present.name w₀.router w₀.cache w₀.to_cache w₀.to_router
+            (cache_writes D C S c.version m old w₀.present a) u us w₀.router.phase is
+            (peace_then w₀ n x)
+            (written D C S w₀.had (source_then w₀ n x) w₀.cache c k c.version m old w₀.present u
+            kept a has step.rule stays)
             x.calm;
         served = x.served;
       }
   in_calm w n (calm_cache_told w₀ n₀ k m a c run step stays) =
       let x : InCalm D C S before start w₀ n = in_calm w₀ n run in
       record {
-        reached = world_goes_on w₀ w x.reached (cache_told w₀ k m told.Tick a c tt step);
+        reached = world_goes_on w₀ w x.reached (cache_told w₀ k m told.Tick a c tt step.rule);
         present = x.present;
+        had = x.had;
         known = x.known;
-        calm = quiet_then C w₀.present w₀.router w₀.to_router
-            (cache_writes D C S c.version m w₀.present a) w₀.router.phase
-            (told_more D C S w₀.cache c k c.version m w₀.present a step.rule stays) x.calm;
+        calm = quiet_then C w₀.present.name w₀.router w₀.to_router
+            (cache_writes D C S c.version m w₀.present w₀.present a) w₀.router.phase
+            (told_more D C S w₀.cache c k c.version m w₀.present w₀.present a step.rule stays)
+            x.calm;
         served = x.served;
       }
 
   pub soon : (w : World D C) (n : ℕ) → IsCalm D C S before start w n
       → n ≤ served_until before.router start
   soon w n run =
-      recovers 2 before.router start w.router n (begins_held D C S I before old rest.rests)
+      recovers 2 before.router start w.router n (begins_held D C S before I one old rest.rests)
       (in_calm w n run).served
 
   pub shown : (w : World D C) (n n' : ℕ) (d : D) (r : Router) → IsCalm D C S before start w n
-      → w.holding.made ≡ Some d → IsStep w.router n' events.Applied actions.Show r
-      → ShowsPresent D C S before.present r w.holding.made
+      → w.host.made ≡ Some d → IsStep w.router n' events.Applied actions.Show r
+      → ShowsPresent D before.present r w.host.made
   shown w n n' d r run made step =
       let x : InCalm D C S before start w n = in_calm w n run in
-      let y : CalmApplying C w.present w.router =
-      from_phase C w.present w.router w.to_router phases.Applying step.rule.from x.calm in
+      let y : CalmApplying C w.present.name w.router =
+      from_phase C w.present.name w.router w.to_router phases.Applying step.rule.from x.calm in
       let w' : World D C = record w {
         router = r;
-        holding = record { kept = w.holding.kept; made = w.holding.made; shown = w.holding.made };
+        host = record { kept = w.host.kept; made = w.host.made; shown = w.host.made };
         to_cache = w.to_cache ++ [];
       } in
-      let agrees : Agrees D C S w' =
-      agreement D C S I w' (world_goes_on w w' x.reached
-      (router_told w n' events.Applied actions.Show r (d, made) step)) step.rule.has_data in
-      let session : r.known.session ≡ before.present.session =
+      let agrees : Agrees D C w' =
+      agreement D C S w' (source_then w n x) (one_then w n x) (world_goes_on w w' x.reached
+      (router_told w n' events.Applied actions.Show r (d, made) step.rule)) step.rule.has_data in
+      let session : r.known.session ≡ before.present.name.session =
       ap (λ (k : Known). k.session) step.rule.known ∙ y.session
-      ∙ ap (λ (p : Present). p.session) x.present in
-      let serial : r.known.serial ≡ before.present.serial =
+      ∙ ap (λ (p : Edition D). p.name.session) x.present in
+      let serial : r.known.serial ≡ before.present.name.serial =
       ap (λ (k : Known). k.serial) step.rule.known ∙ y.serial
-      ∙ ap (λ (p : Present). p.serial) x.present in
+      ∙ ap (λ (p : Edition D). p.name.serial) x.present in
+      let was : WasHad before.had agrees.edition =
+      subst (λ (had : List (Edition D)). WasHad had agrees.edition) x.had agrees.was in
       record {
         session = session;
         serial = serial;
-        data_are = agrees.same ∙ (λ i. Some (S.data_at r.known.version (session i) (serial i)));
+        data_are = agrees.same
+            ∙ ap (λ (d : D). Some d)
+            (one agrees.edition before.present was
+            (present_old D C S IsStep IsCacheStep before old rest.has)
+            (agrees.session ∙ session) (agrees.serial ∙ serial) r.known.version);
       }

@@ -1,7 +1,14 @@
+pub mod Runs
 pub mod Agreement
+pub mod Had
 pub mod Answering
 pub mod Peace
 pub mod Speaking
 pub mod Calm
 pub mod News
+pub mod Bases
+pub mod ByName
 pub mod Orderly
+pub mod Examples
+pub mod ExampleWorlds
+pub mod ExampleCalm

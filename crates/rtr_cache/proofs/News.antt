@@ -1,5 +1,6 @@
 -- How long it takes until a router that waits has new data.
 use Rattle.std.proofs.Common.{◌≡◌, ◌≢◌, ◌⊎◌, ℕ, Bool, true, false, not, ◌≤◌, ◌+◌, ◌-◌, ◌^◌, ◌&&◌}
+use Rattle.std.proofs.Common.{◌||◌}
 use Rattle.std.proofs.Common.{◌==◌, if◌then◌else◌, min, max, refl, sym, ◌∙◌, subst, inl, inr, arith}
 use Rattle.std.proofs.lemmas.Bool.Decides.{nat_tests}
 use Rattle.rtr_router.specs.declared.head.Head.{Head}
@@ -18,7 +19,7 @@ use Rattle.rtr_cache.specs.declared.event.Present.{Present}
 use Rattle.rtr_cache.specs.CacheSteps.{cache_wakes_at}
 use Rattle.rtr_cache.specs.Calm.{IsAtRest, IsCalm, IsNotified, IsToldOfNews}
 use Rattle.rtr_cache.specs.Serving.{HasNews}
-use Rattle.rtr_cache.specs.Worlds.{IsReached, IsSource, Source, World}
+use Rattle.rtr_cache.specs.Worlds.{IsLived, IsOneDataPerName, IsSource, Source, World}
 use Rattle.rtr_cache.proofs.Calm.{soon}
 
 -- ---- the router hears the notify
@@ -58,25 +59,32 @@ same_pace r p u n a r' is fresh timely step =
 
 -- ---- the cache sends it
 
-wakes : (live has asked told : Bool) (s s' n n' due from : ℕ) → live ≡ true → has ≡ true
-    → asked ≡ true → (told ≡ true → s ≡ s') → (told ≡ true → n ≢ n')
+wakes : (live has asked told reset : Bool) (s s' n n' due from : ℕ) → live ≡ true → has ≡ true
+    → asked ≡ true → (told || reset ≡ true → s ≡ s')
+    → (told || reset ≡ true → n ≢ n')
     → (if not live then 2 ^ 64 - 1
     else if has && (told && not (s == s')) then 0
-    else if asked && (has && not (told && ((s == s') && (n == n')))) then min due from
+    else if asked && (has && not ((told || reset) && (not (s == s') || (n == n')))) then min due
+    from
     else due) ≤ from
-wakes true true true false s s' n n' due from l h a t d = omega arith
-wakes true true true true s s' n n' due from l h a t d =
+wakes true true true false false s s' n n' due from l h a t d = omega arith
+wakes true true true false true s s' n n' due from l h a t d =
     let same = t refl in
     let other = d refl in
     grind (arith, nat_tests)
-wakes false has asked told s s' n n' due from l h a t d = absurd cc
-wakes true false asked told s s' n n' due from l h a t d = absurd cc
-wakes true true false told s s' n n' due from l h a t d = absurd cc
+wakes true true true true reset s s' n n' due from l h a t d =
+    let same = t refl in
+    let other = d refl in
+    grind (arith, nat_tests)
+wakes false has asked told reset s s' n n' due from l h a t d = absurd cc
+wakes true false asked told reset s s' n n' due from l h a t d = absurd cc
+wakes true true false told reset s s' n n' due from l h a t d = absurd cc
 
 news_wake : (c : Cache) (p : Present) → c.live ≡ true → HasNews c p
     → cache_wakes_at c p ≤ c.notify_from
 news_wake c p live x =
-    wakes c.live p.has c.asked c.told c.session p.session c.serial p.serial c.due c.notify_from live
+    wakes c.live p.has c.asked c.told c.reset c.session p.session c.serial p.serial c.due
+    c.notify_from live
     x.has x.asked x.session x.serial
 
 -- ---- both
@@ -89,19 +97,23 @@ sum n start d sent heard wake from pace asked t w s h e l = omega (arith, w, s, 
 through : (a b c : ℕ) → a ≤ b → b ≤ c → a ≤ c
 through a b c h k = omega (arith, h, k)
 
-pub news : (D C : Type 0) (S : Source D C) → IsSource D C S → (before : World D C)
-    (start d heard : ℕ) (c : Cache) (r : Router) → IsReached D C S before
+pub news : (D C : Type 0) (S : Source D C) (before : World D C) → IsSource D C S before.had
+    → IsOneDataPerName before.had → (start d heard : ℕ) (c : Cache) (r : Router) → IsLived D C S
+    before
     → IsAtRest D C before → IsToldOfNews D C start d c r heard before → (w : World D C) (n : ℕ)
     → IsCalm D C S before heard w n
     → n ≤ max (max start c.notify_from + d) (r.asked + r.settings.pause)
     + time_needed phases.Waiting before.router
-news D C S I before start d heard c r old rest x w n run =
+news D C S before I one start d heard c r old rest x w n run =
     let after : Router = before.router in
     let t : ℕ = time_needed phases.Waiting after in
     let asked : ℕ = after.asked + after.settings.pause in
-    sum n start d x.sent heard (cache_wakes_at c before.present) c.notify_from
-    (r.asked + r.settings.pause) asked t (news_wake c before.present x.live x.news) x.awake x.delay
-    (same_pace r before.present x.notify heard x.action after x.is_notify x.fresh x.in_time x.step)
+    sum n start d x.sent heard (cache_wakes_at c before.present.name) c.notify_from
+    (r.asked + r.settings.pause) asked t (news_wake c before.present.name x.live x.news) x.awake
+    x.delay
+    (same_pace r before.present.name x.notify heard x.action after x.is_notify x.fresh x.in_time
+    x.step)
     (through n (served_until after heard) (max heard asked + t)
-    (soon D C S I before heard old rest w n run)
-    (notified r before.present x.notify heard x.action after x.is_notify x.fresh x.in_time x.step))
+    (soon D C S before I one heard old rest w n run)
+    (notified r before.present.name x.notify heard x.action after x.is_notify x.fresh x.in_time
+    x.step))

@@ -1,6 +1,6 @@
 -- What a connection of a cache keeps to, as an invariant of the machine.
 use Rattle.std.proofs.Common.{◌≡◌, ◌≢◌, ℕ, Bool, true, false, ◌+◌, ◌≤◌, Option, Some, None, List}
-use Rattle.std.proofs.Common.{[], ◌∷◌, refl, sym, ap, ◌∙◌, subst}
+use Rattle.std.proofs.Common.{◌||◌, [], ◌∷◌, refl, sym, ap, ◌∙◌, subst}
 use Rattle.rtr_router.specs.declared.head.Head.{Head}
 use Rattle.rtr_cache.specs.declared.settings.CacheSettings.{CacheSettings}
 use Rattle.rtr_cache.specs.declared.cache.Cache.{Cache}
@@ -9,11 +9,13 @@ use Rattle.rtr_cache.specs.declared.event.CacheEvent.{CacheEvent}
 use Rattle.rtr_cache.specs.declared.event.CacheEvent.TheVariants as events
 use Rattle.rtr_cache.specs.declared.event.Answer.{Answer}
 use Rattle.rtr_cache.specs.declared.event.Answer.TheVariants as answers
-use Rattle.rtr_cache.specs.CacheRules.{CacheRule, HasVersion, heard, informed, once_closed}
-use Rattle.rtr_cache.specs.Connections.{CacheMoment, IsConnection, IsNewConnection, IsOrderly}
-use Rattle.rtr_cache.specs.Connections.{IsOrderlyHere, NotifiesHere, StaysThere, answered_version}
+use Rattle.rtr_cache.specs.CacheRules.{CacheRule, HasVersion, heard, informed}
+use Rattle.rtr_cache.specs.CacheRules.{is_advised, once_closed, sent_back}
+use Rattle.rtr_cache.specs.Connections.{CacheMoment, IsAllowedConnection, IsNewConnection}
+use Rattle.rtr_cache.specs.Connections.{IsOrderly, IsOrderlyHere, NotifiesHere, StaysThere}
+use Rattle.rtr_cache.specs.Connections.{answered_version}
 use Rattle.rtr_cache.specs.Connections.{has_ended, last_notify, told_session}
-use Rattle.rtr_cache.specs.Connections.IsConnection.{connection_begins, connection_goes_on}
+use Rattle.rtr_cache.specs.Connections.IsConnectionBy.{connection_begins, connection_goes_on}
 
 -- the time from which a notify may be sent
 abbrev pause_after : ℕ → Option ℕ → ℕ
@@ -50,6 +52,9 @@ same_session c s (Some n) f w = ap Some (sym (f w.0) ∙ w.1)
 stays_itself : (o : Option ℕ) → StaysThere o o
 stays_itself None = tt
 stays_itself (Some n) = refl
+
+told_advised : (c : Cache) → c.told ≡ true → is_advised c ≡ true
+told_advised c t = ap (λ b. b || c.reset) t
 
 not_ended : (c : Cache) (b : Bool) (A : Type 0) → c.live ≡ true → (b ≡ true → c.live ≡ false)
     → b ≡ true → A
@@ -101,19 +106,24 @@ after_told s c c' n v p last version session ended ended' k e f = record {
   ended = f;
 }
 
--- a cache reset names no session, and the router was told of the present one
-weaker : (s : CacheSettings) (c : Cache) (last version : Option ℕ) (x : ℕ) (o : Option ℕ)
-    (ended : Bool) → StaysThere o (Some x) → Keeps s c last version (Some x) ended
-    → Keeps s c last version o ended
-weaker s c last version x None ended w k = record {
-  settings = k.settings;
-  notify_from = k.notify_from;
-  version = k.version;
-  session = tt;
-  ended = k.ended;
+-- a cache reset tells of no data, and where the router was told of some, they are of this session
+after_reset : (s : CacheSettings) (c c' : Cache) (n v : ℕ) (p : Present)
+    (last version session : Option ℕ) (ended ended' : Bool) → Keeps s c last version session ended
+    → (c.told ≡ true → c.session ≡ p.session)
+    → c' ≡ sent_back (heard c n v) p → (ended' ≡ true → c'.live ≡ false)
+    → Keeps s c' last (Some v) session ended'
+after_reset s c c' n v p last version session ended ended' k same e f = record {
+  settings = ap (λ (c : Cache). c.settings) e ∙ k.settings;
+  notify_from = ap (λ (c : Cache). c.notify_from) e ∙ k.notify_from;
+  version = (ap (λ (c : Cache). c.asked) e, ap (λ (c : Cache). c.version) e);
+  session = go session (ap (λ (c : Cache). c.told) e) (ap (λ (c : Cache). c.session) e) k.session;
+  ended = f;
 }
-weaker s c last version x (Some y) ended w k =
-    subst (λ o. Keeps s c last version o ended) w k
+  where
+    go : (o : Option ℕ) → c'.told ≡ c.told → c'.session ≡ p.session → IsSession c o
+        → IsSession c' o
+    go None a b w = tt
+    go (Some x) a b w = (a ∙ w.0, b ∙ sym (same w.0) ∙ w.1)
 
 ended_now : (s : CacheSettings) (c c' : Cache) (last version session : Option ℕ) (ended : Bool)
     → Keeps s c last version session ended → c' ≡ once_closed c
@@ -224,11 +234,9 @@ on_step s n p (events.Came u kept) answers.Reset ms c c' k w = record {
     session = stays_itself (told_session ms);
     silent = not_ended c (has_ended ms) (answers.Reset ≡ answers.Wait) w.0 k.ended;
   };
-  keeps = weaker s c' (last_notify ms) (Some u.version) p.session (told_session ms)
-      (has_ended ms) (same_session c p.session (told_session ms) w.1.query.session k.session)
-      (after_told s c c' n u.version p (last_notify ms) (answered_version ms)
-      (told_session ms) (has_ended ms) (has_ended ms) k w.1.after
-      (alive c c' (has_ended ms) (ap (λ (c : Cache). c.live) w.1.after) k.ended));
+  keeps = after_reset s c c' n u.version p (last_notify ms) (answered_version ms)
+      (told_session ms) (has_ended ms) (has_ended ms) k w.1.query.session w.1.after
+      (alive c c' (has_ended ms) (ap (λ (c : Cache). c.live) w.1.after) k.ended);
 }
 on_step s n p (events.Came u kept) answers.NoData ms c c' k w = record {
   here = record {
@@ -246,7 +254,8 @@ on_step s n p events.Tick answers.Notify ms c c' k w = record {
     notifies = notified_well s.pause n c.notify_from (last_notify ms) (answered_version ms)
         k.notify_from w.1.pause (some_version c (answered_version ms) w.1.asked k.version);
     version = stays_itself (answered_version ms);
-    session = same_session c p.session (told_session ms) w.1.session k.session;
+    session = same_session c p.session (told_session ms)
+        (λ t. w.1.session (told_advised c t)) k.session;
     silent = not_ended c (has_ended ms) (answers.Notify ≡ answers.Wait) w.0 k.ended;
   };
   keeps = notified_now s c c' n p (last_notify ms) (answered_version ms) (told_session ms)
@@ -267,14 +276,15 @@ record Both (s : CacheSettings) (ms : List CacheMoment) (c : Cache) : Type 0 whe
   orderly : IsOrderly s.pause ms
   keeps : KeepsTo s ms c
 
-both : (s : CacheSettings) (ms : List CacheMoment) (c : Cache) → IsConnection s ms c → Both s ms c
+both : (s : CacheSettings) (ms : List CacheMoment) (c : Cache) → IsAllowedConnection s ms c
+    → Both s ms c
 both s ms c (connection_begins c₀ w) = record { orderly = tt; keeps = first s c₀ w }
 both s ms c (connection_goes_on m ms₀ c₀ c₁ run step) =
     let b : Both s ms₀ c₀ = both s ms₀ c₀ run in
     let x : Steps s m ms₀ c₁ =
-    on_step s m.now m.present m.event m.answer ms₀ c₀ c₁ b.keeps step.rule in
+    on_step s m.now m.present m.event m.answer ms₀ c₀ c₁ b.keeps step in
     record { orderly = (x.here, b.orderly); keeps = x.keeps }
 
-pub orderly : (s : CacheSettings) (ms : List CacheMoment) (c : Cache) → IsConnection s ms c
+pub orderly : (s : CacheSettings) (ms : List CacheMoment) (c : Cache) → IsAllowedConnection s ms c
     → IsOrderly s.pause ms
 orderly s ms c run = (both s ms c run).orderly

@@ -1,6 +1,7 @@
 -- What a cache of ours sends is of the router's version and session, and it answers queries: an
 -- invariant over what is on its way.
-use Rattle.std.proofs.Common.{◌≡◌, ◌⊎◌, ℕ, Bool, true, false, ◌≤◌, ◌+◌, if◌then◌else◌}
+use Rattle.std.proofs.Common.{◌≡◌, ◌⊎◌, ℕ, Bool, true, false, ◌≤◌, ◌+◌, if◌then◌else◌, ◌==◌, ◌&&◌}
+use Rattle.std.proofs.Common.{◌||◌}
 use Rattle.std.proofs.Common.{List, [], ◌∷◌, ◌++◌, refl, sym, ap, ◌∙◌, subst}
 use Rattle.std.proofs.Common.{inl, inr, append-nil, arith}
 use Rattle.rtr_router.specs.declared.head.Head.{Head}
@@ -14,6 +15,7 @@ use Rattle.rtr_router.specs.declared.event.Event.{Event}
 use Rattle.rtr_router.specs.declared.event.Event.TheVariants as events
 use Rattle.rtr_router.specs.declared.event.Action.{Action}
 use Rattle.rtr_router.specs.declared.event.Action.TheVariants as actions
+use Rattle.rtr_router.specs.Histories.{Host}
 use Rattle.rtr_router.specs.Rules.{Adopts, Asks, Begins, Completes, Fresh}
 use Rattle.rtr_router.specs.Rules.{HasNoData, IsPayloadOf, Keeps, MayAnswer, PassesOver}
 use Rattle.rtr_router.specs.Rules.{Rule, SameKnown, SameTalk, Waits, query}
@@ -26,19 +28,21 @@ use Rattle.rtr_cache.specs.declared.event.CacheEvent.{CacheEvent}
 use Rattle.rtr_cache.specs.declared.event.CacheEvent.TheVariants as told
 use Rattle.rtr_cache.specs.declared.event.Answer.{Answer}
 use Rattle.rtr_cache.specs.declared.event.Answer.TheVariants as answers
-use Rattle.std.proofs.lemmas.Bool.{cases_eq}
+use Rattle.std.proofs.lemmas.Bool.Decides.{eqb_tells}
 use Rattle.rtr_cache.specs.CacheRules.{CacheRule, HasVersion, IsAnswerable, IsQuery}
 use Rattle.rtr_cache.specs.CacheSteps.{IsCacheStep}
 use Rattle.rtr_cache.specs.Serving.{ServesUnit}
-use Rattle.rtr_cache.specs.Worlds.{AnswersIt, IsAnswering}
-use Rattle.rtr_cache.specs.Worlds.{IsSource}
-use Rattle.rtr_cache.specs.Worlds.{GoesOn, Holding, IsListening, IsPeaceful}
+use Rattle.rtr_cache.specs.Worlds.{IsAnswering, query_answer, answer_to}
+use Rattle.rtr_cache.specs.Worlds.{AreFrom, Edition, IsOneDataPerName, IsSource}
+use Rattle.rtr_cache.specs.Worlds.{GoesOn, IsListening, IsPeaceful}
 use Rattle.rtr_cache.specs.Worlds.{IsReached, Next, Sent, Source, TellsCache, TellsItself, World}
 use Rattle.rtr_cache.specs.Worlds.{cache_writes, query_head}
 use Rattle.rtr_cache.specs.Worlds.{router_writes}
 use Rattle.rtr_cache.specs.Worlds.Next.{cache_hears, cache_told, connected, renewed, router_hears}
 use Rattle.rtr_cache.specs.Worlds.Next.{router_told}
-use Rattle.rtr_cache.specs.Worlds.IsReached.{world_begins, world_goes_on}
+use Rattle.rtr_cache.specs.Worlds.IsReachedBy.{world_begins, world_goes_on}
+use Rattle.rtr_cache.proofs.Had.{AreAmong, IsOld, among_next, one_before, present_old}
+use Rattle.rtr_cache.proofs.Had.{source_before}
 use Rattle.rtr_cache.proofs.Speaking.{Coming, InVersion, Left, Notified, Quiet, UnderWay}
 use Rattle.rtr_cache.proofs.Speaking.{answer_comes, coming_after, coming_more, in_version}
 use Rattle.rtr_cache.proofs.Speaking.{left_more, notifies, query_changes, query_serial}
@@ -269,10 +273,11 @@ now_rests : (C : Type 0) (r r' : Router) (c : Cache) (tc : List Head) (tr : List
 now_rests C r r' c tc tr e x =
     subst (λ tc. TalkQuiet C r' c tc tr) (sym (append-nil tc)) (now_quiet C r r' c tc tr e x)
 
-on_apply : (C : Type 0) (x : Sent C) (on : Bool) (r r' : Router) (c : Cache) (tc : List Head)
-    (xs : List (Sent C)) → Completes r x.head on r' → Talk C r c tc (x ∷ xs) r.phase
+on_apply : (C : Type 0) (n : ℕ) (x : Sent C) (on : Bool) (r r' : Router) (c : Cache)
+    (tc : List Head)
+    (xs : List (Sent C)) → Completes r n x.head on r' → Talk C r c tc (x ∷ xs) r.phase
     → Talk C r' c (tc ++ []) xs r'.phase
-on_apply C x on r r' c tc xs w y =
+on_apply C n x on r r' c tc xs w y =
     let t : TalkReading C r c tc (x ∷ xs) = at_phase C r c tc (x ∷ xs) phases.Reading w.from y in
     to_phase C r' c (tc ++ []) xs phases.Applying w.phase
     (now_rests C r r' c tc xs w.same_version (record {
@@ -281,9 +286,9 @@ on_apply C x on r r' c tc xs w y =
       quiet = of_query C r xs (the_end C (query r) r.session r.units x xs w.kind t.left);
     }))
 
-on_show : (C : Type 0) (r r' : Router) (c : Cache) (tc : List Head) (tr : List (Sent C))
-    → Adopts r r' → Talk C r c tc tr r.phase → Talk C r' c (tc ++ []) tr r'.phase
-on_show C r r' c tc tr w y =
+on_show : (C : Type 0) (n : ℕ) (r r' : Router) (c : Cache) (tc : List Head) (tr : List (Sent C))
+    → Adopts r n r' → Talk C r c tc tr r.phase → Talk C r' c (tc ++ []) tr r'.phase
+on_show C n r r' c tc tr w y =
     to_phase C r' c (tc ++ []) tr phases.Waiting w.phase
     (now_rests C r r' c tc tr w.same_version (at_phase C r c tc tr phases.Applying w.from y))
 
@@ -310,7 +315,7 @@ on_none C x r r' c tc xs w y =
 
 -- ---- one step
 
-on_tells : (D C : Type 0) (n : ℕ) (e : Event) (a : Action) (r r' : Router) (h : Holding D C)
+on_tells : (D C : Type 0) (n : ℕ) (e : Event) (a : Action) (r r' : Router) (h : Host (List C) D)
     (c : Cache) (tc : List Head) (tr : List (Sent C)) → TellsItself D C h e → Rule r n e a r'
     → Talk C r c tc tr r.phase → Talk C r' c (tc ++ router_writes a) tr r'.phase
 on_tells D C n e actions.Wait r r' h c tc tr i w y = on_wait C e r r' c tc tr w y
@@ -324,10 +329,11 @@ on_tells D C n events.Tick (actions.Ask q) r r' h c tc tr i w y =
     let t : TalkQuiet C r c tc tr = at_phase C r c tc tr phases.Waiting w.may.0 y in
     on_ask C n events.Tick q r r' c tc tr w t.version t.none t.quiet
 on_tells D C n events.Lost (actions.Ask q) r r' h c tc tr i w y = absurd w.may
+on_tells D C n events.Asked (actions.Ask q) r r' h c tc tr i w y = absurd w.may
 on_tells D C n (events.Faulty f) (actions.Ask q) r r' h c tc tr i w y = absurd w.may
 on_tells D C n events.Applied (actions.Ask q) r r' h c tc tr i w y = absurd w.may
 on_tells D C n (events.NotApplied code) (actions.Ask q) r r' h c tc tr i w y = absurd w.may
-on_tells D C n events.Applied actions.Show r r' h c tc tr i w y = on_show C r r' c tc tr w y
+on_tells D C n events.Applied actions.Show r r' h c tc tr i w y = on_show C n r r' c tc tr w y
 on_tells D C n (events.Came u) _ r r' h c tc tr i w y = absurd i
 on_tells D C n events.Connected _ r r' h c tc tr i w y = absurd i
 on_tells D C n _ _ r r' h c tc tr i w y = absurd w
@@ -347,7 +353,7 @@ on_hears C n x (actions.Ask q) r r' c tc xs w y =
     on_ask C n (events.Came x.head) q r r' c tc xs w z.version z.none z.quiet
 on_hears C n x actions.Begin r r' c tc xs w y = on_begin C x r r' c tc xs w y
 on_hears C n x actions.Keep r r' c tc xs w y = on_keep C x r r' c tc xs w y
-on_hears C n x (actions.Apply b) r r' c tc xs w y = on_apply C x b r r' c tc xs w y
+on_hears C n x (actions.Apply b) r r' c tc xs w y = on_apply C n x b r r' c tc xs w y
 on_hears C n x actions.NoData r r' c tc xs w y = on_none C x r r' c tc xs w y
 on_hears C n x actions.Connect r r' c tc xs w y = absurd w
 on_hears C n x actions.Show r r' c tc xs w y = absurd w
@@ -377,42 +383,45 @@ cons_eq q u us e = (cc, cc)
 no_more : (u : Head) (us tc : List Head) → tc ≡ u ∷ us → tc ≡ [] → ⊥
 no_more u us tc e f = cc
 
-answered : (D C : Type 0) (S : Source D C) (I : IsSource D C S)
-    (c c' : Cache) (n m : ℕ) (p : Present) (u : Head)
+answered : (D C : Type 0) (S : Source D C) (had : List (Edition D)) (I : IsSource D C S had)
+    (one : IsOneDataPerName had) (c c' : Cache) (n m : ℕ) (old p : Edition D) (u : Head)
     (kept : Bool) (a : Answer) (us : List Head) (r : Router) (tc : List Head)
-    (tr : List (Sent C)) → CacheRule c n p (told.Came u kept) a c' → tc ≡ u ∷ us
+    (tr : List (Sent C)) → IsOld had p → CacheRule c n p.name (told.Came u kept) a c'
+    → AreFrom had p a old → tc ≡ u ∷ us
     → InVersion c r.version → UnderWay C (query r) tc tr
-    → TalkAsked C r c' us (tr ++ cache_writes D C S c'.version m p a)
-answered D C S I c c' n m p u kept a us r tc tr w e i (inr x) = absurd (no_more u us tc e x.0)
-answered D C S I c c' n m p u kept a us r tc tr w e i (inl x) =
+    → TalkAsked C r c' us (tr ++ cache_writes D C S c'.version m old p a)
+answered D C S had I one c c' n m old p u kept a us r tc tr was w from e i (inr x) =
+    absurd (no_more u us tc e x.0)
+answered D C S had I one c c' n m old p u kept a us r tc tr was w from e i (inl x) =
     let two : (query_head (query r) ≡ u) × (us ≡ []) = cons_eq (query r) u us (sym x.0 ∙ e) in
-    let w' : CacheRule c n p (told.Came (query_head (query r)) kept) a c' =
-    subst (λ (u : Head). CacheRule c n p (told.Came u kept) a c') (sym two.0) w in
+    let w' : CacheRule c n p.name (told.Came (query_head (query r)) kept) a c' =
+    subst (λ (u : Head). CacheRule c n p.name (told.Came u kept) a c') (sym two.0) w in
     let v : (query r).version ≡ r.version = query_version r r.changes refl in
     record {
       version = subst (λ v. InVersion c' v) v
-          (in_version c c' n p (query r) kept a (subst (λ v. InVersion c v) (sym v) i) w');
+          (in_version c c' n p.name (query r) kept a (subst (λ v. InVersion c v) (sym v) i) w');
       coming = inr (
         two.1,
-        coming_after C (query r) tr (cache_writes D C S c'.version m p a) x.1
-            (answer_comes D C S I c c' n m p (query r) kept a w'),
+        coming_after C (query r) tr (cache_writes D C S c'.version m old p a) x.1
+            (answer_comes D C S had I one c c' n m old p (query r) kept a was w' from),
       );
     }
 
-on_answer : (D C : Type 0) (S : Source D C) (I : IsSource D C S)
-    (c c' : Cache) (n m : ℕ) (p : Present) (u : Head)
+on_answer : (D C : Type 0) (S : Source D C) (had : List (Edition D)) (I : IsSource D C S had)
+    (one : IsOneDataPerName had) (c c' : Cache) (n m : ℕ) (old p : Edition D) (u : Head)
     (kept : Bool) (a : Answer) (us : List Head) (r : Router) (tc : List Head)
-    (tr : List (Sent C)) (f : Phase) → CacheRule c n p (told.Came u kept) a c' → tc ≡ u ∷ us
-    → Talk C r c tc tr f → Talk C r c' us (tr ++ cache_writes D C S c'.version m p a) f
-on_answer D C S I c c' n m p u kept a us r tc tr phases.Offline w e x = tt
-on_answer D C S I c c' n m p u kept a us r tc tr phases.Connecting w e x = tt
-on_answer D C S I c c' n m p u kept a us r tc tr phases.Asked w e x =
-    answered D C S I c c' n m p u kept a us r tc tr w e x.version x.coming
-on_answer D C S I c c' n m p u kept a us r tc tr phases.Reading w e x =
+    (tr : List (Sent C)) (f : Phase) → IsOld had p
+    → CacheRule c n p.name (told.Came u kept) a c' → AreFrom had p a old → tc ≡ u ∷ us
+    → Talk C r c tc tr f → Talk C r c' us (tr ++ cache_writes D C S c'.version m old p a) f
+on_answer D C S had I one c c' n m old p u kept a us r tc tr phases.Offline was w from e x = tt
+on_answer D C S had I one c c' n m old p u kept a us r tc tr phases.Connecting was w from e x = tt
+on_answer D C S had I one c c' n m old p u kept a us r tc tr phases.Asked was w from e x =
+    answered D C S had I one c c' n m old p u kept a us r tc tr was w from e x.version x.coming
+on_answer D C S had I one c c' n m old p u kept a us r tc tr phases.Reading was w from e x =
     absurd (no_more u us tc e x.none)
-on_answer D C S I c c' n m p u kept a us r tc tr phases.Applying w e x =
+on_answer D C S had I one c c' n m old p u kept a us r tc tr phases.Applying was w from e x =
     absurd (no_more u us tc e x.none)
-on_answer D C S I c c' n m p u kept a us r tc tr phases.Waiting w e x =
+on_answer D C S had I one c c' n m old p u kept a us r tc tr phases.Waiting was w from e x =
     absurd (no_more u us tc e x.none)
 
 more_coming : (C : Type 0) (q : Query) (tc : List Head) (tr ys : List (Sent C))
@@ -420,77 +429,81 @@ more_coming : (C : Type 0) (q : Query) (tc : List Head) (tr ys : List (Sent C))
 more_coming C q tc tr ys w (inl x) = inl (x.0, quiet_more C q.version tr ys x.1 w)
 more_coming C q tc tr ys w (inr x) = inr (x.0, coming_more C q tr ys x.1 w)
 
-still_quiet : (D C : Type 0) (S : Source D C) (c c' : Cache) (n m : ℕ) (p : Present)
+still_quiet : (D C : Type 0) (S : Source D C) (c c' : Cache) (n m : ℕ) (old p : Edition D)
     (e : CacheEvent) (a : Answer) (r : Router) (tc : List Head) (tr : List (Sent C))
-    → TellsCache e → CacheRule c n p e a c' → TalkQuiet C r c tc tr
-    → TalkQuiet C r c' tc (tr ++ cache_writes D C S c'.version m p a)
-still_quiet D C S c c' n m p e a r tc tr t w x =
-    let ys : List (Sent C) = cache_writes D C S c'.version m p a in
-    let y : Notified D C S c' m p a r.version =
-    notifies D C S c c' n m p e a r.version t x.version w in
+    → TellsCache e → CacheRule c n p.name e a c' → TalkQuiet C r c tc tr
+    → TalkQuiet C r c' tc (tr ++ cache_writes D C S c'.version m old p a)
+still_quiet D C S c c' n m old p e a r tc tr t w x =
+    let ys : List (Sent C) = cache_writes D C S c'.version m old p a in
+    let y : Notified D C S c' m old p a r.version =
+    notifies D C S c c' n m old p e a r.version t x.version w in
     record {
       version = y.version;
       none = x.none;
       quiet = quiet_more C r.version tr ys x.quiet y.quiet;
     }
 
-on_notify : (D C : Type 0) (S : Source D C) (c c' : Cache) (n m : ℕ) (p : Present)
+on_notify : (D C : Type 0) (S : Source D C) (c c' : Cache) (n m : ℕ) (old p : Edition D)
     (e : CacheEvent) (a : Answer) (r : Router) (tc : List Head) (tr : List (Sent C)) (f : Phase)
-    → TellsCache e → CacheRule c n p e a c' → Talk C r c tc tr f
-    → Talk C r c' tc (tr ++ cache_writes D C S c'.version m p a) f
-on_notify D C S c c' n m p e a r tc tr phases.Offline t w x = tt
-on_notify D C S c c' n m p e a r tc tr phases.Connecting t w x = tt
-on_notify D C S c c' n m p e a r tc tr phases.Asked t w x =
-    let ys : List (Sent C) = cache_writes D C S c'.version m p a in
-    let y : Notified D C S c' m p a r.version =
-    notifies D C S c c' n m p e a r.version t x.version w in
+    → TellsCache e → CacheRule c n p.name e a c' → Talk C r c tc tr f
+    → Talk C r c' tc (tr ++ cache_writes D C S c'.version m old p a) f
+on_notify D C S c c' n m old p e a r tc tr phases.Offline t w x = tt
+on_notify D C S c c' n m old p e a r tc tr phases.Connecting t w x = tt
+on_notify D C S c c' n m old p e a r tc tr phases.Asked t w x =
+    let ys : List (Sent C) = cache_writes D C S c'.version m old p a in
+    let y : Notified D C S c' m old p a r.version =
+    notifies D C S c c' n m old p e a r.version t x.version w in
     record {
       version = y.version;
       coming = more_coming C (query r) tc tr ys (to_query C r ys y.quiet) x.coming;
     }
-on_notify D C S c c' n m p e a r tc tr phases.Reading t w x =
-    let ys : List (Sent C) = cache_writes D C S c'.version m p a in
-    let y : Notified D C S c' m p a r.version =
-    notifies D C S c c' n m p e a r.version t x.version w in
+on_notify D C S c c' n m old p e a r tc tr phases.Reading t w x =
+    let ys : List (Sent C) = cache_writes D C S c'.version m old p a in
+    let y : Notified D C S c' m old p a r.version =
+    notifies D C S c c' n m old p e a r.version t x.version w in
     record {
       version = y.version;
       none = x.none;
       left = left_more C (query r) r.session r.units tr ys x.left (to_query C r ys y.quiet);
     }
-on_notify D C S c c' n m p e a r tc tr phases.Applying t w x =
-    still_quiet D C S c c' n m p e a r tc tr t w x
-on_notify D C S c c' n m p e a r tc tr phases.Waiting t w x =
-    still_quiet D C S c c' n m p e a r tc tr t w x
+on_notify D C S c c' n m old p e a r tc tr phases.Applying t w x =
+    still_quiet D C S c c' n m old p e a r tc tr t w x
+on_notify D C S c c' n m old p e a r tc tr phases.Waiting t w x =
+    still_quiet D C S c c' n m old p e a r tc tr t w x
 
 -- ---- whole runs
 
 abbrev InPeace : (D C : Type 0) → World D C → Type 0
 InPeace D C w = Talk C w.router w.cache w.to_cache w.to_router w.router.phase
 
-next : (D C : Type 0) (S : Source D C) (I : IsSource D C S)
-    (w w' : World D C) → Next D C S w w' → InPeace D C w
-    → InPeace D C w'
-next D C S I w w' (router_told w₀ n e a r itself step) y =
-    on_tells D C n e a w₀.router r w₀.holding w₀.cache w₀.to_cache w₀.to_router itself step.rule y
-next D C S I w w' (connected w₀ n a r c phase anew step) y =
-    on_connects C n a w₀.router r c phase anew step.rule
-next D C S I w w' (router_hears w₀ n x xs a r is step) y =
-    on_hears C n x a w₀.router r w₀.cache w₀.to_cache xs step.rule
+next : (D C : Type 0) (S : Source D C) (w w' : World D C) (I : IsSource D C S w.had)
+    (one : IsOneDataPerName w.had) → IsOld w.had w.present → Next D C S Rule CacheRule w w'
+    → InPeace D C w → InPeace D C w'
+next D C S w w' I one was (router_told w₀ n e a r itself step) y =
+    on_tells D C n e a w₀.router r w₀.host w₀.cache w₀.to_cache w₀.to_router itself step y
+next D C S w w' I one was (connected w₀ n a r c phase anew step) y =
+    on_connects C n a w₀.router r c phase anew step
+next D C S w w' I one was (router_hears w₀ n x xs a r is step) y =
+    on_hears C n x a w₀.router r w₀.cache w₀.to_cache xs step
     (subst (λ tr. Talk C w₀.router w₀.cache w₀.to_cache tr w₀.router.phase) is y)
-next D C S I w w' (cache_hears w₀ n m u us kept a c is step) y =
-    on_answer D C S I w₀.cache c n m w₀.present u kept a us w₀.router w₀.to_cache w₀.to_router
-    w₀.router.phase step.rule is y
-next D C S I w w' (cache_told w₀ n m e a c tells step) y =
-    on_notify D C S w₀.cache c n m w₀.present e a w₀.router w₀.to_cache w₀.to_router
-    w₀.router.phase tells step.rule y
-next D C S I w w' (renewed w₀ p) y = y
+next D C S w w' I one was (cache_hears w₀ n m u us kept a c old is step from) y =
+    on_answer D C S w₀.had I one w₀.cache c n m old w₀.present u kept a us w₀.router w₀.to_cache
+    w₀.to_router w₀.router.phase was step from is y
+next D C S w w' I one was (cache_told w₀ n m e a c tells step) y =
+    on_notify D C S w₀.cache c n m w₀.present w₀.present e a w₀.router w₀.to_cache w₀.to_router
+    w₀.router.phase tells step y
+next D C S w w' I one was (renewed w₀ p) y = y
 
-pub in_peace : (D C : Type 0) (S : Source D C) (I : IsSource D C S)
-    (w : World D C) → IsReached D C S w → InPeace D C w
-in_peace D C S I w (world_begins r c p phase none) =
+pub in_peace : (D C : Type 0) (S : Source D C) (w : World D C) → IsSource D C S w.had
+    → IsOneDataPerName w.had → IsReached D C S w → InPeace D C w
+in_peace D C S w I one (world_begins r c p phase none) =
     to_phase C r c [] [] phases.Offline phase tt
-in_peace D C S I w (world_goes_on w₀ w₁ run step) =
-    next D C S I w₀ w₁ step (in_peace D C S I w₀ run)
+in_peace D C S w I one (world_goes_on w₀ w₁ run step) =
+    let among : AreAmong w₀.had w₁.had = among_next D C S Rule CacheRule w₀ w₁ step in
+    let I₀ : IsSource D C S w₀.had = source_before D C S w₀.had w₁.had among I in
+    let one₀ : IsOneDataPerName w₀.had = one_before w₀.had w₁.had among one in
+    next D C S w₀ w₁ I₀ one₀ (present_old D C S Rule CacheRule w₀ run) step
+    (in_peace D C S w₀ I₀ one₀ run)
 
 -- ---- what the router does with it
 
@@ -557,86 +570,116 @@ heard C r n c tc x xs a r' phases.Waiting p l y h t =
       session = y.session p t.quiet.0;
     })) tt
 
-pub peace : (D C : Type 0) (S : Source D C) (I : IsSource D C S)
-    (w : World D C) (x : Sent C) (xs : List (Sent C))
+pub peace : (D C : Type 0) (S : Source D C) (w : World D C) → IsSource D C S w.had
+    → IsOneDataPerName w.had → (x : Sent C) (xs : List (Sent C))
     (n : ℕ) (a : Action) (r' : Router) → IsReached D C S w → w.to_router ≡ x ∷ xs
     → IsListening w.router.phase → Fresh w.router n → IsInTime w.router n
     → IsPeaceful w.router x.head → IsStep w.router n (events.Came x.head) a r' → GoesOn a
-peace D C S I w x xs n a r' run is l fresh soon y step =
+peace D C S w I one x xs n a r' run is l fresh soon y step =
     heard C w.router n w.cache w.to_cache x xs a r' w.router.phase refl l y
     (step.heeds fresh soon)
     (subst (λ tr. Talk C w.router w.cache w.to_cache tr w.router.phase) is
-    (in_peace D C S I w run))
+    (in_peace D C S w I one run))
 
 -- ---- what the cache does with a query
 
-answers_it : (a b : Answer) → a ≡ b → AnswersIt b → AnswersIt a
-answers_it a b e x = subst (λ (a : Answer). AnswersIt a) (sym e) x
-
--- a serial query, where there are data of the session
-since_answered : (c : Cache) (p : Present) (u : Head) (kept : Bool) (a : Answer)
-    → IsAnswerable c p u kinds.SerialQuery → c.settings.refuses ≡ false
-    → ServesUnit c p u kept a → AnswersIt a
-since_answered c p u true a q r h = go (cases_eq u.session p.session)
+told_since : (s s' n n' : ℕ) (kept : Bool) (A : Type 0) (a x y : A)
+    → (s ≡ s' → (kept ≡ true) ⊎ (n ≡ n') → a ≡ x)
+    → ((s ≡ s' → ⊥) ⊎ ((kept ≡ false) × (n ≡ n' → ⊥)) → a ≡ y)
+    → a ≡ (if (s == s') && (kept || (n == n')) then x else y)
+told_since s s' n n' kept A a x y f g = go kept refl (eqb_tells s s') (eqb_tells n n')
   where
-    go : (u.session ≡ p.session) ⊎ (u.session ≡ p.session → ⊥) → AnswersIt a
-    go (inl e) =
-        answers_it a (answers.Changes u.serial)
-        (h.changes q (record { session = e; serial = inl refl })) tt
-    go (inr e) = answers_it a answers.Reset (h.resets q (inl e) r) tt
-since_answered c p u false a q r h =
-    go (cases_eq u.session p.session) (cases_eq u.serial p.serial)
-  where
-    go : (u.session ≡ p.session) ⊎ (u.session ≡ p.session → ⊥)
-        → (u.serial ≡ p.serial) ⊎ (u.serial ≡ p.serial → ⊥) → AnswersIt a
-    go (inl e) (inl f) =
-        answers_it a (answers.Changes u.serial)
-        (h.changes q (record { session = e; serial = inr f })) tt
-    go (inl e) (inr f) = answers_it a answers.Reset (h.resets q (inr (refl, f)) r) tt
-    go (inr e) f = answers_it a answers.Reset (h.resets q (inl e) r) tt
+    go : (k : Bool) → kept ≡ k
+        → (((s == s') ≡ true) × (s ≡ s')) ⊎ (((s == s') ≡ false) × (s ≡ s' → ⊥))
+        → (((n == n') ≡ true) × (n ≡ n')) ⊎ (((n == n') ≡ false) × (n ≡ n' → ⊥))
+        → a ≡ (if (s == s') && (kept || (n == n')) then x else y)
+    go k e (inr d) w =
+        g (inl d.1)
+        ∙ sym (ap (λ (t : Bool). if t && (kept || (n == n')) then x else y) d.0)
+    go true e (inl d) w =
+        f d.1 (inl e)
+        ∙ sym (λ i. if (d.0 i) && ((e i) || (n == n')) then x else y)
+    go false e (inl d) (inl w) =
+        f d.1 (inr w.1)
+        ∙ sym (λ i. if (d.0 i) && ((e i) || (w.0 i)) then x else y)
+    go false e (inl d) (inr w) =
+        g (inr (e, w.1))
+        ∙ sym (λ i. if (d.0 i) && ((e i) || (w.0 i)) then x else y)
 
--- a query of either kind
+-- a query of either kind, with or without data
 query_answered : (c : Cache) (n : ℕ) (p : Present) (u : Head) (kept : Bool) (a : Answer)
     (has changes : Bool) → p.has ≡ has
     → u.kind ≡ (if changes then kinds.SerialQuery else kinds.ResetQuery) → HasVersion c u
-    → IsAnswering c n p → ServesUnit c p u kept a → AnswersIt a
+    → IsAnswering c n p → ServesUnit c p u kept a
+    → a ≡ (if has
+    then query_answer p u kept (if changes then kinds.SerialQuery else kinds.ResetQuery)
+    else answers.NoData)
 query_answered c n p u kept a false false e k v i h =
-    answers_it a answers.NoData
-    (h.none (subst (λ (k : Kind). IsQuery k) (sym k) tt) v e) tt
+    h.none (subst (λ (k : Kind). IsQuery k) (sym k) tt) v e
 query_answered c n p u kept a false true e k v i h =
-    answers_it a answers.NoData
-    (h.none (subst (λ (k : Kind). IsQuery k) (sym k) tt) v e) tt
+    h.none (subst (λ (k : Kind). IsQuery k) (sym k) tt) v e
 query_answered c n p u kept a true false e k v i h =
-    answers_it a answers.All
-    (h.all (record { kind = k; version = v; has = e; session = i.session e })) tt
+    h.all (record { kind = k; version = v; has = e; session = i.session e })
 query_answered c n p u kept a true true e k v i h =
-    since_answered c p u kept a
-    (record { kind = k; version = v; has = e; session = i.session e }) i.resets h
+    let q : IsAnswerable c p u kinds.SerialQuery =
+    record { kind = k; version = v; has = e; session = i.session e } in
+    told_since u.session p.session u.serial p.serial kept Answer a (answers.Changes u.serial)
+    answers.Reset (λ s t. h.changes q (record { session = s; serial = t }))
+    (λ x. h.resets q x i.resets)
 
-pub queries_answered : (D C : Type 0) (S : Source D C) (I : IsSource D C S) (w : World D C)
-    (u : Head) (us : List Head) (kept : Bool) (n : ℕ) (a : Answer) (c' : Cache)
+pub queries_answered : (D C : Type 0) (S : Source D C) (w : World D C) → IsSource D C S w.had
+    → IsOneDataPerName w.had → (u : Head) (us : List Head) (kept : Bool) (n : ℕ) (a : Answer)
+    (c' : Cache)
     → IsReached D C S w → w.to_cache ≡ u ∷ us → w.router.phase ≡ phases.Asked
-    → w.router.version ≤ 2 → IsAnswering w.cache n w.present
-    → IsCacheStep w.cache n w.present (told.Came u kept) a c' → AnswersIt a
-queries_answered D C S I w u us kept n a c' run is p most i step = go t.coming
+    → w.router.version ≤ 2 → IsAnswering w.cache n w.present.name
+    → IsCacheStep w.cache n w.present.name (told.Came u kept) a c'
+    → a ≡ answer_to w.present.name u kept
+queries_answered D C S w I one u us kept n a c' run is p most i step = go t.coming
   where
     t : TalkAsked C w.router w.cache w.to_cache w.to_router
-    t = at_phase C w.router w.cache w.to_cache w.to_router phases.Asked p (in_peace D C S I w run)
+    t = at_phase C w.router w.cache w.to_cache w.to_router phases.Asked p
+        (in_peace D C S w I one run)
 
     version : (query w.router).version ≡ w.router.version
     version = query_version w.router w.router.changes refl
 
-    go : UnderWay C (query w.router) w.to_cache w.to_router → AnswersIt a
+    go : UnderWay C (query w.router) w.to_cache w.to_router → a ≡ answer_to w.present.name u kept
     go (inr x) = absurd (no_more u us w.to_cache is x.0)
     go (inl x) =
         let two : (query_head (query w.router) ≡ u) × (us ≡ []) =
         cons_eq (query w.router) u us (sym x.0 ∙ is) in
         let v : u.version ≡ w.router.version =
         ap (λ (u : Head). u.version) (sym two.0) ∙ version in
-        query_answered w.cache n w.present u kept a w.present.has (query w.router).changes refl
-        (ap (λ (u : Head). u.kind) (sym two.0))
+        let kind : u.kind
+        ≡ (if (query w.router).changes then kinds.SerialQuery else kinds.ResetQuery) =
+        ap (λ (u : Head). u.kind) (sym two.0) in
+        query_answered w.cache n w.present.name u kept a w.present.name.has (query w.router).changes
+        refl kind
         (record {
           most = subst (λ v. v ≤ 2) (sym v) most;
           same = λ asked. v ∙ sym (t.version i.live asked);
         })
         i (step.serves i.live i.in_time)
+        ∙ sym (ap
+        (λ (k : Kind). if w.present.name.has then query_answer w.present.name u kept k else
+        answers.NoData) kind)
+
+-- a unit that comes to the cache meanwhile is a query
+pub query_comes : (D C : Type 0) (S : Source D C) (w : World D C) → IsSource D C S w.had
+    → IsOneDataPerName w.had → (u : Head) (us : List Head) → IsReached D C S w
+    → w.to_cache ≡ u ∷ us → w.router.phase ≡ phases.Asked → IsQuery u.kind
+query_comes D C S w I one u us run is p = go t.coming
+  where
+    t : TalkAsked C w.router w.cache w.to_cache w.to_router
+    t = at_phase C w.router w.cache w.to_cache w.to_router phases.Asked p
+        (in_peace D C S w I one run)
+
+    either : (b : Bool) → IsQuery (if b then kinds.SerialQuery else kinds.ResetQuery)
+    either true = tt
+    either false = tt
+
+    go : UnderWay C (query w.router) w.to_cache w.to_router → IsQuery u.kind
+    go (inr x) = absurd (no_more u us w.to_cache is x.0)
+    go (inl x) =
+        subst (λ (u : Head). IsQuery u.kind) (cons_eq (query w.router) u us (sym x.0 ∙ is)).0
+        (either (query w.router).changes)

@@ -16,11 +16,11 @@ use Rattle.rtr_cache.specs.declared.event.Answer.{Answer}
 use Rattle.rtr_cache.specs.declared.event.Answer.TheVariants as answers
 use Rattle.rtr_cache.specs.declared.event.OwedReport.{OwedReport}
 use Rattle.rtr_cache.specs.CacheRules.{CacheRule}
-use Rattle.rtr_cache.specs.Worlds.{IsSource}
-use Rattle.rtr_cache.specs.Worlds.{AreChangesOf}
-use Rattle.rtr_cache.specs.Worlds.{Sent, Source, TellsCache}
+use Rattle.rtr_cache.specs.Worlds.{AreChangesOf, AreFrom, Edition, IsOneDataPerName, IsSource}
+use Rattle.rtr_cache.specs.Worlds.{Sent, Source, TellsCache, WasHad}
 use Rattle.rtr_cache.specs.Worlds.{cache_writes, change_unit, data_end, query_head, report_sent}
 use Rattle.rtr_cache.specs.Worlds.{response}
+use Rattle.rtr_cache.proofs.Had.{IsOld}
 use Rattle.rtr_cache.proofs.Answering.{asking}
 
 -- ---- the query of a router
@@ -137,10 +137,10 @@ no_cons C b bs A e = absurd (go e)
     go : b ∷ bs ≡ [] → ⊥
     go e = cc
 
-pub left_written : (D C : Type 0) (S : Source D C) (q : Query) (p : Present) (n : ℕ) (bs : List C)
-    → AreChangesOf C S.kind q.version bs → IsFresh C q p n bs
-    → Left C q p.session n
-    (map (change_unit D C S q.version) bs ++ data_end D C S q.version p ∷ [])
+pub left_written : (D C : Type 0) (S : Source D C) (q : Query) (p : Edition D) (n : ℕ)
+    (bs : List C) → AreChangesOf C S.kind q.version bs → IsFresh C q p.name n bs
+    → Left C q p.name.session n
+    (map (change_unit D C S q.version) bs ++ data_end D C q.version p ∷ [])
 left_written D C S q p n [] w f =
     inr (record { kind = refl; version = refl; session = refl; fresh = λ a b. (f a b).0 }, tt)
 left_written D C S q p n (b ∷ bs) w f =
@@ -166,50 +166,56 @@ pub report_comes : (C : Type 0) (q : Query) (m : ℕ) (r : Option OwedReport)
 report_comes C q m None = tt
 report_comes C q m (Some r) = inr (inr (inr (refl, tt)))
 
-pub none_since : (D C : Type 0) (S : Source D C) (I : IsSource D C S) (v s m n : ℕ) → m ≡ n
-    → S.delta (Some (S.data_at v s m)) (S.data_at v s n) ≡ []
-none_since D C S I v s m n e =
-    subst (λ n. S.delta (Some (S.data_at v s m)) (S.data_at v s n) ≡ []) e
-    (I.none_at_once v s m)
+pub none_since : (D C : Type 0) (S : Source D C) (had : List (Edition D)) (I : IsSource D C S had)
+    (one : IsOneDataPerName had) (v : ℕ) (old p : Edition D) → WasHad had old → WasHad had p
+    → old.name.session ≡ p.name.session → old.name.serial ≡ p.name.serial
+    → S.delta (Some (old.for_version v)) (p.for_version v) ≡ []
+none_since D C S had I one v old p was here s n =
+    subst (λ (d : D). S.delta (Some (old.for_version v)) d ≡ []) (one old p was here s n v)
+    (I.none_at_once v old was)
 
--- `old` is what the serial query names
-pub changes_come : (D C : Type 0) (S : Source D C) (I : IsSource D C S)
-    (v : ℕ) (p : Present) (q : Query) (since : ℕ)
-    → v ≡ q.version → p.session ≡ q.session → since ≡ q.serial
-    → Coming C q (response D C S v p (Some (S.data_at v p.session since)))
-changes_come D C S I v p q since ve se ne = subst
-    (λ v. Coming C q (response D C S v p (Some (S.data_at v p.session since)))) (sym ve)
+pub changes_come : (D C : Type 0) (S : Source D C) (had : List (Edition D))
+    (I : IsSource D C S had) (one : IsOneDataPerName had) (v : ℕ) (old p : Edition D) (q : Query)
+    → WasHad had old → WasHad had p → v ≡ q.version → old.name.session ≡ p.name.session
+    → p.name.session ≡ q.session → old.name.serial ≡ q.serial
+    → Coming C q (response D C S v p (Some (old.for_version v)))
+changes_come D C S had I one v old p q was here ve os se ne = subst
+    (λ v. Coming C q (response D C S v p (Some (old.for_version v)))) (sym ve)
     (inr (inl (
       record { kind = refl; version = refl; session = λ e. se },
       left_written D C S q p 0
-          (S.delta (Some (S.data_at q.version p.session since))
-          (S.data_at q.version p.session p.serial))
-          (I.changes_are q.version p.session since p.serial)
-          (λ a b. (refl, none_since D C S I q.version p.session since p.serial (ne ∙ sym b))),
+          (S.delta (Some (old.for_version q.version)) (p.for_version q.version))
+          (I.changes_are q.version old p was here os)
+          (λ a b.
+          (refl, none_since D C S had I one q.version old p was here os (ne ∙ sym b))),
     )))
 
-pub all_come : (D C : Type 0) (S : Source D C) (I : IsSource D C S)
-    (v : ℕ) (p : Present) (q : Query) → v ≡ q.version
+pub all_come : (D C : Type 0) (S : Source D C) (had : List (Edition D)) (I : IsSource D C S had)
+    (v : ℕ) (p : Edition D) (q : Query) → WasHad had p → v ≡ q.version
     → (q.changes ≡ true → ⊥) → Coming C q (response D C S v p None)
-all_come D C S I v p q ve never = subst (λ v. Coming C q (response D C S v p None)) (sym ve)
+all_come D C S had I v p q here ve never = subst (λ v. Coming C q (response D C S v p None))
+    (sym ve)
     (inr (inl (
       record { kind = refl; version = refl; session = λ e. absurd (never e) },
-      left_written D C S q p 0 (S.delta None (S.data_at q.version p.session p.serial))
-          (I.all_are q.version p.session p.serial) (λ a b. absurd (never a)),
+      left_written D C S q p 0 (S.delta None (p.for_version q.version))
+          (I.all_are q.version p here) (λ a b. absurd (never a)),
     )))
 
-pub answer_comes : (D C : Type 0) (S : Source D C) (I : IsSource D C S)
-    (c c' : Cache) (n m : ℕ) (p : Present) (q : Query)
-    (kept : Bool) (a : Answer) → CacheRule c n p (told.Came (query_head q) kept) a c'
-    → Coming C q (cache_writes D C S c'.version m p a)
-answer_comes D C S I c c' n m p q kept answers.Wait w = tt
-answer_comes D C S I c c' n m p q kept answers.All w =
-    all_come D C S I c'.version p q (ap (λ (c : Cache). c.version) w.1.after)
+pub answer_comes : (D C : Type 0) (S : Source D C) (had : List (Edition D))
+    (I : IsSource D C S had) (one : IsOneDataPerName had)
+    (c c' : Cache) (n m : ℕ) (old p : Edition D) (q : Query)
+    (kept : Bool) (a : Answer) → IsOld had p
+    → CacheRule c n p.name (told.Came (query_head q) kept) a c' → AreFrom had p a old
+    → Coming C q (cache_writes D C S c'.version m old p a)
+answer_comes D C S had I one c c' n m old p q kept answers.Wait is w from = tt
+answer_comes D C S had I one c c' n m old p q kept answers.All is w from =
+    all_come D C S had I c'.version p q (is w.1.query.has) (ap (λ (c : Cache). c.version) w.1.after)
     (no_changes q.changes w.1.query.kind)
-answer_comes D C S I c c' n m p q kept (answers.Changes since) w =
-    changes_come D C S I c'.version p q since (ap (λ (c : Cache). c.version) w.1.after)
-    (sym w.1.known.session) w.1.since_is
-answer_comes D C S I c c' n m p q kept answers.Reset w = inr (inr (inl (
+answer_comes D C S had I one c c' n m old p q kept (answers.Changes since) is w from =
+    changes_come D C S had I one c'.version old p q from.0 (is w.1.query.has)
+    (ap (λ (c : Cache). c.version) w.1.after) from.1 (sym w.1.known.session)
+    (from.2 ∙ w.1.since_is)
+answer_comes D C S had I one c c' n m old p q kept answers.Reset is w from = inr (inr (inl (
   record {
     kind = refl;
     version = ap (λ (c : Cache). c.version) w.1.after;
@@ -217,9 +223,11 @@ answer_comes D C S I c c' n m p q kept answers.Reset w = inr (inr (inl (
   },
   tt,
 )))
-answer_comes D C S I c c' n m p q kept answers.NoData w = inr (inr (inr (refl, tt)))
-answer_comes D C S I c c' n m p q kept answers.Notify w = absurd w
-answer_comes D C S I c c' n m p q kept (answers.End x) w = report_comes C q m x.report
+answer_comes D C S had I one c c' n m old p q kept answers.NoData is w from =
+    inr (inr (inr (refl, tt)))
+answer_comes D C S had I one c c' n m old p q kept answers.Notify is w from = absurd w
+answer_comes D C S had I one c c' n m old p q kept (answers.End x) is w from =
+    report_comes C q m x.report
 
 -- ---- the cache is in the router's version, once it was asked
 
@@ -245,9 +253,9 @@ in_version c c' n p q kept (answers.End x) y w =
 
 -- ---- by itself a cache writes notifies alone
 
-pub record Notified (D C : Type 0) (S : Source D C) (c' : Cache) (m : ℕ) (p : Present)
-    (a : Answer) (v : ℕ) : Type 0 where
-  pub quiet : Quiet C v (cache_writes D C S c'.version m p a)
+pub record Notified (D C : Type 0) (S : Source D C) (c' : Cache) (m : ℕ)
+    (old p : Edition D) (a : Answer) (v : ℕ) : Type 0 where
+  pub quiet : Quiet C v (cache_writes D C S c'.version m old p a)
   pub version : InVersion c' v
 
 pub unreported : (C : Type 0) (v m : ℕ) (r : Option OwedReport) → r ≡ None
@@ -255,32 +263,33 @@ pub unreported : (C : Type 0) (v m : ℕ) (r : Option OwedReport) → r ≡ None
 unreported C v m None e = tt
 unreported C v m (Some r) e = cc
 
-pub notifies : (D C : Type 0) (S : Source D C) (c c' : Cache) (n m : ℕ) (p : Present)
-    (e : CacheEvent) (a : Answer) (v : ℕ) → TellsCache e → InVersion c v → CacheRule c n p e a c'
-    → Notified D C S c' m p a v
-notifies D C S c c' n m p e answers.Wait v t y w =
+pub notifies : (D C : Type 0) (S : Source D C) (c c' : Cache) (n m : ℕ)
+    (old p : Edition D) (e : CacheEvent) (a : Answer) (v : ℕ) → TellsCache e → InVersion c v →
+    CacheRule c n p.name e a c'
+    → Notified D C S c' m old p a v
+notifies D C S c c' n m old p e answers.Wait v t y w =
     record { quiet = tt; version = subst (λ (c : Cache). InVersion c v) (sym w.after) y }
-notifies D C S c c' n m p told.Tick answers.Notify v t y w =
+notifies D C S c c' n m old p told.Tick answers.Notify v t y w =
     let e : c'.version ≡ v =
     ap (λ (c : Cache). c.version) w.1.after ∙ y w.0 w.1.asked in
     record { quiet = (refl, e, tt); version = λ o a. e }
-notifies D C S c c' n m p told.Lost answers.Notify v t y w = absurd w
-notifies D C S c c' n m p told.Tick (answers.End x) v t y w = record {
+notifies D C S c c' n m old p told.Lost answers.Notify v t y w = absurd w
+notifies D C S c c' n m old p told.Tick (answers.End x) v t y w = record {
   quiet = unreported C v m x.report (w.1.silent tt);
   version = ended_no c' v (ap (λ (c : Cache). c.live) w.1.after);
 }
-notifies D C S c c' n m p told.Lost (answers.End x) v t y w = record {
+notifies D C S c c' n m old p told.Lost (answers.End x) v t y w = record {
   quiet = unreported C v m x.report (w.1.silent tt);
   version = ended_no c' v (ap (λ (c : Cache). c.live) w.1.after);
 }
-notifies D C S c c' n m p told.Tick answers.All v t y w = absurd w
-notifies D C S c c' n m p told.Tick (answers.Changes since) v t y w = absurd w
-notifies D C S c c' n m p told.Tick answers.Reset v t y w = absurd w
-notifies D C S c c' n m p told.Tick answers.NoData v t y w = absurd w
-notifies D C S c c' n m p told.Lost answers.All v t y w = absurd w
-notifies D C S c c' n m p told.Lost (answers.Changes since) v t y w = absurd w
-notifies D C S c c' n m p told.Lost answers.Reset v t y w = absurd w
-notifies D C S c c' n m p told.Lost answers.NoData v t y w = absurd w
-notifies D C S c c' n m p told.Full _ v t y w = absurd t
-notifies D C S c c' n m p (told.Came u kept) _ v t y w = absurd t
-notifies D C S c c' n m p (told.Faulty f) _ v t y w = absurd t
+notifies D C S c c' n m old p told.Tick answers.All v t y w = absurd w
+notifies D C S c c' n m old p told.Tick (answers.Changes since) v t y w = absurd w
+notifies D C S c c' n m old p told.Tick answers.Reset v t y w = absurd w
+notifies D C S c c' n m old p told.Tick answers.NoData v t y w = absurd w
+notifies D C S c c' n m old p told.Lost answers.All v t y w = absurd w
+notifies D C S c c' n m old p told.Lost (answers.Changes since) v t y w = absurd w
+notifies D C S c c' n m old p told.Lost answers.Reset v t y w = absurd w
+notifies D C S c c' n m old p told.Lost answers.NoData v t y w = absurd w
+notifies D C S c c' n m old p told.Full _ v t y w = absurd t
+notifies D C S c c' n m old p (told.Came u kept) _ v t y w = absurd t
+notifies D C S c c' n m old p (told.Faulty f) _ v t y w = absurd t

@@ -1,7 +1,7 @@
 -- What a cache may do at each event of a connection, and where it is then (RFC 8210 sections 5 to
 -- 8).
 use Rattle.std.specs.Prelude.{◌≡◌, ◌≢◌, ◌⊎◌, ℕ, Bool, true, false, ◌+◌, ◌≤◌, Some}
-use Rattle.std.specs.Prelude.{None, if◌then◌else◌, min}
+use Rattle.std.specs.Prelude.{None, if◌then◌else◌, min, ◌||◌}
 use Rattle.rtr_router.specs.declared.head.Head.{Head}
 use Rattle.rtr_router.specs.declared.head.Kind.{Kind}
 use Rattle.rtr_router.specs.declared.head.Kind.TheVariants as kinds
@@ -20,9 +20,17 @@ use Rattle.rtr_cache.specs.declared.event.OwedReport.{OwedReport}
 abbrev pub heard : Cache → (now version : ℕ) → Cache
 heard c n v = record c { asked = true; version = v; due = n + c.settings.idle_limit }
 
--- the router gets to know of the present data
+-- the router is told of the present data
 abbrev pub informed : Cache → Present → Cache
-informed c p = record c { told = true; session = p.session; serial = p.serial }
+informed c p = record c { told = true; reset = false; session = p.session; serial = p.serial }
+
+-- the router is told to ask for all data
+abbrev pub sent_back : Cache → Present → Cache
+sent_back c p = record c { reset = true; session = p.session; serial = p.serial }
+
+-- it was told of data, or to ask for all data
+abbrev pub is_advised : Cache → Bool
+is_advised c = c.told || c.reset
 
 abbrev pub once_closed : Cache → Cache
 once_closed c = record c { live = false }
@@ -36,7 +44,8 @@ pub record HasVersion (c : Cache) (u : Head) : Type 0 where
   pub same : c.asked ≡ true → u.version ≡ c.version
 
 -- A query, on a connection that hasn't ended, while the cache has data, and of no other session
--- than those that the router knows of: within a connection all are of one (RFC 8210 section 5.1).
+-- than those that the router was told of: within a connection all are of one (RFC 8210 section
+-- 5.1).
 pub record IsAnswerable (c : Cache) (p : Present) (u : Head) (wanted : Kind) : Type 0 where
   pub kind : u.kind ≡ wanted
   pub version : HasVersion c u
@@ -65,13 +74,14 @@ pub record GivesChanges (c : Cache) (n : ℕ) (p : Present) (u : Head) (kept : B
 abbrev pub CannotTell : Present → Head → Bool → Type 0
 CannotTell p u kept = (u.session ≢ p.session) ⊎ ((kept ≡ false) × (u.serial ≢ p.serial))
 
--- a cache reset, for another one (RFC 8210 section 8.3)
+-- A cache reset, for another one (RFC 8210 section 8.3). It tells of no data: the router may be
+-- given those of another session next.
 pub record GivesReset (c : Cache) (n : ℕ) (p : Present) (u : Head) (kept : Bool) (c' : Cache)
     : Type 0 where
   pub query : IsAnswerable c p u kinds.SerialQuery
   pub unknown : CannotTell p u kept
   pub chosen : c.settings.refuses ≡ false
-  pub after : c' ≡ informed (heard c n u.version) p
+  pub after : c' ≡ sent_back (heard c n u.version) p
 
 abbrev pub IsQuery : Kind → Type 0
 IsQuery kinds.SerialQuery = Unit {0}
@@ -85,13 +95,14 @@ pub record GivesNone (c : Cache) (n : ℕ) (p : Present) (u : Head) (c' : Cache)
   pub has : p.has ≡ false
   pub after : c' ≡ heard c n u.version
 
--- A notify of data that the router doesn't know of, and that are of the same session, to a router
--- that asked once, a pause after the last notify (RFC 8210 section 8.2).
+-- A notify of data that the router wasn't told of, to a router that asked once, a pause after the
+-- last notify (RFC 8210 section 8.2). They are of the session of those that it was told of, or that
+-- there were when it was told to ask for all.
 pub record Notifies (c : Cache) (n : ℕ) (p : Present) (c' : Cache) : Type 0 where
   pub asked : c.asked ≡ true
   pub has : p.has ≡ true
-  pub session : c.told ≡ true → c.session ≡ p.session
-  pub serial : c.told ≡ true → c.serial ≢ p.serial
+  pub session : is_advised c ≡ true → c.session ≡ p.session
+  pub serial : is_advised c ≡ true → c.serial ≢ p.serial
   pub pause : c.notify_from ≤ n
   pub after : c' ≡ record (informed c p) { notify_from = n + c.settings.pause }
 

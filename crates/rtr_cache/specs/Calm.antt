@@ -13,6 +13,7 @@ use Rattle.rtr_router.specs.declared.head.Kind.TheVariants as kinds
 use Rattle.rtr_router.specs.declared.router.Phase.TheVariants as phases
 use Rattle.rtr_router.specs.declared.router.Router.{Router}
 use Rattle.rtr_router.specs.Heeding.{HasRoom, IsNews}
+use Rattle.rtr_router.specs.Histories.{Host, host_after}
 use Rattle.rtr_router.specs.Pace.{wakes_at}
 use Rattle.rtr_router.specs.Rules.{Fresh, IsPayloadOf}
 use Rattle.rtr_router.specs.Step.{IsInTime, IsStep}
@@ -23,8 +24,9 @@ use Rattle.rtr_cache.specs.declared.event.CacheEvent.TheVariants as told
 use Rattle.rtr_cache.specs.declared.event.Present.{Present}
 use Rattle.rtr_cache.specs.CacheSteps.{IsCacheStep, cache_wakes_at}
 use Rattle.rtr_cache.specs.Serving.{HasNews}
-use Rattle.rtr_cache.specs.Worlds.{Holding, IsListening, Sent, Source, World, cache_writes}
-use Rattle.rtr_cache.specs.Worlds.{holding_after, router_writes}
+use Rattle.rtr_cache.specs.Worlds.{AreFrom, Edition, IsListening, Sent, Source, World}
+use Rattle.rtr_cache.specs.Worlds.{cache_writes, caller_of}
+use Rattle.rtr_cache.specs.Worlds.{router_writes}
 
 -- notifies of data of the present session
 abbrev pub AreNotifies : (C : Type 0) → Present → List (Sent C) → Type 0
@@ -39,20 +41,20 @@ pub data MayBeginCalm (D C : Type 0) (w : World D C) : Type 0 where
   offline_then : w.router.phase ≡ phases.Offline → MayBeginCalm D C w
   connecting_then : w.router.phase ≡ phases.Connecting → MayBeginCalm D C w
   asked_then :
-      w.router.phase ≡ phases.Asked → AreNotifies C w.present w.to_router → MayBeginCalm D C w
+      w.router.phase ≡ phases.Asked → AreNotifies C w.present.name w.to_router → MayBeginCalm D C w
   waiting_then :
-      w.router.phase ≡ phases.Waiting → AreNotifies C w.present w.to_router
-      → (w.router.has_data ≡ true → w.router.known.session ≡ w.present.session)
+      w.router.phase ≡ phases.Waiting → AreNotifies C w.present.name w.to_router
+      → (w.router.has_data ≡ true → w.router.known.session ≡ w.present.name.session)
       → MayBeginCalm D C w
 
 -- Where a router knows of some data of the session of the present ones, theirs isn't an earlier
 -- serial number (RFC 1982). The cache has data.
 pub record IsAtRest (D C : Type 0) (w : World D C) : Type 0 where
   pub rests : MayBeginCalm D C w
-  pub has : w.present.has ≡ true
+  pub has : w.present.name.has ≡ true
   pub order :
-      w.router.known.session ≡ w.present.session
-      → serial_cmp w.present.serial w.router.known.serial ≢ Some Less
+      w.router.known.session ≡ w.present.name.session
+      → serial_cmp w.present.name.serial w.router.known.serial ≢ Some Less
 
 -- A step of the router: not after it wakes, and before the limit of what is under way.
 pub record IsOnTime (r : Router) (n n' : ℕ) : Type 0 where
@@ -60,9 +62,11 @@ pub record IsOnTime (r : Router) (n n' : ℕ) : Type 0 where
   pub awake : n' ≤ max n (wakes_at r)
   pub in_time : IsInTime r n'
 
--- time passes, or the changes of a whole answer were made
-abbrev pub TellsCalmly : (D C : Type 0) → Holding D C → Router → Event → Type 0
+-- time passes, the caller of the router wants the present data, or the changes of a whole answer
+-- were made
+abbrev pub TellsCalmly : (D C : Type 0) → Host (List C) D → Router → Event → Type 0
 TellsCalmly D C h r events.Tick = Unit {0}
+TellsCalmly D C h r events.Asked = Unit {0}
 TellsCalmly D C h r events.Applied = (r.phase ≡ phases.Applying) × ((d : D) × (h.made ≡ Some d))
 TellsCalmly D C h r _ = ⊥
 
@@ -83,10 +87,10 @@ pub data IsCalm (D C : Type 0) (S : Source D C) (before : World D C) (start : �
   calm_told :
       (w : World D C) (n n' : ℕ) (e : Event) (a : Action) (r : Router)
       → IsCalm D C S before start w n → IsOnTime w.router n n'
-      → TellsCalmly D C w.holding w.router e → IsStep w.router n' e a r → a ≢ actions.Show
+      → TellsCalmly D C w.host w.router e → IsStep w.router n' e a r → a ≢ actions.Show
       → IsCalm D C S before start (record w {
         router = r;
-        holding = holding_after D C S w.holding [] a;
+        host = host_after (caller_of D C S w.router.settings) w.host [] a;
         to_cache = w.to_cache ++ router_writes a;
       }) n'
   -- a connection is there; the cache's end of it is new
@@ -97,7 +101,7 @@ pub data IsCalm (D C : Type 0) (S : Source D C) (before : World D C) (start : �
       → IsStep w.router n' events.Connected a r
       → IsCalm D C S before start (record w {
         router = r;
-        holding = holding_after D C S w.holding [] a;
+        host = host_after (caller_of D C S w.router.settings) w.host [] a;
         cache = c;
         to_cache = router_writes a;
         to_router = [];
@@ -109,26 +113,28 @@ pub data IsCalm (D C : Type 0) (S : Source D C) (before : World D C) (start : �
       → IsStep w.router n' (events.Came x.head) a r
       → IsCalm D C S before start (record w {
         router = r;
-        holding = holding_after D C S w.holding x.body a;
+        host = host_after (caller_of D C S w.router.settings) w.host x.body a;
         to_cache = w.to_cache ++ router_writes a;
         to_router = xs;
       }) n'
   calm_cache_hears :
       (w : World D C) (n k m : ℕ) (u : Head) (us : List Head) (kept : Bool) (a : Answer) (c : Cache)
+      (old : Edition D)
       → IsCalm D C S before start w n → w.to_cache ≡ u ∷ us
-      → IsCacheStep w.cache k w.present (told.Came u kept) a c → StaysOpen a
+      → IsCacheStep w.cache k w.present.name (told.Came u kept) a c → AreFrom w.had w.present a old
+      → StaysOpen a
       → IsCalm D C S before start (record w {
         cache = c;
         to_cache = us;
-        to_router = w.to_router ++ cache_writes D C S c.version m w.present a;
+        to_router = w.to_router ++ cache_writes D C S c.version m old w.present a;
       }) n
   calm_cache_told :
       (w : World D C) (n k m : ℕ) (a : Answer) (c : Cache)
       → IsCalm D C S before start w n
-      → IsCacheStep w.cache k w.present told.Tick a c → StaysOpen a
+      → IsCacheStep w.cache k w.present.name told.Tick a c → StaysOpen a
       → IsCalm D C S before start (record w {
         cache = c;
-        to_router = w.to_router ++ cache_writes D C S c.version m w.present a;
+        to_router = w.to_router ++ cache_writes D C S c.version m w.present w.present a;
       }) n
 
 -- a notify of the present data, at a router that waits and has others, or none (section 8.2)
@@ -144,20 +150,19 @@ pub record IsNotified (r : Router) (p : Present) (u : Head) : Type 0 where
 pub record IsToldOfNews (D C : Type 0) (start d : ℕ) (c : Cache) (r : Router) (heard : ℕ)
     (w : World D C) : Type 0 where
   pub live : c.live ≡ true
-  pub news : HasNews c w.present
+  pub news : HasNews c w.present.name
   pub sent : ℕ
-  pub awake : sent ≤ max start (cache_wakes_at c w.present)
+  pub awake : sent ≤ max start (cache_wakes_at c w.present.name)
   pub delay : heard ≤ sent + d
   pub notify : Head
-  pub is_notify : IsNotified r w.present notify
+  pub is_notify : IsNotified r w.present.name notify
   pub fresh : Fresh r heard
   pub in_time : IsInTime r heard
   pub action : Action
   pub step : IsStep r heard (events.Came notify) action w.router
 
 -- what is shown then: the present data of the cache, as the router's version has them
-pub record ShowsPresent (D C : Type 0) (S : Source D C) (p : Present) (r : Router)
-    (shown : Option D) : Type 0 where
-  pub session : r.known.session ≡ p.session
-  pub serial : r.known.serial ≡ p.serial
-  pub data_are : shown ≡ Some (S.data_at r.known.version p.session p.serial)
+pub record ShowsPresent (D : Type 0) (p : Edition D) (r : Router) (shown : Option D) : Type 0 where
+  pub session : r.known.session ≡ p.name.session
+  pub serial : r.known.serial ≡ p.name.serial
+  pub data_are : shown ≡ Some (p.for_version r.known.version)

@@ -8,7 +8,8 @@ use Rattle.rtr_cache.specs.declared.event.CacheEvent.{CacheEvent}
 use Rattle.rtr_cache.specs.declared.event.CacheEvent.TheVariants as events
 use Rattle.rtr_cache.specs.declared.event.Answer.{Answer}
 use Rattle.rtr_cache.specs.declared.event.Answer.TheVariants as answers
-use Rattle.rtr_cache.specs.CacheSteps.{IsCacheStep}
+use Rattle.rtr_cache.specs.CacheRules.{CacheRule}
+use Rattle.rtr_cache.specs.CacheSteps.{CacheMoves, IsCacheStep}
 
 -- what happened once: the time, the newest data, what the cache was told, and its answer
 pub record CacheMoment : Type 0 where
@@ -24,12 +25,21 @@ pub record IsNewConnection (s : CacheSettings) (c : Cache) : Type 0 where
   pub told : c.told ≡ false
   pub notify_from : c.notify_from ≡ 0
 
--- any run of a connection, whatever it is told, with whichever data
-pub data IsConnection (s : CacheSettings) : List CacheMoment → Cache → Type 0 where
-  connection_begins : (c : Cache) → IsNewConnection s c → IsConnection s [] c
+-- any run of a connection that answers so, whatever it is told, with whichever data
+pub data IsConnectionBy (Answers : CacheMoves) (s : CacheSettings) : List CacheMoment → Cache →
+    Type 0 where
+  connection_begins : (c : Cache) → IsNewConnection s c → IsConnectionBy Answers s [] c
   connection_goes_on :
-      (m : CacheMoment) (ms : List CacheMoment) (c c' : Cache) → IsConnection s ms c
-      → IsCacheStep c m.now m.present m.event m.answer c' → IsConnection s (m ∷ ms) c'
+      (m : CacheMoment) (ms : List CacheMoment) (c c' : Cache) → IsConnectionBy Answers s ms c
+      → Answers c m.now m.present m.event m.answer c' → IsConnectionBy Answers s (m ∷ ms) c'
+
+-- one that takes its steps
+abbrev pub IsConnection : CacheSettings → List CacheMoment → Cache → Type 0
+IsConnection s ms c = IsConnectionBy IsCacheStep s ms c
+
+-- one that does whatever its rules let it do, even where it has to do something else
+abbrev pub IsAllowedConnection : CacheSettings → List CacheMoment → Cache → Type 0
+IsAllowedConnection s ms c = IsConnectionBy CacheRule s ms c
 
 -- when the last notify was sent
 abbrev pub notified_at : Answer → ℕ → Option ℕ → Option ℕ

@@ -15,7 +15,7 @@ use Rattle.rtr_cache.specs.declared.event.OwedReport.{OwedReport}
 use Rattle.rtr_cache.specs.declared.event.Reason.{Reason}
 use Rattle.rtr_cache.specs.declared.event.Reason.TheVariants as reasons
 use Rattle.rtr_cache.specs.CacheRules.{CanTell, CannotTell, HasVersion, IsAnswerable, IsQuery}
-use Rattle.rtr_cache.specs.CacheRules.{report_version}
+use Rattle.rtr_cache.specs.CacheRules.{is_advised, report_version}
 
 -- ---- how a connection ends
 
@@ -40,7 +40,7 @@ IsNoQuery kinds.ResetQuery = ⊥
 IsNoQuery kinds.ErrorReport = ⊥
 IsNoQuery _ = Unit {0}
 
--- there are data, but the router knows of some of another session
+-- there are data, but the router was told of some of another session
 pub record HasOtherSession (c : Cache) (p : Present) : Type 0 where
   pub has : p.has ≡ true
   pub told : c.told ≡ true
@@ -62,7 +62,7 @@ pub record ServesUnit (c : Cache) (p : Present) (u : Head) (kept : Bool) (a : An
       → a ≡ reports u.version 0 reasons.Unknown
   -- a query before the first data (section 8.4)
   pub none : IsQuery u.kind → HasVersion c u → p.has ≡ false → a ≡ answers.NoData
-  -- a query of a router that knows of data of another session (section 5.1)
+  -- a query of a router that was told of data of another session (section 5.1)
   pub other_session :
       IsQuery u.kind → HasVersion c u → HasOtherSession c p → a ≡ closes_for reasons.NewSession
   -- no query
@@ -98,18 +98,21 @@ pub record ServesFault (c : Cache) (f : Fault) (a : Answer) : Type 0 where
 
 -- ---- time, and new data
 
--- the router asked once, and doesn't know of the newest data, which are of the session of those
--- that it knows of
+-- the router asked once, and wasn't told of the newest data, which are of the session of those that
+-- it was told of, or that there were when it was told to ask for all
 pub record HasNews (c : Cache) (p : Present) : Type 0 where
   pub asked : c.asked ≡ true
   pub has : p.has ≡ true
-  pub session : c.told ≡ true → c.session ≡ p.session
-  pub serial : c.told ≡ true → c.serial ≢ p.serial
+  pub session : is_advised c ≡ true → c.session ≡ p.session
+  pub serial : is_advised c ≡ true → c.serial ≢ p.serial
 
--- it does, or there are no data, or it didn't ask
+-- It was told of them; or of none, but to ask for all, of whatever session they are then; or there
+-- are no data; or it didn't ask.
 pub data HasNoNews (c : Cache) (p : Present) : Type 0 where
   knows_newest :
-      c.told ≡ true → c.session ≡ p.session → c.serial ≡ p.serial → HasNoNews c p
+      is_advised c ≡ true → c.session ≡ p.session → c.serial ≡ p.serial → HasNoNews c p
+  was_reset :
+      c.told ≡ false → c.reset ≡ true → c.session ≢ p.session → HasNoNews c p
   none_there : p.has ≡ false → HasNoNews c p
   never_asked : c.asked ≡ false → c.told ≡ false → HasNoNews c p
 

@@ -2,6 +2,7 @@
 
 ghost use Rattle.std.specs.Prelude.{◌≡◌, ◌≢◌, ◌<◌, ◌≤◌, ◌+◌, ◌^◌, ◌↔◌, ◌⊎◌, IsTrue, true, false};
 ghost use Rattle.rtr_cache.specs.CacheRules.{CacheRule, HasVersion, IsQuery, heard, informed};
+ghost use Rattle.rtr_cache.specs.CacheRules.{sent_back};
 ghost use Rattle.rtr_cache.specs.CacheSteps.{IsCacheStep, cache_wakes_at, has_moved, has_news};
 ghost use Rattle.rtr_cache.specs.Serving.{Serves, ServesTick, ServesUnit};
 ghost use Rattle.rtr_cache.specs.declared.event.CacheEvent.TheVariants as events;
@@ -24,8 +25,12 @@ pub struct Cache {
     /// Whether a query came, whose version is that of the connection.
     pub asked: bool,
     pub version: u8,
-    /// Whether the router was told of data, by an answer or a notify, and of which.
+    /// Whether the router was told of data, by an answer or a notify.
     pub told: bool,
+    /// Whether a cache reset told it to ask for all data, and it wasn't told of any since.
+    pub reset: bool,
+    /// The session and the serial number of the data that it was told of, or that were the newest
+    /// at the cache reset.
     pub session: u16,
     pub serial: u32,
     /// When the next notify may be sent.
@@ -43,6 +48,7 @@ impl Cache {
         ensures asked { result.asked ≡ false }
         ensures version { result.version ≡ 0 }
         ensures told { result.told ≡ false }
+        ensures reset { result.reset ≡ false }
         ensures session { result.session ≡ 0 }
         ensures serial { result.serial ≡ 0 }
         ensures notify_from { result.notify_from ≡ 0 }
@@ -54,6 +60,7 @@ impl Cache {
             asked: false,
             version: 0,
             told: false,
+            reset: false,
             session: 0,
             serial: 0,
             notify_from: 0,
@@ -104,12 +111,14 @@ impl Cache {
         present.has && self.told && self.session != present.session
     }
 
-    /// Whether a router that asked wasn't told of the newest data.
+    /// Whether a router that asked wasn't told of the newest data, nor to ask for all data. What it
+    /// was told of another session, it isn't told again.
     fn has_news(&self, present: &Present) -> bool
         ensures { result ≡ has_news self.now present.now }
     {
-        let knows = self.told && self.session == present.session && self.serial == present.serial;
-        self.asked && present.has && !knows
+        let advised = self.told || self.reset;
+        let same = self.session != present.session || self.serial == present.serial;
+        self.asked && present.has && !(advised && same)
     }
 
     fn tick(&mut self, now: u64, present: &Present) -> Answer
@@ -130,11 +139,21 @@ impl Cache {
         Answer::Notify
     }
 
-    /// The router gets to know of the present data.
+    /// The router is told of the present data.
     fn tell(&mut self, present: &Present)
         ensures { self.new ≡ informed self.old present.now }
     {
         self.told = true;
+        self.reset = false;
+        self.session = present.session;
+        self.serial = present.serial;
+    }
+
+    /// The router is told to ask for all data.
+    fn send_back(&mut self, present: &Present)
+        ensures { self.new ≡ sent_back self.old present.now }
+    {
+        self.reset = true;
         self.session = present.session;
         self.serial = present.serial;
     }
@@ -195,7 +214,11 @@ impl Cache {
             _ if self.settings.refuses => {
                 return self.report(unit.version, CORRUPT_DATA, Reason::Unknown);
             }
-            _ => Answer::Reset,
+            _ => {
+                self.hear(now, unit.version);
+                self.send_back(present);
+                return Answer::Reset;
+            }
         };
         self.hear(now, unit.version);
         self.tell(present);

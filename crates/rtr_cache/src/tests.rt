@@ -172,6 +172,42 @@ fn ends(rt: HostRuntime) {
     }
 }
 
+/// A cache reset tells of no data: the router may be given those of another session next.
+#[test]
+fn cache_resets(rt: HostRuntime) {
+    let mut cache = Cache::new(0, CacheSettings::usual());
+    follow(
+        &rt,
+        &mut cache,
+        &[
+            (1, data(7, 5), since(1, 7, 4, false), "cache reset"),
+            (2, data(7, 5), CacheEvent::Tick, "wait"),
+            (3, data(8, 5), CacheEvent::Tick, "wait"),
+        ],
+    );
+    assert_eq!(rt; cache.wakes(data(8, 5)), 90_000_001);
+    follow(
+        &rt,
+        &mut cache,
+        &[
+            (4, data(8, 5), reset(1), "all"),
+            (5, data(8, 6), CacheEvent::Tick, "notify"),
+            (6, data(8, 6), since(1, 8, 4, false), "cache reset"),
+            (7, data(9, 6), CacheEvent::Tick, "end"),
+        ],
+    );
+    let mut cache = Cache::new(0, CacheSettings::usual());
+    follow(
+        &rt,
+        &mut cache,
+        &[
+            (1, data(7, 5), since(1, 3, 5, true), "cache reset"),
+            (2, data(7, 6), CacheEvent::Tick, "notify"),
+            (3, data(8, 6), CacheEvent::Tick, "end"),
+        ],
+    );
+}
+
 #[test]
 fn refuses(rt: HostRuntime) {
     let mut cache = Cache::new(

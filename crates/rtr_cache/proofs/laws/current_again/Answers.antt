@@ -3,17 +3,17 @@ use Rattle.rtr_cache.proofs.Calm.{shown, soon}
 use Rattle.rtr_cache.proofs.News.{news, notified}
 
 pub returns-clause-soon : goal.returns-clause-soon
-returns-clause-soon g = λ c S before w start n is old rest run.
-    soon g.row.D.Denot g.row.C.Denot S is before start old rest w n run
+returns-clause-soon g = λ c S before w start n is one old rest run.
+    soon g.row.D.Denot g.row.C.Denot S before is one start old rest w n run
 
 pub returns-clause-present : goal.returns-clause-present
-returns-clause-present g = λ c S before w start n later d after is old rest run made step.
-    shown g.row.D.Denot g.row.C.Denot S is before start old rest w n later d after run made step
+returns-clause-present g = λ c S before w start n later d after is one old rest run made step.
+    shown g.row.D.Denot g.row.C.Denot S before is one start old rest w n later d after run made step
 
 pub returns-clause-notified : goal.returns-clause-notified
 returns-clause-notified g = λ c r p u n a after is fresh soon step.
     notified r p u n a after is fresh soon step
 
 pub returns-clause-news : goal.returns-clause-news
-returns-clause-news g = λ k S before w start d heard n c r is old rest told run.
-    news g.row.D.Denot g.row.C.Denot S is before start d heard c r old rest told w n run
+returns-clause-news g = λ k S before w start d heard n c r is one old rest told run.
+    news g.row.D.Denot g.row.C.Denot S before is one start d heard c r old rest told w n run

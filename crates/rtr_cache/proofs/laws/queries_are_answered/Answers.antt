@@ -1,7 +1,12 @@
-use Rattle.rtr_cache.proofs.laws.queries_are_answered.Goals as goal
+use Rattle.rtr_cache.proofs.Bases.{base_had}
 use Rattle.rtr_cache.proofs.Peace.{queries_answered}
+use Rattle.rtr_cache.proofs.laws.queries_are_answered.Goals as goal
 
-pub returns : goal.returns
-returns g c S w u rest kept n a after source run is asked most answering step =
-    queries_answered g.row.D.Denot g.row.C.Denot S source w u rest kept n a after run is asked
+pub returns-clause-answer : goal.returns-clause-answer
+returns-clause-answer g = λ c S w u rest kept n a after source one run is asked most answering step.
+    queries_answered g.row.D.Denot g.row.C.Denot S w source one u rest kept n a after run is asked
     most answering step
+
+pub returns-clause-base : goal.returns-clause-base
+returns-clause-base g = λ c S w u rest kept n since after source one run is rule.
+    base_had g.row.D.Denot g.row.C.Denot S w source one u rest kept n since after run is rule
