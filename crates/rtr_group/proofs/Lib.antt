@@ -1,6 +1,11 @@
-mod Best
+mod Last
 mod Placed
 mod Heard
+mod Stepping
 mod Agreeing
 mod Showing
+mod Recovering
 mod Joined
+mod Served
+mod Examples
+mod ServedExample

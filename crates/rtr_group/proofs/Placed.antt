@@ -25,8 +25,8 @@ less a b p = rw (yes a b p) refl
 pub not_less : (a b : ℕ) → b ≤ a → if_less a b ≡ None
 not_less a b p = rw (no_less a b p) refl
 
-abbrev pub placed : {D : Type 0} → ℕ → ℕ → ℕ → Member D → Member D
-placed r r' i x = once_started (if_less r r') i (once_stopped (if_less r' r) i x)
+abbrev pub placed : {D : Type 0} → (now : ℕ) → ℕ → ℕ → ℕ → Member D → Member D
+placed n r r' i x = once_started n (if_less r r') i (once_stopped (if_less r' r) i x)
 
 below : (a b : ℕ) → a < b → a ≤ b
 below a b p = omega arith
@@ -44,19 +44,19 @@ apart_above a b p e = absurd (bad a b p e)
     bad a b p e = omega arith
 
 pub stays :
-    {D : Type 0} (r r' i : ℕ) (x : Member D) → i < r' → i < r → placed r r' i x ≡ x
-stays {D = D} r r' i x p q = go (cases_lt r' r) (cases_lt r r')
+    {D : Type 0} (n r r' i : ℕ) (x : Member D) → i < r' → i < r → placed n r r' i x ≡ x
+stays {D = D} n r r' i x p q = go (cases_lt r' r) (cases_lt r r')
   where
-    go : (r' < r) ⊎ (r ≤ r') → (r < r') ⊎ (r' ≤ r) → placed r r' i x ≡ x
+    go : (r' < r) ⊎ (r ≤ r') → (r < r') ⊎ (r' ≤ r) → placed n r r' i x ≡ x
     go (inl s) t = rw (not_less r r' (below r' r s)) (rw (less r' r s) (rw (yes i r' p) refl))
     go (inr s) (inr t) = rw (not_less r r' t) (rw (not_less r' r s) refl)
     go (inr s) (inl t) =
         rw (less r r' t) (rw (not_less r' r s) (rw (other_number i r (apart i r q)) refl))
 
 pub gone :
-    {D : Type 0} (r r' i : ℕ) (x : Member D) → r' ≤ i → (r ≤ i → x ≡ left)
-    → placed r r' i x ≡ left
-gone {D = D} r r' i x p q = go (cases_lt r' r) (cases_lt r r')
+    {D : Type 0} (n r r' i : ℕ) (x : Member D) → r' ≤ i → (r ≤ i → x ≡ left)
+    → placed n r r' i x ≡ left
+gone {D = D} n r r' i x p q = go (cases_lt r' r) (cases_lt r r')
   where
     from : (a b c : ℕ) → a ≤ b → b ≤ c → a ≤ c
     from a b c p q = omega arith
@@ -64,7 +64,7 @@ gone {D = D} r r' i x p q = go (cases_lt r' r) (cases_lt r r')
     past : (a b c : ℕ) → a < b → b ≤ c → a < c
     past a b c p q = omega arith
 
-    go : (r' < r) ⊎ (r ≤ r') → (r < r') ⊎ (r' ≤ r) → placed r r' i x ≡ left
+    go : (r' < r) ⊎ (r ≤ r') → (r < r') ⊎ (r' ≤ r) → placed n r r' i x ≡ left
     go (inl s) t = rw (not_less r r' (below r' r s)) (rw (less r' r s) (rw (no_less i r' p) refl))
     go (inr s) (inr t) = rw (not_less r r' t) (rw (not_less r' r s) (q (from r r' i s p)))
     go (inr s) (inl t) =
@@ -72,6 +72,6 @@ gone {D = D} r r' i x p q = go (cases_lt r' r) (cases_lt r r')
         (rw (other_number i r (apart_above i r (past r r' i t p))) (q (from r r' i s p))))
 
 pub begins :
-    {D : Type 0} (r r' i : ℕ) (x : Member D) → r < r' → i ≡ r → placed r r' i x ≡ begun
-begins r r' i x p e =
+    {D : Type 0} (n r r' i : ℕ) (x : Member D) → r < r' → i ≡ r → placed n r r' i x ≡ begun n
+begins n r r' i x p e =
     rw (less r r' p) (rw (not_less r' r (below r r' p)) (rw (same_number i r e) refl))

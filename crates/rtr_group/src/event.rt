@@ -1,36 +1,35 @@
-//! What a group is told of a member, and what it answers.
+//! Events of the members of a group, and its answers.
 
-/// What a group is told of a member: of a router's end, and the cache that it asks.
+/// An event of a member, that is of a router's end and the cache that it queries. A step of a
+/// router is at most one event.
 #[derive(Clone, Copy)]
 pub enum Event {
-    /// It shows data, of a whole answer: its first ones, or others than before.
-    Shows,
-    /// It has no data any more: they have expired, or were dropped. This is a failure, too.
+    /// It shows the data of a complete answer, changed or not, with this number of payloads.
+    Shows(usize),
+    /// Its data expired or were dropped. This is a failure too.
     Drops,
-    /// It failed: no connection could be made, or it is gone, or the cache reports an error or has
-    /// no data. The data that it has stay.
+    /// It failed: it couldn't connect, lost the connection, or the cache reported an error or has
+    /// no data. The member keeps its data.
     Fails,
-    /// It has a whole answer again, and its data are what they were.
-    Well,
 }
 
-/// What becomes of what is shown.
+/// What happens to the data that are shown.
 #[derive(Clone, Copy)]
 pub enum Shown {
-    /// It stays.
+    /// They stay.
     Same,
-    /// The data of this member, as they are now. It is one change of data, from what was shown.
+    /// The present data of this member replace them, as one change.
     Data(usize),
-    /// There are no data any more.
+    /// No data are shown.
     Nothing,
 }
 
-/// What its caller has to do, in this order.
+/// What the caller does, in this order.
 #[derive(Clone, Copy)]
 pub struct Answer {
     pub shown: Shown,
-    /// This member and those after it are left, if they run, and their data forgotten.
+    /// The first member to stop. All running members after it stop too, and drop their data.
     pub stops: Option<usize>,
-    /// This member is asked, which has no data.
+    /// The member to start, without data.
     pub starts: Option<usize>,
 }

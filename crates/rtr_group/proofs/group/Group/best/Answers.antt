@@ -1,21 +1,16 @@
-use Rattle.std.proofs.Common.{rules, ◌≤◌, ◌+◌, sym}
+use Rattle.std.proofs.Common.{rules, sym, ◌∙◌}
 use Rattle.rtr_group.specs.Groups.{has_data}
-use Rattle.rtr_group.proofs.Best.{found, none_at_0, none_yet, stays}
+use Rattle.rtr_group.proofs.Last.{here, none_at_0, not_here}
 use Rattle.rtr_group.proofs.group.Group.best.Goals as goal
+use Rattle.rtr_group.proofs.group.Group.best.Goals.{then-has_data, else-has_data}
 
 pub loop-member-init : goal.loop-member-init
-loop-member-init c = none_at_0 (has_data c.args.self.now)
-
-pub returns-then-has_data : goal.returns-then-has_data
-returns-then-has_data c =
-    sym (stays (has_data c.args.self.now) (c.loop-member.member + 1) 16 c.loop-member.member
-    (found (has_data c.args.self.now) c.loop-member.member c.loop-member.invariant
-    (search rules)) low)
-  where
-    low : c.loop-member.member + 1 ≤ 16
-    low = search rules
+loop-member-init c = sym (none_at_0 (has_data c.args.self.now))
 
 pub loop-member-preserved : goal.loop-member-preserved
-loop-member-preserved c =
-    none_yet (has_data c.args.self.now) c.loop-member.member c.loop-member.invariant
-    (search rules)
+loop-member-preserved c = elim c.if-has_data.branch [
+  | then-has_data w ↦ w.best-is
+      ∙ sym (here (has_data c.args.self.now) c.loop-member.member (search rules))
+  | else-has_data w ↦ w.best-is ∙ c.loop-member.invariant
+      ∙ sym (not_here (has_data c.args.self.now) c.loop-member.member (search rules))
+]
