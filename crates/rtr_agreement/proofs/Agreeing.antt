@@ -1,6 +1,6 @@
 -- What holds of runs over units holds of runs over bytes.
 use Rattle.std.proofs.Common.{◌≡◌, ◌++◌, ℕ, Bool, true, List, take, drop}
-use Rattle.std.proofs.Common.{Option, Some, None, refl, ap, subst, ◌∙◌, append_assoc}
+use Rattle.std.proofs.Common.{Option, Some, None, refl, sym, ap, subst, ◌∙◌, append_assoc}
 use Rattle.std.specs.List.{concat}
 use Rattle.rtr_payload.specs.Payloads.{Payload}
 use Rattle.rtr_data.specs.Data.{Change}
@@ -13,9 +13,11 @@ use Rattle.rtr_router.specs.Histories.{Caller}
 use Rattle.rtr_router.specs.Rules.{Fresh}
 use Rattle.rtr_router.specs.Step.{IsInTime, IsStep}
 use Rattle.rtr_cache.specs.declared.cache.Cache.{Cache}
-use Rattle.rtr_cache.specs.Worlds.{Agrees, GoesOn, IsListening, IsPeaceful}
+use Rattle.rtr_cache.specs.Worlds.{Agrees, Edition, GoesOn, IsIn, IsListening}
+use Rattle.rtr_cache.specs.Worlds.{IsOneDataPerName, IsPeaceful, World}
 use Rattle.rtr_cache.proofs.Agreement.{agreement}
 use Rattle.rtr_cache.proofs.Peace.{peace}
+use Rattle.rtr_cache.proofs.Runs.{by_rules}
 use Rattle.rtr_conversation.specs.Reading.{Acts, Hears}
 use Rattle.rtr_conversation.specs.Sending.{AreWhole, CacheHearsSent, HearsSent}
 use Rattle.rtr_conversation.specs.Serving.{HearsRouter}
@@ -26,41 +28,53 @@ use Rattle.rtr_conversation.proofs.Sending.{Heard, cut_twice, front_of, hears_as
 use Rattle.rtr_conversation.proofs.Sending.{keeps_heard}
 use Rattle.rtr_conversation.proofs.Sending.{next, one_head, whole_left}
 use Rattle.rtr_conversation.proofs.Sending.{Next as NextUnit}
-use Rattle.rtr_agreement.specs.Editions.{Editions, source_of}
+use Rattle.rtr_agreement.specs.Editions.{PayloadEdition, edition_of, editions_of}
+use Rattle.rtr_agreement.specs.Editions.{payload_source}
 use Rattle.rtr_agreement.specs.Pipes.{AreOnTheirWay, Bytes, IsRunOfUnits, Joined, IsRunInBytes}
 use Rattle.rtr_agreement.specs.Pipes.{ShowsBytes}
 use Rattle.rtr_agreement.specs.Pipes.{as_units}
-use Rattle.rtr_agreement.specs.Written.{AreSendable}
 use Rattle.rtr_agreement.proofs.Holding.{IsShown}
 use Rattle.rtr_agreement.proofs.InBytes.{Chained, Stands, chain, stands}
 use Rattle.rtr_agreement.proofs.OnTheWay.{First, all_whole, first_way, queries_whole}
-use Rattle.rtr_agreement.proofs.Payloads.{is_source}
+use Rattle.rtr_agreement.proofs.Payloads.{edition_in, is_source}
 
-module _ (c : Caller Bytes Bytes) (E : Editions) (applies : AppliesAnswers c)
-    (sendable : AreSendable E) (w : Joined) (run : IsRunInBytes c E w) where
-  x : Stands E w
-  x = stands c E applies sendable w run
+module _ (c : Caller Bytes Bytes) (applies : AppliesAnswers c) (w : Joined)
+    (run : IsRunInBytes c w) where
+  x : Stands w
+  x = stands c applies w run
 
-  pub shows : w.router.has_data ≡ true → ShowsBytes E w
-  shows has = go w.host.shown refl x.holds.shown_is
+  pub shows : IsOneDataPerName (editions_of w.had) → w.router.has_data ≡ true → ShowsBytes w
+  shows one has = go w.host.shown refl x.holds.shown_is
     where
-      agrees : Agrees (List Payload) Change (source_of E)
-          (as_units w x.is.holding x.is.heads x.is.sent)
-      agrees = agreement (List Payload) Change (source_of E) (is_source E)
-          (as_units w x.is.holding x.is.heads x.is.sent) x.is.run has
+      agrees : Agrees (List Payload) Change (as_units w x.is.host x.is.heads x.is.sent)
+      agrees = agreement (List Payload) Change payload_source
+          (as_units w x.is.host x.is.heads x.is.sent) (is_source w.had) one
+          (by_rules (List Payload) Change payload_source
+          (as_units w x.is.host x.is.heads x.is.sent) x.is.run) has
 
-      edition : List Payload
-      edition = data_for w.router.known.version
-          (E.edition w.router.known.session w.router.known.serial)
+      of : (e : PayloadEdition) × IsIn w.had e × (edition_of e ≡ agrees.edition)
+      of = edition_in w.had agrees.edition agrees.was.1
 
-      go : (o : Option Bytes) → w.host.shown ≡ o → IsShown w.router o x.is.holding.shown →
-          ShowsBytes E w
-      go None is shown = absurd (subst (λ d. IsShown w.router None d) agrees.same shown)
+      payloads : List Payload
+      payloads = data_for w.router.known.version of.0.payloads
+
+      same : x.is.host.shown ≡ Some payloads
+      same = agrees.same
+          ∙ ap (λ (e : Edition (List Payload)). Some (e.for_version w.router.known.version))
+          (sym of.2)
+
+      go : (o : Option Bytes) → w.host.shown ≡ o → IsShown w.router o x.is.host.shown →
+          ShowsBytes w
+      go None is shown = absurd (subst (λ d. IsShown w.router None d) same shown)
       go (Some b) is shown =
-          let y : IsShown w.router (Some b) (Some edition) =
-          subst (λ d. IsShown w.router (Some b) d) agrees.same shown in
+          let y : IsShown w.router (Some b) (Some payloads) =
+          subst (λ d. IsShown w.router (Some b) d) same shown in
           record {
-            was = agrees.was;
+            edition = of.0;
+            has = ap (λ (e : Edition (List Payload)). e.name.has) of.2 ∙ agrees.was.0;
+            was = of.1;
+            session = ap (λ (e : Edition (List Payload)). e.name.session) of.2 ∙ agrees.session;
+            serial = ap (λ (e : Edition (List Payload)). e.name.serial) of.2 ∙ agrees.serial;
             bytes = b;
             shown = is;
             end = y.0;
@@ -68,12 +82,12 @@ module _ (c : Caller Bytes Bytes) (E : Editions) (applies : AppliesAnswers c)
             named = y.2 has;
           }
 
-  pub units : IsRunOfUnits E w
+  pub units : IsRunOfUnits w
   units = x.is
 
   pub router_hears : (n : ℕ) (input later : List ℕ) (ended : Bool) (t : Told) (r : Router) →
       w.to_router ≡ input ++ later → Hears w.router n input ended t r →
-      (y : IsRunOfUnits E w) × HearsSent w.router n y.units input ended t r
+      (y : IsRunOfUnits w) × HearsSent w.router n y.units input ended t r
   router_hears n input later ended t r is heard = (
     x.is,
     hears_sent w.router n x.is.units input later ended t r
@@ -82,20 +96,21 @@ module _ (c : Caller Bytes Bytes) (E : Editions) (applies : AppliesAnswers c)
 
   pub cache_hears : (n : ℕ) (kept input later : List ℕ) (ended : Bool) (s : Served)
       (after : Cache) →
-      w.to_cache ≡ input ++ later → HearsRouter w.cache n w.present kept input ended s after →
-      (y : IsRunOfUnits E w)
-      × CacheHearsSent w.cache n w.present kept y.queries input ended s after
+      w.to_cache ≡ input ++ later → HearsRouter w.cache n w.present.name kept input ended s after →
+      (y : IsRunOfUnits w)
+      × CacheHearsSent w.cache n w.present.name kept y.queries input ended s after
   cache_hears n kept input later ended s after is heard = (
     x.is,
-    hears_asked w.cache n w.present kept x.is.queries input later ended s after
+    hears_asked w.cache n w.present.name kept x.is.queries input later ended s after
         (queries_whole x.is.queries x.is.heads x.is.are_queries) (x.is.to_cache ∙ is) heard,
   )
 
-  pub in_peace : (n : ℕ) (input later : List ℕ) (start end : ℕ) (a : Action) (r : Router) →
+  pub in_peace : IsOneDataPerName (editions_of w.had) → (n : ℕ) (input later : List ℕ)
+      (start end : ℕ) (a : Action) (r : Router) →
       w.to_router ≡ input ++ later → (heard : Acts w.router n input start end a r) →
       IsListening heard.before.phase → Fresh heard.before n → IsInTime heard.before n →
       IsPeaceful heard.before heard.head → GoesOn a
-  in_peace n input later start end a r is heard listens fresh soon peaceful =
+  in_peace one n input later start end a r is heard listens fresh soon peaceful =
       let whole : AreWhole x.is.units = all_whole x.is.units x.is.sent x.is.are_units in
       let u : List ℕ = drop start (take end input) in
       let rest : List ℕ = drop end input ++ later in
@@ -109,17 +124,18 @@ module _ (c : Caller Bytes Bytes) (E : Editions) (applies : AppliesAnswers c)
       (y.rest
       ∙ ap (λ (l : List ℕ). l ++ later) (cut_twice start end input heard.order heard.within)
       ∙ append_assoc u (drop end input) later) in
-      let on : Chained E w heard.before (concat w.host.kept ++ concat y.heard) w.host.made
+      let on : Chained w heard.before (concat w.host.kept ++ concat y.heard) w.host.made
       w.host.shown x.is.heads y.left =
-      chain E w n w.router y.heard heard.before y.left (concat w.host.kept) w.host.made w.host.shown
-      x.is.holding x.is.heads x.is.sent y.kept x.is.run
+      chain w n w.router y.heard heard.before y.left (concat w.host.kept) w.host.made w.host.shown
+      x.is.host x.is.heads x.is.sent y.kept x.is.run
       (subst (λ l. AreOnTheirWay l x.is.sent) y.parts x.is.are_units) x.holds in
       let f : First u z.others on.sent =
       first_way u z.others on.sent (subst (λ l. AreOnTheirWay l on.sent) z.is on.way) in
       let same : heard.head ≡ f.unit.head =
       one_head u heard.head f.unit.head heard.unit f.is.0.has in
-      peace (List Payload) Change (source_of E) (is_source E)
-      (as_units (record w { router = heard.before }) on.holding x.is.heads on.sent) f.unit f.others
-      n a r on.run f.parts listens fresh soon
+      let at : World (List Payload) Change =
+      as_units (record w { router = heard.before }) on.holding x.is.heads on.sent in
+      peace (List Payload) Change payload_source at (is_source w.had) one f.unit f.others n a r
+      (by_rules (List Payload) Change payload_source at on.run) f.parts listens fresh soon
       (subst (λ (u : Head). IsPeaceful heard.before u) same peaceful)
       (subst (λ (u : Head). IsStep heard.before n (events.Came u) a r) same heard.step)

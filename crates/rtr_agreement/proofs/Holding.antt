@@ -24,16 +24,23 @@ use Rattle.rtr_router.specs.declared.head.Known.{Known}
 use Rattle.rtr_router.specs.declared.router.Phase.{Phase}
 use Rattle.rtr_router.specs.declared.router.Phase.TheVariants as phases
 use Rattle.rtr_router.specs.declared.router.Router.{Router}
+use Rattle.rtr_router.specs.declared.settings.Settings.{Settings}
 use Rattle.rtr_router.specs.Histories.{Caller, Host, host_after}
 use Rattle.rtr_router.specs.Rules.{Adopts, Begins, Closes, Completes, Drops}
 use Rattle.rtr_router.specs.Rules.{Keeps, Loses, Rule, SameKnown, Waits}
 use Rattle.rtr_router.specs.Rules.{known_of}
-use Rattle.rtr_cache.specs.Worlds.{Holding, Sent, holding_after}
+use Rattle.rtr_cache.specs.Worlds.{Sent, caller_of, changes_of}
+use Rattle.rtr_cache.proofs.Agreement.{keeps_one}
 use Rattle.rtr_conversation.specs.Heads.{HasHead, end_head}
+use Rattle.rtr_conversation.specs.Reading.{EndsConnection}
 use Rattle.rtr_conversation.specs.ShownData.{AppliesAnswers}
 use Rattle.rtr_conversation.proofs.Whole.{EndsAs, Written, alone, end_named, written}
-use Rattle.rtr_agreement.specs.Editions.{Editions, if_made, made_from, source_of}
+use Rattle.rtr_agreement.specs.Editions.{PayloadHost, if_made, made_from, payload_source}
 use Rattle.rtr_agreement.specs.Pipes.{Bytes, IsOnItsWay, TellsOfItself}
+
+-- a router's caller, in payloads
+abbrev pub payload_caller : Settings → Caller (List Change) (List Payload)
+payload_caller s = caller_of (List Payload) Change payload_source s
 
 -- ---- the relation
 
@@ -52,15 +59,16 @@ IsShown r (Some b) (Some d) =
 IsShown r _ _ = ⊥
 
 pub record Holds (r : Router) (kept : List ℕ) (made shown : Option Bytes)
-    (h : Holding (List Payload) Change) : Type 0 where
-  pub kept_is : r.phase ≡ phases.Reading → AreUnits kept (map (unit_of r.version) h.kept)
+    (h : PayloadHost) : Type 0 where
+  pub kept_is : r.phase ≡ phases.Reading → AreUnits kept
+      (map (unit_of r.version) (changes_of h.kept))
   pub made_is : r.phase ≡ phases.Applying → (b : List ℕ) → made ≡ Some b → IsMade r.answer b h.made
   -- whatever the phase
   pub has_made : (b : List ℕ) → made ≡ Some b → (d : List Payload) × (h.made ≡ Some d)
   pub shown_is : IsShown r shown h.shown
 
 -- what a caller has in bytes is this
-abbrev pub HostHolds : Router → Host Bytes Bytes → Holding (List Payload) Change → Type 0
+abbrev pub HostHolds : Router → Host Bytes Bytes → PayloadHost → Type 0
 HostHolds r host h = Holds r (concat host.kept) host.made host.shown h
 
 -- ---- what nothing touches
@@ -75,7 +83,7 @@ shown_same r r' (Some b) (Some d) same (end, holds, named) =
 
 -- where nothing is read nor made
 elsewhere : (r r' : Router) (kept : List ℕ) (made shown : Option Bytes)
-    (h : Holding (List Payload) Change) (p : Phase) → r'.phase ≡ p →
+    (h : PayloadHost) (p : Phase) → r'.phase ≡ p →
     (p ≡ phases.Reading → ⊥) → (p ≡ phases.Applying → ⊥) → SameKnown r r' →
     Holds r kept made shown h → Holds r' kept made shown h
 elsewhere r r' kept made shown h p is reads makes same x = record {
@@ -86,10 +94,11 @@ elsewhere r r' kept made shown h p is reads makes same x = record {
 }
 
 on_wait : (e : Event) (r r' : Router) (kept : List ℕ) (made shown : Option Bytes)
-    (h : Holding (List Payload) Change) → Waits r e r' → Holds r kept made shown h →
+    (h : PayloadHost) → Waits r e r' → Holds r kept made shown h →
     Holds r' kept made shown h
 on_wait e r r' kept made shown h w x = record {
-  kept_is = λ p. subst (λ v. AreUnits kept (map (unit_of v) h.kept)) (sym w.talk.version)
+  kept_is = λ p. subst (λ v. AreUnits kept (map (unit_of v) (changes_of h.kept)))
+      (sym w.talk.version)
       (x.kept_is (sym w.talk.phase ∙ p));
   made_is = λ p b m. subst (λ (k : Known). IsMade k b h.made) (sym w.talk.answer)
       (x.made_is (sym w.talk.phase ∙ p) b m);
@@ -100,7 +109,7 @@ on_wait e r r' kept made shown h w x = record {
 -- ---- data go
 
 on_drop : (r r' : Router) (kept : List ℕ) (made shown : Option Bytes)
-    (h : Holding (List Payload) Change) → Loses r r' → Holds r kept made shown h →
+    (h : PayloadHost) → Loses r r' → Holds r kept made shown h →
     Holds r' kept made None (record { kept = h.kept; made = h.made; shown = None })
 on_drop r r' kept made shown h w x =
     let p = w.phase in
@@ -111,11 +120,12 @@ on_drop r r' kept made shown h w x =
       shown_is = tt;
     }
 
-on_end : (e : Event) (z : Ending) (r r' : Router) (kept : List ℕ) (made shown : Option Bytes)
-    (h : Holding (List Payload) Change) → Closes r e z r' → Holds r kept made shown h →
-    Holds r' kept made (if z.drop then None else shown)
+-- whatever was kept is dropped, or not
+pub on_end : (e : Event) (z : Ending) (r r' : Router) (kept left : List ℕ)
+    (made shown : Option Bytes) (h : PayloadHost) → Closes r e z r' → Holds r kept made shown h →
+    Holds r' left made (if z.drop then None else shown)
     (record { kept = h.kept; made = h.made; shown = if z.drop then None else h.shown })
-on_end e z r r' kept made shown h w x =
+on_end e z r r' kept left made shown h w x =
     let p = w.phase in
     record {
       kept_is = λ e. absurd cc;
@@ -132,7 +142,7 @@ on_end e z r r' kept made shown h w x =
 -- ---- a response
 
 on_begin : (u : Head) (r r' : Router) (kept : List ℕ) (made shown : Option Bytes)
-    (h : Holding (List Payload) Change) → Begins r u r' → Holds r kept made shown h →
+    (h : PayloadHost) → Begins r u r' → Holds r kept made shown h →
     Holds r' [] made shown (record { kept = []; made = h.made; shown = h.shown })
 on_begin u r r' kept made shown h w x =
     let p = w.phase in
@@ -144,24 +154,26 @@ on_begin u r r' kept made shown h w x =
     }
 
 pub on_keep : (b : List ℕ) (u : Sent Change) (r r' : Router) (kept : List ℕ)
-    (made shown : Option Bytes) (h : Holding (List Payload) Change) → Keeps r u.head r' →
+    (made shown : Option Bytes) (h : PayloadHost) → Keeps r u.head r' →
     IsOnItsWay b u → Holds r kept made shown h →
     Holds r' (kept ++ b) made shown
-    (record { kept = h.kept ++ u.body; made = h.made; shown = h.shown })
+    (record { kept = h.kept ++ u.body ∷ []; made = h.made; shown = h.shown })
 on_keep b u r r' kept made shown h w way x =
     let p = w.talk.phase ∙ w.phase in
     let v : r'.version ≡ r.version = w.talk.version in
     let (change, body, unit) = way.carries r.version w.kind in
     let unit' : IsUnit b (unit_of r'.version change) =
     subst (λ v. IsUnit b (unit_of v change)) (w.version ∙ sym v) unit in
-    let before : AreUnits kept (map (unit_of r'.version) h.kept) =
-    subst (λ v. AreUnits kept (map (unit_of v) h.kept)) (sym v) (x.kept_is w.phase) in
+    let old : List Change = changes_of h.kept in
+    let before : AreUnits kept (map (unit_of r'.version) old) =
+    subst (λ v. AreUnits kept (map (unit_of v) (changes_of h.kept))) (sym v) (x.kept_is w.phase) in
     record {
       kept_is = λ e.
           subst (λ ms. AreUnits (kept ++ b) ms)
-          (sym (map-append (unit_of r'.version) h.kept (change ∷ []))
-          ∙ ap (λ (cs : List Change). map (unit_of r'.version) (h.kept ++ cs)) (sym body))
-          (units_push kept b (map (unit_of r'.version) h.kept) (unit_of r'.version change) before
+          (sym (map-append (unit_of r'.version) old (change ∷ []))
+          ∙ ap (λ (cs : List Change). map (unit_of r'.version) (old ++ cs)) (sym body)
+          ∙ ap (λ (cs : List Change). map (unit_of r'.version) cs) (sym (keeps_one h.kept u.body)))
+          (units_push kept b (map (unit_of r'.version) old) (unit_of r'.version change) before
           unit');
       made_is = λ e b m. absurd cc;
       has_made = x.has_made;
@@ -220,18 +232,19 @@ makes c (Some old) kept b new r (Some d) cs k applies z sends (end, holds, named
 makes c None kept b new r (Some d) cs k applies z sends shown made = absurd shown
 makes c (Some old) kept b new r None cs k applies z sends shown made = absurd shown
 
-apply_makes : (c : Caller Bytes Bytes) (b : List ℕ) (u : Head) (on : Bool) (r r' : Router)
-    (host : Host Bytes Bytes) (h : Holding (List Payload) Change) → AppliesAnswers c →
-    HasHead b u → Completes r u on r' → HostHolds r host h → (new : List ℕ) →
+apply_makes : (c : Caller Bytes Bytes) (n : ℕ) (b : List ℕ) (u : Head) (on : Bool) (r r' : Router)
+    (host : Host Bytes Bytes) (h : PayloadHost) → AppliesAnswers c →
+    HasHead b u → Completes r n u on r' → HostHolds r host h → (new : List ℕ) →
     c.make (if on then host.shown else None) host.kept b ≡ Some new →
-    IsMade r'.answer new (made_from (if on then h.shown else None) h.kept)
-apply_makes c b u on r r' host h applies has w x new made =
+    IsMade r'.answer new (made_from (if on then h.shown else None) (changes_of h.kept))
+apply_makes c n b u on r r' host h applies has w x new made =
     let z : EndsAs r'.answer b = end_named b u r'.answer has w.kind w.answer in
     let version : r'.answer.version ≡ r.version =
     ap (λ (k : Known). k.version) w.answer ∙ w.version in
     makes c (if on then host.shown else None) host.kept b new r (if on then h.shown else None)
-    h.kept r'.answer applies z
-    (sequence r.version (concat host.kept) b h.kept r'.answer z (x.kept_is w.from) version)
+    (changes_of h.kept) r'.answer applies z
+    (sequence r.version (concat host.kept) b (changes_of h.kept) r'.answer z (x.kept_is w.from)
+    version)
     (old on) made
   where
     old : (on : Bool) →
@@ -239,32 +252,33 @@ apply_makes c b u on r r' host h applies has w x new made =
     old true = x.shown_is
     old false = tt
 
-on_apply : (c : Caller Bytes Bytes) (b : List ℕ) (u : Head) (on : Bool) (r r' : Router)
-    (host : Host Bytes Bytes) (h : Holding (List Payload) Change) → AppliesAnswers c →
-    HasHead b u → Completes r u on r' → HostHolds r host h →
+on_apply : (c : Caller Bytes Bytes) (n : ℕ) (b : List ℕ) (u : Head) (on : Bool) (r r' : Router)
+    (host : Host Bytes Bytes) (h : PayloadHost) → AppliesAnswers c →
+    HasHead b u → Completes r n u on r' → HostHolds r host h →
     Holds r' (concat host.kept) (c.make (if on then host.shown else None) host.kept b) host.shown
     (record {
       kept = h.kept;
-      made = made_from (if on then h.shown else None) h.kept;
+      made = made_from (if on then h.shown else None) (changes_of h.kept);
       shown = h.shown;
     })
-on_apply c b u on r r' host h applies has w x =
+on_apply c n b u on r r' host h applies has w x =
     let p = w.phase in
     record {
       kept_is = λ e. absurd cc;
-      made_is = λ e. apply_makes c b u on r r' host h applies has w x;
+      made_is = λ e. apply_makes c n b u on r r' host h applies has w x;
       has_made = λ new made.
-          let m : IsMade r'.answer new (made_from (if on then h.shown else None) h.kept) =
-          apply_makes c b u on r r' host h applies has w x new made in
+          let m : IsMade r'.answer new (made_from (if on then h.shown else None)
+          (changes_of h.kept)) =
+          apply_makes c n b u on r r' host h applies has w x new made in
           (m.payloads, m.is);
       shown_is = shown_same r r' host.shown h.shown w.same x.shown_is;
     }
 
-on_show : (r r' : Router) (kept : List ℕ) (made shown : Option Bytes)
-    (h : Holding (List Payload) Change) (b : List ℕ) → made ≡ Some b → Adopts r r' →
+on_show : (n : ℕ) (r r' : Router) (kept : List ℕ) (made shown : Option Bytes)
+    (h : PayloadHost) (b : List ℕ) → made ≡ Some b → Adopts r n r' →
     Holds r kept made shown h →
     Holds r' kept made made (record { kept = h.kept; made = h.made; shown = h.made })
-on_show r r' kept made shown h b is w x =
+on_show n r r' kept made shown h b is w x =
     let p = w.phase in
     let z : IsMade r.answer b h.made = x.made_is w.from b is in
     record {
@@ -278,77 +292,77 @@ on_show r r' kept made shown h b is w x =
 
 -- ---- one step
 
-plain_phase : (r r' : Router) (host : Host Bytes Bytes) (h : Holding (List Payload) Change)
+plain_phase : (r r' : Router) (host : Host Bytes Bytes) (h : PayloadHost)
     (p : Phase) → r'.phase ≡ p → (p ≡ phases.Reading → ⊥) → (p ≡ phases.Applying → ⊥) →
     SameKnown r r' → HostHolds r host h → HostHolds r' host h
 plain_phase r r' host h p is reads makes same x =
     elsewhere r r' (concat host.kept) host.made host.shown h p is reads makes same x
 
 -- at what a router is told of itself
-pub on_tells : (c : Caller Bytes Bytes) (E : Editions) (n : ℕ) (e : Event) (a : Action)
-    (r r' : Router) (host : Host Bytes Bytes) (h : Holding (List Payload) Change) →
+pub on_tells : (c : Caller Bytes Bytes) (n : ℕ) (e : Event) (a : Action)
+    (r r' : Router) (host : Host Bytes Bytes) (h : PayloadHost) →
     TellsOfItself host e → Rule r n e a r' → HostHolds r host h →
     HostHolds r' (host_after c host [] a)
-    (holding_after (List Payload) Change (source_of E) h [] a)
-on_tells c E n e actions.Wait r r' host h tells w x =
+    (host_after (payload_caller r.settings) h [] a)
+on_tells c n e actions.Wait r r' host h tells w x =
     on_wait e r r' (concat host.kept) host.made host.shown h w x
-on_tells c E n e (actions.End z) r r' host h tells w x =
-    on_end e z r r' (concat host.kept) host.made host.shown h w x
-on_tells c E n e actions.Drop r r' host h tells w x =
+on_tells c n e (actions.End z) r r' host h tells w x =
+    on_end e z r r' (concat host.kept) (concat host.kept) host.made host.shown h w x
+on_tells c n e actions.Drop r r' host h tells w x =
     on_drop r r' (concat host.kept) host.made host.shown h w x
-on_tells c E n e (actions.Ask q) r r' host h tells w x =
+on_tells c n e (actions.Ask q) r r' host h tells w x =
     plain_phase r r' host h phases.Asked w.phase (λ e. cc) (λ e. cc) w.same x
-on_tells c E n events.Tick actions.Connect r r' host h tells w x =
+on_tells c n events.Tick actions.Connect r r' host h tells w x =
     plain_phase r r' host h phases.Connecting w.phase (λ e. cc) (λ e. cc) w.same x
-on_tells c E n events.Applied actions.Show r r' host h tells w x =
-    on_show r r' (concat host.kept) host.made host.shown h tells.0 tells.1 w x
-on_tells c E n (events.Came u) _ r r' host h tells w x = absurd tells
-on_tells c E n events.Connected _ r r' host h tells w x = absurd tells
-on_tells c E n (events.Faulty f) _ r r' host h tells w x = absurd tells
-on_tells c E n _ _ r r' host h tells w x = absurd w
+on_tells c n events.Applied actions.Show r r' host h tells w x =
+    on_show n r r' (concat host.kept) host.made host.shown h tells.0 tells.1 w x
+on_tells c n (events.Came u) _ r r' host h tells w x = absurd tells
+on_tells c n events.Connected _ r r' host h tells w x = absurd tells
+on_tells c n (events.Faulty f) _ r r' host h tells w x = absurd tells
+on_tells c n _ _ r r' host h tells w x = absurd w
 
-pub on_connects : (c : Caller Bytes Bytes) (E : Editions) (n : ℕ) (a : Action) (r r' : Router)
-    (host : Host Bytes Bytes) (h : Holding (List Payload) Change) →
+pub on_connects : (c : Caller Bytes Bytes) (n : ℕ) (a : Action) (r r' : Router)
+    (host : Host Bytes Bytes) (h : PayloadHost) →
     Rule r n events.Connected a r' → HostHolds r host h →
     HostHolds r' (host_after c host [] a)
-    (holding_after (List Payload) Change (source_of E) h [] a)
-on_connects c E n actions.Wait r r' host h w x =
+    (host_after (payload_caller r.settings) h [] a)
+on_connects c n actions.Wait r r' host h w x =
     on_wait events.Connected r r' (concat host.kept) host.made host.shown h w x
-on_connects c E n (actions.End z) r r' host h w x =
-    on_end events.Connected z r r' (concat host.kept) host.made host.shown h w x
-on_connects c E n actions.Drop r r' host h w x =
+on_connects c n (actions.End z) r r' host h w x =
+    on_end events.Connected z r r' (concat host.kept) (concat host.kept) host.made host.shown h w x
+on_connects c n actions.Drop r r' host h w x =
     on_drop r r' (concat host.kept) host.made host.shown h w x
-on_connects c E n (actions.Ask q) r r' host h w x =
+on_connects c n (actions.Ask q) r r' host h w x =
     plain_phase r r' host h phases.Asked w.phase (λ e. cc) (λ e. cc) w.same x
-on_connects c E n actions.Connect r r' host h w x = absurd w
-on_connects c E n actions.Begin r r' host h w x = absurd w
-on_connects c E n actions.Keep r r' host h w x = absurd w
-on_connects c E n (actions.Apply on) r r' host h w x = absurd w
-on_connects c E n actions.Show r r' host h w x = absurd w
-on_connects c E n actions.NoData r r' host h w x = absurd w
+on_connects c n actions.Connect r r' host h w x = absurd w
+on_connects c n actions.Begin r r' host h w x = absurd w
+on_connects c n actions.Keep r r' host h w x = absurd w
+on_connects c n (actions.Apply on) r r' host h w x = absurd w
+on_connects c n actions.Show r r' host h w x = absurd w
+on_connects c n actions.NoData r r' host h w x = absurd w
 
 -- at a unit that is refused
-pub on_refused : (c : Caller Bytes Bytes) (E : Editions) (n : ℕ) (f : Fault) (a : Action)
-    (r r' : Router) (host : Host Bytes Bytes) (h : Holding (List Payload) Change) →
+pub on_refused : (c : Caller Bytes Bytes) (n : ℕ) (f : Fault) (a : Action)
+    (r r' : Router) (host : Host Bytes Bytes) (h : PayloadHost) →
     Rule r n (events.Faulty f) a r' → HostHolds r host h →
     HostHolds r' (host_after c host [] a)
-    (holding_after (List Payload) Change (source_of E) h [] a)
-on_refused c E n f actions.Wait r r' host h w x =
+    (host_after (payload_caller r.settings) h [] a)
+on_refused c n f actions.Wait r r' host h w x =
     on_wait (events.Faulty f) r r' (concat host.kept) host.made host.shown h w x
-on_refused c E n f (actions.End z) r r' host h w x =
-    on_end (events.Faulty f) z r r' (concat host.kept) host.made host.shown h w x
-on_refused c E n f actions.Drop r r' host h w x =
+on_refused c n f (actions.End z) r r' host h w x =
+    on_end (events.Faulty f) z r r' (concat host.kept) (concat host.kept) host.made host.shown h w x
+on_refused c n f actions.Drop r r' host h w x =
     on_drop r r' (concat host.kept) host.made host.shown h w x
-on_refused c E n f (actions.Ask q) r r' host h w x = absurd w.may
-on_refused c E n f actions.Connect r r' host h w x = absurd w
-on_refused c E n f actions.Begin r r' host h w x = absurd w
-on_refused c E n f actions.Keep r r' host h w x = absurd w
-on_refused c E n f (actions.Apply on) r r' host h w x = absurd w
-on_refused c E n f actions.Show r r' host h w x = absurd w
-on_refused c E n f actions.NoData r r' host h w x = absurd w
+on_refused c n f (actions.Ask q) r r' host h w x = absurd w.may
+on_refused c n f actions.Connect r r' host h w x = absurd w
+on_refused c n f actions.Begin r r' host h w x = absurd w
+on_refused c n f actions.Keep r r' host h w x = absurd w
+on_refused c n f (actions.Apply on) r r' host h w x = absurd w
+on_refused c n f actions.Show r r' host h w x = absurd w
+on_refused c n f actions.NoData r r' host h w x = absurd w
 
 pub kept_more : (r : Router) (host : Host Bytes Bytes) (b : List ℕ)
-    (h : Holding (List Payload) Change) →
+    (h : PayloadHost) →
     Holds r (concat host.kept ++ b) host.made host.shown h →
     Holds r (concat (host.kept ++ b ∷ [])) host.made host.shown h
 kept_more r host b h x =
@@ -358,27 +372,37 @@ kept_more r host b h x =
     x
 
 -- at a unit that came
-pub on_unit : (c : Caller Bytes Bytes) (E : Editions) (n : ℕ) (b : List ℕ) (u : Sent Change)
-    (a : Action) (r r' : Router) (host : Host Bytes Bytes) (h : Holding (List Payload) Change) →
+pub on_unit : (c : Caller Bytes Bytes) (n : ℕ) (b : List ℕ) (u : Sent Change)
+    (a : Action) (r r' : Router) (host : Host Bytes Bytes) (h : PayloadHost) →
     AppliesAnswers c → IsOnItsWay b u → Rule r n (events.Came u.head) a r' → HostHolds r host h →
     HostHolds r' (host_after c host b a)
-    (holding_after (List Payload) Change (source_of E) h u.body a)
-on_unit c E n b u actions.Wait r r' host h applies way w x =
+    (host_after (payload_caller r.settings) h u.body a)
+on_unit c n b u actions.Wait r r' host h applies way w x =
     on_wait (events.Came u.head) r r' (concat host.kept) host.made host.shown h w x
-on_unit c E n b u (actions.End z) r r' host h applies way w x =
-    on_end (events.Came u.head) z r r' (concat host.kept) host.made host.shown h w x
-on_unit c E n b u actions.Drop r r' host h applies way w x =
+on_unit c n b u (actions.End z) r r' host h applies way w x =
+    on_end (events.Came u.head) z r r' (concat host.kept) (concat host.kept) host.made host.shown h
+    w x
+on_unit c n b u actions.Drop r r' host h applies way w x =
     on_drop r r' (concat host.kept) host.made host.shown h w x
-on_unit c E n b u (actions.Ask q) r r' host h applies way w x =
+on_unit c n b u (actions.Ask q) r r' host h applies way w x =
     plain_phase r r' host h phases.Asked w.phase (λ e. cc) (λ e. cc) w.same x
-on_unit c E n b u actions.Begin r r' host h applies way w x =
+on_unit c n b u actions.Begin r r' host h applies way w x =
     on_begin u.head r r' (concat host.kept) host.made host.shown h w x
-on_unit c E n b u actions.Keep r r' host h applies way w x =
-    kept_more r' host b (record { kept = h.kept ++ u.body; made = h.made; shown = h.shown })
+on_unit c n b u actions.Keep r r' host h applies way w x =
+    kept_more r' host b (record { kept = h.kept ++ u.body ∷ []; made = h.made; shown = h.shown })
     (on_keep b u r r' (concat host.kept) host.made host.shown h w way x)
-on_unit c E n b u (actions.Apply on) r r' host h applies way w x =
-    on_apply c b u.head on r r' host h applies way.has w x
-on_unit c E n b u actions.NoData r r' host h applies way w x =
+on_unit c n b u (actions.Apply on) r r' host h applies way w x =
+    on_apply c n b u.head on r r' host h applies way.has w x
+on_unit c n b u actions.NoData r r' host h applies way w x =
     plain_phase r r' host h phases.Waiting w.phase (λ e. cc) (λ e. cc) w.same x
-on_unit c E n b u actions.Connect r r' host h applies way w x = absurd w
-on_unit c E n b u actions.Show r r' host h applies way w x = absurd w
+on_unit c n b u actions.Connect r r' host h applies way w x = absurd w
+on_unit c n b u actions.Show r r' host h applies way w x = absurd w
+
+-- at one that ends the connection, whatever units were kept before it
+pub on_end_alone : (c : Caller Bytes Bytes) (n : ℕ) (b : List ℕ) (u : Sent Change) (a : Action)
+    (r r' : Router) (kept : List ℕ) (host : Host Bytes Bytes) (h : PayloadHost) → EndsConnection a →
+    Rule r n (events.Came u.head) a r' → Holds r kept host.made host.shown h →
+    HostHolds r' (host_after c host b a) (host_after (payload_caller r.settings) h u.body a)
+on_end_alone c n b u (actions.End z) r r' kept host h ends w x =
+    on_end (events.Came u.head) z r r' kept (concat host.kept) host.made host.shown h w x
+on_end_alone c n b u _ r r' kept host h ends w x = absurd ends

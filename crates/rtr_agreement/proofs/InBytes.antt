@@ -1,5 +1,6 @@
 -- Each run of a router and a cache over bytes is a run over units.
-use Rattle.std.proofs.Common.{◌≡◌, ◌++◌, ℕ, Bool, List, [], ◌∷◌}
+use native.Mathlib.Omega.{arith}
+use Rattle.std.proofs.Common.{◌≡◌, ◌++◌, ℕ, zero, suc, Bool, List, [], ◌∷◌, inl, inr}
 use Rattle.std.proofs.Common.{Option, take, drop, refl, sym, ap, subst, ◌∙◌}
 use Rattle.std.proofs.Common.{append-nil, append_assoc}
 use Rattle.std.specs.List.{concat}
@@ -15,12 +16,15 @@ use Rattle.rtr_views.specs.declared.fault.ViewFault.{ViewFault}
 use Rattle.rtr_router.specs.declared.head.Fault.{Fault}
 use Rattle.rtr_router.specs.declared.head.Head.{Head}
 use Rattle.rtr_router.specs.declared.router.Router.{Router}
-use Rattle.rtr_router.specs.Histories.{Caller, host_after}
+use Rattle.rtr_router.specs.Histories.{Caller, empty_host, host_after}
+use Rattle.rtr_router.specs.Rules.{Rule}
 use Rattle.rtr_router.specs.Step.{IsStep}
 use Rattle.rtr_cache.specs.declared.event.CacheEvent.TheVariants as asked
-use Rattle.rtr_cache.specs.Worlds.{Holding, IsReached, Sent, TellsItself}
-use Rattle.rtr_cache.specs.Worlds.{cache_writes, holding_after, holds_nothing, router_writes}
-use Rattle.rtr_cache.specs.Worlds.IsReached.{world_begins, world_goes_on}
+use Rattle.rtr_cache.specs.declared.event.Answer.{Answer}
+use Rattle.rtr_cache.specs.declared.event.Answer.TheVariants as answers
+use Rattle.rtr_cache.specs.Worlds.{AreFrom, IsIn, IsLived, Sent, TellsItself}
+use Rattle.rtr_cache.specs.Worlds.{cache_writes, router_writes}
+use Rattle.rtr_cache.specs.Worlds.IsReachedBy.{world_begins, world_goes_on}
 use Rattle.rtr_cache.specs.Worlds.Next.{cache_hears, cache_told, connected, renewed}
 use Rattle.rtr_cache.specs.Worlds.Next.{router_hears, router_told}
 use Rattle.rtr_conversation.specs.Heads.{HasHead}
@@ -33,34 +37,37 @@ use Rattle.rtr_conversation.specs.declared.telling.Told.{Told}
 use Rattle.rtr_conversation.specs.declared.telling.Told.TheVariants as told
 use Rattle.rtr_conversation.proofs.Sending.{cut_twice, front_of, hears_sent, next, one_head}
 use Rattle.rtr_conversation.proofs.Sending.{Next as NextUnit}
-use Rattle.rtr_agreement.specs.Editions.{Editions, source_of}
+use Rattle.rtr_agreement.specs.Editions.{PayloadEdition, PayloadHost, edition_of, editions_of}
+use Rattle.rtr_agreement.specs.Editions.{payload_source}
 use Rattle.rtr_agreement.specs.Pipes.{AreOnTheirWay, AreQueries, Bytes, FitsTold, IsRunOfUnits}
 use Rattle.rtr_agreement.specs.Pipes.{Joined, NextBytes, IsRunInBytes, TellsOfItself, as_units}
-use Rattle.rtr_agreement.specs.Pipes.{host_told, keeping, left_of, told_bytes}
+use Rattle.rtr_agreement.specs.Pipes.{IsOnItsWay, host_told, left_of, told_bytes}
 use Rattle.rtr_agreement.specs.Pipes.NextBytes.{asked_in_bytes, data_renewed, heard_bytes}
 use Rattle.rtr_agreement.specs.Pipes.NextBytes.{joined_anew, told_cache, told_router}
 use Rattle.rtr_agreement.specs.Pipes.IsRunInBytes.{pipes_begin, pipes_go_on}
-use Rattle.rtr_agreement.specs.Written.{AreSendable, FitsAction, FitsPresent}
-use Rattle.rtr_agreement.specs.Written.{router_bytes}
+use Rattle.rtr_agreement.specs.Written.{FitsAction, FitsEdition, IsSentFrom, router_bytes}
 use Rattle.rtr_agreement.proofs.Holding.{Holds, HostHolds, kept_more, on_connects, on_keep}
-use Rattle.rtr_agreement.proofs.Holding.{on_refused, on_tells, on_unit}
+use Rattle.rtr_agreement.proofs.Holding.{on_end_alone, on_refused, on_tells, on_unit}
+use Rattle.rtr_agreement.proofs.Holding.{payload_caller}
+use Rattle.rtr_agreement.proofs.Payloads.{in_editions}
 use Rattle.rtr_agreement.proofs.OnTheWay.{First, FirstQuery, all_whole, first_query, first_way}
 use Rattle.rtr_agreement.proofs.OnTheWay.{more_queries, more_way, queries_whole}
 use Rattle.rtr_agreement.proofs.Writing.{IsAsked, IsWritten, asked_units, written_units}
 
 abbrev Held : Type 0
-Held = Holding (List Payload) Change
+Held = PayloadHost
 
-abbrev Reached : Editions → Joined → Held → List Head → List (Sent Change) → Type 0
-Reached E w h tc tr =
-    IsReached (List Payload) Change (source_of E) (as_units w h tc tr)
+abbrev Reached : Joined → Held → List Head → List (Sent Change) → Type 0
+Reached w h tc tr =
+    IsLived (List Payload) Change payload_source (as_units w h tc tr)
 
 -- ---- where a run is
 
-pub record Stands (E : Editions) (w : Joined) : Type 0 where
-  pub is : IsRunOfUnits E w
-  pub holds : HostHolds w.router w.host is.holding
-  pub fits : FitsPresent w.present
+pub record Stands (w : Joined) : Type 0 where
+  pub is : IsRunOfUnits w
+  pub holds : HostHolds w.router w.host is.host
+  pub fits : (e : PayloadEdition) → IsIn w.had e → FitsEdition e
+  pub present : IsIn w.had w.present
 
 -- more queries are on their way
 queries_more : (queries more : List (List ℕ)) (b c : List ℕ) → concat queries ≡ b →
@@ -70,41 +77,41 @@ queries_more queries more b c is more_is =
 
 -- ---- units that the router keeps, one by one
 
-pub record Chained (E : Editions) (w : Joined) (r : Router) (kept : List ℕ)
+pub record Chained (w : Joined) (r : Router) (kept : List ℕ)
     (made shown : Option Bytes) (tc : List Head) (left : List (List ℕ)) : Type 0 where
   pub holding : Held
   pub sent : List (Sent Change)
-  pub run : Reached E (record w { router = r }) holding tc sent
+  pub run : Reached (record w { router = r }) holding tc sent
   pub way : AreOnTheirWay left sent
   pub holds : Holds r kept made shown holding
 
-pub chain : (E : Editions) (w : Joined) (n : ℕ) (r : Router) (us : List (List ℕ)) (r' : Router)
+pub chain : (w : Joined) (n : ℕ) (r : Router) (us : List (List ℕ)) (r' : Router)
     (left : List (List ℕ)) (kept : List ℕ) (made shown : Option Bytes) (h : Held)
     (tc : List Head) (tr : List (Sent Change)) → KeepsEach n r us r' →
-    Reached E (record w { router = r }) h tc tr → AreOnTheirWay (us ++ left) tr →
-    Holds r kept made shown h → Chained E w r' (kept ++ concat us) made shown tc left
-chain E w n r us r' left kept made shown h tc tr (keeps_none r₀) run way holds = record {
+    Reached (record w { router = r }) h tc tr → AreOnTheirWay (us ++ left) tr →
+    Holds r kept made shown h → Chained w r' (kept ++ concat us) made shown tc left
+chain w n r us r' left kept made shown h tc tr (keeps_none r₀) run way holds = record {
   holding = h;
   sent = tr;
   run = run;
   way = way;
   holds = subst (λ l. Holds r l made shown h) (sym (append-nil kept)) holds;
 }
-chain E w n r us r' left kept made shown h tc tr (keeps_next r₀ b bs u mid r₁ has step more) run
+chain w n r us r' left kept made shown h tc tr (keeps_next r₀ b bs u mid r₁ has step more) run
     way holds =
     let f : First b (bs ++ left) tr = first_way b (bs ++ left) tr way in
     let same : u ≡ f.unit.head = one_head b u f.unit.head has f.is.0.has in
     let came : IsStep r n (events.Came f.unit.head) actions.Keep mid =
     subst (λ (u : Head). IsStep r n (events.Came u) actions.Keep mid) same step in
-    let h' : Held = holding_after (List Payload) Change (source_of E) h f.unit.body actions.Keep in
-    let run' : Reached E (record w { router = mid }) h' tc f.others =
-    subst (λ tc. Reached E (record w { router = mid }) h' tc f.others) (append-nil tc)
+    let h' : Held = host_after (payload_caller r.settings) h f.unit.body actions.Keep in
+    let run' : Reached (record w { router = mid }) h' tc f.others =
+    subst (λ tc. Reached (record w { router = mid }) h' tc f.others) (append-nil tc)
     (world_goes_on (as_units (record w { router = r }) h tc tr)
     (as_units (record w { router = mid }) h' (tc ++ []) f.others) run
     (router_hears (as_units (record w { router = r }) h tc tr) n f.unit f.others actions.Keep
     mid f.parts came)) in
-    let y : Chained E w r' ((kept ++ b) ++ concat bs) made shown tc left =
-    chain E w n mid bs r' left (kept ++ b) made shown h' tc f.others more run' f.is.1
+    let y : Chained w r' ((kept ++ b) ++ concat bs) made shown tc left =
+    chain w n mid bs r' left (kept ++ b) made shown h' tc f.others more run' f.is.1
     (on_keep b f.unit r mid kept made shown h came.rule f.is.0 holds) in
     record {
       holding = y.holding;
@@ -125,8 +132,8 @@ rest_is units heard left front rest parts is all =
     (ap (λ (l : List ℕ). l ++ concat left) (sym is) ∙ sym (concat-append heard left)
     ∙ ap concat (sym parts) ∙ all)
 
-module _ (c : Caller Bytes Bytes) (E : Editions) (applies : AppliesAnswers c) (w : Joined)
-    (x : Stands E w) (n : ℕ) (input later : List ℕ) (is : w.to_router ≡ input ++ later)
+module _ (c : Caller Bytes Bytes) (applies : AppliesAnswers c) (w : Joined)
+    (x : Stands w) (n : ℕ) (input later : List ℕ) (is : w.to_router ≡ input ++ later)
     (r : Router) where
   abbrev after : Told → Joined
   after t = record w {
@@ -136,14 +143,14 @@ module _ (c : Caller Bytes Bytes) (E : Editions) (applies : AppliesAnswers c) (w
     to_router = left_of input t ++ later;
   }
 
-  hears_nothing : r ≡ w.router → Stands E (after told.Awaits)
+  hears_nothing : r ≡ w.router → Stands (after told.Awaits)
   hears_nothing same = record {
     is = record {
-      holding = x.is.holding;
+      host = x.is.host;
       heads = x.is.heads;
       sent = x.is.sent;
       run = subst
-          (λ (r : Router). Reached E (record w { router = r }) x.is.holding x.is.heads x.is.sent)
+          (λ (r : Router). Reached (record w { router = r }) x.is.host x.is.heads x.is.sent)
           (sym same) x.is.run;
       queries = x.is.queries;
       to_cache = x.is.to_cache ∙ sym (append-nil w.to_cache);
@@ -152,25 +159,26 @@ module _ (c : Caller Bytes Bytes) (E : Editions) (applies : AppliesAnswers c) (w
       to_router = x.is.to_router ∙ is;
       are_units = x.is.are_units;
     };
-    holds = subst (λ (r : Router). HostHolds r w.host x.is.holding) (sym same) x.holds;
+    holds = subst (λ (r : Router). HostHolds r w.host x.is.host) (sym same) x.holds;
     fits = x.fits;
+    present = x.present;
   }
 
   -- the units that were kept, and what is left
   kept_first : (heard left : List (List ℕ)) (mid : Router) → x.is.units ≡ heard ++ left →
       KeepsEach n w.router heard mid →
-      Chained E w mid (concat w.host.kept ++ concat heard) w.host.made w.host.shown x.is.heads left
+      Chained w mid (concat w.host.kept ++ concat heard) w.host.made w.host.shown x.is.heads left
   kept_first heard left mid parts kept =
-      chain E w n w.router heard mid left (concat w.host.kept) w.host.made w.host.shown
-      x.is.holding x.is.heads x.is.sent kept x.is.run
+      chain w n w.router heard mid left (concat w.host.kept) w.host.made w.host.shown
+      x.is.host x.is.heads x.is.sent kept x.is.run
       (subst (λ l. AreOnTheirWay l x.is.sent) parts x.is.are_units) x.holds
 
-  hears_kept : (k : ℕ) → KeepsSent w.router n x.is.units input k r → Stands E (after (told.Kept k))
+  hears_kept : (k : ℕ) → KeepsSent w.router n x.is.units input k r → Stands (after (told.Kept k))
   hears_kept k s =
       let y = kept_first s.heard s.left r s.parts s.kept in
       record {
         is = record {
-          holding = y.holding;
+          host = y.holding;
           heads = x.is.heads;
           sent = y.sent;
           run = y.run;
@@ -186,6 +194,7 @@ module _ (c : Caller Bytes Bytes) (E : Editions) (applies : AppliesAnswers c) (w
             (subst (λ l. Holds r (concat w.host.kept ++ l) w.host.made w.host.shown y.holding)
             s.bytes y.holds);
         fits = x.fits;
+        present = x.present;
       }
 
   -- the rest after the unit that made it act
@@ -201,9 +210,24 @@ module _ (c : Caller Bytes Bytes) (E : Editions) (applies : AppliesAnswers c) (w
       ∙ ap (λ (b : List ℕ). b ++ later) (cut_twice start end input acts.order acts.within)
       ∙ append_assoc u (drop end input) later)
 
+  -- what the caller has after it, without the units that were kept before
+  acted_holds : (start end : ℕ) (a : Action) → Acts w.router n input start end a r →
+      (before : Router) (heard : List (List ℕ)) (b : List ℕ) (u : Sent Change) (h : Held) →
+      concat heard ≡ take start input → IsOnItsWay b u →
+      Rule before n (events.Came u.head) a r →
+      Holds before (concat w.host.kept ++ concat heard) w.host.made w.host.shown h →
+      HostHolds r (host_after c w.host b a) (host_after (payload_caller before.settings) h u.body a)
+  acted_holds zero end a acts before heard b u h bytes way rule holds =
+      on_unit c n b u a before r w.host h applies way rule
+      (subst (λ l. Holds before l w.host.made w.host.shown h)
+      (ap (λ (l : List ℕ). concat w.host.kept ++ l) bytes ∙ append-nil (concat w.host.kept)) holds)
+  acted_holds (suc k) end a acts before heard b u h bytes way rule holds =
+      on_end_alone c n b u a before r (concat w.host.kept ++ concat heard) w.host h
+      (acts.alone (omega arith)) rule holds
+
   hears_acted : (start end : ℕ) (a : Action) → FitsAction a →
       Acts w.router n input start end a r → ActsOnSent w.router n x.is.units input start end a r →
-      Stands E (after (told.Acted start end a))
+      Stands (after (told.Acted start end a))
   hears_acted start end a fits acts s =
       let y = kept_first s.heard (s.unit ∷ s.left) s.before s.parts s.kept in
       let f : First s.unit s.left y.sent = first_way s.unit s.left y.sent y.way in
@@ -211,14 +235,10 @@ module _ (c : Caller Bytes Bytes) (E : Editions) (applies : AppliesAnswers c) (w
       let came : IsStep s.before n (events.Came f.unit.head) a r =
       subst (λ (u : Head). IsStep s.before n (events.Came u) a r) same s.step in
       let q : IsAsked a = asked_units n (events.Came f.unit.head) a s.before r came.rule fits in
-      let h' : Held = holding_after (List Payload) Change (source_of E) y.holding f.unit.body a in
-      let first : HostHolds s.before (keeping w.host (take start input)) y.holding =
-      kept_more s.before w.host (take start input) y.holding
-      (subst (λ l. Holds s.before (concat w.host.kept ++ l) w.host.made w.host.shown y.holding)
-      s.bytes y.holds) in
+      let h' : Held = host_after (payload_caller s.before.settings) y.holding f.unit.body a in
       record {
         is = record {
-          holding = h';
+          host = h';
           heads = x.is.heads ++ router_writes a;
           sent = f.others;
           run = world_goes_on
@@ -236,29 +256,28 @@ module _ (c : Caller Bytes Bytes) (E : Editions) (applies : AppliesAnswers c) (w
           to_router = acted_rest start end a acts s;
           are_units = f.is.1;
         };
-        holds = subst
-            (λ b. HostHolds r (host_after c (keeping w.host (take start input)) b a) h')
-            s.unit_bytes
-            (on_unit c E n s.unit f.unit a s.before r (keeping w.host (take start input)) y.holding
-            applies f.is.0 came.rule first);
+        holds = subst (λ b. HostHolds r (host_after c w.host b a) h') s.unit_bytes
+            (acted_holds start end a acts s.before s.heard s.unit f.unit y.holding s.bytes f.is.0
+            came.rule y.holds);
         fits = x.fits;
+        present = x.present;
       }
 
   hears_refused : (ended : Bool) (e : ViewFault) (a : Action) → FitsAction a →
-      HearsRefused w.router n input ended e a r → Stands E (after (told.Refused e a))
+      HearsRefused w.router n input ended e a r → Stands (after (told.Refused e a))
   hears_refused ended e a fits s =
       let f : Fault = fault_of input e in
       let q : IsAsked a = asked_units n (events.Faulty f) a w.router r s.step.rule fits in
-      let h' : Held = holding_after (List Payload) Change (source_of E) x.is.holding [] a in
+      let h' : Held = host_after (payload_caller w.router.settings) x.is.host [] a in
       record {
         is = record {
-          holding = h';
+          host = h';
           heads = x.is.heads ++ router_writes a;
           sent = x.is.sent;
-          run = world_goes_on (as_units w x.is.holding x.is.heads x.is.sent)
+          run = world_goes_on (as_units w x.is.host x.is.heads x.is.sent)
               (as_units (record w { router = r }) h' (x.is.heads ++ router_writes a) x.is.sent)
               x.is.run
-              (router_told (as_units w x.is.holding x.is.heads x.is.sent) n (events.Faulty f)
+              (router_told (as_units w x.is.host x.is.heads x.is.sent) n (events.Faulty f)
               a r tt s.step);
           queries = x.is.queries ++ q.queries;
           to_cache = queries_more x.is.queries q.queries w.to_cache (router_bytes a) x.is.to_cache
@@ -269,12 +288,13 @@ module _ (c : Caller Bytes Bytes) (E : Editions) (applies : AppliesAnswers c) (w
           to_router = x.is.to_router ∙ is;
           are_units = x.is.are_units;
         };
-        holds = on_refused c E n f a w.router r w.host x.is.holding s.step.rule x.holds;
+        holds = on_refused c n f a w.router r w.host x.is.host s.step.rule x.holds;
         fits = x.fits;
+        present = x.present;
       }
 
   hears : (ended : Bool) (t : Told) → FitsTold t → Hears w.router n input ended t r →
-      HearsSent w.router n x.is.units input ended t r → Stands E (after t)
+      HearsSent w.router n x.is.units input ended t r → Stands (after t)
   hears ended told.Awaits fits heard s = hears_nothing s.1
   hears ended (told.Kept k) fits heard s = hears_kept k s
   hears ended (told.Acted start end a) fits heard s = hears_acted start end a fits heard s
@@ -308,17 +328,32 @@ heard_query queries heads b later u way is has =
       way = f.is.1;
     }
 
+-- ---- the data that changes are from
+
+sent_fits : (had : List PayloadEdition) (p old : PayloadEdition) (a : Answer) →
+    ((e : PayloadEdition) → IsIn had e → FitsEdition e) → IsSentFrom had p a old →
+    (since : ℕ) → a ≡ answers.Changes since → FitsEdition old
+sent_fits had p old a fits from since is =
+    let f : IsSentFrom had p (answers.Changes since) old =
+    subst (λ (a : Answer). IsSentFrom had p a old) is from in
+    fits old f.1
+
+units_from : (had : List PayloadEdition) (p old : PayloadEdition) (a : Answer) →
+    IsSentFrom had p a old → AreFrom (editions_of had) (edition_of p) a (edition_of old)
+units_from had p old (answers.Changes since) f = ((f.0, in_editions had old f.1), f.2, f.3)
+units_from had p old _ f = tt
+
 -- ---- one step
 
-step : (c : Caller Bytes Bytes) (E : Editions) → AppliesAnswers c → AreSendable E →
-    (w w' : Joined) → NextBytes c E w w' → Stands E w → Stands E w'
-step c E applies sendable w w' (told_router w₀ n e a r tells came fits) x =
-    let u = as_units w₀ x.is.holding x.is.heads x.is.sent in
+step : (c : Caller Bytes Bytes) → AppliesAnswers c → (w w' : Joined) → NextBytes c w w' →
+    Stands w → Stands w'
+step c applies w w' (told_router w₀ n e a r tells came fits) x =
+    let u = as_units w₀ x.is.host x.is.heads x.is.sent in
     let q : IsAsked a = asked_units n e a w₀.router r came.rule fits in
-    let h' : Held = holding_after (List Payload) Change (source_of E) x.is.holding [] a in
+    let h' : Held = host_after (payload_caller w₀.router.settings) x.is.host [] a in
     record {
       is = record {
-        holding = h';
+        host = h';
         heads = x.is.heads ++ router_writes a;
         sent = x.is.sent;
         run = world_goes_on u
@@ -334,26 +369,28 @@ step c E applies sendable w w' (told_router w₀ n e a r tells came fits) x =
         to_router = x.is.to_router;
         are_units = x.is.are_units;
       };
-      holds = on_tells c E n e a w₀.router r w₀.host x.is.holding tells came.rule x.holds;
+      holds = on_tells c n e a w₀.router r w₀.host x.is.host tells came.rule x.holds;
       fits = x.fits;
+      present = x.present;
     }
   where
     itself : (e : Event) → TellsOfItself w₀.host e →
-        TellsItself (List Payload) Change x.is.holding e
+        TellsItself (List Payload) Change x.is.host e
     itself (events.Came u) t = absurd t
     itself (events.Faulty f) t = tt
     itself events.Connected t = absurd t
     itself events.Applied t = x.holds.has_made t.0 t.1
     itself events.Tick t = tt
+    itself events.Asked t = tt
     itself events.Lost t = tt
     itself (events.NotApplied code) t = tt
-step c E applies sendable w w' (joined_anew w₀ n a r new phase anew came fits) x =
-    let u = as_units w₀ x.is.holding x.is.heads x.is.sent in
+step c applies w w' (joined_anew w₀ n a r new phase anew came fits) x =
+    let u = as_units w₀ x.is.host x.is.heads x.is.sent in
     let q : IsAsked a = asked_units n events.Connected a w₀.router r came.rule fits in
-    let h' : Held = holding_after (List Payload) Change (source_of E) x.is.holding [] a in
+    let h' : Held = host_after (payload_caller w₀.router.settings) x.is.host [] a in
     record {
       is = record {
-        holding = h';
+        host = h';
         heads = router_writes a;
         sent = [];
         run = world_goes_on u
@@ -366,34 +403,39 @@ step c E applies sendable w w' (joined_anew w₀ n a r new phase anew came fits)
         to_router = refl;
         are_units = tt;
       };
-      holds = on_connects c E n a w₀.router r w₀.host x.is.holding came.rule x.holds;
+      holds = on_connects c n a w₀.router r w₀.host x.is.host came.rule x.holds;
       fits = x.fits;
+      present = x.present;
     }
-step c E applies sendable w w' (heard_bytes w₀ n input later ended t r is heard fits) x =
-    hears c E applies w₀ x n input later is r ended t fits heard
+step c applies w w' (heard_bytes w₀ n input later ended t r is heard fits) x =
+    hears c applies w₀ x n input later is r ended t fits heard
     (hears_sent w₀.router n x.is.units input later ended t r
     (all_whole x.is.units x.is.sent x.is.are_units) (x.is.to_router ∙ is) heard)
-step c E applies sendable w w' (asked_in_bytes w₀ n kept input later ended size a new b is heard
-    small writes) x =
+step c applies w w' (asked_in_bytes w₀ n kept input later ended size a new b old is heard
+    small from writes) x =
     let u : Head = heard.head in
     let listed : Bool = is_kept kept u.serial in
-    let v = as_units w₀ x.is.holding x.is.heads x.is.sent in
+    let v = as_units w₀ x.is.host x.is.heads x.is.sent in
     let f : HeardQuery x.is.queries x.is.heads u (drop size input ++ later) =
     heard_query x.is.queries x.is.heads (take size input) (drop size input ++ later) u
     x.is.are_queries (x.is.to_cache ∙ is ∙ front_of size input later) heard.unit in
-    let y : IsWritten E new.version w₀.present a b =
-    written_units E w₀.cache new n w₀.present (asked.Came u listed) a b sendable x.fits
+    let y : IsWritten new.version old w₀.present a b =
+    written_units w₀.cache new n old w₀.present (asked.Came u listed) a b
+    (sent_fits w₀.had w₀.present old a x.fits from) (x.fits w₀.present x.present)
     heard.step.rule small writes in
     let sent : List (Sent Change) =
-    cache_writes (List Payload) Change (source_of E) new.version y.size w₀.present a in
+    cache_writes (List Payload) Change payload_source new.version y.size (edition_of old)
+    (edition_of w₀.present) a in
     record {
       is = record {
-        holding = x.is.holding;
+        host = x.is.host;
         heads = f.others;
         sent = x.is.sent ++ sent;
         run = world_goes_on v
-            (as_units (record w₀ { cache = new }) x.is.holding f.others (x.is.sent ++ sent))
-            x.is.run (cache_hears v n y.size u f.others listed a new f.parts heard.step);
+            (as_units (record w₀ { cache = new }) x.is.host f.others (x.is.sent ++ sent))
+            x.is.run
+            (cache_hears v n y.size u f.others listed a new (edition_of old) f.parts heard.step
+            (units_from w₀.had w₀.present old a from));
         queries = f.rest;
         to_cache = f.bytes;
         are_queries = f.way;
@@ -403,20 +445,24 @@ step c E applies sendable w w' (asked_in_bytes w₀ n kept input later ended siz
       };
       holds = x.holds;
       fits = x.fits;
+      present = x.present;
     }
-step c E applies sendable w w' (told_cache w₀ n e a new b tells came small writes) x =
-    let v = as_units w₀ x.is.holding x.is.heads x.is.sent in
-    let y : IsWritten E new.version w₀.present a b =
-    written_units E w₀.cache new n w₀.present e a b sendable x.fits came.rule small writes in
+step c applies w w' (told_cache w₀ n e a new b tells came small writes) x =
+    let v = as_units w₀ x.is.host x.is.heads x.is.sent in
+    let here : FitsEdition w₀.present = x.fits w₀.present x.present in
+    let y : IsWritten new.version w₀.present w₀.present a b =
+    written_units w₀.cache new n w₀.present w₀.present e a b (λ since is. here) here came.rule
+    small writes in
     let sent : List (Sent Change) =
-    cache_writes (List Payload) Change (source_of E) new.version y.size w₀.present a in
+    cache_writes (List Payload) Change payload_source new.version y.size (edition_of w₀.present)
+    (edition_of w₀.present) a in
     record {
       is = record {
-        holding = x.is.holding;
+        host = x.is.host;
         heads = x.is.heads;
         sent = x.is.sent ++ sent;
         run = world_goes_on v
-            (as_units (record w₀ { cache = new }) x.is.holding x.is.heads (x.is.sent ++ sent))
+            (as_units (record w₀ { cache = new }) x.is.host x.is.heads (x.is.sent ++ sent))
             x.is.run (cache_told v n y.size e a new tells came);
         queries = x.is.queries;
         to_cache = x.is.to_cache;
@@ -427,18 +473,19 @@ step c E applies sendable w w' (told_cache w₀ n e a new b tells came small wri
       };
       holds = x.holds;
       fits = x.fits;
+      present = x.present;
     }
-step c E applies sendable w w' (data_renewed w₀ p fits) x =
-    let v = as_units w₀ x.is.holding x.is.heads x.is.sent in
+step c applies w w' (data_renewed w₀ p fits) x =
+    let v = as_units w₀ x.is.host x.is.heads x.is.sent in
     record {
       is = record {
-        holding = x.is.holding;
+        host = x.is.host;
         heads = x.is.heads;
         sent = x.is.sent;
         run = world_goes_on v
-            (as_units (record w₀ { present = p; had = p ∷ w₀.had }) x.is.holding x.is.heads
+            (as_units (record w₀ { present = p; had = p ∷ w₀.had }) x.is.host x.is.heads
             x.is.sent)
-            x.is.run (renewed v p);
+            x.is.run (renewed v (edition_of p));
         queries = x.is.queries;
         to_cache = x.is.to_cache;
         are_queries = x.is.are_queries;
@@ -447,19 +494,24 @@ step c E applies sendable w w' (data_renewed w₀ p fits) x =
         are_units = x.is.are_units;
       };
       holds = x.holds;
-      fits = fits;
+      fits = λ e i. one_more e i;
+      present = inl refl;
     }
+  where
+    one_more : (e : PayloadEdition) → IsIn (p ∷ w₀.had) e → FitsEdition e
+    one_more e (inl is) = subst FitsEdition is fits
+    one_more e (inr i) = x.fits e i
 
 -- ---- whole runs
 
-pub stands : (c : Caller Bytes Bytes) (E : Editions) → AppliesAnswers c → AreSendable E →
-    (w : Joined) → IsRunInBytes c E w → Stands E w
-stands c E applies sendable w (pipes_begin r new p phase none fits) = record {
+pub stands : (c : Caller Bytes Bytes) → AppliesAnswers c → (w : Joined) → IsRunInBytes c w →
+    Stands w
+stands c applies w (pipes_begin r new p phase none fits) = record {
   is = record {
-    holding = holds_nothing (List Payload) Change;
+    host = empty_host;
     heads = [];
     sent = [];
-    run = world_begins r new p phase none;
+    run = world_begins r new (edition_of p) phase none;
     queries = [];
     to_cache = refl;
     are_queries = tt;
@@ -473,7 +525,12 @@ stands c E applies sendable w (pipes_begin r new p phase none fits) = record {
     has_made = λ b m. absurd cc;
     shown_is = tt;
   };
-  fits = fits;
+  fits = λ e i. the_first e i;
+  present = inl refl;
 }
-stands c E applies sendable w (pipes_go_on w₀ w₁ run on) =
-    step c E applies sendable w₀ w₁ on (stands c E applies sendable w₀ run)
+  where
+    the_first : (e : PayloadEdition) → IsIn (p ∷ []) e → FitsEdition e
+    the_first e (inl is) = subst FitsEdition is fits
+    the_first e (inr i) = absurd i
+stands c applies w (pipes_go_on w₀ w₁ run on) =
+    step c applies w₀ w₁ on (stands c applies w₀ run)

@@ -4,3 +4,4 @@ mod Writing
 mod Holding
 mod InBytes
 mod Agreeing
+mod Examples

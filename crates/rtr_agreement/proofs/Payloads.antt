@@ -1,6 +1,6 @@
 -- What a cache sends of its editions leads there, and is of payloads that the version has.
 use Rattle.std.proofs.Common.{◌≡◌, ℕ, Bool, true, false, if◌then◌else◌, refl, ap}
-use Rattle.std.proofs.Common.{List, [], ◌∷◌, map, arith}
+use Rattle.std.proofs.Common.{List, [], ◌∷◌, map, arith, Some, None, subst, sym, ◌∙◌, inl, inr}
 use Rattle.std.proofs.lemmas.Bool.Decides.{nat_tests}
 use Rattle.std.specs.List.{AllByRecursion, filter}
 use Rattle.std.specs.Prelude.{nat_le, not}
@@ -13,8 +13,12 @@ use Rattle.rtr_data.proofs.Delta.{no_changes}
 use Rattle.rtr_data.proofs.Once.{all_changes}
 use Rattle.rtr_data.proofs.Versions.{all_lead, delta_leads}
 use Rattle.rtr_router.specs.Rules.{IsPayloadOf}
-use Rattle.rtr_cache.specs.Worlds.{AreChangesOf, IsSource}
-use Rattle.rtr_agreement.specs.Editions.{Editions, if_made, source_of, unit_kind}
+use Rattle.rtr_cache.specs.Worlds.{Agrees, AreChangesOf, Edition, IsIn, IsOneDataPerName}
+use Rattle.rtr_cache.specs.Worlds.{IsReached, IsSource, WasHad, World}
+use Rattle.rtr_cache.proofs.Agreement.{agreement}
+use Rattle.rtr_agreement.specs.Editions.{PayloadEdition, ShowsEdition, answered_with, edition_of}
+use Rattle.rtr_agreement.specs.Editions.{editions_of}
+use Rattle.rtr_agreement.specs.Editions.{if_made, made_from, payload_source, unit_kind}
 
 -- the version has the payload
 abbrev IsOf : ℕ → Payload → Type 0
@@ -75,16 +79,75 @@ changed_of v old new a b =
     (withdrawn v (filter (λ p. not (has_name new p)) old)
     (still (λ p. IsOf v p) (λ p. not (has_name new p)) old a))
 
-pub is_source : (E : Editions) → IsSource (List Payload) Change (source_of E)
-is_source E = record {
-  all_lead = λ v s n. ap if_made (all_lead v (E.edition s n) (E.are_data s n));
-  changes_lead = λ v s m n.
-      ap if_made
-      (delta_leads v (E.edition s m) (E.edition s n) (E.are_data s m) (E.are_data s n));
-  none_at_once = λ v s n. no_changes (data_for v (E.edition s n));
+-- ---- editions
+
+pub edition_in : (es : List PayloadEdition) (x : Edition (List Payload)) → IsIn (editions_of es) x
+    → (e : PayloadEdition) × IsIn es e × (edition_of e ≡ x)
+edition_in [] x i = absurd i
+edition_in (e ∷ es) x (inl is) = (e, inl refl, is)
+edition_in (e ∷ es) x (inr i) =
+    let y : (e : PayloadEdition) × IsIn es e × (edition_of e ≡ x) = edition_in es x i in
+    (y.0, inr y.1, y.2)
+
+pub in_editions : (es : List PayloadEdition) (e : PayloadEdition) → IsIn es e
+    → IsIn (editions_of es) (edition_of e)
+in_editions [] e i = absurd i
+in_editions (y ∷ es) e (inl is) = inl (ap edition_of is)
+in_editions (y ∷ es) e (inr i) = inr (in_editions es e i)
+
+-- what holds of each edition holds of what the cache had
+of_each : (P : Edition (List Payload) → Type 0) (es : List PayloadEdition)
+    → ((e : PayloadEdition) → P (edition_of e)) → (x : Edition (List Payload))
+    → WasHad (editions_of es) x → P x
+of_each P es each x was =
+    let y : (e : PayloadEdition) × IsIn es e × (edition_of e ≡ x) = edition_in es x was.1 in
+    subst P y.2 (each y.0)
+
+pub is_source : (es : List PayloadEdition)
+    → IsSource (List Payload) Change payload_source (editions_of es)
+is_source es = record {
+  all_lead = λ v. of_each
+      (λ x. made_from None (answered_with None (x.for_version v)) ≡ Some (x.for_version v)) es
+      (λ e. ap if_made (all_lead v e.payloads e.are_data));
+  changes_lead = λ v x y wx wy s. of_each
+      (λ x. made_from (Some (x.for_version v))
+      (answered_with (Some (x.for_version v)) (y.for_version v)) ≡ Some (y.for_version v)) es
+      (λ e. of_each
+      (λ y. made_from (Some (data_for v e.payloads))
+      (answered_with (Some (data_for v e.payloads)) (y.for_version v)) ≡ Some (y.for_version v)) es
+      (λ f. ap if_made (delta_leads v e.payloads f.payloads e.are_data f.are_data)) y wy) x wx;
+  none_at_once = λ v x was. no_changes (x.for_version v);
   is_payload = λ c. of_highest c.payload;
-  all_are = λ v s n. announced v (data_for v (E.edition s n)) (of_data v (E.edition s n));
-  changes_are = λ v s m n.
-      changed_of v (data_for v (E.edition s m)) (data_for v (E.edition s n))
-      (of_data v (E.edition s m)) (of_data v (E.edition s n));
+  all_are = λ v. of_each
+      (λ x. AreChangesOf Change (λ c. unit_kind c.payload) v (answered_with None (x.for_version v)))
+      es (λ e. announced v (data_for v e.payloads) (of_data v e.payloads));
+  changes_are = λ v x y wx wy s. of_each
+      (λ x. AreChangesOf Change (λ c. unit_kind c.payload) v
+      (answered_with (Some (x.for_version v)) (y.for_version v))) es
+      (λ e. of_each
+      (λ y. AreChangesOf Change (λ c. unit_kind c.payload) v
+      (answered_with (Some (data_for v e.payloads)) (y.for_version v))) es
+      (λ f. changed_of v (data_for v e.payloads) (data_for v f.payloads) (of_data v e.payloads)
+      (of_data v f.payloads)) y wy) x wx;
 }
+
+pub payloads_agree : (es : List PayloadEdition) (w : World (List Payload) Change)
+    → w.had ≡ editions_of es → IsOneDataPerName w.had
+    → IsReached (List Payload) Change payload_source w → w.router.has_data ≡ true → ShowsEdition w
+payloads_agree es w are one run has =
+    let x : Agrees (List Payload) Change w =
+    agreement (List Payload) Change payload_source w
+    (subst (λ had. IsSource (List Payload) Change payload_source had) (sym are) (is_source es))
+    one run has in
+    let y : (e : PayloadEdition) × IsIn es e × (edition_of e ≡ x.edition) =
+    edition_in es x.edition
+    (subst (λ (had : List (Edition (List Payload))). IsIn had x.edition) are x.was.1) in
+    record {
+      edition = y.0;
+      was = subst (λ (e : Edition (List Payload)). WasHad w.had e) (sym y.2) x.was;
+      session = ap (λ (e : Edition (List Payload)). e.name.session) y.2 ∙ x.session;
+      serial = ap (λ (e : Edition (List Payload)). e.name.serial) y.2 ∙ x.serial;
+      shown = x.same
+          ∙ ap (λ (e : Edition (List Payload)). Some (e.for_version w.router.known.version))
+          (sym y.2);
+    }

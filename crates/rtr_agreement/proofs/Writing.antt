@@ -22,7 +22,7 @@ use Rattle.rtr_session.specs.AnyFields.{cache_reset, cache_response, end_of_data
 use Rattle.rtr_session.specs.AnyFields.{payload, reset_query, serial_notify, serial_query}
 use Rattle.rtr_session.proofs.Units.{end_has, payload_has}
 use Rattle.rtr_data.specs.Data.{Change}
-use Rattle.rtr_data.specs.Deltas.{all_for, change_forms, changes_for, unit_of}
+use Rattle.rtr_data.specs.Deltas.{all_for, change_forms, changes_for, data_for, unit_of}
 use Rattle.rtr_data.proofs.Accepted.{all_sequence, delta_sequence}
 use Rattle.rtr_router.specs.declared.head.Kind.TheVariants as kinds
 use Rattle.rtr_router.specs.declared.head.Query.{Query}
@@ -44,15 +44,16 @@ use Rattle.rtr_cache.specs.Worlds.{plain_unit}
 use Rattle.rtr_cache.specs.Worlds.{report_sent, sized_report, response, router_writes}
 use Rattle.rtr_cache.proofs.Answering.{asking}
 use Rattle.rtr_conversation.specs.Heads.{HasHead, bare_head, head_of, payload_head}
-use Rattle.rtr_agreement.specs.Editions.{Editions, source_of, unit_kind}
+use Rattle.rtr_agreement.specs.Editions.{PayloadEdition, answered_with, edition_of}
+use Rattle.rtr_agreement.specs.Editions.{payload_source, unit_kind}
 use Rattle.rtr_agreement.specs.Pipes.{AreOnTheirWay, AreQueries, IsOnItsWay}
-use Rattle.rtr_agreement.specs.Written.{AreSendable, CacheWrites, FitsAction, FitsPresent, IsOwed}
+use Rattle.rtr_agreement.specs.Written.{CacheWrites, FitsAction, FitsEdition, IsOwed}
 use Rattle.rtr_agreement.specs.Written.{IsReportOf, end_of_edition, response_bytes, router_bytes}
 use Rattle.rtr_agreement.proofs.OnTheWay.{more_way}
 
 -- ---- units without a payload
 
-bare_bytes : (v k s : ℕ) → v < 256 → k < 256 → IsBytes (bare_list v k s)
+pub bare_bytes : (v k s : ℕ) → v < 256 → k < 256 → IsBytes (bare_list v k s)
 bare_bytes v k s hv hk =
     subst IsBytes (append-nil (bare_list v k s)) (header_bytes v k s 8 [] hv hk (IsBytes-be 0 0))
 
@@ -109,46 +110,36 @@ report_has v code b r =
 three : (v : ℕ) → v ≤ 2 → (v ≡ 0) ⊎ ((v ≡ 1) ⊎ (v ≡ 2))
 three v most = grind (arith, nat_tests)
 
-end_fits : (E : Editions) (v : ℕ) (p : Present) → AreSendable E → FitsPresent p → v ≤ 2 →
-    IsEndMeaning (end_of_edition E v p)
-end_fits E v p sendable fits most = record {
-  session = fits.0;
-  serial = fits.1;
+end_fits : (v : ℕ) (p : PayloadEdition) → FitsEdition p → v ≤ 2 →
+    IsEndMeaning (end_of_edition v p)
+end_fits v p fits most = record {
+  session = fits.session;
+  serial = fits.serial;
   timing = elim (three v most) [
     | inl e ↦ rw e refl
-    | inr (inl e) ↦ rw e (inl refl, times.0, times.1, times.2)
-    | inr (inr e) ↦ rw e (inr refl, times.0, times.1, times.2)
+    | inr (inl e) ↦ rw e (inl refl, fits.refresh, fits.retry, fits.expire)
+    | inr (inr e) ↦ rw e (inr refl, fits.refresh, fits.retry, fits.expire)
   ];
 }
-  where
-    times :
-        (E.refresh p.session p.serial < 2 ^ 32)
-        × (E.retry p.session p.serial < 2 ^ 32)
-        × (E.expire p.session p.serial < 2 ^ 32)
-    times = (
-      sendable.refresh p.session p.serial,
-      sendable.retry p.session p.serial,
-      sendable.expire p.session p.serial,
-    )
 
-end_head_is : (E : Editions) (v : ℕ) (p : Present) → v ≤ 2 →
-    (data_end (List Payload) Change (source_of E) v p).head
-    ≡ head_of (end_of_data (end_of_edition E v p)) (length (end_list (end_of_edition E v p)))
-end_head_is E v p most = elim (three v most) [
+end_head_is : (v : ℕ) (p : PayloadEdition) → v ≤ 2 →
+    (data_end (List Payload) Change v (edition_of p)).head
+    ≡ head_of (end_of_data (end_of_edition v p)) (length (end_list (end_of_edition v p)))
+end_head_is v p most = elim (three v most) [
   | inl e ↦ rw e refl
   | inr (inl e) ↦ rw e refl
   | inr (inr e) ↦ rw e refl
 ]
 
-end_way : (E : Editions) (v : ℕ) (p : Present) → AreSendable E → FitsPresent p → v ≤ 2 →
-    IsOnItsWay (end_list (end_of_edition E v p)) (data_end (List Payload) Change (source_of E) v p)
-end_way E v p sendable fits most =
-    let e : EndMeaning = end_of_edition E v p in
-    plain_way (end_list e) (data_end (List Payload) Change (source_of E) v p) (record {
+end_way : (v : ℕ) (p : PayloadEdition) → FitsEdition p → v ≤ 2 →
+    IsOnItsWay (end_list (end_of_edition v p)) (data_end (List Payload) Change v (edition_of p))
+end_way v p fits most =
+    let e : EndMeaning = end_of_edition v p in
+    plain_way (end_list e) (data_end (List Payload) Change v (edition_of p)) (record {
       fields = end_of_data e;
-      has = end_has (end_list e) e (end_made e (end_fits E v p sendable fits most));
+      has = end_has (end_list e) e (end_made e (end_fits v p fits most));
       in_order = tt;
-      head = end_head_is E v p most;
+      head = end_head_is v p most;
     }) refl (λ v p. p)
 
 -- ---- payloads
@@ -168,9 +159,9 @@ carried_head (prefix_unit u) n = refl
 carried_head (key_unit u) n = refl
 carried_head (aspa_unit u) n = refl
 
-change_way : (E : Editions) (v : ℕ) (c : Change) → IsUnit (form_of (unit_of v c)) (unit_of v c) →
-    IsOnItsWay (form_of (unit_of v c)) (change_unit (List Payload) Change (source_of E) v c)
-change_way E v c unit =
+change_way : (v : ℕ) (c : Change) → IsUnit (form_of (unit_of v c)) (unit_of v c) →
+    IsOnItsWay (form_of (unit_of v c)) (change_unit (List Payload) Change payload_source v c)
+change_way v c unit =
     let b : List ℕ = form_of (unit_of v c) in
     let is = unit_fields_of b (unit_of v c) unit in
     record {
@@ -187,10 +178,10 @@ change_way E v c unit =
 abbrev forms_each : ℕ → List Change → List (List ℕ)
 forms_each v cs = map (λ c. form_of (unit_of v c)) cs
 
-changes_way : (E : Editions) (v : ℕ) (cs : List Change) → AreFormed v cs →
-    AreOnTheirWay (forms_each v cs) (map (change_unit (List Payload) Change (source_of E) v) cs)
-changes_way E v [] all = tt
-changes_way E v (c ∷ cs) all = (change_way E v c all.0, changes_way E v cs all.1)
+changes_way : (v : ℕ) (cs : List Change) → AreFormed v cs →
+    AreOnTheirWay (forms_each v cs) (map (change_unit (List Payload) Change payload_source v) cs)
+changes_way v [] all = tt
+changes_way v (c ∷ cs) all = (change_way v c all.0, changes_way v cs all.1)
 
 joined : (v : ℕ) (cs : List Change) (last : List ℕ) →
     concat (forms_each v cs ++ last ∷ []) ≡ change_forms v cs ++ last
@@ -201,72 +192,73 @@ joined v (c ∷ cs) last =
 
 -- ---- what a cache writes
 
-pub record IsWritten (E : Editions) (v : ℕ) (p : Present) (a : Answer) (b : List ℕ) : Type 0 where
+pub record IsWritten (v : ℕ) (old p : PayloadEdition) (a : Answer) (b : List ℕ) : Type 0 where
   pub size : ℕ
   pub units : List (List ℕ)
   pub bytes : concat units ≡ b
   pub way :
-      AreOnTheirWay units (cache_writes (List Payload) Change (source_of E) v size p a)
+      AreOnTheirWay units
+      (cache_writes (List Payload) Change payload_source v size (edition_of old) (edition_of p) a)
+
+-- in units
+abbrev writes : (v size : ℕ) → (old present : PayloadEdition) → Answer → List (Sent Change)
+writes v size old p a =
+    cache_writes (List Payload) Change payload_source v size (edition_of old) (edition_of p) a
 
 -- one unit
-one_written : (E : Editions) (v size : ℕ) (p : Present) (a : Answer) (b : List ℕ)
-    (x : Sent Change) → IsOnItsWay b x →
-    cache_writes (List Payload) Change (source_of E) v size p a ≡ x ∷ [] → IsWritten E v p a b
-one_written E v size p a b x way is = record {
+one_written : (v size : ℕ) (old p : PayloadEdition) (a : Answer) (b : List ℕ)
+    (x : Sent Change) → IsOnItsWay b x → writes v size old p a ≡ x ∷ [] → IsWritten v old p a b
+one_written v size old p a b x way is = record {
   size = size;
   units = b ∷ [];
   bytes = append-nil b;
   way = subst (λ xs. AreOnTheirWay (b ∷ []) xs) (sym is) (way, tt);
 }
 
-responded : (E : Editions) (v : ℕ) (p : Present) (a : Answer) (old : Option (List Payload))
-    (cs : List Change) (b : List ℕ) → AreSendable E → FitsPresent p → v ≤ 2 →
-    AreFormed v cs → b ≡ response_bytes E v p cs →
-    (source_of E).delta old ((source_of E).data_at v p.session p.serial) ≡ cs →
-    cache_writes (List Payload) Change (source_of E) v 0 p a
-    ≡ response (List Payload) Change (source_of E) v p old → IsWritten E v p a b
-responded E v p a old cs b sendable fits most all is delta writes =
+responded : (v : ℕ) (from p : PayloadEdition) (a : Answer) (old : Option (List Payload))
+    (cs : List Change) (b : List ℕ) → FitsEdition p → v ≤ 2 →
+    AreFormed v cs → b ≡ response_bytes v p cs →
+    answered_with old (data_for v p.payloads) ≡ cs →
+    writes v 0 from p a
+    ≡ response (List Payload) Change payload_source v (edition_of p) old → IsWritten v from p a b
+responded v from p a old cs b fits most all is delta same =
     let D : Type 0 = List Payload in
-    let start : List ℕ = bare_list v 3 p.session in
-    let last : List ℕ = end_list (end_of_edition E v p) in
-    let xs : List (Sent Change) =
-    plain_unit Change kinds.CacheResponse v p.session 0 0
-    ∷ (map (change_unit D Change (source_of E) v) cs ++ data_end D Change (source_of E) v p ∷ []) in
+    let start : List ℕ = bare_list v 3 p.name.session in
+    let last : List ℕ = end_list (end_of_edition v p) in
     record {
       size = 0;
       units = start ∷ (forms_each v cs ++ last ∷ []);
       bytes = ap (λ (l : List ℕ). start ++ l) (joined v cs last) ∙ sym is;
       way = subst (λ ys. AreOnTheirWay (start ∷ (forms_each v cs ++ last ∷ [])) ys)
-          (sym (writes
-          ∙ ap (λ (cs : List Change). plain_unit Change kinds.CacheResponse v p.session 0 0
-          ∷ (map (change_unit D Change (source_of E) v) cs
-          ++ data_end D Change (source_of E) v p ∷ [])) delta)) (
-            plain_way start (plain_unit Change kinds.CacheResponse v p.session 0 0)
-                (response_has v p.session (omega (arith, most)) fits.0) refl (λ v p. p),
+          (sym (same
+          ∙ ap (λ (cs : List Change). plain_unit Change kinds.CacheResponse v p.name.session 0 0
+          ∷ (map (change_unit D Change payload_source v) cs
+          ++ data_end D Change v (edition_of p) ∷ [])) delta)) (
+            plain_way start (plain_unit Change kinds.CacheResponse v p.name.session 0 0)
+                (response_has v p.name.session (omega (arith, most)) fits.session) refl (λ v p. p),
             more_way (forms_each v cs) (last ∷ [])
-                (map (change_unit D Change (source_of E) v) cs)
-                (data_end D Change (source_of E) v p ∷ [])
-                (changes_way E v cs all)
-                (end_way E v p sendable fits most, tt),
+                (map (change_unit D Change payload_source v) cs)
+                (data_end D Change v (edition_of p) ∷ [])
+                (changes_way v cs all)
+                (end_way v p fits most, tt),
           );
     }
 
-nothing_written : (E : Editions) (v : ℕ) (p : Present) (a : Answer) (b : List ℕ) → b ≡ [] →
-    cache_writes (List Payload) Change (source_of E) v 0 p a ≡ [] → IsWritten E v p a b
-nothing_written E v p a b none is = record {
+nothing_written : (v : ℕ) (old p : PayloadEdition) (a : Answer) (b : List ℕ) → b ≡ [] →
+    writes v 0 old p a ≡ [] → IsWritten v old p a b
+nothing_written v old p a b none is = record {
   size = 0;
   units = [];
   bytes = sym none;
   way = subst (λ xs. AreOnTheirWay [] xs) (sym is) tt;
 }
 
-owed_written : (E : Editions) (v : ℕ) (p : Present) (a : Answer) (r : Option OwedReport)
+owed_written : (v : ℕ) (old p : PayloadEdition) (a : Answer) (r : Option OwedReport)
     (b : List ℕ) → IsOwed r b →
-    ((m : ℕ) → cache_writes (List Payload) Change (source_of E) v m p a ≡ report_sent Change m r) →
-    IsWritten E v p a b
-owed_written E v p a None b owed is = nothing_written E v p a b owed (is 0)
-owed_written E v p a (Some r) b owed is =
-    one_written E v (length b) p a b (sized_report Change r.version r.code (length b))
+    ((m : ℕ) → writes v m old p a ≡ report_sent Change m r) → IsWritten v old p a b
+owed_written v old p a None b owed is = nothing_written v old p a b owed (is 0)
+owed_written v old p a (Some r) b owed is =
+    one_written v (length b) old p a b (sized_report Change r.version r.code (length b))
     (report_has r.version r.code b owed) (is (length b))
 
 -- the version of an answer with data is one that there is
@@ -288,49 +280,48 @@ changes_version c c' n since p asked.Full w = absurd w
 changes_version c c' n since p asked.Lost w = absurd w
 changes_version c c' n since p (asked.Faulty f) w = absurd w
 
-pub written_units : (E : Editions) (c c' : Cache) (n : ℕ) (p : Present) (e : CacheEvent)
-    (a : Answer) (b : List ℕ) → AreSendable E → FitsPresent p → CacheRule c n p e a c' →
-    c'.version < 2 ^ 8 → CacheWrites E c'.version p a b → IsWritten E c'.version p a b
-written_units E c c' n p e answers.Wait b sendable fits rule small is =
-    nothing_written E c'.version p answers.Wait b is refl
-written_units E c c' n p e answers.All b sendable fits rule small is =
+pub written_units : (c c' : Cache) (n : ℕ) (old p : PayloadEdition) (e : CacheEvent)
+    (a : Answer) (b : List ℕ) → ((since : ℕ) → a ≡ answers.Changes since → FitsEdition old) →
+    FitsEdition p → CacheRule c n p.name e a c' →
+    c'.version < 2 ^ 8 → CacheWrites c'.version old p a b → IsWritten c'.version old p a b
+written_units c c' n old p e answers.Wait b had fits rule small is =
+    nothing_written c'.version old p answers.Wait b is refl
+written_units c c' n old p e answers.All b had fits rule small is =
     let v : ℕ = c'.version in
-    let new : List Payload = E.edition p.session p.serial in
-    let most : v ≤ 2 = all_version c c' n p e rule in
-    let s = all_sequence v small new (end_of_edition E v p) (sendable.payloads p.session p.serial)
-    (end_fits E v p sendable fits most) in
-    responded E v p answers.All None (all_for v new) b sendable fits most
-    (formed v (all_for v new) s.front s.units) is refl refl
-written_units E c c' n p e (answers.Changes since) b sendable fits rule small is =
+    let most : v ≤ 2 = all_version c c' n p.name e rule in
+    let s = all_sequence v small p.payloads (end_of_edition v p) fits.payloads
+    (end_fits v p fits most) in
+    responded v old p answers.All None (all_for v p.payloads) b fits most
+    (formed v (all_for v p.payloads) s.front s.units) is refl refl
+written_units c c' n old p e (answers.Changes since) b had fits rule small is =
     let v : ℕ = c'.version in
-    let old : List Payload = E.edition p.session since in
-    let new : List Payload = E.edition p.session p.serial in
-    let most : v ≤ 2 = changes_version c c' n since p e rule in
-    let s = delta_sequence v small old new (end_of_edition E v p)
-    (sendable.payloads p.session since) (sendable.payloads p.session p.serial)
-    (end_fits E v p sendable fits most) in
-    responded E v p (answers.Changes since)
-    (Some ((source_of E).data_at v p.session since)) (changes_for v old new) b sendable fits most
-    (formed v (changes_for v old new) s.front s.units) is refl refl
-written_units E c c' n p e answers.Reset b sendable fits rule small is =
+    let most : v ≤ 2 = changes_version c c' n since p.name e rule in
+    let s = delta_sequence v small old.payloads p.payloads (end_of_edition v p)
+    (had since refl).payloads fits.payloads (end_fits v p fits most) in
+    responded v old p (answers.Changes since)
+    (Some (data_for v old.payloads)) (changes_for v old.payloads p.payloads) b fits most
+    (formed v (changes_for v old.payloads p.payloads) s.front s.units) is refl refl
+written_units c c' n old p e answers.Reset b had fits rule small is =
     let v : ℕ = c'.version in
-    one_written E v 0 p answers.Reset b (plain_unit Change kinds.CacheReset v 0 0 0)
+    one_written v 0 old p answers.Reset b (plain_unit Change kinds.CacheReset v 0 0 0)
     (subst (λ l. IsOnItsWay l (plain_unit Change kinds.CacheReset v 0 0 0)) (sym is)
     (plain_way (bare_list v 8 0) (plain_unit Change kinds.CacheReset v 0 0 0) (reset_has v small)
     refl (λ v p. p))) refl
-written_units E c c' n p e answers.NoData b sendable fits rule small is =
+written_units c c' n old p e answers.NoData b had fits rule small is =
     let v : ℕ = c'.version in
-    one_written E v (length b) p answers.NoData b (sized_report Change v 2 (length b))
+    one_written v (length b) old p answers.NoData b (sized_report Change v 2 (length b))
     (report_has v 2 b is) refl
-written_units E c c' n p e answers.Notify b sendable fits rule small is =
+written_units c c' n old p e answers.Notify b had fits rule small is =
     let v : ℕ = c'.version in
-    let x : Sent Change = plain_unit Change kinds.SerialNotify v p.session p.serial 0 in
-    one_written E v 0 p answers.Notify b x
+    let x : Sent Change =
+    plain_unit Change kinds.SerialNotify v p.name.session p.name.serial 0 in
+    one_written v 0 old p answers.Notify b x
     (subst (λ l. IsOnItsWay l x) (sym is)
-    (plain_way (serial_list v 0 p.session p.serial) x
-    (notify_has v p.session p.serial small fits.0 fits.1) refl (λ v p. p))) refl
-written_units E c c' n p e (answers.End x) b sendable fits rule small is =
-    owed_written E c'.version p (answers.End x) x.report b is (λ m. refl)
+    (plain_way (serial_list v 0 p.name.session p.name.serial) x
+    (notify_has v p.name.session p.name.serial small fits.session fits.serial) refl (λ v p. p)))
+    refl
+written_units c c' n old p e (answers.End x) b had fits rule small is =
+    owed_written c'.version old p (answers.End x) x.report b is (λ m. refl)
 
 -- ---- what a router writes
 

@@ -9,16 +9,32 @@ use Rattle.rtr_data.specs.Deltas.{data_for, unit_of}
 use Rattle.rtr_data.specs.declared.change_error.ChangeError.{ChangeError}
 use Rattle.rtr_router.specs.declared.head.Kind.{Kind}
 use Rattle.rtr_router.specs.declared.head.Kind.TheVariants as kinds
-use Rattle.rtr_cache.specs.Worlds.{Source, WasPresent, World}
+use Rattle.rtr_router.specs.Histories.{Host}
+use Rattle.rtr_cache.specs.declared.event.Present.{Present}
+use Rattle.rtr_cache.specs.Worlds.{Edition, Source, WasHad, World}
 
--- A cache never has two editions at one session and serial number.
-pub record Editions : Type 0 where
-  pub edition : (session serial : ℕ) → List Payload
-  pub are_data : (session serial : ℕ) → IsData (edition session serial)
-  -- the times that its ends of data name
-  pub refresh : (session serial : ℕ) → ℕ
-  pub retry : (session serial : ℕ) → ℕ
-  pub expire : (session serial : ℕ) → ℕ
+-- Payloads that a cache has, what names them, and the times that their ends of data name. Where
+-- `name` says that there are none, the others say nothing.
+pub record PayloadEdition : Type 0 where
+  pub name : Present
+  pub payloads : List Payload
+  pub are_data : IsData payloads
+  pub refresh : ℕ
+  pub retry : ℕ
+  pub expire : ℕ
+
+-- as each version has them
+abbrev pub edition_of : PayloadEdition → Edition (List Payload)
+edition_of e = record {
+  name = e.name;
+  for_version = λ v. data_for v e.payloads;
+  refresh = e.refresh;
+  retry = e.retry;
+  expire = e.expire;
+}
+
+abbrev pub editions_of : List PayloadEdition → List (Edition (List Payload))
+editions_of es = map edition_of es
 
 -- the kind of unit that a payload is sent in (RFC 8210 sections 5.6, 5.7, 5.10)
 abbrev pub unit_kind : Payload → Kind
@@ -40,25 +56,25 @@ abbrev pub answered_with : Option (List Payload) → List Payload → List Chang
 answered_with None new = map announcement new
 answered_with (Some old) new = changes old new
 
--- The data that a version has of editions; made by changes in turn, as `Data::apply` and
--- `apply_in_order` make them; sent as `write_all` and `write_delta` write them.
-abbrev pub source_of : Editions → Source (List Payload) Change
-source_of E = record {
-  data_at = λ v s n. data_for v (E.edition s n);
+-- Made by changes in turn, as `Data::apply` and `apply_in_order` make them; sent as `write_all` and
+-- `write_delta` write them.
+abbrev pub payload_source : Source (List Payload) Change
+payload_source = record {
   make = made_from;
   delta = answered_with;
   kind = λ c. unit_kind c.payload;
   size = λ v c. length (form_of (unit_of v c));
-  refresh = E.refresh;
-  retry = E.retry;
-  expire = E.expire;
 }
+
+-- what a router's caller has in payloads
+abbrev pub PayloadHost : Type 0
+PayloadHost = Host (List Change) (List Payload)
 
 -- what is shown is the edition that the cache had under the router's session and serial number, as
 -- the router's version has it
-pub record ShowsEdition (E : Editions) (w : World (List Payload) Change) : Type 0 where
-  pub was : WasPresent w.had w.router.known.session w.router.known.serial
-  pub shown :
-      w.holding.shown
-      ≡ Some (data_for w.router.known.version
-      (E.edition w.router.known.session w.router.known.serial))
+pub record ShowsEdition (w : World (List Payload) Change) : Type 0 where
+  pub edition : PayloadEdition
+  pub was : WasHad w.had (edition_of edition)
+  pub session : edition.name.session ≡ w.router.known.session
+  pub serial : edition.name.serial ≡ w.router.known.serial
+  pub shown : w.host.shown ≡ Some (data_for w.router.known.version edition.payloads)

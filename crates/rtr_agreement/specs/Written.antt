@@ -1,5 +1,5 @@
 -- What a router and a cache of ours write, in bytes (RFC 8210 section 5).
-use Rattle.std.specs.Prelude.{◌≡◌, ◌<◌, ◌^◌, ◌==◌, ℕ, List, [], ◌++◌, Option, Some, None}
+use Rattle.std.specs.Prelude.{◌≡◌, ◌<◌, ◌^◌, ◌==◌, ℕ, true, List, [], ◌++◌, Option, Some, None}
 use Rattle.std.specs.Prelude.{if◌then◌else◌}
 use Rattle.std.specs.List.{AllByRecursion}
 use Rattle.rtr_units.specs.End.{EndMeaning, end_list}
@@ -13,22 +13,19 @@ use Rattle.rtr_router.specs.declared.event.Action.TheVariants as actions
 use Rattle.rtr_cache.specs.declared.event.Answer.{Answer}
 use Rattle.rtr_cache.specs.declared.event.Answer.TheVariants as answers
 use Rattle.rtr_cache.specs.declared.event.OwedReport.{OwedReport}
-use Rattle.rtr_cache.specs.declared.event.Present.{Present}
+use Rattle.rtr_cache.specs.Worlds.{IsIn}
 use Rattle.rtr_conversation.specs.Sent.{query_bytes}
-use Rattle.rtr_agreement.specs.Editions.{Editions}
+use Rattle.rtr_agreement.specs.Editions.{PayloadEdition}
 
 -- ---- numbers and payloads, as their types keep them
 
--- the payloads of each edition, and the times that its end of data names
-pub record AreSendable (E : Editions) : Type 0 where
-  pub payloads :
-      (session serial : ℕ) → AllByRecursion (λ p. IsSendable p) (E.edition session serial)
-  pub refresh : (session serial : ℕ) → E.refresh session serial < 2 ^ 32
-  pub retry : (session serial : ℕ) → E.retry session serial < 2 ^ 32
-  pub expire : (session serial : ℕ) → E.expire session serial < 2 ^ 32
-
-abbrev pub FitsPresent : Present → Type 0
-FitsPresent p = (p.session < 2 ^ 16) × (p.serial < 2 ^ 32)
+pub record FitsEdition (e : PayloadEdition) : Type 0 where
+  pub session : e.name.session < 2 ^ 16
+  pub serial : e.name.serial < 2 ^ 32
+  pub payloads : AllByRecursion (λ p. IsSendable p) e.payloads
+  pub refresh : e.refresh < 2 ^ 32
+  pub retry : e.retry < 2 ^ 32
+  pub expire : e.expire < 2 ^ 32
 
 -- the numbers of the query that an action sends
 abbrev pub FitsAction : Action → Type 0
@@ -45,26 +42,22 @@ router_bytes _ = []
 -- ---- the cache
 
 -- the end of the present data; in version 0 it names no times (section 5.8, RFC 6810 section 5.8)
-abbrev pub end_of_edition : Editions → (version : ℕ) → Present → EndMeaning
-end_of_edition E v p = record {
+abbrev pub end_of_edition : (version : ℕ) → PayloadEdition → EndMeaning
+end_of_edition v e = record {
   version = v;
-  session = p.session;
-  serial = p.serial;
+  session = e.name.session;
+  serial = e.name.serial;
   timing =
       if v == 0
       then None
-      else Some (record {
-        refresh = E.refresh p.session p.serial;
-        retry = E.retry p.session p.serial;
-        expire = E.expire p.session p.serial;
-      });
+      else Some (record { refresh = e.refresh; retry = e.retry; expire = e.expire });
 }
 
 -- A cache response, the units of these changes as `write_all`, `write_delta` and `delta_into` write
 -- them, and an end of data (sections 5.5 and 8.2).
-abbrev pub response_bytes : Editions → (version : ℕ) → Present → List Change → List ℕ
-response_bytes E v p cs =
-    bare_list v 3 p.session ++ (change_forms v cs ++ end_list (end_of_edition E v p))
+abbrev pub response_bytes : (version : ℕ) → (present : PayloadEdition) → List Change → List ℕ
+response_bytes v p cs =
+    bare_list v 3 p.name.session ++ (change_forms v cs ++ end_list (end_of_edition v p))
 
 -- an error report of this version and code, about any unit and with any text (section 5.11)
 abbrev pub IsReportOf : (version code : ℕ) → List ℕ → Type 0
@@ -74,17 +67,24 @@ abbrev pub IsOwed : Option OwedReport → List ℕ → Type 0
 IsOwed None b = b ≡ []
 IsOwed (Some r) b = IsReportOf r.version r.code b
 
--- What the cache's caller writes at an answer: nothing; all data, or changes; a cache reset
--- (section 5.9); a report that there are no data; a serial notify (section 5.2); the report that is
--- owed.
-abbrev pub CacheWrites : Editions → (version : ℕ) → Present → Answer → List ℕ → Type 0
-CacheWrites E v p answers.Wait b = b ≡ []
-CacheWrites E v p answers.All b =
-    b ≡ response_bytes E v p (all_for v (E.edition p.session p.serial))
-CacheWrites E v p (answers.Changes since) b =
-    b ≡ response_bytes E v p
-    (changes_for v (E.edition p.session since) (E.edition p.session p.serial))
-CacheWrites E v p answers.Reset b = b ≡ bare_list v 8 0
-CacheWrites E v p answers.NoData b = IsReportOf v 2 b
-CacheWrites E v p answers.Notify b = b ≡ serial_list v 0 p.session p.serial
-CacheWrites E v p (answers.End x) b = IsOwed x.report b
+-- What the cache's caller writes at an answer: nothing; all data, or the changes from `old`; a
+-- cache reset (section 5.9); a report that there are no data; a serial notify (section 5.2); the
+-- report that is owed.
+abbrev pub CacheWrites : (version : ℕ) → (old present : PayloadEdition) → Answer → List ℕ → Type 0
+CacheWrites v old p answers.Wait b = b ≡ []
+CacheWrites v old p answers.All b = b ≡ response_bytes v p (all_for v p.payloads)
+CacheWrites v old p (answers.Changes since) b =
+    b ≡ response_bytes v p (changes_for v old.payloads p.payloads)
+CacheWrites v old p answers.Reset b = b ≡ bare_list v 8 0
+CacheWrites v old p answers.NoData b = IsReportOf v 2 b
+CacheWrites v old p answers.Notify b = b ≡ serial_list v 0 p.name.session p.name.serial
+CacheWrites v old p (answers.End x) b = IsOwed x.report b
+
+-- Changes are those from an edition that the cache had: of the present session, at the serial
+-- number that its answer names.
+abbrev pub IsSentFrom : List PayloadEdition → (present : PayloadEdition) → Answer
+    → PayloadEdition → Type 0
+IsSentFrom had p (answers.Changes since) old =
+    (old.name.has ≡ true) × IsIn had old × (old.name.session ≡ p.name.session)
+    × (old.name.serial ≡ since)
+IsSentFrom had p _ old = Unit {0}

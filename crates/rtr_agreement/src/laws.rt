@@ -1,11 +1,12 @@
 //! What holds of a router and a cache that are joined, over payloads and over bytes.
 
 ghost use Rattle.std.specs.Prelude.{◌≡◌, ◌∷◌, ◌++◌, ℕ, Bool, List, true};
-ghost use Rattle.rtr_agreement.specs.Editions.{Editions, ShowsEdition, source_of};
+ghost use Rattle.rtr_agreement.specs.Editions.{PayloadEdition, ShowsEdition, editions_of};
+ghost use Rattle.rtr_agreement.specs.Editions.{payload_source};
 ghost use Rattle.rtr_agreement.specs.Pipes.{IsRunOfUnits, Joined, IsRunInBytes, ShowsBytes};
-ghost use Rattle.rtr_agreement.specs.Written.{AreSendable};
 ghost use Rattle.rtr_cache.specs.declared.cache.Cache.{Cache};
-ghost use Rattle.rtr_cache.specs.Worlds.{GoesOn, IsListening, IsPeaceful, IsReached, Sent, World};
+ghost use Rattle.rtr_cache.specs.Worlds.{GoesOn, IsListening, IsOneDataPerName, IsPeaceful};
+ghost use Rattle.rtr_cache.specs.Worlds.{IsReached, Sent, World};
 ghost use Rattle.rtr_conversation.specs.Reading.{Acts, Hears};
 ghost use Rattle.rtr_conversation.specs.Sending.{CacheHearsSent, HearsSent};
 ghost use Rattle.rtr_conversation.specs.Serving.{HearsRouter};
@@ -26,18 +27,20 @@ ghost use Rattle.rtr_router.specs.declared.router.Router.{Router};
 /// shows are the payloads of the edition that the cache had under their session and serial number,
 /// as the router's version has them.
 pub fn payloads_agree()
-    ensures { (E : Editions) (w : World (List Payload) Change)
-        → IsReached (List Payload) Change (source_of E) w → w.router.has_data ≡ true
-        → ShowsEdition E w }
+    ensures { (editions : List PayloadEdition) (w : World (List Payload) Change)
+        → w.had ≡ editions_of editions → IsOneDataPerName w.had
+        → IsReached (List Payload) Change payload_source w → w.router.has_data ≡ true
+        → ShowsEdition w }
 {}
 
 /// In any such run a router of ours ends no connection over what a cache of ours sends, unless that
 /// is of another session, goes back in serial numbers, is above the limits of an answer, or is a
 /// report; while the data haven't expired, and no limit of time is over.
 pub fn payloads_in_peace()
-    ensures { (E : Editions) (w : World (List Payload) Change) (x : Sent Change)
+    ensures { (editions : List PayloadEdition) (w : World (List Payload) Change) (x : Sent Change)
         (rest : List (Sent Change)) (n : ℕ) (a : Action) (after : Router)
-        → IsReached (List Payload) Change (source_of E) w → w.to_router ≡ x ∷ rest
+        → w.had ≡ editions_of editions → IsOneDataPerName w.had
+        → IsReached (List Payload) Change payload_source w → w.to_router ≡ x ∷ rest
         → IsListening w.router.phase → Fresh w.router n → IsInTime w.router n
         → IsPeaceful w.router x.head → IsStep w.router n (events.Came x.head) a after
         → GoesOn a }
@@ -49,36 +52,37 @@ pub fn payloads_in_peace()
 /// the router's version has them. The cache writes what `write_all`, `write_delta` and `delta_into`
 /// write; the router is told of it by `tell` and makes changes by `apply_in_order`.
 pub fn bytes_agree()
-    ensures { (c : Caller (List ℕ) (List ℕ)) (E : Editions) (w : Joined)
-        → AppliesAnswers c → AreSendable E → IsRunInBytes c E w → w.router.has_data ≡ true
-        → ShowsBytes E w }
+    ensures { (c : Caller (List ℕ) (List ℕ)) (w : Joined)
+        → AppliesAnswers c → IsOneDataPerName (editions_of w.had) → IsRunInBytes c w
+        → w.router.has_data ≡ true → ShowsBytes w }
 {}
 
 /// In any such run what is on its way is units, each as it was sent, and each side hears the next
 /// of them, byte for byte: of any front of the bytes, with any cuts. Neither refuses any of them,
 /// unless the end of the connection cuts it off.
 pub fn bytes_are_units()
-    ensures units { (c : Caller (List ℕ) (List ℕ)) (E : Editions) (w : Joined)
-        → AppliesAnswers c → AreSendable E → IsRunInBytes c E w → IsRunOfUnits E w }
-    ensures router { (c : Caller (List ℕ) (List ℕ)) (E : Editions) (w : Joined) (n : ℕ)
+    ensures units { (c : Caller (List ℕ) (List ℕ)) (w : Joined)
+        → AppliesAnswers c → IsRunInBytes c w → IsRunOfUnits w }
+    ensures router { (c : Caller (List ℕ) (List ℕ)) (w : Joined) (n : ℕ)
         (input later : List ℕ) (ended : Bool) (t : Told) (after : Router)
-        → AppliesAnswers c → AreSendable E → IsRunInBytes c E w → w.to_router ≡ input ++ later
+        → AppliesAnswers c → IsRunInBytes c w → w.to_router ≡ input ++ later
         → Hears w.router n input ended t after
-        → (x : IsRunOfUnits E w) × HearsSent w.router n x.units input ended t after }
-    ensures cache { (c : Caller (List ℕ) (List ℕ)) (E : Editions) (w : Joined) (n : ℕ)
+        → (x : IsRunOfUnits w) × HearsSent w.router n x.units input ended t after }
+    ensures cache { (c : Caller (List ℕ) (List ℕ)) (w : Joined) (n : ℕ)
         (kept input later : List ℕ) (ended : Bool) (s : Served) (after : Cache)
-        → AppliesAnswers c → AreSendable E → IsRunInBytes c E w → w.to_cache ≡ input ++ later
-        → HearsRouter w.cache n w.present kept input ended s after
-        → (x : IsRunOfUnits E w)
-        × CacheHearsSent w.cache n w.present kept x.queries input ended s after }
+        → AppliesAnswers c → IsRunInBytes c w → w.to_cache ≡ input ++ later
+        → HearsRouter w.cache n w.present.name kept input ended s after
+        → (x : IsRunOfUnits w)
+        × CacheHearsSent w.cache n w.present.name kept x.queries input ended s after }
 {}
 
 /// In any such run a router of ours ends no connection over the bytes of a cache of ours, with the
 /// same exceptions as over its units.
 pub fn bytes_in_peace()
-    ensures { (c : Caller (List ℕ) (List ℕ)) (E : Editions) (w : Joined) (n : ℕ)
+    ensures { (c : Caller (List ℕ) (List ℕ)) (w : Joined) (n : ℕ)
         (input later : List ℕ) (start end : ℕ) (a : Action) (after : Router)
-        → AppliesAnswers c → AreSendable E → IsRunInBytes c E w → w.to_router ≡ input ++ later
+        → AppliesAnswers c → IsOneDataPerName (editions_of w.had) → IsRunInBytes c w
+        → w.to_router ≡ input ++ later
         → (heard : Acts w.router n input start end a after)
         → IsListening heard.before.phase → Fresh heard.before n → IsInTime heard.before n
         → IsPeaceful heard.before heard.head → GoesOn a }

@@ -1,7 +1,7 @@
 -- What is answered of an input, a connection goes on by.
 use Rattle.std.proofs.Common.{ℕ, Bool, List, sym, subst}
 use Rattle.rtr_cache.specs.Connections.{CacheMoment, IsConnection}
-use Rattle.rtr_cache.specs.Connections.IsConnection.{connection_goes_on}
+use Rattle.rtr_cache.specs.Connections.IsConnectionBy.{connection_goes_on}
 use Rattle.rtr_cache.specs.declared.cache.Cache.{Cache}
 use Rattle.rtr_cache.specs.declared.event.Answer.{Answer}
 use Rattle.rtr_cache.specs.declared.event.CacheEvent.{CacheEvent}

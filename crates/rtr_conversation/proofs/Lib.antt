@@ -1,4 +1,5 @@
 mod Heads
+mod Alone
 mod Units
 pub mod Whole
 mod Left
@@ -7,3 +8,4 @@ pub mod Sending
 mod Heard
 mod Connected
 mod ShortTexts
+pub mod Examples

@@ -1,13 +1,15 @@
 -- Units one after the other, of which the machine is told.
 use native.Mathlib.Omega.{arith}
-use Rattle.std.proofs.Common.{◌≢◌, ℕ, ◌+◌, ◌≤◌, List, [], length, take, drop, sym, subst}
+use Rattle.std.proofs.Common.{◌≡◌, ◌≢◌, ℕ, ◌+◌, ◌<◌, ◌≤◌, true, List, [], length, take, drop, sym}
+use Rattle.std.proofs.Common.{subst}
 use Rattle.std.proofs.Math.Seq.{take-add}
-use Rattle.std.proofs.lemmas.List.{drop-take, length-drop}
+use Rattle.std.proofs.lemmas.List.{drop-take, length-drop, length-take-le}
 use Rattle.rtr_router.specs.declared.event.Action.{Action}
 use Rattle.rtr_router.specs.declared.event.Action.TheVariants as actions
 use Rattle.rtr_router.specs.declared.router.Router.{Router}
 use Rattle.rtr_conversation.specs.Heads.{HasHead}
-use Rattle.rtr_conversation.specs.PrivateReading.{Comes}
+use Rattle.rtr_conversation.specs.PrivateReading.{Comes, begins_payload}
+use Rattle.rtr_conversation.proofs.Alone.{ends_alone, reading}
 use Rattle.rtr_conversation.specs.Reading.{Acts, KeepsAll, kept_none, kept_more}
 
 pub keeps_first : (n : ℕ) (r : Router) (input : List ℕ) (size : ℕ) (r' : Router) →
@@ -30,9 +32,10 @@ within mid r' n input a k size start c =
     omega (arith, start, left, c.within)
 
 pub acts_on : (n : ℕ) (r mid r' : Router) (input : List ℕ) (a : Action) (k size : ℕ) →
-    k ≤ length input → KeepsAll n r (take k input) mid → Comes mid n (drop k input) a size r' →
+    0 < k → k ≤ length input → KeepsAll n r (take k input) mid →
+    begins_payload (drop k input) ≡ true → Comes mid n (drop k input) a size r' →
     a ≢ actions.Keep → Acts r n input k (k + size) a r'
-acts_on n r mid r' input a k size start kept c other = record {
+acts_on n r mid r' input a k size some start kept begun c other = record {
   before = mid;
   kept = kept;
   head = c.head;
@@ -41,6 +44,11 @@ acts_on n r mid r' input a k size start kept c other = record {
   within = within mid r' n input a k size start c;
   step = c.step;
   other = other;
+  alone = λ more.
+      let all = length-take-le k input start in
+      let here : 0 < length (take k input) = omega (arith, some, all) in
+      ends_alone n mid r' (drop k input) a size (reading n r (take k input) mid kept here) begun c
+      other;
 }
 
 pub acts_first : (n : ℕ) (r r' : Router) (input : List ℕ) (a : Action) (size : ℕ) →
@@ -54,4 +62,5 @@ acts_first n r r' input a size c other = record {
   within = c.within;
   step = c.step;
   other = other;
+  alone = λ some. absurd (omega (arith, some));
 }

@@ -1,5 +1,6 @@
 -- What whole answers made in bytes, they made of payloads.
-use Rattle.std.proofs.Common.{◌≡◌, ℕ, List, [], ◌∷◌, ◌++◌, Option, Some, None, Ok, refl, sym}
+use Rattle.std.proofs.Common.{◌≡◌, ◌⊎◌, inl, inr, ℕ, List, [], ◌∷◌, ◌++◌, Option, Some, None, Ok}
+use Rattle.std.proofs.Common.{refl, sym}
 use Rattle.std.proofs.Common.{ap, subst, ◌∙◌, length, take, drop, map}
 use Rattle.std.proofs.Math.Seq.{take-append_seam}
 use Rattle.std.proofs.lemmas.List.{append-nil, map-append}
@@ -35,9 +36,11 @@ use Rattle.rtr_router.specs.declared.head.Kind.TheVariants as kinds
 use Rattle.rtr_router.specs.declared.head.Known.{Known}
 use Rattle.rtr_router.specs.declared.head.Query.{Query}
 use Rattle.rtr_router.specs.declared.settings.Settings.{Settings}
-use Rattle.rtr_router.specs.Histories.{Caller, HistoryHas, IsAnswered, IsRead}
+use Rattle.rtr_router.specs.declared.router.Router.{Router}
+use Rattle.rtr_router.specs.Histories.{Caller, HistoryHas, Host, IsAnswered, IsHistory, IsRead}
 use Rattle.rtr_router.specs.Histories.{Made, Moment, WasAnswered}
 use Rattle.rtr_router.specs.Histories.HistoryHas.{made_anew, made_of, still_had}
+use Rattle.rtr_router.proofs.WholeAnswers.{whole_answers}
 use Rattle.rtr_router.specs.Histories.IsRead.{was_begun, was_kept, still_read}
 use Rattle.rtr_router.specs.Histories.WasAnswered.{was_ended, still_whole}
 use Rattle.rtr_router.specs.Rules.{IsPayloadOf, known_of}
@@ -189,15 +192,16 @@ record Whole (k : Known) (units : List (List ℕ)) (last : List ℕ) : Type 0 wh
   pub of : Changing k.version units
   pub ends : EndsAs k last
 
-whole : (q : Query) (k : Known) (ms : List (Moment (List ℕ))) (units : List (List ℕ))
-    (last : List ℕ) → WasAnswered q k ms units last → AreHeard ms → Whole k units last
-whole q k ms units last (was_ended n b u ms₀ bodies read kind names) heard = record {
+whole : (q : Query) (k : Known) (since : ℕ) (ms : List (Moment (List ℕ)))
+    (units : List (List ℕ)) (last : List ℕ) → WasAnswered q k since ms units last
+    → AreHeard ms → Whole k units last
+whole q k since ms units last (was_ended n b u ms₀ bodies read kind names came) heard = record {
   of = subst (λ v. Changing v units) (sym (ap (λ (k : Known). k.version) names))
       (read_changes q u.version u.session ms₀ bodies read heard.1);
   ends = end_named b u k heard.0 kind names;
 }
-whole q k ms units last (still_whole n b e ms₀ bodies last₀ still was) heard =
-    whole q k ms₀ bodies last₀ was heard.1
+whole q k since ms units last (still_whole n b e ms₀ bodies last₀ still was) heard =
+    whole q k since ms₀ bodies last₀ was heard.1
 
 sends : (k : Known) (units : List (List ℕ)) (last : List ℕ) (w : Whole k units last) →
     Sends (concat units ++ last) w.of.changes w.ends.end
@@ -275,8 +279,8 @@ has_payloads : (c : Caller (List ℕ) (List ℕ)) → AppliesAnswers c →
     (ms : List (Moment (List ℕ))) (k : Known) (since : ℕ) (shown : List ℕ) → AreHeard ms →
     HistoryHas c.settings (Made c) ms k since shown → Has c.settings ms k since shown
 has_payloads c applies ms k since shown heard
-    (made_anew n b ms₀ q k₁ bodies last d reset was makes) =
-    let w = whole q k ms₀ bodies last was heard.1 in
+    (made_anew n b ms₀ q k₁ t bodies last d reset was makes soon) =
+    let w = whole q k since ms₀ bodies last was heard.1 in
     let a = applies None bodies last shown makes in
     let x = written last (concat bodies ++ last) a.places a.size a.before a.after []
     w.of.changes w.ends.end w.ends.end a.applies (alone last w.ends.end w.ends.is)
@@ -286,15 +290,15 @@ has_payloads c applies ms k since shown heard
       end = w.ends.end;
       holds = subst (λ l. HoldsData l x.payloads w.ends.end) (sym a.new_is) x.holds;
       named = w.ends.named;
-      has = made_anew n b ms₀ q k bodies last x.payloads reset was (record {
+      has = made_anew n b ms₀ q k since bodies last x.payloads reset was (record {
         changes = w.of.changes;
         are_units = w.of.are_units;
         made = x.made;
-      });
+      }) soon;
     }
 has_payloads c applies ms k since shown heard
-    (made_of n b ms₀ q k₁ bodies last d k₀ n₀ d₀ before changes was makes) =
-    let w = whole q k ms₀ bodies last was heard.1 in
+    (made_of n b ms₀ q k₁ t bodies last d k₀ n₀ d₀ before changes was makes soon) =
+    let w = whole q k since ms₀ bodies last was heard.1 in
     let a = applies (Some d₀) bodies last shown makes in
     let old = has_payloads c applies ms₀ k₀ n₀ d₀ heard.1 before in
     let x = written d₀ (concat bodies ++ last) a.places a.size a.before a.after old.payloads
@@ -304,12 +308,13 @@ has_payloads c applies ms k since shown heard
       end = w.ends.end;
       holds = subst (λ l. HoldsData l x.payloads w.ends.end) (sym a.new_is) x.holds;
       named = w.ends.named;
-      has = made_of n b ms₀ q k bodies last x.payloads k₀ n₀ old.payloads old.has changes was
+      has = made_of n b ms₀ q k since bodies last x.payloads k₀ n₀ old.payloads old.has changes was
           (record {
             changes = w.of.changes;
             are_units = w.of.are_units;
             made = x.made;
-          });
+          })
+          soon;
     }
 has_payloads c applies ms k since shown heard
     (still_had n b e a ms₀ k₁ n₀ d₀ before leaves soon) =
@@ -338,3 +343,15 @@ shows_answer c ms k o applies heard x =
         has = y.has;
       },
     )
+
+pub only_whole : (c : Caller (List ℕ) (List ℕ)) (ms : List (Moment (List ℕ))) (r : Router)
+    (h : Host (List ℕ) (List ℕ)) → IsHistory c ms r h → AreHeard ms → AppliesAnswers c →
+    (h.shown ≡ None) ⊎ ((shown : List ℕ) × (h.shown ≡ Some shown)
+    × ShowsAnswer c.settings ms r.known shown)
+only_whole c ms r h run heard applies = go (whole_answers c ms r h run)
+  where
+    go : (h.shown ≡ None) ⊎ IsAnswered c ms r.known h.shown →
+        (h.shown ≡ None) ⊎ ((shown : List ℕ) × (h.shown ≡ Some shown)
+        × ShowsAnswer c.settings ms r.known shown)
+    go (inl none) = inl none
+    go (inr x) = inr (shows_answer c ms r.known h.shown applies heard x)

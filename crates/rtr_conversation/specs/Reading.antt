@@ -41,8 +41,14 @@ pub record KeepsUnits (r : Router) (n : ℕ) (input : List ℕ) (k : ℕ) (r' : 
   pub kept : KeepsAll n r (take k input) r'
   pub no_more : BeginsUnit (drop k input) → ⊥
 
+-- the action ends the connection
+abbrev pub EndsConnection : Action → Type 0
+EndsConnection (actions.End x) = Unit {0}
+EndsConnection _ = ⊥
+
 -- The unit from the place `start` to the place `end` makes the machine take this action; those
--- before it are kept.
+-- before it are kept. Where there are some, the action ends the connection, and they don't matter
+-- any more.
 pub record Acts (r : Router) (n : ℕ) (input : List ℕ) (start end : ℕ) (a : Action) (r' : Router) :
     Type 0 where
   pub before : Router
@@ -53,6 +59,7 @@ pub record Acts (r : Router) (n : ℕ) (input : List ℕ) (start end : ℕ) (a :
   pub within : end ≤ length input
   pub step : IsStep before n (events.Came head) a r'
   pub other : a ≢ actions.Keep
+  pub alone : 0 < start → EndsConnection a
 
 -- The input begins with a unit that is refused, or that the end of the input cuts off.
 pub record HearsRefused (r : Router) (n : ℕ) (input : List ℕ) (ended : Bool) (e : ViewFault)

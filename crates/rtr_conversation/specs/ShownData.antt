@@ -90,8 +90,8 @@ pub record MakesPayloads (k : Known) (old : Option (List Payload)) (units : List
   pub made : after_all changes (Ok (unwrap_or old [])) ≡ Ok new
 
 -- The bytes that are shown are data in canonical form: payloads, each in a unit of one version, and
--- the end of data that k names them by. The history has them since then: one whole answer made
--- them, of the payloads before or of none.
+-- the end of data that k names them by, which came at `since`: one whole answer made them, of the
+-- payloads before or of none.
 pub record ShowsAnswer (s : Settings) (ms : List (Moment (List ℕ))) (k : Known)
     (shown : List ℕ) : Type 0 where
   pub payloads : List Payload

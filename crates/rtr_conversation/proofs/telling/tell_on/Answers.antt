@@ -1,8 +1,8 @@
 use native.Mathlib.Omega.{arith}
-use Rattle.std.proofs.Common.{drop, take, subst, sym}
+use Rattle.std.proofs.Common.{◌≡◌, true, drop, take, subst, sym}
 use Rattle.rtr_router.specs.declared.event.Action.TheVariants as actions
 use Rattle.rtr_payload.specs.FirstFault.{BeginsUnit}
-use Rattle.rtr_conversation.specs.PrivateReading.{Comes}
+use Rattle.rtr_conversation.specs.PrivateReading.{Comes, begins_payload}
 use Rattle.rtr_conversation.specs.Reading.{KeepsAll}
 use Rattle.rtr_conversation.proofs.Units.{acts_on, keeps_on, within}
 use Rattle.rtr_conversation.proofs.telling.tell_on.Goals as goal
@@ -14,8 +14,11 @@ returns-in_default c =
     c.split_at.ensures.back c.in-Some.ensures.unit in
     λ before ended kept.
     acts_on c.args.now before c.units.router c.heard.new.router c.args.input.now c.in-Some.action
-    c.units.kept c.in-Some.size c.units.invariant.within (c.units.invariant.keeps before kept) comes
-    c.in_default.not-Keep
+    c.units.kept c.in-Some.size c.units.invariant.some c.units.invariant.within
+    (c.units.invariant.keeps before kept)
+    (subst (λ rest. begins_payload rest ≡ true) c.split_at.ensures.back
+    (sym c.if-not-begins_payload.ensures))
+    comes c.in_default.not-Keep
 
 pub returns-in-None : goal.returns-in-None
 returns-in-None c =
