@@ -1,2 +1,3 @@
+mod KeptData
 mod RecordingSoFar
 mod RecordingStops

@@ -1,5 +1,5 @@
 -- What taking one unit of a recording leaves. Only contracts of private functions cite these.
-use Rattle.std.specs.Prelude.{◌≡◌, ℕ, false, List, None, Result, Ok, Err, IsOk}
+use Rattle.std.specs.Prelude.{◌≡◌, ℕ, false, List, [], None, Result, Ok, Err, IsOk}
 use Rattle.rtr_units.specs.StopCauses.{Cause, cause_of}
 use Rattle.rtr_units.specs.declared.fault.Fault.TheVariants.{Short}
 use Rattle.rtr_payload.specs.Payloads.{Payload}
@@ -10,7 +10,8 @@ use Rattle.rtr_session.specs.AnyUnits.{any_fields}
 use Rattle.rtr_session.specs.declared.any_unit.AnyUnit.{AnyUnit}
 use Rattle.rtr_session.specs.declared.any_unit.AnyUnit.TheVariants as units
 use Rattle.rtr_recordings.specs.RecordingRead.{IsLeft, IsRefused, KeepsPrefixRule}
-use Rattle.rtr_recordings.specs.Recordings.{SoMuch, current, is_whole, step}
+use Rattle.rtr_recordings.specs.Recordings.{OpenAnswer, SoMuch, begun_in, current, is_whole}
+use Rattle.rtr_recordings.specs.Recordings.{last_session, step, with_open}
 use Rattle.rtr_recordings.specs.declared.recording.Recording.{Recording}
 use Rattle.rtr_recordings.specs.declared.stop.Stop.{Stop}
 use Rattle.rtr_recordings.specs.declared.stop.StopCause.{StopCause}
@@ -33,10 +34,16 @@ TakesUnit (Err (Refused e)) unit old new =
 abbrev pub without_pending : SoMuch → SoMuch
 without_pending m = record m { pending = None }
 
--- what the next payload unit changes was taken out, or memory ran out for a copy of it
-abbrev pub TakesCurrent : Result (List Payload) ChangeError → (old new : SoMuch) → Type 0
-TakesCurrent (Ok d) old new = (d ≡ current old) × (new ≡ without_pending old)
+-- the answer that the next payload unit is of was taken out, or memory ran out for a copy
+abbrev pub TakesCurrent : Result OpenAnswer ChangeError → (old new : SoMuch) → Type 0
+TakesCurrent (Ok answer) old new =
+    (answer ≡ current old) × (new ≡ without_pending (with_open old))
 TakesCurrent (Err e) old new = (e ≡ Memory) × (old.pending ≡ None)
+
+-- an answer that begins without a cache response was taken out, with the payloads themselves
+abbrev pub TakesBegun : OpenAnswer → (old new : SoMuch) → Type 0
+TakesBegun answer old new = (answer ≡ begun_in old (last_session old))
+    × (new ≡ record old { kept = []; asks_all = None })
 
 -- this is what a change was to make, or why it is refused, or memory ran out where it isn't
 abbrev pub Gives : Result (List Payload) ChangeError → Result (List Payload) ChangeError → Type 0

@@ -2,6 +2,7 @@
 //! that read recordings read them here, so that all read one file alike.
 #![tactic(auto)]
 
+pub mod laws;
 mod recording;
 mod stop;
 

@@ -15,14 +15,19 @@ ghost use Rattle.rtr_session.specs.declared.any_unit.AnyUnit.TheVariants as unit
 ghost use Rattle.rtr_recordings.specs.PrivateRecordings.{
   FinishesAt,
   Gives,
+  TakesBegun,
   TakesCurrent,
   TakesUnit,
 };
 ghost use Rattle.rtr_recordings.specs.RecordingRead.{HoldsStopError, ReadsRecording};
-ghost use Rattle.rtr_recordings.specs.Recordings.{closed_in, is_other, nothing, opens_answer};
+ghost use Rattle.rtr_recordings.specs.Recordings.{begins_anew, begun_in, closed, is_before};
+ghost use Rattle.rtr_recordings.specs.Recordings.{is_other, is_wanted, last_serial};
+ghost use Rattle.rtr_recordings.specs.Recordings.{last_session, nothing, opens_answer};
+ghost use Rattle.rtr_recordings.specs.Recordings.{refusal_in, refused_since, whole};
 
 use crate::stop::{Refusal, Stop, StopCause};
 use rtr_base::action::Action;
+use rtr_base::state::Serial;
 use rtr_data::{ChangeError, Data};
 use rtr_payload::payload;
 use rtr_payload::pdu::Payload;
@@ -32,6 +37,7 @@ use rtr_units::fault::Fault;
 use rtr_units::source::Source;
 use rtr_units::unit::Unit;
 use std::alloc::Global;
+use std::cmp::Ordering;
 use std::marker::Model;
 
 /// What a recording leaves.
@@ -45,21 +51,25 @@ pub struct Recording {
     pub has_cut: bool,
 }
 
-/// Reads a recording up to the end of the input, and answers what its whole answers leave, one
+/// Reads a recording up to the end of the input, and returns what its whole answers leave, one
 /// after the other: the payloads that their units make of none by the rules of `Data::announce` and
 /// `Data::withdraw` (RFC 8210 sections 5.6, 5.7 and 5.10).
 ///
-/// A cache response opens an answer, and an end of data closes it (section 8.1). Units without a
-/// cache response before them open one, too, of the session in which the last answer was. An answer
-/// that a cache response cuts off leaves nothing. A cache response begins anew, with no payloads,
-/// in another session than the last one (section 5.1), and after a cache reset (sections 5.9 and
-/// 8.3). Serial notifies, queries and error reports are passed over, and versions don't count.
+/// A cache response opens an answer, and an end of data closes it (section 8.1). Until then the data
+/// before it stay, as they do in a router: an answer that a cache response cuts off changes nothing.
+/// Units without a cache response before them open one, too, in the session of the last whole
+/// answer. An answer begins anew, with no payloads, in another session than the last whole one
+/// (section 5.1), after a cache reset (sections 5.9 and 8.3), and after a reset query, unless a
+/// serial query comes in between (sections 5.3 and 5.4). Serial notifies are ignored, and versions
+/// don't count.
 ///
 /// The first unit at which that can't go on decides, and its offset is told: `Read` with the faults
 /// of `AnyUnit::read` and `pdu::Payload::into_payload`; `Refused` with those of `Data::announce`
 /// and `Data::withdraw`, with `Memory` where an answer goes on with the payloads of those before
-/// and there is none for a copy, and with `Session` at an end of data of another session than its
-/// answer (section 5.8). `Read(Short)` also comes where the input ends before an end of data, or
+/// and there is none for a copy, with `Session` at an end of data of another session than its
+/// answer (section 5.8), with `Serial` at one of changes whose serial number comes before that of
+/// the data that they change, and with `CacheReset` and `ErrorReport` at such a unit inside an
+/// answer. `Read(Short)` also comes where the input ends before an end of data, or
 /// inside an answer; `Read(TooMany)` after 2^64 - 1 units.
 pub fn read_recording<R: Source>(alloc: Global, reader: &mut R) -> Result<Recording, Stop>
     ensures bytes { ReadsRecording result (R.state reader.old) (R.state reader.new) }
@@ -92,14 +102,12 @@ pub fn read_recording<R: Source>(alloc: Global, reader: &mut R) -> Result<Record
 struct Held {
     /// The payloads that the whole answers leave.
     kept: Data,
-    /// What the units of the open answer have made of them, if one is open.
-    pending: Option<Data>,
-    /// The session of the last cache response or end of data, if one came.
-    session: Option<u16>,
-    /// Whether a cache reset came after the last cache response.
-    was_reset: bool,
-    /// The last end of data, if one came.
+    /// The end of data of the last whole answer, if there was one.
     end: Option<EndOfData>,
+    /// The answer that is open, if one is.
+    pending: Option<OpenAnswer>,
+    /// Whether all data were asked for, if anything was since the last answer began.
+    asks_all: Option<bool>,
     /// Whether an answer was cut off.
     has_cut: bool,
 }
@@ -113,10 +121,9 @@ impl Model for Held {
 
     ghost view = { λ h. record {
       kept = h.kept;
-      pending = h.pending;
-      session = h.session;
-      was_reset = h.was_reset;
       end = option_map end_meaning h.end;
+      pending = h.pending;
+      asks_all = h.asks_all;
       has_cut = h.has_cut;
     } };
 }
@@ -128,10 +135,9 @@ impl Held {
     {
         Held {
             kept: Data::new(alloc),
-            pending: None,
-            session: None,
-            was_reset: false,
             end: None,
+            pending: None,
+            asks_all: None,
             has_cut: false,
         }
     }
@@ -147,18 +153,25 @@ impl Held {
                 Ok(()) => Ok(()),
                 Err(error) => Err(StopCause::Refused(Refusal::Change(error))),
             },
-            AnyUnit::EndOfData(unit) => match self.close(unit) {
+            AnyUnit::EndOfData(unit) => match self.close(alloc, unit) {
                 Ok(()) => Ok(()),
                 Err(refusal) => Err(StopCause::Refused(refusal)),
             },
-            AnyUnit::CacheReset(_) => {
-                self.was_reset = true;
+            AnyUnit::CacheReset(_) if self.pending.is_some() => {
+                Err(StopCause::Refused(Refusal::CacheReset))
+            }
+            AnyUnit::Error(_) if self.pending.is_some() => {
+                Err(StopCause::Refused(Refusal::ErrorReport))
+            }
+            AnyUnit::CacheReset(_) | AnyUnit::ResetQuery(_) => {
+                self.asks_all = Some(true);
                 Ok(())
             }
-            AnyUnit::SerialNotify(_)
-            | AnyUnit::SerialQuery(_)
-            | AnyUnit::ResetQuery(_)
-            | AnyUnit::Error(_) => Ok(()),
+            AnyUnit::SerialQuery(_) => {
+                self.asks_all = Some(false);
+                Ok(())
+            }
+            AnyUnit::SerialNotify(_) | AnyUnit::Error(_) => Ok(()),
         }
     }
 
@@ -168,47 +181,127 @@ impl Held {
         ensures { MatchResult result (λ _. self.new ≡ opens_answer self.old session)
             (λ e. e ≡ Memory) }
     {
-        if self.begins_anew(session) {
-            self.kept = Data::new(alloc);
-        }
-        let Ok(copy) = self.kept.clone(alloc) else {
-            return Err(ChangeError::Memory);
-        };
+        let answer = self.begin(alloc, Some(session))?;
         self.has_cut |= self.pending.is_some();
-        self.pending = Some(copy);
-        self.session = Some(session);
-        self.was_reset = false;
+        self.pending = Some(answer);
+        self.asks_all = None;
         Ok(())
     }
 
-    /// Whether an answer of this session begins with no payloads.
-    fn begins_anew(&self, session: u16) -> bool
-        ensures { result ≡ (self.now.was_reset || is_other self.now.session session) }
+    /// The answer of this session that begins next. The only error is `Memory`.
+    fn begin(&self, alloc: Global, session: Option<u16>) -> Result<OpenAnswer, ChangeError>
+        ensures { MatchResult result (λ answer. answer ≡ begun_in self.now session)
+            (λ e. e ≡ Memory) }
     {
-        match self.session {
-            Some(last) => self.was_reset || last != session,
-            None => self.was_reset,
+        let has_all = self.is_wanted();
+        if self.begins_anew(session) {
+            return Ok(OpenAnswer {
+                payloads: Data::new(alloc),
+                session,
+                since: None,
+                has_all,
+            });
+        }
+        let Ok(payloads) = self.kept.clone(alloc) else {
+            return Err(ChangeError::Memory);
+        };
+        Ok(OpenAnswer {
+            payloads,
+            session,
+            since: self.last_serial(),
+            has_all,
+        })
+    }
+
+    /// Whether an answer of this session begins with no payloads.
+    fn begins_anew(&self, session: Option<u16>) -> bool
+        ensures { result ≡ begins_anew self.now session }
+    {
+        self.is_wanted() || is_other(self.last_session(), session)
+    }
+
+    /// Whether the next answer is to a request for all data.
+    fn is_wanted(&self) -> bool
+        ensures { result ≡ is_wanted self.now }
+    {
+        match (self.asks_all, &self.pending) {
+            (Some(all), _) => all,
+            (None, Some(cut)) => cut.has_all,
+            (None, None) => false,
+        }
+    }
+
+    /// The session of the last whole answer.
+    fn last_session(&self) -> Option<u16>
+        ensures { result ≡ last_session self.now }
+    {
+        match &self.end {
+            Some(end) => Some(end.session()),
+            None => None,
+        }
+    }
+
+    /// The serial number of the last whole answer.
+    fn last_serial(&self) -> Option<u32>
+        ensures { result ≡ last_serial self.now }
+    {
+        match &self.end {
+            Some(end) => Some(end.serial().0),
+            None => None,
         }
     }
 
     /// Closes the answer.
-    fn close(&mut self, end: EndOfData) -> Result<(), Refusal>
+    fn close(&mut self, alloc: Global, end: EndOfData) -> Result<(), Refusal>
         ensures { MatchResult result
-            (λ _. closed_in self.old.session self.old (end_meaning end) ≡ Ok self.new)
-            (λ e. closed_in self.old.session self.old (end_meaning end) ≡ Err e) }
+            (λ _. closed self.old (end_meaning end) ≡ Ok self.new)
+            (λ e. closed self.old (end_meaning end) ≡ Err e) }
     {
-        let session = end.session();
-        if let Some(begun) = self.session {
-            if begun != session {
-                return Err(Refusal::Session(session, begun));
+        let answer = match self.pending.take() {
+            Some(answer) => answer,
+            None => self.take_begun(alloc),
+        };
+        match answer.refusal(&end) {
+            Some(refusal) => Err(refusal),
+            None => {
+                self.keep(answer.payloads, end);
+                Ok(())
             }
         }
-        if let Some(data) = self.pending.take() {
-            self.kept = data;
+    }
+
+    /// Takes out an answer that begins without a cache response, and without a copy.
+    fn take_begun(&mut self, alloc: Global) -> OpenAnswer
+        ensures { TakesBegun result self.old self.new }
+    {
+        let session = self.last_session();
+        let has_all = self.is_wanted();
+        let is_anew = self.begins_anew(session);
+        self.asks_all = None;
+        let kept = std::mem::replace(&mut self.kept, Data::new(alloc));
+        if is_anew {
+            return OpenAnswer {
+                payloads: Data::new(alloc),
+                session,
+                since: None,
+                has_all,
+            };
         }
-        self.session = Some(end.session());
+        OpenAnswer {
+            payloads: kept,
+            session,
+            since: self.last_serial(),
+            has_all,
+        }
+    }
+
+    /// Keeps what an answer leaves that is whole.
+    fn keep(&mut self, payloads: Data, end: EndOfData)
+        ensures { self.new ≡ whole self.old payloads (end_meaning end) }
+    {
+        self.kept = payloads;
+        self.pending = None;
         self.end = Some(end);
-        Ok(())
     }
 
     /// Takes a payload unit.
@@ -220,29 +313,31 @@ impl Held {
             Ok(meaning) => meaning,
             Err(fault) => return Err(StopCause::Read(fault)),
         };
-        let current = match self.take_current(alloc) {
-            Ok(current) => current,
+        let mut answer = match self.take_current(alloc) {
+            Ok(answer) => answer,
             Err(error) => return Err(StopCause::Refused(Refusal::Change(error))),
         };
-        match changed_by(current, action, payload) {
+        match changed_by(answer.payloads, action, payload) {
             Ok(payloads) => {
-                self.pending = Some(payloads);
+                answer.payloads = payloads;
+                self.pending = Some(answer);
                 Ok(())
             }
             Err(error) => Err(StopCause::Refused(Refusal::Change(error))),
         }
     }
 
-    /// Takes out what the next payload unit changes. The only error is `Memory`.
-    fn take_current(&mut self, alloc: Global) -> Result<Data, ChangeError>
+    /// Takes out the answer that the next payload unit is of. The only error is `Memory`.
+    fn take_current(&mut self, alloc: Global) -> Result<OpenAnswer, ChangeError>
         ensures { TakesCurrent result self.old self.new }
     {
         match self.pending.take() {
-            Some(payloads) => Ok(payloads),
-            None => match self.kept.clone(alloc) {
-                Ok(copy) => Ok(copy),
-                Err(_) => Err(ChangeError::Memory),
-            },
+            Some(answer) => Ok(answer),
+            None => {
+                let answer = self.begin(alloc, self.last_session())?;
+                self.asks_all = None;
+                Ok(answer)
+            }
         }
     }
 
@@ -261,6 +356,75 @@ impl Held {
                 cause: StopCause::Read(Fault::Short),
             }),
         }
+    }
+}
+
+/// An answer whose end of data hasn't come.
+#[derive(Drop)]
+struct OpenAnswer {
+    /// The payloads that its units have made so far.
+    payloads: Data,
+    /// Its session, if its cache response or the whole answer before it says one.
+    session: Option<u16>,
+    /// The serial number of the data that it changes; none if it began anew, or was the first.
+    since: Option<u32>,
+    /// Whether it is to a request for all data.
+    has_all: bool,
+}
+
+impl Model for OpenAnswer {
+    ghost use Rattle.rtr_recordings.specs.Recordings as spec;
+
+    ghost Value = { spec.OpenAnswer };
+
+    ghost view = { λ a. record {
+      payloads = a.payloads;
+      session = a.session;
+      since = a.since;
+      has_all = a.has_all;
+    } };
+}
+
+impl OpenAnswer {
+    /// Why an end of data can't close it.
+    fn refusal(&self, end: &EndOfData) -> Option<Refusal>
+        ensures { result ≡ refusal_in self.now (end_meaning end.now) }
+    {
+        let session = end.session();
+        match self.session {
+            Some(begun) if begun != session => Some(Refusal::Session(session, begun)),
+            _ => refused_since(self.since, end.serial().0),
+        }
+    }
+}
+
+/// Why changes of data of one serial number can't end with another.
+fn refused_since(since: Option<u32>, serial: u32) -> Option<Refusal>
+    ensures { result ≡ refused_since since serial }
+{
+    match since {
+        Some(last) if is_before(serial, last) => Some(Refusal::Serial(serial, last)),
+        _ => None,
+    }
+}
+
+/// Whether a session is another than that before it.
+fn is_other(last: Option<u16>, session: Option<u16>) -> bool
+    ensures { result ≡ is_other last session }
+{
+    match (last, session) {
+        (Some(last), Some(session)) => last != session,
+        _ => false,
+    }
+}
+
+/// Whether a serial number comes before another (RFC 1982).
+fn is_before(serial: u32, last: u32) -> bool
+    ensures { result ≡ is_before serial last }
+{
+    match Serial(serial).partial_cmp(&Serial(last)) {
+        Some(Ordering::Less) => true,
+        _ => false,
     }
 }
 

@@ -33,4 +33,14 @@ pub enum Refusal {
     /// that of the answer.
     #[error("session {0} differs from session {1} of the answer")]
     Session(u16, u16),
+    /// An end of data of changes whose serial number comes before that of the data that they change
+    /// (RFC 1982): the two numbers.
+    #[error("serial number {0} comes before {1} of the answer before")]
+    Serial(u32, u32),
+    /// A cache reset where an answer is open (RFC 8210 section 8.3).
+    #[error("cache reset inside an answer")]
+    CacheReset,
+    /// An error report where an answer is open: it ends the session (RFC 8210 section 5.11).
+    #[error("error report inside an answer")]
+    ErrorReport,
 }
