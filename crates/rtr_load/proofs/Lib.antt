@@ -1,0 +1,9 @@
+pub mod Steps
+pub mod Opened
+pub mod Beginning
+pub mod WrittenBack
+pub mod Ready
+pub mod Settling
+pub mod Seeing
+pub mod UnitsTaken
+pub mod Room

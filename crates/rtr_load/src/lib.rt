@@ -1,0 +1,12 @@
+//! Recordings and lists, loaded into a slice as data in canonical form, without memory of its own.
+#![tactic(auto)]
+
+mod closing;
+mod fault;
+mod held;
+mod recording;
+mod seen;
+mod taking;
+
+pub use fault::{LoadFault, LoadReason};
+pub use recording::{Loaded, load};
