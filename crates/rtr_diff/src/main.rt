@@ -22,12 +22,12 @@ const STANDARD_INPUT: &str = "-";
 const STANDARD_DESCRIPTOR: i32 = 0;
 
 /// The status where a file can't be opened or read.
-const TROUBLE: u8 = 2;
+const TROUBLE: u8 = 3;
 
 /// What the program says of itself.
 const MANUAL: Manual = Manual {
     name: "rtr_diff",
-    version: "rtr_diff 0.2.0\n",
+    version: "rtr_diff 0.3.0\n",
     usage: "usage: rtr_diff [--json | --units] OLD NEW, where one of them may be -\n",
     help: "\
 rtr_diff - print what differs between the data of two RTR recordings

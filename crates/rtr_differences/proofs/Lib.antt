@@ -2,3 +2,4 @@ mod Putting
 mod Going
 mod UnitPieces
 mod Statuses
+mod OfUnits

@@ -1,6 +1,6 @@
 -- What the status of a run says.
-use Rattle.std.proofs.Common.{◌≡◌, ◌≢◌, ◌≤◌, ℕ, Bool, true, false, List, [], ◌∷◌}
-use Rattle.std.proofs.Common.{Result, Ok, Err, refl, sym, ap, subst, arith}
+use Rattle.std.proofs.Common.{◌≡◌, ◌≢◌, ◌<◌, ℕ, Bool, true, false, List, [], ◌∷◌}
+use Rattle.std.proofs.Common.{Result, Ok, Err, refl, sym, ap, ◌∙◌, subst, arith}
 use Rattle.std.proofs.lemmas.Bool.{false≢true}
 use Rattle.rtr_units.specs.Stream.{Flushes}
 use Rattle.rtr_units.specs.StopCauses.{ReaderState, WriterState}
@@ -59,19 +59,20 @@ module _ (form : Form) (old old_left new new_left : ReaderState) (before after :
   different (answer, flushed, mid, compares, flush, is, quiet) =
       different_by answer flushed mid compares flush is
 
-status_of_least : (differs : Bool) → status_of differs ≤ 2
-status_of_least false = omega arith
-status_of_least true = omega arith
+not_above_1 : (differs : Bool) → 1 < status_of differs → status_of differs ≡ 3
+not_above_1 false h = absurd (omega (arith, h))
+not_above_1 true h = absurd (omega (arith, h))
 
-status_least : {E : Type 0} (answer : Result Compared E) (flushed : Bool) →
-    diff_status answer flushed ≤ 2
-status_least (Ok c) true = status_of_least c.differs
-status_least (Ok c) false = omega arith
-status_least (Err trouble) flushed = omega arith
+trouble_is_3 : {E : Type 0} (answer : Result Compared E) (flushed : Bool) →
+    1 < diff_status answer flushed → diff_status answer flushed ≡ 3
+trouble_is_3 (Ok c) true h = not_above_1 c.differs h
+trouble_is_3 (Ok c) false h = refl
+trouble_is_3 (Err trouble) flushed h = refl
 
-pub at_most_2 : (form : Form) (status : ℕ) (old old_left new new_left : ReaderState)
+pub else_3 : (form : Form) (status : ℕ) (old old_left new new_left : ReaderState)
     (before after : WriterState) →
-    RunsDiff form (Unit {0}) status old old_left new new_left before after → status ≤ 2
-at_most_2 form status old old_left new new_left before after
-    (answer, flushed, mid, compares, flush, is, quiet) =
-    subst (λ n. n ≤ 2) (sym is) (status_least answer flushed)
+    RunsDiff form (Unit {0}) status old old_left new new_left before after →
+    1 < status → status ≡ 3
+else_3 form status old old_left new new_left before after
+    (answer, flushed, mid, compares, flush, is, quiet) more =
+    is ∙ trouble_is_3 answer flushed (subst (λ n. 1 < n) is more)

@@ -10,15 +10,15 @@ use Rattle.rtr_differences.specs.declared.program.Trouble.{Trouble}
 use Rattle.rtr_differences.specs.declared.words.Form.{Form}
 
 -- the status, by the answer and by whether the flush after it succeeded: 0 where nothing differs, 1
--- where something does, 2 otherwise
+-- where something does, 3 otherwise
 abbrev pub status_of : Bool → ℕ
 status_of false = 0
 status_of true = 1
 
 abbrev pub diff_status : {E : Type 0} → Result Compared E → Bool → ℕ
 diff_status (Ok c) true = status_of c.differs
-diff_status (Ok c) false = 2
-diff_status (Err trouble) flushed = 2
+diff_status (Ok c) false = 3
+diff_status (Err trouble) flushed = 3
 
 -- no answer was cut off in either file
 abbrev pub has_no_cut : {E : Type 0} → Result Compared E → Bool

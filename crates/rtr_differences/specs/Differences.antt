@@ -5,7 +5,7 @@ use Rattle.std.specs.Prelude.{if◌then◌else◌}
 use Rattle.std.specs.List.{flat_map}
 use Rattle.rtr_base.specs.Actions.{flags_of}
 use Rattle.rtr_payload.specs.Payloads.{Payload, smallest_version}
-use Rattle.rtr_payload.specs.UnitFields.{Fields, written_fields}
+use Rattle.rtr_payload.specs.UnitFields.{Fields, meaning, written_fields}
 use Rattle.rtr_payload.specs.Units.{form_of}
 use Rattle.rtr_data.specs.Changes.{changes}
 use Rattle.rtr_data.specs.Data.{Change}
@@ -18,6 +18,10 @@ use Rattle.rtr_differences.specs.declared.words.Form.TheVariants.{Text, Json, Un
 -- the fields of a unit that makes the change
 abbrev pub change_fields : Change → Fields
 change_fields c = written_fields 0 (flags_of c.action) c.payload
+
+-- the change that a unit makes
+abbrev pub unit_change : Fields → Change
+unit_change f = record { action = (meaning f).action; payload = (meaning f).payload }
 
 -- What is printed of a change, where units have version v: a line with its sign and the payload in
 -- the words of a listing, a line of JSON, or the unit that makes it, where the version has one.

@@ -27,7 +27,7 @@ const SAME: u8 = 0;
 const DIFFERENT: u8 = 1;
 
 /// The status where the files weren't compared, or the changes not printed.
-const TROUBLE: u8 = 2;
+const TROUBLE: u8 = 3;
 
 /// What comparing two files told.
 #[derive(Clone, Copy, Debug)]
@@ -116,9 +116,9 @@ fn print_end<W: Sink>(form: Form, end: &EndOfData, output: &mut W) -> Result<(),
 /// Prints the changes that are asked for, flushes the output once, and answers the exit status:
 /// - 0 if nothing differs;
 /// - 1 if something does;
-/// - 2 if a file can't be read or holds no recording, or if writing, flushing or memory failed.
+/// - 3 if a file can't be read or holds no recording, or if writing, flushing or memory failed.
 ///
-/// Status 2 comes with a line on `faults`, and the others with one for each file in which an answer
+/// Status 3 comes with a line on `faults`, and the others with one for each file in which an answer
 /// was left out; each begins with the program's name. Of a pipe that nobody reads any more nothing
 /// is said. If a line can't be written, nothing else changes.
 pub fn run<O: Source, N: Source, W: Sink, F: Write>(

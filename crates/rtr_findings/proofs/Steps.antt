@@ -14,7 +14,7 @@ use Rattle.rtr_findings.specs.KeptNames.{IsAnnouncedAs}
 use Rattle.rtr_findings.specs.PrivateSteps.{again, found_by, state_after}
 use Rattle.rtr_findings.specs.Rules.{told, repeated, findings, differing}
 use Rattle.rtr_findings.specs.Rules.{cut_answer, reserved, field_rules, payload_reserved}
-use Rattle.rtr_findings.specs.Rules.{payload_rules}
+use Rattle.rtr_findings.specs.Rules.{payload_rules, time_rules}
 use Rattle.rtr_findings.specs.SequenceSoFar.{given_session, given_version, is_announce}
 use Rattle.rtr_findings.specs.SequenceSoFar.{named_by, oldest, payload_named, sequence, stage_of}
 use Rattle.rtr_findings.specs.declared.finding.Finding.{Finding}
@@ -32,8 +32,8 @@ again_is announces there units None h = refl
 payload_in_turn : (a b c d : List Finding) → a ++ (b ++ (c ++ d)) ≡ a ++ b ++ c ++ [] ++ d
 payload_in_turn a b c d = simp (append_assoc, append-nil)
 
-end_in_turn : (a b : List Finding) → a ++ b ≡ a ++ [] ++ [] ++ b ++ []
-end_in_turn a b = simp (append_assoc, append-nil)
+end_in_turn : (a b c : List Finding) → a ++ (b ++ c) ≡ a ++ [] ++ b ++ c ++ []
+end_in_turn a b c = simp (append_assoc, append-nil)
 
 own_in_turn : (a b : List Finding) → a ++ b ≡ [] ++ a ++ b ++ [] ++ []
 own_in_turn a b = simp (append_assoc, append-nil)
@@ -59,7 +59,7 @@ found_is history there (payload f) h =
     (payload_reserved f) (payload_rules f) _
 found_is history there (end_of_data m) h =
     end_in_turn (differing rules.Version (oldest given_version (sequence history)) m.version)
-    (differing rules.Session (oldest given_session (sequence history)) m.session)
+    (time_rules m.timing) (differing rules.Session (oldest given_session (sequence history)) m.session)
 found_is history there (cache_reset v s) h =
     own_in_turn (reserved (cache_reset v s)) []
 found_is history there (error_report v c body) h =

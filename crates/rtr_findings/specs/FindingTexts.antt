@@ -1,5 +1,6 @@
 -- What is said of a broken rule: this program's own words.
 use Rattle.std.specs.Prelude.{ℕ, List, [], ◌++◌, codes, decimal}
+use Rattle.rtr_times.specs.AllowedTimes.{rule_text}
 use Rattle.rtr_findings.specs.declared.finding.Finding.{Finding}
 use Rattle.rtr_findings.specs.declared.finding.Finding.TheVariants as rules
 use Rattle.rtr_findings.specs.declared.finding.Layout.{Layout}
@@ -35,6 +36,7 @@ finding_text rules.ProviderOrder = codes "providers are not in ascending order"
 finding_text rules.ReportParts = codes "lengths inside the error report do not fit"
 finding_text rules.ReportText = codes "text of the error report is not UTF-8"
 finding_text rules.ReportOfReport = codes "error report about an error report"
+finding_text (rules.Times rule) = rule_text rule
 
 -- the line of a broken rule of the unit at this offset, before its line feed
 abbrev pub finding_of : ℕ → Finding → List ℕ

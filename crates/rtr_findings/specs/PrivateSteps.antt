@@ -11,7 +11,7 @@ use Rattle.rtr_session.specs.AnyFields.{AnyFields, cache_response, payload, end_
 use Rattle.rtr_session.specs.AnyFields.{serial_query, reset_query}
 use Rattle.rtr_texts.specs.TextLines.{payload_flags, payload_version}
 use Rattle.rtr_texts.specs.declared.listed.ListedAspa.{ListedAspa}
-use Rattle.rtr_findings.specs.Rules.{told, differing, cut_answer, reserved}
+use Rattle.rtr_findings.specs.Rules.{told, differing, cut_answer, reserved, time_rules}
 use Rattle.rtr_findings.specs.Rules.{field_rules, payload_reserved, payload_rules}
 use Rattle.rtr_findings.specs.SequenceSoFar.{asked_at, is_announce}
 use Rattle.rtr_findings.specs.SequenceSoFar.{payload_named}
@@ -51,7 +51,7 @@ found_by s there (payload fields) =
     differing rules.Version s.version (payload_version fields) ++ payload_found there fields
 found_by s there (end_of_data meaning) =
     differing rules.Version s.version meaning.version
-    ++ differing rules.Session s.session meaning.session
+    ++ (time_rules meaning.timing ++ differing rules.Session s.session meaning.session)
 found_by s there (cache_response version session) = cut_answer s.stage
 found_by s there unit = reserved unit ++ field_rules unit
 

@@ -8,6 +8,9 @@ use Rattle.rtr_base.specs.Actions.{act}
 use Rattle.rtr_base.specs.Addresses.{width, cleared}
 use Rattle.rtr_base.specs.declared.action.Action.{Action}
 use Rattle.rtr_base.specs.declared.action.Action.TheVariants.{Announce, Withdraw}
+use Rattle.rtr_base.specs.declared.timing.Timing.{Timing}
+use Rattle.rtr_times.specs.AllowedTimes.{broken_time_rule}
+use Rattle.rtr_times.specs.declared.times.TimeRule.{TimeRule}
 use Rattle.rtr_units.specs.Header.{type_field}
 use Rattle.rtr_units.specs.PrefixUnits.{OriginParts}
 use Rattle.rtr_payload.specs.AspaUnits.{AspaFields}
@@ -119,6 +122,18 @@ report_rules (Some parts) =
     ++ told (not (is_utf8 parts.1)) rules.ReportText
 report_rules None = rules.ReportParts ∷ []
 
+-- ---- times
+
+abbrev pub broken_times : Option TimeRule → List Finding
+broken_times (Some rule) = rules.Times rule ∷ []
+broken_times None = []
+
+-- the times of an end of data, which version 0 doesn't have, are within their bounds, and the expire
+-- time is longer than the others (RFC 8210 section 6)
+abbrev pub time_rules : Option Timing → List Finding
+time_rules (Some timing) = broken_times (broken_time_rule timing)
+time_rules None = []
+
 -- ---- what the fields of a unit say
 
 abbrev pub payload_rules : Fields → List Finding
@@ -130,6 +145,7 @@ payload_rules (aspa_unit u) =
 
 abbrev pub field_rules : AnyFields → List Finding
 field_rules (payload fields) = payload_rules fields
+field_rules (end_of_data meaning) = time_rules meaning.timing
 field_rules (error_report version code body) = report_rules (report_parts body)
 field_rules unit = []
 

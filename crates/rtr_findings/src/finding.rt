@@ -1,5 +1,6 @@
 //! What can break the protocol's rules in a unit or a sequence.
 
+use rtr_times::TimeRule;
 use std::fmt;
 
 /// A rule that a unit breaks. Places count from 0 in the unit.
@@ -40,6 +41,9 @@ pub enum Finding {
     ReportText,
     /// No error report is sent about an error report (RFC 8210 section 5.11).
     ReportOfReport,
+    /// The times of an end of data are within their bounds, and data stay for longer than a router
+    /// waits (RFC 8210 section 6): the first rule that isn't kept.
+    Times(TimeRule),
 }
 
 /// How the bytes of an ASPA unit that is withdrawn with providers read.
@@ -90,6 +94,7 @@ impl fmt::Display for Finding {
             Finding::ReportParts => f.write_str("lengths inside the error report do not fit"),
             Finding::ReportText => f.write_str("text of the error report is not UTF-8"),
             Finding::ReportOfReport => f.write_str("error report about an error report"),
+            Finding::Times(rule) => f.write_str(rule.text()),
         }
     }
 }

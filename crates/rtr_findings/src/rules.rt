@@ -23,9 +23,11 @@ use crate::finding::{Finding, Layout};
 use crate::sequence::{Found, Stage};
 use rtr_base::action::Action;
 use rtr_base::addr::MaxLenPrefix;
+use rtr_base::timing::Timing;
 use rtr_payload::pdu::prefix_rule::{PrefixRule, ipv4_prefix, ipv6_prefix};
 use rtr_payload::pdu::{Aspa, PayloadUnit, RouterKey};
 use rtr_texts::{ListedAspa, ListedKey, ListedPayload, parts_of};
+use rtr_times::broken_time_rule;
 use rtr_units::numbers::u32_at;
 use rtr_units::prefixes::{Ipv4Prefix, Ipv6Prefix};
 use rtr_units::unit::Unit;
@@ -70,6 +72,21 @@ pub(crate) fn cut_answer(stage: Stage) -> Option<Finding>
     match stage {
         Stage::Open => Some(Finding::CutOff),
         Stage::Before | Stage::Asked | Stage::Whole => None,
+    }
+}
+
+// ---- times
+
+/// The times of an end of data, if it has some, are within their bounds.
+pub(crate) fn times(timing: Option<Timing>) -> Option<Finding>
+    ensures { found_in result ≡ rules.time_rules timing }
+{
+    match timing {
+        Some(timing) => match broken_time_rule(timing) {
+            Some(rule) => Some(Finding::Times(rule)),
+            None => None,
+        },
+        None => None,
     }
 }
 

@@ -1,7 +1,8 @@
 //! What is known of the sequence that is read, and what the next unit breaks in it.
 
-ghost use Rattle.std.specs.Prelude.{◌≡◌, ◌∷◌, List, [], None};
-ghost use Rattle.rtr_session.specs.AnyFields.{AnyFields, payload};
+ghost use Rattle.std.specs.Prelude.{◌≡◌, ◌∷◌, List, [], None, false};
+ghost use Rattle.rtr_units.specs.AnyEnd.{end_meaning};
+ghost use Rattle.rtr_session.specs.AnyFields.{AnyFields, end_of_data, payload};
 ghost use Rattle.rtr_texts.specs.ListedUnits.{fields_listed, payload_listed};
 ghost use Rattle.rtr_findings.specs.CheckedUnits.{found_in, found_list, known_after};
 ghost use Rattle.rtr_findings.specs.KeptNames.{IsAnnouncedAs};
@@ -12,6 +13,7 @@ ghost use Rattle.rtr_findings.specs.SequenceSoFar.{asked_at, named_by, sequence}
 use crate::finding::Finding;
 use crate::rules;
 use rtr_texts::{Listed, ListedPayload};
+use rtr_units::end::EndOfData;
 use rtr_units::unit::Unit;
 
 /// How many rules a unit can break at most.
@@ -98,10 +100,7 @@ impl SequenceState {
             Listed::ResetQuery(unit) => first_of(rules::reserved_session(unit.session())),
             Listed::CacheResponse(_) => first_of([rules::cut_answer(self.stage), None]),
             Listed::Payload(unit) => self.payload(unit, was_there),
-            Listed::EndOfData(unit) => first_of([
-                rules::sequence_version(self.version, unit.version()),
-                rules::sequence_session(self.session, unit.session()),
-            ]),
+            Listed::EndOfData(unit) => self.end_of_data(unit),
             Listed::CacheReset(unit) => first_of(rules::reserved_session(unit.session())),
             Listed::Error(report) => first_of(rules::error_report(report.body)),
         }
@@ -116,6 +115,18 @@ impl SequenceState {
             ListedPayload::V6(unit) => rules::ipv6(self.version, unit, was_there),
             ListedPayload::RouterKey(key) => rules::router_key(self.version, key, was_there),
             ListedPayload::Aspa(aspa) => rules::aspa(self.version, aspa, was_there),
+        }
+    }
+
+    fn end_of_data(&self, unit: &EndOfData) -> Found
+        ensures { found_list result.slots ≡
+            found_by self.now false (end_of_data (end_meaning unit.now)) }
+    {
+        let version = rules::sequence_version(self.version, unit.version());
+        let times = rules::times(unit.timing());
+        let session = rules::sequence_session(self.session, unit.session());
+        Found {
+            slots: [version, times, session, None, None, None, None],
         }
     }
 

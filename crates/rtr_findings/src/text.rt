@@ -54,6 +54,7 @@ fn said(output: &mut [u8], at: usize, finding: Finding) -> usize
         Finding::ReportOfReport => {
             laying::text(output, at, "error report about an error report")
         }
+        Finding::Times(rule) => laying::text(output, at, rule.text()),
     }
 }
 

@@ -24,7 +24,7 @@ const FAILED: u8 = 3;
 /// What the program says of itself.
 const MANUAL: Manual = Manual {
     name: "rtr_list",
-    version: "rtr_list 0.2.0\n",
+    version: "rtr_list 0.3.0\n",
     usage: "usage: rtr_list [--json | --check | --summary | --csv | --vrps] [FILE]\n",
     help: "\
 rtr_list - list the units of a recorded RTR session
@@ -65,13 +65,12 @@ fn buffered_input<'a>(
     lines: &'a Lines,
     front: &'a Cell<Front>,
 ) -> io::Result<BufReader<Prompted<'a>>> {
-    let input = Prompt::new(Input::open(rt, name)?, lines, front);
-    match BufReader::with_capacity(rt.alloc(), BUFFER_SIZE, input) {
+    let input = Input::open(rt, name)?;
+    let spare = input.try_clone(rt);
+    let prompted = Prompt::new(input, lines, front);
+    match BufReader::with_capacity(rt.alloc(), BUFFER_SIZE, prompted) {
         Ok(reader) => Ok(reader),
-        Err(_) => {
-            let input = Prompt::new(Input::open(rt, name)?, lines, front);
-            BufReader::with_capacity(rt.alloc(), 0, input)
-        }
+        Err(_) => BufReader::with_capacity(rt.alloc(), 0, Prompt::new(spare?, lines, front)),
     }
 }
 

@@ -16,6 +16,8 @@ pub enum Given<'a> {
     /// A cache takes the connection that a router wants.
     Accepts,
     Refuses,
+    /// A router's caller wants the present data.
+    Asks,
     /// A router connects to a cache.
     Connects,
     /// It does, and is one more than the cache may have.
@@ -75,11 +77,12 @@ fn setting(end: End, rest: &str) -> Line<'_> {
     Line::Setting(end, key, value.trim())
 }
 
-/// What the cache does, if it is the cache that does something.
+/// What the cache or the router's caller does, if it is one of these that does something.
 fn cache_step(step: &str) -> Option<Given<'_>> {
     match step {
         "cache accepts" => Some(Given::Accepts),
         "cache refuses" => Some(Given::Refuses),
+        "caller asks" => Some(Given::Asks),
         "cache closes" => Some(Given::Closes),
         "cache breaks" => Some(Given::Breaks),
         _ => match step.strip_prefix("cache> ") {

@@ -51,6 +51,7 @@ fn give_router(router: &mut RouterEnd, given: Given<'_>, alloc: Global) -> Resul
     match given {
         Given::Accepts => router.accepted(),
         Given::Refuses => router.refused(),
+        Given::Asks => router.asked(),
         Given::Sends(hex) => router.received(&bytes(alloc, hex)?),
         Given::Closes => router.closed(false),
         Given::Breaks => router.closed(true),

@@ -103,6 +103,13 @@ impl RouterEnd {
         Ok(())
     }
 
+    /// Its caller wants the present data.
+    pub fn asked(&mut self) -> Result<(), Fail> {
+        self.tell_plain(Event::Asked)?;
+        self.settle()?;
+        Ok(())
+    }
+
     /// These bytes are read.
     pub fn received(&mut self, bytes: &[u8]) -> Result<(), Fail> {
         self.input.extend_from_slice(bytes)?;

@@ -1,14 +1,16 @@
 -- What is counted of units one after the other. Only contracts of private functions cite these.
-use Rattle.std.specs.Prelude.{◌≡◌, ℕ, ◌+◌, ◌-◌, ◌<◌, ◌^◌, ◌==◌, min, Bool, true, List, ◌∷◌, length}
+use Rattle.std.specs.Prelude.{◌≡◌, ℕ, ◌+◌, ◌-◌, ◌<◌, ◌≤◌, ◌^◌, ◌==◌, min, Bool, true, false}
+use Rattle.std.specs.Prelude.{List, ◌∷◌, length}
 use Rattle.std.specs.Prelude.{slice_index, set, Option, Some, None, Result, if◌then◌else◌}
 use Rattle.std.specs.BTreeMap.{BTreeMap, get}
 use Rattle.std.specs.List.{count_by, flat_map}
 use Rattle.std.specs.Map.{count_at}
 use Rattle.std.specs.Ordering.{nat_cmp}
+use Rattle.std.specs.Vec.{vec_capacity, vec_len}
 use Rattle.rtr_units.specs.End.{EndMeaning}
 use Rattle.rtr_units.specs.StopCauses.{ReaderState}
 use Rattle.rtr_units.specs.declared.fault.Fault.{Fault}
-use Rattle.rtr_session.specs.AnyFields.{AnyFields}
+use Rattle.rtr_session.specs.AnyFields.{AnyFields, end_of_data}
 use Rattle.rtr_findings.specs.SequenceSoFar.{announces, sequence}
 use Rattle.rtr_listing.specs.Listing.{offset_of}
 use Rattle.rtr_summary.specs.Summaries.{tally, announced_type, other_type, announced_length}
@@ -76,6 +78,17 @@ ended_answer end answers = record {
 abbrev pub AnswersMore : AnyFields → (old new : Answers) → Type 0
 AnswersMore unit old new = (units : List AnyFields) → length units < 2 ^ 64 - 1 →
     HasAnswered old units → HasAnswered new (unit ∷ units)
+
+-- there is no room for another answer, so that memory has to be asked for
+abbrev pub IsFullTally : Answers → Type 0
+IsFullTally answers = vec_capacity answers.ended ≤ vec_len answers.ended
+
+-- Memory is said to have failed, where it hadn't before, at an end of data alone, whose answer
+-- isn't kept, and for which there was no room.
+abbrev pub FailsAtEnd : AnyFields → (old new : Answers) → Type 0
+FailsAtEnd unit old new = old.is_whole ≡ true → new.is_whole ≡ false →
+    ((end : EndMeaning) × (unit ≡ end_of_data end))
+    × ((new.ended.items ≡ old.ended.items) × IsFullTally old)
 
 -- the summary is of these units
 pub record Sums (s : Summary) (units : List AnyFields) : Type 0 where

@@ -1,10 +1,12 @@
 //! The answers of a recording: what an end of data ends.
 
-ghost use Rattle.std.specs.Prelude.{◌≡◌, ◌+◌, ◌-◌, ◌∷◌, ◌++◌, ◌^◌, [], IfOk, OnOk, min, true};
+ghost use Rattle.std.specs.Prelude.{◌≡◌, ◌+◌, ◌-◌, ◌∷◌, ◌++◌, ◌^◌, [], IfOk, OnOk, min};
+ghost use Rattle.std.specs.Prelude.{true, false};
 ghost use Rattle.std.specs.Prelude.{if◌then◌else◌};
 ghost use Rattle.rtr_units.specs.AnyEnd.{end_meaning};
 ghost use Rattle.rtr_session.specs.AnyUnits.{any_fields};
-ghost use Rattle.rtr_summary.specs.PrivateTallies.{AnswersMore, HasAnswered, ended_answer};
+ghost use Rattle.rtr_summary.specs.PrivateTallies.{AnswersMore, FailsAtEnd, HasAnswered, IsFullTally};
+ghost use Rattle.rtr_summary.specs.PrivateTallies.{ended_answer};
 
 use crate::numbers;
 use rtr_session::AnyUnit;
@@ -51,7 +53,8 @@ impl Answers {
     /// Takes the unit: an end of data ends an answer, and after it and after a cache response
     /// another one is open, of which payload units count.
     pub fn add(&mut self, unit: &AnyUnit)
-        ensures { AnswersMore (any_fields unit.now) self.old self.new }
+        ensures more { AnswersMore (any_fields unit.now) self.old self.new }
+        ensures memory { FailsAtEnd (any_fields unit.now) self.old self.new }
     {
         match unit {
             AnyUnit::EndOfData(end) => self.end(end),
@@ -83,6 +86,8 @@ impl Answers {
         ensures ended { self.new.is_whole ≡ true →
             self.new.ended.items ≡
             self.old.ended.items ++ ended_answer (end_meaning end.now) self.old ∷ [] }
+        ensures memory { self.old.is_whole ≡ true → self.new.is_whole ≡ false →
+            (self.new.ended.items ≡ self.old.ended.items) × IsFullTally self.old }
         ensures announced { self.new.announced ≡ 0 }
         ensures withdrawn { self.new.withdrawn ≡ 0 }
     {

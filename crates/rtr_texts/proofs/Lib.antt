@@ -9,5 +9,6 @@ pub mod EscapedTexts
 mod EscapedStrings
 mod PlainTokens
 mod UnitPieces
+mod ClearedBits
 mod ReportPieces
 mod ShortNumbers

@@ -8,7 +8,7 @@ use Rattle.rtr_base.specs.PlainTexts.{action_text}
 use Rattle.rtr_payload.specs.UnitFields.{Fields}
 use Rattle.rtr_session.specs.AnyFields.{AnyFields, payload}
 use Rattle.rtr_texts.specs.JsonLines.{text_field, payload_kind, parts_tokens}
-use Rattle.rtr_texts.specs.TextLines.{payload_flags}
+use Rattle.rtr_texts.specs.TextLines.{meant_fields, payload_flags}
 
 -- its object: the kind, what is done, and the parts, by their names in the unit's object
 unfoldable pub payload_object : Fields → List Token
@@ -23,7 +23,7 @@ payload_object fields =
 abbrev pub payload_json : Fields → List ℕ
 payload_json fields = print (payload_object fields)
 
--- the same of any unit; the others make no change
+-- that of the change that a unit makes, of its written form; the others make no change
 abbrev pub change_json : AnyFields → List ℕ
-change_json (payload fields) = payload_json fields
+change_json (payload fields) = payload_json (meant_fields fields)
 change_json unit = []

@@ -15,7 +15,8 @@ use Rattle.rtr_base.specs.PlainTexts.{action_text, address_text, asn_text, error
 use Rattle.rtr_units.specs.PrefixUnits.{OriginParts}
 use Rattle.rtr_payload.specs.Payloads.{AspaParts, KeyParts}
 use Rattle.rtr_payload.specs.PayloadTexts.{each_text}
-use Rattle.rtr_payload.specs.UnitFields.{Fields, prefix_unit, key_unit, aspa_unit}
+use Rattle.rtr_payload.specs.UnitFields.{Fields, prefix_unit, key_unit, aspa_unit, meaning}
+use Rattle.rtr_payload.specs.UnitFields.{written_fields}
 use Rattle.rtr_session.specs.AnyFields.{AnyFields, serial_notify, serial_query, reset_query}
 use Rattle.rtr_session.specs.AnyFields.{cache_response, payload, end_of_data, cache_reset}
 use Rattle.rtr_session.specs.AnyFields.{error_report}
@@ -89,9 +90,19 @@ abbrev pub sign_of : Action → List ℕ
 sign_of Announce = codes "+"
 sign_of Withdraw = codes "-"
 
--- the line of the change that a payload unit makes: + IPv4 prefix 192.0.2.0/23-26 AS65551
+-- the fields of the written form of a unit: without the bits of an address after the prefix length,
+-- and without the providers of a withdrawn ASPA, as these mean nothing
+abbrev pub meant_fields : Fields → Fields
+meant_fields fields =
+    written_fields (payload_version fields) (payload_flags fields) (meaning fields).payload
+
+-- the line of a payload unit with its sign: + IPv4 prefix 192.0.2.0/23-26 AS65551
+abbrev pub signed_said : Fields → List ℕ
+signed_said fields = sign_of (act (payload_flags fields)) ++ payload_said fields
+
+-- the line of the change that a payload unit makes
 abbrev pub change_said : Fields → List ℕ
-change_said fields = sign_of (act (payload_flags fields)) ++ payload_said fields
+change_said fields = signed_said (meant_fields fields)
 
 -- the same of any unit; the others make no change
 abbrev pub change_text : AnyFields → List ℕ

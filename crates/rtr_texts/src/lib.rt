@@ -5,6 +5,7 @@ mod addresses;
 mod laws;
 pub mod laying;
 mod listed;
+mod meant;
 mod object;
 mod pieces;
 mod reading;

@@ -22,19 +22,20 @@ ghost use Rattle.rtr_texts.specs.ListedUnits.{payload_listed};
 ghost use Rattle.rtr_texts.specs.PayloadLines.{change_json, payload_json};
 
 use crate::listed::{Listed, ListedAspa, ListedKey, ListedPayload};
+use crate::meant::meant;
 use crate::text::flags;
 use crate::{addresses, laying, pieces};
 use rtr_base::action::Action;
 use rtr_units::numbers::u32_at;
 use rtr_units::prefixes::{Ipv4Prefix, Ipv6Prefix};
 
-/// Lays the JSON object of the change that a unit makes, as `rtr_diff --json` prints it; of a unit
-/// without a payload nothing.
+/// Lays the JSON object of the change that a unit makes, as `rtr_diff --json` prints it, with what
+/// `describe_change` says of it; of a unit without a payload nothing.
 pub fn describe_change_json(output: &mut [u8], at: usize, unit: &Listed<'_>) -> usize
     ensures { Lays (change_json (fields_listed unit.now)) at output.old result output.new }
 {
     match unit {
-        Listed::Payload(unit) => describe_payload_json(output, at, unit),
+        Listed::Payload(unit) => describe_payload_json(output, at, &meant(unit)),
         _ => at,
     }
 }

@@ -15,9 +15,10 @@ ghost use Rattle.rtr_texts.specs.ReportParts.{report_parts};
 ghost use Rattle.rtr_texts.specs.TextLines.{fields_version, kind_words, origin_words, parts_words};
 ghost use Rattle.rtr_texts.specs.TextLines.{payload_flags, payload_said, payload_version};
 ghost use Rattle.rtr_texts.specs.TextLines.{payload_words, report_words, timing_words, unit_text};
-ghost use Rattle.rtr_texts.specs.TextLines.{change_said, change_text, sign_of, unit_words};
+ghost use Rattle.rtr_texts.specs.TextLines.{change_text, sign_of, signed_said, unit_words};
 
 use crate::listed::{Listed, ListedAspa, ListedKey, ListedPayload, ListedReport};
+use crate::meant::meant;
 use crate::{addresses, laying, pieces};
 use rtr_base::action::Action;
 use rtr_base::error_code::ErrorCode;
@@ -45,19 +46,20 @@ pub fn describe_payload(output: &mut [u8], at: usize, unit: &ListedPayload<'_>) 
     parts(output, at, unit)
 }
 
-/// Lays the line of the change that a unit makes, as `rtr_diff` prints it; of a unit without a
+/// Lays the line of the change that a unit makes, as `rtr_diff` prints it: without the bits of an
+/// address after the prefix length, and without providers of a withdrawn ASPA. Of a unit without a
 /// payload nothing.
 pub fn describe_change(output: &mut [u8], at: usize, unit: &Listed<'_>) -> usize
     ensures { Lays (change_text (fields_listed unit.now)) at output.old result output.new }
 {
     match unit {
-        Listed::Payload(unit) => signed(output, at, unit),
+        Listed::Payload(unit) => signed(output, at, &meant(unit)),
         _ => at,
     }
 }
 
 fn signed(output: &mut [u8], at: usize, unit: &ListedPayload<'_>) -> usize
-    ensures { Lays (change_said (payload_listed unit.now)) at output.old result output.new }
+    ensures { Lays (signed_said (payload_listed unit.now)) at output.old result output.new }
 {
     let at = laying::text(output, at, sign(flags(unit)));
     describe_payload(output, at, unit)

@@ -1,4 +1,4 @@
-use Rattle.rtr_differences.proofs.Statuses.{at_most_2, different, same}
+use Rattle.rtr_differences.proofs.Statuses.{else_3, different, same}
 use Rattle.rtr_differences.proofs.laws.statuses.Goals as goal
 
 pub returns-clause-same : goal.returns-clause-same
@@ -8,4 +8,4 @@ pub returns-clause-different : goal.returns-clause-different
 returns-clause-different c = different
 
 pub returns-clause-trouble : goal.returns-clause-trouble
-returns-clause-trouble c = at_most_2
+returns-clause-trouble c = else_3

@@ -1,6 +1,15 @@
-use Rattle.std.proofs.Common.{arith, rules}
+use Rattle.std.proofs.Common.{ap, arith, rules, sym, ◌∙◌}
+use Rattle.rtr_texts.specs.ListedUnits.{fields_listed}
+use Rattle.rtr_texts.specs.PayloadLines.{change_json, payload_json}
 use Rattle.rtr_texts.proofs.Laid.{lays_none, lays_said}
 use Rattle.rtr_texts.proofs.object.describe_change_json.Goals as goal
+
+pub returns-in-Payload : goal.returns-in-Payload
+returns-in-Payload c =
+    lays_said _ _ _ _ _ _
+    (ap payload_json c.meant.ensures
+    ∙ sym (ap (λ u. change_json (fields_listed u)) c.in-Payload.is))
+    c.describe_payload_json.ensures
 
 pub returns-in_default : goal.returns-in_default
 returns-in_default c =

@@ -1,6 +1,14 @@
-use Rattle.std.proofs.Common.{arith, rules}
+use Rattle.std.proofs.Common.{ap, arith, rules, sym, ◌∙◌}
+use Rattle.rtr_texts.specs.ListedUnits.{fields_listed}
+use Rattle.rtr_texts.specs.TextLines.{change_text, signed_said}
 use Rattle.rtr_texts.proofs.Laid.{lays_none, lays_said}
 use Rattle.rtr_texts.proofs.text.describe_change.Goals as goal
+
+pub returns-in-Payload : goal.returns-in-Payload
+returns-in-Payload c =
+    lays_said _ _ _ _ _ _
+    (ap signed_said c.meant.ensures
+    ∙ sym (ap (λ u. change_text (fields_listed u)) c.in-Payload.is)) c.signed.ensures
 
 pub returns-in_default : goal.returns-in_default
 returns-in_default c =
