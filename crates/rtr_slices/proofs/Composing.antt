@@ -1,4 +1,5 @@
 -- Going over places in the order of names, and writing what their changes make of data.
+use Rattle.rtr_slices.specs.AtOffsets.{HaveUnits}
 use Rattle.std.proofs.Common.{◌≡◌, ◌≤◌, ℕ, ◌+◌, ◌-◌, true, false, List, [], ◌∷◌, ◌++◌}
 use Rattle.std.proofs.Common.{length, Some, None, refl, sym, ap, subst, ◌∙◌}
 use Rattle.std.proofs.Common.{append_assoc, append-nil, arith}
@@ -14,7 +15,7 @@ use Rattle.rtr_slices.specs.PrivateChanges.{HoldsUnits}
 use Rattle.rtr_slices.specs.PrivateInOrder.{InRow}
 use Rattle.rtr_slices.specs.PrivateMade.{IsFollowed, PlacesBelow, PlacesMade, PlacesName}
 use Rattle.rtr_slices.specs.PrivateMade.{StartsOver, put, put_all, forms_of}
-use Rattle.rtr_slices.specs.PrivateOffsets.{HaveSome, HaveUnits, Views}
+use Rattle.rtr_slices.specs.PrivateOffsets.{HaveSome, Views}
 use Rattle.rtr_slices.specs.declared.item.PayloadView.{PayloadView}
 use Rattle.rtr_slices.proofs.Copying.{stays_long, forms_of_append}
 use Rattle.rtr_slices.proofs.Deltas.{joined, joined_none, longer}

@@ -1,4 +1,5 @@
 -- Going over places in the order of names, beside data.
+use Rattle.rtr_slices.specs.AtOffsets.{HaveUnits}
 use Rattle.std.proofs.Common.{◌≡◌, ℕ, Bool, false, ◌||◌, cond, List, [], ◌∷◌, ◌++◌, Option}
 use Rattle.std.proofs.Common.{Some, None, refl, sym, ap, subst, ◌∙◌, inl, inr}
 use Rattle.std.specs.List.{AllByRecursion}
@@ -16,7 +17,7 @@ use Rattle.rtr_slices.specs.Items.{meant}
 use Rattle.rtr_slices.specs.PrivateChanges.{HoldsUnits, Seeks}
 use Rattle.rtr_slices.specs.PrivateInOrder.{FindsEarliest, InRow, KnowsThere, disallowed}
 use Rattle.rtr_slices.specs.PrivateInOrder.{earlier_of, earliest, pairs, there_before}
-use Rattle.rtr_slices.specs.PrivateOffsets.{HaveSome, HaveUnits, Views, is_action}
+use Rattle.rtr_slices.specs.PrivateOffsets.{HaveSome, Views, is_action}
 use Rattle.rtr_slices.specs.declared.item.PayloadView.{PayloadView}
 use Rattle.rtr_slices.proofs.Going.{Taken, some_left, taken}
 use Rattle.rtr_slices.proofs.NetOrdered.{over}

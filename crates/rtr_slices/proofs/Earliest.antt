@@ -1,4 +1,5 @@
 -- Changes in the order of names: the one with the least place that data don't allow.
+use Rattle.rtr_slices.specs.AtOffsets.{Up}
 use Rattle.std.proofs.Common.{◌≡◌, ◌≤◌, ◌<◌, ℕ, Bool, true, false, cond, List, [], ◌∷◌, nat_lt}
 use Rattle.std.proofs.Common.{Option, Some, None, refl, sym, ap, subst, ◌∙◌, arith}
 use Rattle.std.proofs.Common.{◌⊎◌, inl, inr}
@@ -13,7 +14,7 @@ use Rattle.rtr_data.specs.Data.{Change, has_name, name_cmp}
 use Rattle.rtr_data.proofs.Merge.{laws, same_names}
 use Rattle.rtr_slices.specs.PrivateInOrder.{disallowed, earlier_of, earliest, fits, there_before}
 use Rattle.rtr_slices.specs.PrivateOffsets.{is_action, same_name}
-use Rattle.rtr_slices.proofs.InTurn.{Up, bad_over, first_bad, of_pair, own}
+use Rattle.rtr_slices.proofs.InTurn.{bad_over, first_bad, of_pair, own}
 use Rattle.rtr_slices.proofs.NetOrdered.{over, rises}
 
 -- the first isn't above the second, where there is one

@@ -1,4 +1,5 @@
 -- Going over places in the order of names.
+use Rattle.rtr_slices.specs.AtOffsets.{HaveUnits}
 use Rattle.std.proofs.Common.{◌≡◌, ◌≤◌, ℕ, ◌+◌, ◌-◌, Bool, true, false, not, ◌&&◌, cond, List, []}
 use Rattle.std.proofs.Common.{◌∷◌, ◌++◌, length, filter, Option, Some, None, refl, sym, ap, subst}
 use Rattle.std.proofs.Common.{◌∙◌, append_assoc, append-nil, arith}
@@ -13,7 +14,7 @@ use Rattle.rtr_data.specs.Sequences.{change_of}
 use Rattle.rtr_slices.specs.Canonical.{PlacesFront}
 use Rattle.rtr_slices.specs.Items.{meant}
 use Rattle.rtr_slices.specs.Net.{settles}
-use Rattle.rtr_slices.specs.PrivateOffsets.{FindsWrong, HaveSome, HaveUnits, PlacesNets}
+use Rattle.rtr_slices.specs.PrivateOffsets.{FindsWrong, HaveSome, PlacesNets}
 use Rattle.rtr_slices.specs.PrivateOffsets.{Views, between, ended, first_after, is_action}
 use Rattle.rtr_slices.specs.PrivateOffsets.{last_form, nets, nets_from, open_at, or_else, same_name}
 use Rattle.rtr_slices.specs.PrivateOffsets.{settled, with_action, first_wrong, wrong_from}

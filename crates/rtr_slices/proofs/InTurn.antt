@@ -1,4 +1,5 @@
 -- Changes one after the other: the first that data don't allow, from those of each name.
+use Rattle.rtr_slices.specs.AtOffsets.{Over, StoppedAt, Up, made_by, why}
 use Rattle.std.proofs.Common.{◌≡◌, ◌≤◌, ◌<◌, ℕ, Bool, true, false, not, ◌&&◌, cond, List, []}
 use Rattle.std.proofs.Common.{◌∷◌, ◌++◌, map, Option, Some, None, Ok, Err, refl, sym, ap, subst}
 use Rattle.std.proofs.Common.{◌∙◌, arith}
@@ -24,10 +25,6 @@ use Rattle.rtr_slices.specs.PrivateOffsets.{is_action}
 use Rattle.rtr_slices.proofs.There.{is_some, named, removed, replaced, there}
 
 -- ---- what a change makes
-
-abbrev pub why : Action → ChangeError
-why Announce = Duplicate
-why Withdraw = Unknown
 
 abbrev pub made_of : Action → Payload → List Payload → List Payload
 made_of Announce p d = replace_key name_cmp d p
@@ -95,14 +92,6 @@ first_bad is_there (x ∷ xs) =
     cond (fits is_there x.1.action x.1.payload) (first_bad (is_action Announce x.1.action) xs)
     (Some (x.0, x.1.action))
 
-abbrev pub Over : ℕ → List (ℕ × Change) → Type 0
-Over n xs = AllByRecursion (λ y. n < y.0) xs
-
--- places that rise
-abbrev pub Up : List (ℕ × Change) → Type 0
-Up [] = Unit {0}
-Up (x ∷ xs) = Over x.0 xs × Up xs
-
 some_is : (x y : ℕ × Action) → Some x ≡ Some y → x ≡ y
 some_is x y e = cc
 
@@ -135,20 +124,7 @@ kept_up p (x ∷ xs) (a, u) = by_test (kept_up p xs u) (is_eq (name_cmp p x.1.pa
     by_test ih true = (kept_over x.0 p xs a, ih)
     by_test ih false = ih
 
-abbrev pub made_by : List (ℕ × Change) → List Change
-made_by xs = map (λ (x : ℕ × Change). x.1) xs
-
 -- ---- the first that isn't allowed
-
--- the change at this place, which does this, isn't allowed, and those before it are
-pub record Stopped (xs : List (ℕ × Change)) (d : List Payload) (r : ℕ × Action) : Type 0 where
-  pub before : List (ℕ × Change)
-  pub c : Change
-  pub later : List (ℕ × Change)
-  pub parts : xs ≡ before ++ (r.0, c) ∷ later
-  pub made : List Payload
-  pub allowed : after_all (made_by before) (Ok d) ≡ Ok made
-  pub wrong : after c made ≡ Err (why r.1)
 
 module _ (x : ℕ × Change) (xs : List (ℕ × Change)) (d : List Payload) (s : IsData d) where
   abbrev next : List Payload
@@ -210,7 +186,7 @@ module _ (x : ℕ × Change) (xs : List (ℕ × Change)) (d : List Payload) (s :
 pub stopped : (xs : List (ℕ × Change)) (d : List Payload) → IsData d → Up xs → (p : Payload)
     (r : ℕ × Action) → first_bad (has_name d p) (of_pair p xs) ≡ Some r →
     ((q : Payload) (t : ℕ × Action) → first_bad (has_name d q) (of_pair q xs) ≡ Some t →
-    r.0 ≤ t.0) → Stopped xs d r
+    r.0 ≤ t.0) → StoppedAt xs d r
 stopped [] d s u p r e least = absurd cc
 stopped (x ∷ xs) d s (a, u) p r e least =
     by_fit (λ t. stopped xs (next x xs d s) t u p r) (fit x xs d s) refl
@@ -219,8 +195,8 @@ stopped (x ∷ xs) d s (a, u) p r e least =
         first_bad (has_name (next x xs d s) p) (of_pair p xs) ≡ Some r →
         ((q : Payload) (t : ℕ × Action) →
         first_bad (has_name (next x xs d s) q) (of_pair q xs) ≡ Some t → r.0 ≤ t.0) →
-        Stopped xs (next x xs d s) r) →
-        (b : Bool) → fit x xs d s ≡ b → Stopped (x ∷ xs) d r
+        StoppedAt xs (next x xs d s) r) →
+        (b : Bool) → fit x xs d s ≡ b → StoppedAt (x ∷ xs) d r
     by_fit ih true f =
         let is = makes x.1.action x.1.payload d f in
         let rest = ih (after_data x.1 d (next x xs d s) s is)

@@ -55,3 +55,4 @@ pub mod NoStray
 pub mod RoomInOrder
 pub mod AsTheyCame
 pub mod AsData
+pub mod Lying

@@ -14,6 +14,7 @@ use Rattle.rtr_data.specs.declared.change_error.ChangeError.{ChangeError}
 use Rattle.rtr_data.specs.declared.change_error.ChangeError.TheVariants.{Duplicate, Unknown}
 use Rattle.rtr_data.proofs.Fewest.{after_all_data}
 use Rattle.rtr_data.proofs.Merge.{refused_all}
+use Rattle.rtr_slices.specs.Apply.{data_form}
 use Rattle.rtr_slices.specs.Canonical.{PlacesFront}
 use Rattle.rtr_slices.specs.Net.{of_name}
 use Rattle.rtr_slices.specs.PrivateChanges.{HoldsUnits}
@@ -55,33 +56,37 @@ put_all_is (c ∷ cs) d f h = put_step c cs d f (λ x g. put_all_is cs x f g) (a
 ok_is : (x y : List Payload) → ◌≡◌ {A = Result (List Payload) ChangeError} (Ok x) (Ok y) → x ≡ y
 ok_is x y e = cc
 
+module _ (input os : List ℕ) (cs : List Change) (e : EndMeaning) (ps : List ℕ)
+    (r : InOrder input os cs e.version ps) (d : List Payload) (is : IsData d) (made : List Payload)
+    (all : after_all cs (Ok d) ≡ Ok made) where
+  of_name_made : (p : Payload) →
+      steps (of_name p r.ds) (Ok (there p d)) ≡ Ok (there p made)
+  of_name_made p =
+      ap (λ l. steps l (Ok (there p d))) (r.same_of p) ∙ of_each_name p cs d made is all
+
+  sorted_made : put_all r.ds d ≡ made
+  sorted_made =
+      let (f, to) = all_allowed r.ds d is (λ p. (there p made, of_name_made p)) in
+      put_all_is r.ds d f to
+      ∙ same_data f made (after_all_data r.ds d f is to) (after_all_data cs d made is all)
+      (λ p. ok_is (there p f) (there p made)
+      (sym (of_each_name p r.ds d f is to) ∙ of_name_made p))
+
+  pub made_if : (base before after : List ℕ) → HoldsUnits Announce e.version base d →
+      (n : Option ℕ) → PlacesMadeAll n base input ps e before after →
+      PlacesFront n (data_form made e) before after
+  made_if base before after held n placed =
+      subst (λ l. PlacesFront n (forms_of e.version l ++ end_list e) before after) sorted_made
+      (placed d r.ds held r.units (in_row r.ds r.ordered))
+
 module _ (input os : List ℕ) (cs : List Change) (e : EndMeaning) (s : SendsAt input os cs e)
     (ps : List ℕ) (r : InOrder input os cs e.version ps) (d : List Payload) (is : IsData d) where
-  module _ (made : List Payload) (all : after_all cs (Ok d) ≡ Ok made) where
-    of_name_made : (p : Payload) →
-        steps (of_name p r.ds) (Ok (there p d)) ≡ Ok (there p made)
-    of_name_made p =
-        ap (λ l. steps l (Ok (there p d))) (r.same_of p) ∙ of_each_name p cs d made is all
-
-    sorted_made : put_all r.ds d ≡ made
-    sorted_made =
-        let (f, to) = all_allowed r.ds d is (λ p. (there p made, of_name_made p)) in
-        put_all_is r.ds d f to
-        ∙ same_data f made (after_all_data r.ds d f is to) (after_all_data cs d made is all)
-        (λ p. ok_is (there p f) (there p made)
-        (sym (of_each_name p r.ds d f is to) ∙ of_name_made p))
-
   module _ (base before after : List ℕ) (held : HoldsUnits Announce e.version base d) where
     pub made_of : (n : Option ℕ) → None ≡ earliest d None None (pairs ps r.ds) →
         PlacesMadeAll n base input ps e before after → MadeOf n d cs e before after
     made_of n none placed =
-        let (made, all) = answers input os cs e s ps r d is None none in (
-          made,
-          all,
-          subst (λ l. PlacesFront n (forms_of e.version l ++ end_list e) before after)
-              (sorted_made made all)
-              (placed d r.ds held r.units (in_row r.ds r.ordered)),
-        )
+        let (made, all) = answers input os cs e s ps r d is None none in
+        (made, all, made_if input os cs e ps r d is made all base before after held n placed)
 
   pub refused : (o : ℕ) (a : Action) → Some (o, a) ≡ earliest d None None (pairs ps r.ds) →
       (before : List ℕ) → Outcome (Err (refused_with o a)) input d cs e before before

@@ -1,4 +1,5 @@
 -- The first change of an input that data don't allow, from these in the order of names.
+use Rattle.rtr_slices.specs.AtOffsets.{FirstOf, HaveUnits, Over, StoppedAt, Up, made_by, why}
 use Rattle.std.proofs.Common.{◌≡◌, ◌≤◌, ◌<◌, ℕ, ◌+◌, Bool, true, false, cond, List, [], ◌∷◌, ◌++◌}
 use Rattle.std.proofs.Common.{length, map, filter, Option, Some, None, refl, sym, ap, subst}
 use Rattle.std.proofs.Common.{◌∙◌, append_assoc, arith, inl, inr, length-append}
@@ -17,10 +18,10 @@ use Rattle.rtr_slices.specs.Apply.{RefusedAt}
 use Rattle.rtr_slices.specs.InOrder.{AreAllowed}
 use Rattle.rtr_slices.specs.Net.{of_name}
 use Rattle.rtr_slices.specs.PrivateInOrder.{InRow, FirstRefused, earliest, pairs}
-use Rattle.rtr_slices.specs.PrivateOffsets.{HaveUnits, SendsAt, TellsUnits, UnitsAt}
+use Rattle.rtr_slices.specs.PrivateOffsets.{SendsAt, TellsUnits, UnitsAt}
 use Rattle.rtr_slices.proofs.Earliest.{From, Least, NotAbove, Row, least}
-use Rattle.rtr_slices.proofs.InTurn.{Over, Stopped, Up, allowed, first_bad, kept_up, made_by}
-use Rattle.rtr_slices.proofs.InTurn.{of_pair, stopped, why}
+use Rattle.rtr_slices.proofs.InTurn.{allowed, first_bad, kept_up}
+use Rattle.rtr_slices.proofs.InTurn.{of_pair, stopped}
 use Rattle.rtr_slices.proofs.Refusals.{have_units}
 use Rattle.rtr_slices.proofs.Sequences.{no_unit}
 use Rattle.rtr_slices.proofs.SortedOffsets.{Ascending, InOrder, names}
@@ -72,7 +73,7 @@ made_pairs input v (o ∷ os) (c ∷ cs) (h, hs) = ap (λ l. c ∷ l) (made_pair
 
 -- ---- units lie one after the other
 
-some_bytes : (b : List ℕ) (m : Meaning) → IsUnit b m → 0 < length b
+pub some_bytes : (b : List ℕ) (m : Meaning) → IsUnit b m → 0 < length b
 some_bytes [] m u = absurd (no_unit m u)
 some_bytes (x ∷ b) m u = omega arith
 
@@ -167,19 +168,14 @@ split_changes xs before x later e = ap made_by e ∙ joined before
     joined [] = refl
     joined (y ∷ ys) = ap (λ l. y.1 ∷ l) (joined ys)
 
-module _ (input os : List ℕ) (cs : List Change) (e : EndMeaning) (s : SendsAt input os cs e)
-    (ps : List ℕ) (r : InOrder input os cs e.version ps) (d : List Payload) (is : IsData d) where
-  have : HaveUnits input e.version os cs
-  have = have_units input os cs e s
-
-  lie : Up (pairs os cs)
-  lie = (up_at 0 s.front e.version cs os s.units).1
-
+module _ (input os : List ℕ) (cs : List Change) (v : ℕ) (have : HaveUnits input v os cs)
+    (lie : Up (pairs os cs)) (ps : List ℕ) (r : InOrder input os cs v ps) (d : List Payload)
+    (is : IsData d) where
   same_pairs : (q : Payload) → of_pair q (pairs ps r.ds) ≡ of_pair q (pairs os cs)
   same_pairs q =
-      of_pairs input r.at r.reads_at q e.version ps r.ds r.units
+      of_pairs input r.at r.reads_at q v ps r.ds r.units
       ∙ (λ i. pairs (r.same_places q i) (r.same_of q i))
-      ∙ sym (of_pairs input r.at r.reads_at q e.version os cs have)
+      ∙ sym (of_pairs input r.at r.reads_at q v os cs have)
 
   found : Least d None None (pairs ps r.ds) (earliest d None None (pairs ps r.ds))
   found =
@@ -187,12 +183,11 @@ module _ (input os : List ℕ) (cs : List Change) (e : EndMeaning) (s : SendsAt 
       (λ q. subst Up (sym (same_pairs q)) (kept_up q (pairs os cs) lie))
 
   -- none
-  all_fit : Least d None None (pairs ps r.ds) None → AreAllowed cs d
+  all_fit : Least d None None (pairs ps r.ds) None → AreAllowed (made_by (pairs os cs)) d
   all_fit l =
-      subst (λ x. AreAllowed x d) (made_pairs input e.version os cs have)
-      (allowed (pairs os cs) d is (λ q.
+      allowed (pairs os cs) d is (λ q.
       none_bad (first_bad (has_name d q) (of_pair q (pairs os cs)))
-      (subst (λ x. NotAbove None (first_bad (has_name d q) x)) (same_pairs q) (l.names q))))
+      (subst (λ x. NotAbove None (first_bad (has_name d q) x)) (same_pairs q) (l.names q)))
     where
       none_bad : (x : Option (ℕ × Action)) → NotAbove None x → x ≡ None
       none_bad None h = refl
@@ -206,7 +201,7 @@ module _ (input os : List ℕ) (cs : List Change) (e : EndMeaning) (s : SendsAt 
         subst (NotAbove (Some t)) h
         (subst (λ x. NotAbove (Some t) (first_bad (has_name d q) x)) (same_pairs q) (l.names q))
 
-    stops : Stopped (pairs os cs) d t
+    stops : StoppedAt (pairs os cs) d t
     stops = elim l.from [
       | inl n ↦ absurd (let no = n in cc)
       | inr n ↦
@@ -214,6 +209,21 @@ module _ (input os : List ℕ) (cs : List Change) (e : EndMeaning) (s : SendsAt 
           (ap (first_bad (has_name d n.0)) (sym (same_pairs n.0)) ∙ sym n.1) is_least
     ]
 
+  by_least : (x : Option (ℕ × Action)) → Least d None None (pairs ps r.ds) x →
+      FirstOf x (pairs os cs) d
+  by_least None l = all_fit l
+  by_least (Some t) l = stops t l
+
+  pub first_of : (x : Option (ℕ × Action)) → x ≡ earliest d None None (pairs ps r.ds) →
+      FirstOf x (pairs os cs) d
+  first_of x h = by_least x (subst (Least d None None (pairs ps r.ds)) (sym h) found)
+
+module _ (input os : List ℕ) (cs : List Change) (e : EndMeaning) (s : SendsAt input os cs e)
+    (ps : List ℕ) (r : InOrder input os cs e.version ps) (d : List Payload) (is : IsData d) where
+  have : HaveUnits input e.version os cs
+  have = have_units input os cs e s
+
+  module _ (t : ℕ × Action) (stops : StoppedAt (pairs os cs) d t) where
     refused_at : RefusedAt t.0 (why t.1) input d cs e.version
     refused_at =
         let k = cut 0 s.front e.version cs os t.0 stops.before stops.c stops.later s.units
@@ -240,12 +250,15 @@ module _ (input os : List ℕ) (cs : List Change) (e : EndMeaning) (s : SendsAt 
           is_unit = k.is_unit;
         }
 
-  by_answer : (x : Option (ℕ × Action)) → Least d None None (pairs ps r.ds) x →
+  by_answer : (x : Option (ℕ × Action)) → FirstOf x (pairs os cs) d →
       FirstRefused x input d cs e.version
-  by_answer None l = all_fit l
-  by_answer (Some (o, Announce)) l = refused_at (o, Announce) l
-  by_answer (Some (o, Withdraw)) l = refused_at (o, Withdraw) l
+  by_answer None h = subst (λ x. AreAllowed x d) (made_pairs input e.version os cs have) h
+  by_answer (Some (o, Announce)) h = refused_at (o, Announce) h
+  by_answer (Some (o, Withdraw)) h = refused_at (o, Withdraw) h
 
   pub answers : (x : Option (ℕ × Action)) → x ≡ earliest d None None (pairs ps r.ds) →
       FirstRefused x input d cs e.version
-  answers x h = by_answer x (subst (Least d None None (pairs ps r.ds)) (sym h) found)
+  answers x h =
+      by_answer x
+      (first_of input os cs e.version have (up_at 0 s.front e.version cs os s.units).1 ps r d is x
+      h)

@@ -1,4 +1,5 @@
 -- What is refused of the changes of an input, from what is of these in the order of names.
+use Rattle.rtr_slices.specs.AtOffsets.{HasUnit, HaveUnits}
 use Rattle.std.proofs.Common.{◌≡◌, ◌≤◌, ℕ, ◌+◌, Bool, true, false, cond, List, [], ◌∷◌, ◌++◌}
 use Rattle.std.proofs.Common.{length, map, filter, Option, Some, None, Err, refl, sym, ap, subst}
 use Rattle.std.proofs.Common.{◌∙◌}
@@ -22,7 +23,7 @@ use Rattle.rtr_slices.specs.Canonical.{PlacesFront}
 use Rattle.rtr_slices.specs.Net.{AreLinked, of_name, undecided}
 use Rattle.rtr_slices.specs.Order.{IsAgain, IsOpenEnd, IsRight, Orders, RefusesAt, RefusesOrder}
 use Rattle.rtr_slices.specs.Order.{Sends, WritesOrder}
-use Rattle.rtr_slices.specs.PrivateOffsets.{HasUnit, HaveUnits, SendsAt, UnitsAt, ordered}
+use Rattle.rtr_slices.specs.PrivateOffsets.{SendsAt, UnitsAt, ordered}
 use Rattle.rtr_slices.specs.PrivateOffsets.{first_wrong}
 use Rattle.rtr_slices.specs.declared.order_fault.OrderFault.{OrderFault}
 use Rattle.rtr_slices.specs.declared.order_fault.OrderFault.TheVariants as faults

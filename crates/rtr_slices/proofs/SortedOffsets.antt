@@ -1,4 +1,5 @@
 -- Places in the order of names.
+use Rattle.rtr_slices.specs.AtOffsets.{HasUnit, HaveUnits}
 use Rattle.std.proofs.Common.{◌≡◌, ◌≤◌, ◌<◌, ℕ, suc, ◌+◌, Bool, true, false, cond, eqb, List}
 use Rattle.std.proofs.Common.{[], ◌∷◌, ◌++◌, drop, filter, get_or, length, map, All, sum_by, Option}
 use Rattle.std.proofs.Common.{Some, None, ◌⊎◌, inl, inr, refl, sym, ap, subst, ◌∙◌, arith}
@@ -26,7 +27,7 @@ use Rattle.rtr_data.specs.Deltas.{unit_of}
 use Rattle.rtr_data.specs.Sequences.{change_of}
 use Rattle.rtr_data.proofs.Merge.{laws}
 use Rattle.rtr_slices.specs.Net.{of_name}
-use Rattle.rtr_slices.specs.PrivateOffsets.{HasUnit, HaveUnits, MeansAt, TellsUnits, SortsOffsets}
+use Rattle.rtr_slices.specs.PrivateOffsets.{MeansAt, TellsUnits, SortsOffsets}
 use Rattle.rtr_slices.specs.PrivateOffsets.{UnitsAt, meaning_cmp, offset_cmp}
 use Rattle.rtr_slices.proofs.UnitsAt.{means_same, one_unit, places_ranked}
 
@@ -118,7 +119,7 @@ have_at input pre b suf from v (c ∷ cs) (o ∷ os) parts is (first, rest, spli
 
 -- ---- numbers that don't fall
 
-abbrev Rise : List ℕ → Type 0
+abbrev pub Rise : List ℕ → Type 0
 Rise [] = Unit {0}
 Rise (x ∷ xs) = AllByRecursion (λ y. x ≤ y) xs × Rise xs
 
@@ -393,21 +394,18 @@ pub record InOrder (input os : List ℕ) (cs : List Change) (v : ℕ) (ps : List
       filter (λ o. names p (at o)) ps ≡ filter (λ o. names p (at o)) os
   pub same_of : (p : Payload) → of_name p ds ≡ of_name p cs
 
-pub in_order : (input os : List ℕ) (cs : List Change) (v : ℕ) (front suf : List ℕ)
-    (ps : List ℕ) → IsBytes input → input ≡ front ++ suf →
-    UnitsAt 0 front (map (unit_of v) cs) os → IsPermutation os ps → SortsOffsets input ps →
+pub in_order_at : (input os : List ℕ) (cs : List Change) (v : ℕ) (ps : List ℕ) → IsBytes input →
+    HaveUnits input v os cs → Rise os → IsPermutation os ps → SortsOffsets input ps →
     InOrder input os cs v ps
-in_order input os cs v front suf ps bytes parts units perm sorted =
+in_order_at input os cs v ps bytes have rise perm sorted =
     let at = reading input bytes in
     let r = reads input bytes in
-    let have = have_at input [] front suf 0 v cs os parts refl units in
     let (ds, there) =
     made_all input v ps (All-permutation (Made input v) os ps perm (all_made input v os cs have)) in
     let up = sorted_up at ps (sorted at r) in
     let same : (p : Payload) →
     filter (λ o. names p (at o)) ps ≡ filter (λ o. names p (at o)) os = λ p.
-    same_kept (λ o. names p (at o)) os ps perm
-    (rise_kept (λ o. names p (at o)) os (rise_at 0 front (map (unit_of v) cs) os units).1)
+    same_kept (λ o. names p (at o)) os ps perm (rise_kept (λ o. names p (at o)) os rise)
     (rise_named at p ps up) in
     record {
       ds = ds;
@@ -422,3 +420,11 @@ in_order input os cs v front suf ps bytes parts units perm sorted =
           (name_places input at r p v ps ds there))
           (name_places input at r p v os cs have);
     }
+
+pub in_order : (input os : List ℕ) (cs : List Change) (v : ℕ) (front suf : List ℕ)
+    (ps : List ℕ) → IsBytes input → input ≡ front ++ suf →
+    UnitsAt 0 front (map (unit_of v) cs) os → IsPermutation os ps → SortsOffsets input ps →
+    InOrder input os cs v ps
+in_order input os cs v front suf ps bytes parts units perm sorted =
+    in_order_at input os cs v ps bytes (have_at input [] front suf 0 v cs os parts refl units)
+    (rise_at 0 front (map (unit_of v) cs) os units).1 perm sorted

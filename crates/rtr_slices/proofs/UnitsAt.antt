@@ -1,4 +1,5 @@
 -- Units by the places where they begin.
+use Rattle.rtr_slices.specs.AtOffsets.{HasUnit}
 use Rattle.std.proofs.Common.{◌≡◌, ℕ, List, [], ◌++◌, drop, take, length, Option, Some, None}
 use Rattle.std.proofs.Common.{◌≤◌, ◌-◌}
 use Rattle.std.proofs.Common.{refl, sym, ap, subst, ◌∙◌, arith}
@@ -25,7 +26,7 @@ use Rattle.rtr_views.specs.declared.fault.ViewFault.TheVariants.{EmptyProviders,
 use Rattle.rtr_views.specs.declared.fault.ViewFault.TheVariants.{Prefix, TooMany}
 use Rattle.rtr_slices.specs.Items.{IsItem, meant}
 use Rattle.rtr_data.proofs.Names.{name_total}
-use Rattle.rtr_slices.specs.PrivateOffsets.{HasUnit, MeansAt, Views, ViewsAt, offset_cmp}
+use Rattle.rtr_slices.specs.PrivateOffsets.{MeansAt, Views, ViewsAt, offset_cmp}
 use Rattle.rtr_slices.specs.declared.item.Item.TheVariants as items
 use Rattle.rtr_slices.specs.declared.item.PayloadView.{PayloadView}
 

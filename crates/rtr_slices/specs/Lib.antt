@@ -12,3 +12,4 @@ pub mod PrivateOffsets
 pub mod InOrder
 pub mod PrivateInOrder
 pub mod PrivateMade
+pub mod AtOffsets

@@ -1,5 +1,6 @@
 -- Changes in the order in which they came, beside data. Only contracts of private functions cite
 -- these.
+use Rattle.rtr_slices.specs.AtOffsets.{HaveUnits}
 use Rattle.std.specs.Prelude.{◌≡◌, ◌⊎◌, ℕ, ⊤, Bool, false, not, ◌&&◌, List, [], ◌∷◌}
 use Rattle.std.specs.Prelude.{Option, Some, None, if◌then◌else◌, nat_lt, true, Result, Ok, Err}
 use Rattle.std.specs.Prelude.{◌≤◌, length}
@@ -20,7 +21,7 @@ use Rattle.rtr_slices.specs.Canonical.{HoldsData, PlacesFront}
 use Rattle.rtr_slices.specs.InOrder.{AreAllowed, RefusesInOrder}
 use Rattle.rtr_slices.specs.Items.{meant}
 use Rattle.rtr_slices.specs.PrivateChanges.{HoldsUnits, Seeks}
-use Rattle.rtr_slices.specs.PrivateOffsets.{HaveUnits, OffsetsRead, SendsAt, is_action, same_name}
+use Rattle.rtr_slices.specs.PrivateOffsets.{OffsetsRead, SendsAt, is_action, same_name}
 use Rattle.rtr_slices.specs.declared.in_order_fault.InOrderFault.{InOrderFault}
 use Rattle.rtr_slices.specs.declared.in_order_fault.InOrderFault.TheVariants as faults
 use Rattle.rtr_slices.specs.declared.item.PayloadView.{PayloadView}

@@ -1,5 +1,6 @@
 -- What changes in the order of names make of data, written. Only contracts of private functions
 -- cite these.
+use Rattle.rtr_slices.specs.AtOffsets.{HaveUnits}
 use Rattle.std.specs.Prelude.{◌≡◌, ◌⊎◌, ℕ, ⊤, Bool, true, false, List, [], ◌∷◌, ◌++◌, map}
 use Rattle.std.specs.Prelude.{Option, Some, None}
 use denote.Ref.{Bor}
@@ -21,7 +22,7 @@ use Rattle.rtr_slices.specs.Canonical.{PlacesFront}
 use Rattle.rtr_slices.specs.Items.{meant}
 use Rattle.rtr_slices.specs.PrivateChanges.{HoldsUnits, IsNext, IsUnder, NoUnit}
 use Rattle.rtr_slices.specs.PrivateInOrder.{InRow}
-use Rattle.rtr_slices.specs.PrivateOffsets.{HaveUnits, same_name}
+use Rattle.rtr_slices.specs.PrivateOffsets.{same_name}
 use Rattle.rtr_slices.specs.declared.item.PayloadView.{PayloadView}
 
 -- what a change makes of data, if it is allowed

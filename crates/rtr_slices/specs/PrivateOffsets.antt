@@ -1,4 +1,5 @@
 -- Units by the offsets at which they begin. Only contracts of private functions cite these.
+use Rattle.rtr_slices.specs.AtOffsets.{HasUnit, HaveUnits}
 use Rattle.std.specs.Prelude.{◌≡◌, ◌≤◌, ℕ, ◌+◌, ⊤, Bool, true, false, ◌&&◌, List, []}
 use Rattle.std.specs.Prelude.{◌∷◌, ◌++◌, map, filter, length, drop, take, Option, Some, None}
 use Rattle.std.specs.Prelude.{Result, if◌then◌else◌}
@@ -25,20 +26,6 @@ use Rattle.rtr_slices.specs.declared.item.Item.TheVariants as items
 use Rattle.rtr_slices.specs.declared.item.PayloadView.{PayloadView}
 use Rattle.rtr_slices.specs.declared.order_fault.OrderFault.{OrderFault}
 use Rattle.rtr_slices.specs.declared.order_fault.OrderFault.TheVariants as faults
-
--- at this offset in the input a unit begins, with this meaning
-pub record HasUnit (input : List ℕ) (o : ℕ) (m : Meaning) : Type 0 where
-  pub bytes : List ℕ
-  pub left : List ℕ
-  pub unit : IsUnit bytes m
-  pub parts : drop o input ≡ bytes ++ left
-
--- units of the version begin there that make these changes
-abbrev pub HaveUnits : (input : List ℕ) → (v : ℕ) → List ℕ → List Change → Type 0
-HaveUnits input v [] [] = ⊤
-HaveUnits input v [] (c ∷ cs) = ⊥
-HaveUnits input v (o ∷ os) [] = ⊥
-HaveUnits input v (o ∷ os) (c ∷ cs) = HasUnit input o (unit_of v c) × HaveUnits input v os cs
 
 -- the bytes, from this offset on, are units with these meanings, which begin at these offsets
 abbrev pub UnitsAt : ℕ → List ℕ → List Meaning → List ℕ → Type 0

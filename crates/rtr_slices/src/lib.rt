@@ -5,6 +5,7 @@
 mod allowing;
 mod applied;
 mod apply;
+mod at_offsets;
 mod changes;
 mod check;
 mod delta;
@@ -27,6 +28,7 @@ mod settling;
 mod shared;
 
 pub use apply::apply_into;
+pub use at_offsets::{AtFault, check_at, make_at};
 pub use changes::check_changes;
 pub use check::check_data;
 pub use delta::delta_into;
