@@ -1,0 +1,12 @@
+mod CountsKept
+mod Example
+mod Made
+mod Makings
+mod Pieces
+mod Overs
+mod Places
+mod Reports
+mod Room
+mod Runs
+mod Steps
+mod Turns
