@@ -1,0 +1,5 @@
+use Rattle.rtr_history.specs.Life.{was_new}
+use Rattle.rtr_history.proofs.stores.Stores.new.Goals as goal
+
+pub returns : goal.returns
+returns c = record { life = λ first second. was_new }

@@ -1,0 +1,14 @@
+pub mod Parts
+pub mod Snapshots
+pub mod Since
+pub mod PrivateJoins
+pub mod PrivateRefusals
+pub mod Next
+pub mod Stored
+pub mod Checks
+pub mod PrivateChecks
+pub mod Store
+pub mod Life
+pub mod PrivateNewer
+pub mod Stores
+pub mod Seal

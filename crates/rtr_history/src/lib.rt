@@ -1,0 +1,36 @@
+//! The history of a cache: its present data and the steps back to earlier data of its session, as
+//! bytes in slices, without memory, clock or sockets (RFC 8210 sections 5.1, 5.3 and 8.2).
+//!
+//! `Stores` has what a cache serves and what it took: new data become a history by `next_into` and
+//! a store by `take_into`, the bytes to save behind the head that `seal_head` makes, and are served
+//! only once the caller says that they are saved. Then a cache never serves two data under one
+//! session and serial number (`laws::one_data_under_each_name`). `since_into` writes the answer to
+//! a serial query. At a start `open_saved` and `Stores::start` say whether a file is whole.
+#![tactic(auto)]
+
+mod check;
+mod join;
+mod kept;
+mod known;
+pub mod laws;
+mod newer;
+mod next;
+mod part;
+mod room;
+mod seal;
+mod since;
+mod store;
+mod stores;
+#[cfg(test)]
+mod tests;
+
+pub use check::{CheckFault, check_history};
+pub use known::knows;
+pub use newer::Untaken;
+pub use next::{Limits, Refused, first_into, next_into};
+pub use part::first_part;
+pub use room::Room;
+pub use seal::{open_old, open_saved, seal_head};
+pub use since::{SinceFault, since_into};
+pub use store::{TakeFault, first_store_into, take_into};
+pub use stores::{Stores, check_store};

@@ -1,0 +1,28 @@
+//! Slices that are too short.
+
+ghost use Rattle.std.specs.Prelude.{◌<◌, ◌≤◌, ◌+◌, length};
+
+/// One of the slices that a call works in or writes to.
+#[derive(Clone, Copy, Debug, PartialEq, Eq)]
+pub enum Room {
+    /// The index, in elements.
+    Index,
+    /// The first buffer.
+    Buffer,
+    /// The second buffer.
+    Spare,
+    /// The output.
+    Output,
+}
+
+/// Returns how long an output has to be that is too short for so many bytes, or the greatest
+/// number.
+pub fn wanted_of(output: &[u8], head: usize, first: usize, second: usize, third: usize) -> usize
+    ensures more { length output.now < head + first + second + third → length output.now < result }
+    ensures most { result ≤ head + first + second + third }
+{
+    let _have = output.len();
+    head.saturating_add(first)
+        .saturating_add(second)
+        .saturating_add(third)
+}
