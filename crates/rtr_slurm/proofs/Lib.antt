@@ -1,0 +1,4 @@
+pub mod TestedSoFar
+pub mod EntriesSoFar
+pub mod Seen
+mod Sharing

@@ -1,0 +1,9 @@
+pub mod Entries
+pub mod Filters
+pub mod Joining
+pub mod Overlaps
+pub mod SharedAddresses
+pub mod SlurmNames
+pub mod SlurmValues
+pub mod SlurmFiles
+pub mod PrivateEntries
