@@ -447,12 +447,13 @@ refused_document ignored (Some j) found why h (inr e) =
 
 -- the text is read
 pub json_read : (ignored : List (List ℕ)) (text rest : List ℕ) (reader : List Token)
-    (before after : Gathering) → rest ≡ strip_bom text → reader ≡ tokens rest →
+    (before after : Gathering) → rest ≡ strip_bom text → IsUtf8 rest → reader ≡ tokens rest →
     IsSoleValue reader (λ j. TakesSome (HasItemsOf ignored j) before after) →
     TakesSome (IsJsonOf ignored text) before after
-json_read ignored text rest reader before after e is h = record {
+json_read ignored text rest reader before after e utf8 is h = record {
   items = h.2.items;
   are = record {
+    utf8 = subst IsUtf8 e utf8;
     value = h.0;
     whole = subst (λ l. document l ≡ Some h.0) e (ap sole_value (sym is) ∙ h.1);
     has = h.2.are;

@@ -34,7 +34,7 @@ first Fine Refuses [] x after why h r = inl r
 first Fine Refuses (b ∷ before) x after why h r =
     inr (h.0, first Fine Refuses before x after why h.1 r)
 
-fine_asns : (js : List Json) (ns : List ℕ) → AreAsnValues js ns → AllByRecursion IsSomeAsn js
+pub fine_asns : (js : List Json) (ns : List ℕ) → AreAsnValues js ns → AllByRecursion IsSomeAsn js
 fine_asns [] ns h = tt
 fine_asns (j ∷ js) [] h = absurd h
 fine_asns (j ∷ js) (n ∷ ns) h = ((n, h.0), fine_asns js ns h.1)
@@ -45,7 +45,7 @@ fine_items kind [] ps h = tt
 fine_items kind (j ∷ js) [] h = absurd h
 fine_items kind (j ∷ js) (p ∷ ps) h = ((p.0, h.0.0), fine_items kind js ps h.1)
 
-fine_customers : (ms : List (List ℕ × Json)) (ps : List Dated) → AreCustomerAspas ms ps →
+pub fine_customers : (ms : List (List ℕ × Json)) (ps : List Dated) → AreCustomerAspas ms ps →
     AllByRecursion IsSomeCustomer ms
 fine_customers [] ps h = tt
 fine_customers (m ∷ ms) [] h = absurd h

@@ -5,10 +5,10 @@ use Rattle.std.proofs.Common.{rules, inl, MatchResult, Result, Ok, Err}
 use Rattle.std.proofs.lemmas.List.{append-nil, map-append, take_all, take_more}
 use Rattle.std.specs.Bool.{MatchBool}
 use Rattle.std.specs.Borrow.{Bor}
-use Rattle.json.specs.Json.{Json, array, number, object}
+use Rattle.json.specs.Json.{Json, array, number, object, string}
 use Rattle.json.specs.Value.{items_view, members_view, value_view}
 use Rattle.json.proofs.Trees.{view-Array, view-Object}
-use Rattle.json.specs.declared.value.Value.{Array, Number, Object, Value, the_lemmas}
+use Rattle.json.specs.declared.value.Value.{Array, Number, Object, String, Value, the_lemmas}
 use Rattle.rtr_vrps.specs.JsonPayloads.{AreCustomerAspas, AreItemPayloads, ArePayloadsOfEach}
 use Rattle.rtr_vrps.specs.JsonNames.{holding_named}
 use Rattle.rtr_vrps.specs.JsonPayloads.{ArePayloadsBy, AreTopPayloads, holds_part}
@@ -226,6 +226,13 @@ view-Number A s = search (rules, the_lemmas)
 pub number_seen : {A : Type 0} (j : Value A) (s : Bor (List ℕ)) → j ≡ Number s →
     value_view j ≡ number s.now
 number_seen {A} j s e = ap value_view e ∙ view-Number A s
+
+view-String : (A : Type 0) (s : Bor (List ℕ)) → value_view {A = A} (String s) ≡ string s.now
+view-String A s = search (rules, the_lemmas)
+
+pub string_seen : {A : Type 0} (j : Value A) (s : Bor (List ℕ)) → j ≡ String s →
+    value_view j ≡ string s.now
+string_seen {A} j s e = ap value_view e ∙ view-String A s
 
 -- what is to be ignored has no payloads
 pub top_ignored : (ignored : List (List ℕ)) (name : List ℕ) (j : Json) →

@@ -1,5 +1,7 @@
+pub mod Columns
 pub mod HeldData
 pub mod IgnoredSoFar
+pub mod Lines
 pub mod ByNames
 pub mod JsonRefused
 pub mod JsonSoFar
@@ -19,6 +21,7 @@ pub mod NamesSoFar
 pub mod NoPart
 pub mod NoPrefix
 pub mod NoValue
+pub mod Excluded
 pub mod Numbers
 pub mod PartsSoFar
 pub mod ProviderSet
@@ -26,3 +29,4 @@ pub mod QuotesSoFar
 pub mod Rows
 pub mod Takings
 pub mod WordsSoFar
+pub mod BySlurm

@@ -3,7 +3,6 @@ use Rattle.std.proofs.Common.{◌≡◌, ℕ, List}
 use Rattle.std.proofs.Common.{sym, ◌∙◌, subst, arith}
 use Rattle.std.proofs.NetLemmas.Theorems.{IsIpText_unique}
 use Rattle.std.specs.Net.Grammar.{IsIpText}
-use Rattle.json.specs.Json.{Json, string}
 use Rattle.rtr_base.specs.Addresses.{BreaksPrefix, IsPrefix, PrefixParts, prefix_of_address}
 use Rattle.rtr_base.specs.Numerals.{IsNumeral}
 use Rattle.rtr_base.specs.ReadTexts.{IsAddressAndLen, IsLenText, IsPrefixText}
@@ -12,13 +11,10 @@ use Rattle.rtr_base.specs.declared.addr.PrefixError.TheVariants.{LenOverflow, No
 use Rattle.rtr_base.specs.declared.parse.ParsePrefixError.{ParsePrefixError}
 use Rattle.rtr_base.specs.declared.parse.ParsePrefixError.TheVariants as prefixes
 use Rattle.rtr_base.proofs.ReadBack.{numeral_unique, split_not_lacks, split_unique}
-use Rattle.rtr_vrps.specs.JsonRefusals.{RefusesPrefixValue}
-use Rattle.rtr_vrps.specs.JsonValues.{IsPrefixValue}
-use Rattle.rtr_vrps.specs.declared.item.Reason.{Reason}
 
 -- ---- one prefix at most
 
-form_unique : (text : List ℕ) (p q : PrefixParts) → IsAddressAndLen text p →
+pub form_unique : (text : List ℕ) (p q : PrefixParts) → IsAddressAndLen text p →
     IsAddressAndLen text q → p ≡ q
 form_unique text p q a b =
     let cut = split_unique 47 text a.front a.back b.front b.back a.split b.split in
@@ -32,7 +28,7 @@ not_broken : (p : PrefixParts) (e : _) → IsPrefix p → ¬ BreaksPrefix p e
 not_broken p LenOverflow h b = let le = h.len in omega (arith, le, b)
 not_broken p NonZeroHost h b = let zero_bits = h.host_bits in b.1 (omega (arith, zero_bits))
 
-no_prefix : (text : List ℕ) (p : PrefixParts) (e : ParsePrefixError) → RefusesPrefix text e →
+pub no_prefix : (text : List ℕ) (p : PrefixParts) (e : ParsePrefixError) → RefusesPrefix text e →
     ¬ IsPrefixText text p
 no_prefix text p prefixes.MissingLen r h = split_not_lacks 47 _ _ _ h.form.split r
 no_prefix text p (prefixes.Addr e) (front, back, split, none) h =
@@ -44,8 +40,3 @@ no_prefix text p (prefixes.Len e) (front, back, split, ip, none) h =
 no_prefix text p (prefixes.Prefix e) (q, form, broken) h =
     not_broken p e h.valid
     (subst (λ (x : PrefixParts). BreaksPrefix x e) (form_unique text q p form h.form) broken)
-
-pub no_prefix_value : (j : Json) (why : Reason) → RefusesPrefixValue j why → (p : PrefixParts) →
-    ¬ IsPrefixValue j p
-no_prefix_value (string s) why r p h = no_prefix s p r.0 r.2 h
-no_prefix_value other why r p h = absurd h

@@ -10,16 +10,15 @@ use Rattle.std.specs.List.{AllPass}
 use Rattle.hex.specs.Hex.{decode_sized, is_hex_digit}
 use Rattle.hex.proofs.HexLemmas.{IsOk-decode_sized}
 use Rattle.json.specs.Json.{Json, string}
-use Rattle.rtr_base.specs.ReadTexts.{RefusesKey, RefusesPrefix}
+use Rattle.rtr_base.specs.ReadTexts.{RefusesKey}
 use Rattle.rtr_base.specs.declared.parse.ParseKeyIdentifierError.{ParseKeyIdentifierError}
 use Rattle.rtr_base.specs.declared.parse.ParseKeyIdentifierError.TheVariants.{Digit, Length}
-use Rattle.rtr_base.specs.declared.parse.ParsePrefixError.{ParsePrefixError}
 use Rattle.rtr_vrps.specs.JsonRefusals.{IsNoBase64, OrMemory, RefusesKeyIdentifier, RefusesKeyInfo}
 use Rattle.rtr_vrps.specs.JsonRefusals.{RefusesPrefixValue, TellsNoIdentifier, has_base64_length}
 use Rattle.rtr_vrps.specs.JsonValues.{IsBase64, IsKeyIdentifierValue}
 use Rattle.rtr_vrps.specs.PrivateJson.{IsNoIdentifier, IsNoText, IsUndecoded}
 use Rattle.rtr_vrps.specs.declared.item.Reason.{Reason}
-use Rattle.rtr_vrps.specs.declared.item.Reason.TheVariants.{Base64, KeyIdentifier, Memory, Prefix}
+use Rattle.rtr_vrps.specs.declared.item.Reason.TheVariants.{Base64, KeyIdentifier, Memory}
 
 -- ---- no text
 
@@ -37,11 +36,6 @@ no_text_identifier (string s) why h = absurd h
 no_text_identifier other why h = inr h
 
 -- ---- a text that isn't what was looked for
-
-pub text_no_prefix : (j : Json) (s : List ℕ) (e : ParsePrefixError) → j ≡ string s →
-    RefusesPrefix s e → RefusesPrefixValue j (Prefix e)
-text_no_prefix j s e is r =
-    subst (λ i. RefusesPrefixValue i (Prefix e)) (sym is) (e, refl, r)
 
 pub text_no_key : (j : Json) (s : List ℕ) (why : Reason) → j ≡ string s →
     OrMemory (λ w. (w ≡ Base64) × IsNoBase64 s) why → OrMemory (RefusesKeyInfo j) why
@@ -110,7 +104,7 @@ same_ok : {E : Type 0} (x y : List ℕ) → ◌≡◌ {A = Result (List ℕ) E} 
 same_ok {E} x y e = ap (λ (r : Result (List ℕ) E). result_unwrap_or r []) e
 
 -- a text is base64 of one list of bytes at most
-one_base64 : (text a b : List ℕ) → IsBase64 text a → IsBase64 text b → a ≡ b
+pub one_base64 : (text a b : List ℕ) → IsBase64 text a → IsBase64 text b → a ≡ b
 one_base64 text a b (inl p) (inl q) = same_ok a b (sym p ∙ q)
 one_base64 text a b (inl p) (inr q) = absurd (not_ok q.0.0 a (sym q.0.1 ∙ p))
 one_base64 text a b (inr p) (inl q) = absurd (not_ok p.0.0 b (sym p.0.1 ∙ q))

@@ -1,10 +1,16 @@
 -- What is known of items that are taken one after the other.
 use Rattle.std.proofs.Common.{◌≡◌, ℕ, Bool, true, false, List, [], ◌∷◌, ◌++◌}
 use Rattle.std.proofs.Common.{Option, Some, None, Result, Ok, Err, MatchResult, refl, sym, ap}
-use Rattle.std.proofs.Common.{subst, ◌∙◌, append_assoc, arith, length, min, ◌^◌, ◌-◌}
+use Rattle.std.proofs.Common.{subst, ◌∙◌, append_assoc, arith, length, min, ◌^◌, ◌-◌, ◌+◌, ◌<◌}
+use Rattle.std.proofs.Common.{◌≤◌, filter, if◌then◌else◌, not, take, get_or}
 use Rattle.std.specs.Option.{is_some}
-use Rattle.std.proofs.lemmas.List.{append-nil}
+use Rattle.std.proofs.lemmas.List.{append-nil, take_all, take_more}
 use Rattle.rtr_payload.specs.Payloads.{Payload}
+use Rattle.rtr_payload.specs.declared.payload.Payload.{Payload as Added}
+use Rattle.rtr_slurm.specs.Entries.{assertions_of, with_assertion}
+use Rattle.rtr_slurm.specs.Filters.{removes}
+use Rattle.rtr_slurm.specs.declared.entry.Entry.{Entry}
+use Rattle.rtr_slurm.specs.declared.entry.Entry.TheVariants.{Assertion, KeyFilter, PrefixFilter}
 use Rattle.rtr_data.specs.Contents.{AreFit}
 use Rattle.rtr_data.specs.Sequences.{IsInRange}
 use Rattle.rtr_vrps.specs.Expiries.{LeavesAsked}
@@ -12,22 +18,26 @@ use Rattle.rtr_vrps.specs.Gathering.{NamesFirst, item_payload, lacked, refusal_a
 use Rattle.rtr_vrps.specs.PrivateAdding.{AddsPayload, is_memory, with_payload}
 use Rattle.rtr_vrps.specs.PrivateExpiring.{AreNewTimes, LeavesAfter, LooksAtTime, left_after}
 use Rattle.rtr_vrps.specs.PrivateTaking.{EndsGathering, GathersOne}
-use Rattle.rtr_vrps.specs.Taking.{EndsTaking, GathersLeft, HasTaken, HoldsLeft, IsFor, TakesItems}
+use Rattle.rtr_vrps.specs.Taking.{AddsAsserted, AreAsserted, EndsTaking, GathersLeft, HasTaken}
+use Rattle.rtr_vrps.specs.Taking.{HoldsLeft, IsFor, KeepsItems, TakesItems, entries_asked}
+use Rattle.rtr_vrps.specs.Taking.{is_unfiltered, kept_items}
 use Rattle.rtr_vrps.specs.Taking.{answer_by, times_answer, expired_at}
 use Rattle.rtr_vrps.specs.declared.expiring.Expired.{Expired}
 use Rattle.rtr_vrps.specs.declared.expiring.Times.{Times}
 use Rattle.rtr_vrps.specs.declared.gathering.Gathered.{Gathered}
 use Rattle.rtr_vrps.specs.declared.gathering.Gathering.{Gathering}
 use Rattle.rtr_vrps.specs.declared.gathering.Left.{Left}
+use Rattle.rtr_vrps.specs.declared.item.Expiry.TheVariants.{Never}
 use Rattle.rtr_vrps.specs.declared.item.Item.{Item}
 use Rattle.rtr_vrps.specs.declared.item.Reason.{Reason}
 use Rattle.rtr_vrps.specs.declared.item.Reason.TheVariants.{Memory}
 use Rattle.rtr_vrps.specs.declared.item.Refusal.{Refusal}
 use Rattle.rtr_vrps.proofs.SoFar.{adds, before, ends, ends_refused, refuses, starts}
 
-pub takes_none : (g : Gathering) → TakesItems [] g g
-takes_none g = record {
+pub keeps_none : (g : Gathering) → KeepsItems [] g g
+keeps_none g = record {
   settings = record { version = refl; leaves = refl; time = refl };
+  slurm = refl;
   taken = λ before h. subst (λ l. HasTaken l g) (sym (append-nil before)) h;
 }
 
@@ -41,9 +51,10 @@ for_after v leaves_out asked old new a b = record {
 }
 
 -- first these, and then those
-pub takes_both : (xs ys : List Item) (old mid new : Gathering) → TakesItems xs old mid →
-    TakesItems ys mid new → TakesItems (xs ++ ys) old new
-takes_both xs ys old mid new a b = record {
+pub keeps_both : (xs ys : List Item) (old mid new : Gathering) → KeepsItems xs old mid →
+    KeepsItems ys mid new → KeepsItems (xs ++ ys) old new
+keeps_both xs ys old mid new a b = record {
+  slurm = b.slurm ∙ a.slurm;
   settings = for_after old.version old.leaves_out old.times.asked mid new a.settings b.settings;
   taken = λ before h. subst (λ l. HasTaken l new) (append_assoc before xs ys)
       (b.taken (before ++ xs) (a.taken before h));
@@ -83,33 +94,37 @@ module _ (x : Item) (stays : Bool) (before : List Item) (old new : Gathering)
   taken_next = by_refused new.times.refused refl
 
 -- an item that has expired
-pub takes_gone : (x : Item) (old : Gathering) (t : Times) → LooksAtTime x false old.times t →
-    TakesItems (x ∷ []) old (record {
+pub keeps_gone : (x : Item) (old : Gathering) (t : Times) → LooksAtTime x false old.times t →
+    KeepsItems (x ∷ []) old (record {
       version = old.version;
       leaves_out = old.leaves_out;
       times = t;
       payloads = old.payloads;
       refused = old.refused;
+      slurm = old.slurm;
     })
-takes_gone x old t look = record {
+keeps_gone x old t look = record {
   settings = record { version = refl; leaves = refl; time = look.asked };
+  slurm = refl;
   taken = λ before h. taken_next x false before old _ look (λ left k. k) h;
 }
 
-takes_left : (x : Item) (old new : Gathering) (t : Times) → LooksAtTime x true old.times t →
+keeps_left : (x : Item) (old new : Gathering) (t : Times) → LooksAtTime x true old.times t →
     GathersOne x (record {
       version = old.version;
       leaves_out = old.leaves_out;
       times = t;
       payloads = old.payloads;
       refused = old.refused;
-    }) new → TakesItems (x ∷ []) old new
-takes_left x old new t look one = record {
+      slurm = old.slurm;
+    }) new → KeepsItems (x ∷ []) old new
+keeps_left x old new t look one = record {
   settings = record {
     version = one.version;
     leaves = one.leaves;
     time = ap (λ s. s.asked) one.times ∙ look.asked;
   };
+  slurm = one.slurm;
   taken = λ before h.
       taken_next x true before old new (subst (LooksAtTime x true old.times) (sym one.times) look)
       (λ left k.
@@ -129,10 +144,128 @@ pub took : {T : Type 0} (r : Result T Reason) (x : Item) (old new : Gathering) (
       times = t;
       payloads = old.payloads;
       refused = old.refused;
+      slurm = old.slurm;
     }) new) (λ why. why ≡ Memory) →
-    MatchResult r (λ _. TakesItems (x ∷ []) old new) (λ why. why ≡ Memory)
-took (Ok u) x old new t look one = takes_left x old new t look one
+    MatchResult r (λ _. KeepsItems (x ∷ []) old new) (λ why. why ≡ Memory)
+took (Ok u) x old new t look one = keeps_left x old new t look one
 took (Err why) x old new t look e = e
+
+-- ---- filters
+
+one_both : (b : Bool) (x : Item) (l m ys : List Item) → l ≡ m ++ ys →
+    (if b then x ∷ l else l) ≡ (if b then x ∷ m else m) ++ ys
+one_both true x l m ys e = ap (λ k. x ∷ k) e
+one_both false x l m ys e = e
+
+filter_both : (test : Item → Bool) (xs ys : List Item) →
+    filter test (xs ++ ys) ≡ filter test xs ++ filter test ys
+filter_both test [] ys = refl
+filter_both test (x ∷ xs) ys =
+    one_both (test x) x (filter test (xs ++ ys)) (filter test xs) (filter test ys)
+    (filter_both test xs ys)
+
+pub takes_none : (g : Gathering) → TakesItems [] g g
+takes_none g = record { kept = keeps_none g }
+
+pub takes_both : (xs ys : List Item) (old mid new : Gathering) → TakesItems xs old mid →
+    TakesItems ys mid new → TakesItems (xs ++ ys) old new
+takes_both xs ys old mid new a b =
+    let es = entries_asked old.slurm in
+    let later = subst (λ o. KeepsItems (kept_items (entries_asked o) ys) mid new) a.kept.slurm
+    b.kept in record {
+      kept = subst (λ l. KeepsItems l old new) (sym (filter_both (is_unfiltered es) xs ys))
+          (keeps_both (kept_items es xs) (kept_items es ys) old mid new a.kept later);
+    }
+
+module _ (x : Item) (old : Gathering) where
+  -- a filter removes it
+  pub takes_removed : removes (entries_asked old.slurm) (item_payload x) ≡ true →
+      TakesItems (x ∷ []) old old
+  takes_removed e = record {
+    kept = subst (λ b. KeepsItems (if not b then x ∷ [] else []) old old) (sym e)
+        (keeps_none old);
+  }
+
+  -- none does
+  pub takes_kept : (new : Gathering) →
+      removes (entries_asked old.slurm) (item_payload x) ≡ false →
+      KeepsItems (x ∷ []) old new → TakesItems (x ∷ []) old new
+  takes_kept new e k =
+      record { kept = subst (λ b. KeepsItems (if not b then x ∷ [] else []) old new) (sym e) k }
+
+pub took_kept : {T : Type 0} (r : Result T Reason) (x : Item) (old new : Gathering) →
+    removes (entries_asked old.slurm) (item_payload x) ≡ false →
+    MatchResult r (λ _. KeepsItems (x ∷ []) old new) (λ why. why ≡ Memory) →
+    MatchResult r (λ _. TakesItems (x ∷ []) old new) (λ why. why ≡ Memory)
+took_kept (Ok u) x old new e k = takes_kept x old new e k
+took_kept (Err why) x old new e k = k
+
+-- without filters all are taken
+kept_all : (items : List Item) → kept_items [] items ≡ items
+kept_all [] = refl
+kept_all (x ∷ items) = ap (λ l. x ∷ l) (kept_all items)
+
+pub takes_unfiltered : (items : List Item) (old new : Gathering) → old.slurm ≡ None →
+    TakesItems items old new → HasTaken [] old → HasTaken items new
+takes_unfiltered items old new none t h =
+    subst (λ l. HasTaken l new)
+    (ap (λ o. kept_items (entries_asked o) items) none ∙ kept_all items) (t.kept.taken [] h)
+
+-- ---- assertions
+
+pub asserts_none : (g : Gathering) → AddsAsserted [] g g
+asserts_none g = record { items = []; are = tt; kept = keeps_none g }
+
+asserted_both : (ps qs : List Added) (xs ys : List Item) → AreAsserted ps xs →
+    AreAsserted qs ys → AreAsserted (ps ++ qs) (xs ++ ys)
+asserted_both [] qs [] ys a b = b
+asserted_both [] qs (x ∷ xs) ys a b = absurd a
+asserted_both (p ∷ ps) qs [] ys a b = absurd a
+asserted_both (p ∷ ps) qs (x ∷ xs) ys a b = (a.0, asserted_both ps qs xs ys a.1 b)
+
+asserts_both : (ps qs : List Added) (old mid new : Gathering) → AddsAsserted ps old mid →
+    AddsAsserted qs mid new → AddsAsserted (ps ++ qs) old new
+asserts_both ps qs old mid new a b = record {
+  items = a.items ++ b.items;
+  are = asserted_both ps qs a.items b.items a.are b.are;
+  kept = keeps_both a.items b.items old mid new a.kept b.kept;
+}
+
+pub asserts_one : (x : Item) (p : Added) (old new : Gathering) → x.payload ≡ p →
+    x.expiry ≡ Never → KeepsItems (x ∷ []) old new → AddsAsserted (p ∷ []) old new
+asserts_one x p old new is lasts k =
+    record { items = x ∷ []; are = (record { payload = is; lasting = lasts }, tt); kept = k }
+
+with_more : (e : Entry) (ps qs : List Added) →
+    with_assertion e (ps ++ qs) ≡ with_assertion e ps ++ qs
+with_more (Assertion p) ps qs = refl
+with_more (PrefixFilter f) ps qs = refl
+with_more (KeyFilter f) ps qs = refl
+
+assertions_more : (es : List Entry) (e : Entry) →
+    assertions_of (es ++ e ∷ []) ≡ assertions_of es ++ assertions_of (e ∷ [])
+assertions_more [] e = refl
+assertions_more (d ∷ es) e =
+    ap (with_assertion d) (assertions_more es e)
+    ∙ with_more d (assertions_of es) (assertions_of (e ∷ []))
+
+-- those of the first i entries
+abbrev pub AssertsFirst : List Entry → ℕ → Gathering → Gathering → Type 0
+AssertsFirst es i old new = AddsAsserted (assertions_of (take i es)) old new
+
+pub asserts_next : (es : List Entry) (i : ℕ) (e : Entry) (old mid new : Gathering) →
+    i < length es → e ≡ get_or es i e → AssertsFirst es i old mid →
+    AddsAsserted (assertions_of (e ∷ [])) mid new → AssertsFirst es (i + 1) old new
+asserts_next es i e old mid new small is a b =
+    subst (λ l. AddsAsserted (assertions_of l) old new) (sym (take_more es i e small))
+    (subst (λ d. AddsAsserted (assertions_of (take i es ++ d ∷ [])) old new) is
+    (subst (λ ps. AddsAsserted ps old new) (sym (assertions_more (take i es) e))
+    (asserts_both (assertions_of (take i es)) (assertions_of (e ∷ [])) old mid new a b)))
+
+pub asserts_all : (es : List Entry) (i : ℕ) (old new : Gathering) → length es ≤ i →
+    AssertsFirst es i old new → AddsAsserted (assertions_of es) old new
+asserts_all es i old new large a =
+    subst (λ l. AddsAsserted (assertions_of l) old new) (take_all i es large) a
 
 -- ---- gathering
 
@@ -173,6 +306,7 @@ module _ (x : Item) (g : Gathering) where
     version = refl;
     leaves = refl;
     times = refl;
+    slurm = refl;
     held = λ left h. held_refused g.version g.leaves_out x left g.payloads g.refused some h;
   }
 
@@ -187,11 +321,13 @@ module _ (x : Item) (g : Gathering) where
         times = g.times;
         payloads = e;
         refused = g.refused;
+        slurm = g.slurm;
       })
   gathers_payload e none range fine made = record {
     version = refl;
     leaves = refl;
     times = refl;
+    slurm = refl;
     held = λ left h. held_added g.version g.leaves_out x left g.payloads e g.refused none range
         fine made h;
   }
@@ -206,11 +342,13 @@ module _ (x : Item) (g : Gathering) where
         times = g.times;
         payloads = e;
         refused = Some r;
+        slurm = g.slurm;
       })
   gathers_refusal e r none is why = record {
     version = refl;
     leaves = refl;
     times = refl;
+    slurm = refl;
     held = λ left h. held_none g.version g.leaves_out x left g.payloads e g.refused r none is
         why h;
   }

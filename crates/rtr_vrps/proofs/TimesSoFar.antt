@@ -292,6 +292,6 @@ by_count true l h = absurd (h refl)
 by_count false l h = refl
 
 pub some_lack : (v n : ℕ) → (n ≡ 0 → ⊥) → lacking_line v n ≡
-    codes "left out " ++ (decimal n ++ (codes " that version " ++ (decimal v
+    codes "rtr_make: left out " ++ (decimal n ++ (codes " that version " ++ (decimal v
     ++ (codes " lacks" ++ line_end))))
 some_lack v n h = by_count (n == 0) _ (λ e. h (eqb-true n 0 e))

@@ -1,5 +1,5 @@
--- The names under which validators print payloads in JSON, each in plain form: in small letters,
--- without `_` and `-`. This one table is what code and contracts go by.
+-- The names under which validators print payloads in JSON, and columns in CSV, each in plain form:
+-- in small letters, without spaces, `_` and `-`. This one table is what code and contracts go by.
 use Rattle.std.specs.Prelude.{ℕ, ◌==◌, ◌||◌, Bool, List, [], ◌∷◌, codes}
 use Rattle.std.specs.Prelude.{Option, Some, None, if◌then◌else◌}
 use Rattle.std.specs.Char.{to_ascii_lowercase}
@@ -11,9 +11,9 @@ use Rattle.rtr_vrps.specs.declared.json_names.Kind.TheVariants.{Origins, RouterK
 use Rattle.rtr_vrps.specs.declared.json_names.Part.{Part}
 use Rattle.rtr_vrps.specs.declared.json_names.Part.TheVariants as parts
 
--- the characters `_` and `-`
+-- the characters `_` and `-`, and a space
 abbrev pub is_joiner : ℕ → Bool
-is_joiner c = (c == 95) || (c == 45)
+is_joiner c = (c == 95) || ((c == 45) || (c == 32))
 
 unfoldable pub plain : List ℕ → List ℕ
 plain [] = []
@@ -48,8 +48,11 @@ metadata_names = codes "metadata" ∷ []
 
 abbrev pub part_names : Part → List (List ℕ)
 part_names parts.Asn = codes "asn" ∷ []
-part_names parts.Prefix = codes "prefix" ∷ []
-part_names parts.MaxLength = codes "maxlength" ∷ []
+-- a column of rpki-client and Routinator `IP Prefix`
+part_names parts.Prefix = codes "prefix" ∷ codes "ipprefix" ∷ []
+-- a column of FORT `Max prefix length`; the rest that lists by hand and other tools have
+part_names parts.MaxLength = codes "maxlength" ∷ codes "maxlen" ∷ codes "maxprefixlength"
+    ∷ codes "maxprefixlen" ∷ []
 part_names parts.KeyIdentifier = codes "ski" ∷ []
 -- rpki-client and stayrtr `pubkey`, Routinator `routerPublicKey`, FORT `spki`
 part_names parts.KeyInfo = codes "pubkey" ∷ codes "routerpublickey" ∷ codes "spki" ∷ []

@@ -5,6 +5,7 @@ use Rattle.std.specs.Prelude.{List, [], ◌∷◌, ◌++◌}
 use Rattle.std.specs.Prelude.{map, Option, Some, None, if◌then◌else◌}
 use Rattle.std.specs.Bool.{MatchBool}
 use Rattle.std.specs.List.{AllByRecursion, list_any}
+use Rattle.std.specs.Str.{IsUtf8}
 use Rattle.json.specs.Json.{Json, null, boolean, number, string, array, object, document}
 use Rattle.json.specs.Json.{Items, no_items, item, Members, no_members, member}
 use Rattle.csv.specs.Reading.{strip_bom}
@@ -14,12 +15,11 @@ use Rattle.rtr_payload.specs.declared.payload.Payload.{Payload}
 use Rattle.rtr_payload.specs.declared.payload.Payload.TheVariants as payloads
 use Rattle.rtr_payload.specs.declared.payload.RouteOrigin.{RouteOrigin}
 use Rattle.rtr_payload.specs.declared.payload.RouterKey.{RouterKey}
-use Rattle.rtr_base.specs.ReadTexts.{IsAsnText}
 use Rattle.rtr_vrps.specs.JsonNames.{holding_named, is_family, is_part}
 use Rattle.rtr_vrps.specs.JsonValues.{IsAsnValue, IsPrefixValue, IsMaxLengthValue, IsKeyInfoValue}
 use Rattle.rtr_vrps.specs.JsonValues.{IsKeyIdentifierValue, AreProviderValues, items_list}
-use Rattle.rtr_vrps.specs.JsonValues.{expiry_of_value}
-use Rattle.rtr_vrps.specs.JsonValues.{IsAsnArray, IsSomeAsn, IsSomeAsnText, IsSomePrefix, SomeIs}
+use Rattle.rtr_vrps.specs.JsonValues.{IsAsnString, expiry_of_value}
+use Rattle.rtr_vrps.specs.JsonValues.{IsAsnArray, IsLikeAsn, IsLikeAsnText, IsLikePrefix, SomeIs}
 use Rattle.rtr_vrps.specs.JsonValues.{members_list}
 use Rattle.rtr_vrps.specs.MakeWords.{is_one_of}
 use Rattle.rtr_vrps.specs.declared.item.Expiry.{Expiry}
@@ -103,11 +103,11 @@ is_like_payload ms = (holds_part ms parts.Asn && holds_part ms parts.Prefix)
 
 -- an array has what an origin has: the text of a prefix, and an ASN beside it
 abbrev pub IsLikeTuple : List Json → Type 0
-IsLikeTuple js = SomeIs IsSomePrefix js × SomeIs IsSomeAsn js
+IsLikeTuple js = SomeIs IsLikePrefix js × SomeIs IsLikeAsn js
 
 -- a name is an ASN, and its value an array of ASNs
 abbrev pub IsLikeCustomer : List ℕ × Json → Type 0
-IsLikeCustomer m = IsSomeAsnText m.0 × IsAsnArray m.1
+IsLikeCustomer m = IsLikeAsnText m.0 × IsAsnArray m.1
 
 -- an object lists ASPAs by their customers, and not none: each member is one
 abbrev pub IsLikeCustomers : List (List ℕ × Json) → Type 0
@@ -150,7 +150,7 @@ AreItemPayloads kind js ps = ⊥
 
 -- the ASPA of the customer that a name is, with the providers in its value
 abbrev pub IsCustomerAspa : List ℕ → Json → Payload → Type 0
-IsCustomerAspa name j p = (a : Aspa) × (p ≡ payloads.Aspa a) × IsAsnText name a.customer
+IsCustomerAspa name j p = (a : Aspa) × (p ≡ payloads.Aspa a) × IsAsnString name a.customer
     × AreProviderValues j a.providers
 
 -- nothing says when it expires
@@ -226,8 +226,10 @@ abbrev pub HasItemsOf : List (List ℕ) → Json → List Item → Type 0
 HasItemsOf ignored (object ms) items = HasTopItems ignored (members_list ms) items
 HasItemsOf ignored other items = ⊥
 
--- the document (RFC 8259), without a mark of its byte order, is an object with these items
+-- the document (RFC 8259), without a mark of its byte order, is UTF-8 (section 8.1) and an object
+-- with these items
 pub record IsJsonOf (ignored : List (List ℕ)) (text : List ℕ) (items : List Item) : Type 0 where
+  pub utf8 : IsUtf8 (strip_bom text)
   pub value : Json
   pub whole : document (strip_bom text) ≡ Some value
   pub has : HasItemsOf ignored value items

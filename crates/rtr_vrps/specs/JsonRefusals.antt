@@ -8,7 +8,7 @@ use Rattle.std.specs.Str.{IsUtf8}
 use Rattle.csv.specs.Reading.{strip_bom}
 use Rattle.json.specs.Json.{Json, null, string, array, object, document}
 use Rattle.rtr_base.specs.Addresses.{PrefixParts, BreaksMaxLen}
-use Rattle.rtr_base.specs.ReadTexts.{IsAsnText, RefusesKey, RefusesPrefix}
+use Rattle.rtr_base.specs.ReadTexts.{RefusesKey, RefusesPrefix}
 use Rattle.rtr_base.specs.declared.addr.MaxLenError.{MaxLenError}
 use Rattle.rtr_base.specs.declared.parse.ParseKeyIdentifierError.{ParseKeyIdentifierError}
 use Rattle.rtr_base.specs.declared.parse.ParsePrefixError.{ParsePrefixError}
@@ -19,7 +19,7 @@ use Rattle.rtr_vrps.specs.JsonPayloads.{AreFamilyPayloads, AreTopPayloads, Has, 
 use Rattle.rtr_vrps.specs.JsonPayloads.{Dated, HasPayloads, IsItemPayload, MayHave, is_array}
 use Rattle.rtr_vrps.specs.JsonPayloads.{values_of}
 use Rattle.rtr_vrps.specs.JsonValues.{AreAsnValues, IsAsnValue, IsBase64, IsKeyIdentifierValue}
-use Rattle.rtr_vrps.specs.JsonValues.{IsSomeAsn}
+use Rattle.rtr_vrps.specs.JsonValues.{IsAsnString, IsSomeAsn, has_plus}
 use Rattle.rtr_vrps.specs.JsonValues.{IsMaxLengthValue, IsPrefixValue, IsSetOf, items_list}
 use Rattle.rtr_vrps.specs.JsonValues.{members_list}
 use Rattle.rtr_vrps.specs.MakeWords.{is_one_of}
@@ -49,10 +49,15 @@ RefusesFirst Fine Refuses (x ∷ xs) why =
 abbrev pub RefusesAsn : Json → Reason → Type 0
 RefusesAsn j why = (why ≡ reasons.Asn) × ((n : ℕ) → ¬ IsAsnValue j n)
 
+-- a text has a plus, or else is no prefix
+abbrev pub RefusesPrefixString : List ℕ → Reason → Type 0
+RefusesPrefixString s why = ((why ≡ reasons.Plus) × (has_plus s ≡ true))
+    ⊎ ((has_plus s ≡ false)
+    × (e : ParsePrefixError) × (why ≡ reasons.Prefix e) × RefusesPrefix s e)
+
 -- it is no text, or one that is no prefix
 abbrev pub RefusesPrefixValue : Json → Reason → Type 0
-RefusesPrefixValue (string s) why =
-    (e : ParsePrefixError) × (why ≡ reasons.Prefix e) × RefusesPrefix s e
+RefusesPrefixValue (string s) why = RefusesPrefixString s why
 RefusesPrefixValue other why = why ≡ reasons.NotString
 
 -- it is no max length
@@ -156,8 +161,8 @@ IsSomeItem kind j = (p : Payload) × IsItemPayload kind j p
 
 -- the name is no ASN, or else the value is refused as providers
 abbrev pub RefusesCustomer : List ℕ × Json → Reason → Type 0
-RefusesCustomer m why = ((why ≡ reasons.Asn) × ((n : ℕ) → ¬ IsAsnText m.0 n))
-    ⊎ ((n : ℕ) × IsAsnText m.0 n × RefusesProviders m.1 why)
+RefusesCustomer m why = ((why ≡ reasons.Asn) × ((n : ℕ) → ¬ IsAsnString m.0 n))
+    ⊎ ((n : ℕ) × IsAsnString m.0 n × RefusesProviders m.1 why)
 
 abbrev pub IsSomeCustomer : List ℕ × Json → Type 0
 IsSomeCustomer m = (p : Payload) × IsCustomerAspa m.0 m.1 p
@@ -216,9 +221,10 @@ abbrev pub RefusesValue : List (List ℕ) → Json → Reason → Type 0
 RefusesValue ignored (object ms) why = RefusesMembers ignored (members_list ms) why
 RefusesValue ignored other why = why ≡ reasons.NotObject
 
--- it is no JSON, or nests too deep
+-- it is no JSON, and may be the beginning of some, or nests too deep
 abbrev pub IsNoDocument : Reason → Type 0
-IsNoDocument why = (why ≡ reasons.NotJson) ⊎ (why ≡ reasons.TooDeep)
+IsNoDocument why = (why ≡ reasons.NotJson)
+    ⊎ ((why ≡ reasons.TooDeep) ⊎ (why ≡ reasons.EndsEarly))
 
 -- it has no value that the kit's `json` reads, or one that is refused
 abbrev pub RefusesDocument : List (List ℕ) → Option Json → Reason → Type 0

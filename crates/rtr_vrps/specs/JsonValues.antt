@@ -1,8 +1,9 @@
 -- What values of JSON mean as parts of payloads: this library's own, after what validators print;
 -- base64 by RFC 4648.
 use Rattle.std.specs.Prelude.{◌≡◌, ◌⊎◌, ◌↔◌, ◌<◌, ◌≤◌, ◌+◌, ◌^◌, ⊤, ℕ, List, [], ◌∷◌}
+use Rattle.std.specs.Prelude.{Bool, false, ◌==◌}
 use Rattle.std.specs.Prelude.{length, Option, Some, None, Ok, Err, Contains}
-use Rattle.std.specs.List.{AllByRecursion}
+use Rattle.std.specs.List.{AllByRecursion, list_any}
 use Rattle.std.specs.List.Sorted.{IsStrictlyIncreasing}
 use Rattle.base64.specs.Engines.{standard_pad_indifferent, url_safe_pad_indifferent}
 use Rattle.base64.specs.GeneralPurpose.{decode_of}
@@ -25,29 +26,51 @@ abbrev pub members_list : Members → List (List ℕ × Json)
 members_list no_members = []
 members_list (member k j ms) = (k, j) ∷ members_list ms
 
--- an ASN: a number of 32 bits, or a text with or without AS before it
+-- a plus, which Rust's `from_str` takes before a number, and no validator prints
+abbrev pub has_plus : List ℕ → Bool
+has_plus text = list_any (λ c. c == 43) text
+
+-- an ASN in a text, with or without AS before it, and without a plus
+abbrev pub IsAsnString : List ℕ → ℕ → Type 0
+IsAsnString text n = (has_plus text ≡ false) × IsAsnText text n
+
+-- an ASN: a number of 32 bits, or such a text
 abbrev pub IsAsnValue : Json → ℕ → Type 0
 IsAsnValue (number s) n = IsSerialText s n
-IsAsnValue (string s) n = IsAsnText s n
+IsAsnValue (string s) n = IsAsnString s n
 IsAsnValue other n = ⊥
 
+abbrev pub IsPrefixString : List ℕ → PrefixParts → Type 0
+IsPrefixString text p = (has_plus text ≡ false) × IsPrefixText text p
+
 abbrev pub IsPrefixValue : Json → PrefixParts → Type 0
-IsPrefixValue (string s) p = IsPrefixText s p
+IsPrefixValue (string s) p = IsPrefixString s p
 IsPrefixValue other p = ⊥
 
 abbrev pub IsSomeAsn : Json → Type 0
 IsSomeAsn j = (n : ℕ) × IsAsnValue j n
 
-abbrev pub IsSomeAsnText : List ℕ → Type 0
-IsSomeAsnText text = (n : ℕ) × IsAsnText text n
+-- what looks like an ASN: a number of 32 bits, or a text that is one with or without a plus
+abbrev pub IsLikeAsnText : List ℕ → Type 0
+IsLikeAsnText text = (n : ℕ) × IsAsnText text n
 
--- an array of ASNs, maybe of none
+abbrev pub IsLikeAsn : Json → Type 0
+IsLikeAsn (number s) = (n : ℕ) × IsSerialText s n
+IsLikeAsn (string s) = IsLikeAsnText s
+IsLikeAsn other = ⊥
+
+-- an array of such, maybe of none
 abbrev pub IsAsnArray : Json → Type 0
-IsAsnArray (array js) = AllByRecursion IsSomeAsn (items_list js)
+IsAsnArray (array js) = AllByRecursion IsLikeAsn (items_list js)
 IsAsnArray other = ⊥
 
-abbrev pub IsSomePrefix : Json → Type 0
-IsSomePrefix j = (p : PrefixParts) × IsPrefixValue j p
+-- what looks like a prefix, with or without a plus
+abbrev pub IsLikePrefixText : List ℕ → Type 0
+IsLikePrefixText text = (p : PrefixParts) × IsPrefixText text p
+
+abbrev pub IsLikePrefix : Json → Type 0
+IsLikePrefix (string s) = IsLikePrefixText s
+IsLikePrefix other = ⊥
 
 -- one of these is so
 abbrev pub SomeIs : {X : Type 0} → (X → Type 0) → List X → Type 0

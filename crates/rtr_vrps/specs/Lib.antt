@@ -1,3 +1,4 @@
+pub mod CsvColumns
 pub mod CsvItems
 pub mod CsvQuotes
 pub mod CsvRows

@@ -1,5 +1,6 @@
 -- What the program is asked for by the words after its name: this program's own.
-use Rattle.std.specs.Prelude.{ℕ, ◌^◌, ◌&&◌, ◌||◌, ◌==◌, Bool, true, false, nat_lt}
+use Rattle.std.specs.Prelude.{ℕ, ◌^◌, ◌&&◌, ◌||◌, ◌==◌, Bool, true, false}
+use Rattle.std.specs.Prelude.{nat_lt}
 use Rattle.std.specs.Prelude.{Option, Some, None, is_some, option_map, option_and_then, unwrap_or}
 use Rattle.std.specs.Prelude.{List, [], ◌∷◌, map, length, codes, bytes_eq, if◌then◌else◌}
 use Rattle.std.specs.Prelude.{String, string_bytes}
@@ -7,6 +8,9 @@ use Rattle.std.specs.Char.{is_digit}
 use Rattle.std.specs.List.{list_any}
 use Rattle.std.specs.Str.Parse.{digits_value, without_leading_plus}
 use Rattle.rtr_base.specs.Timings.{default_timing}
+use Rattle.rtr_base.specs.declared.timing.Timing.{Timing}
+use Rattle.rtr_times.specs.AllowedTimes.{broken_time_rule}
+use Rattle.rtr_times.specs.declared.times.TimeRule.{TimeRule}
 use Rattle.rtr_vrps.specs.Making.{version_number}
 use Rattle.rtr_vrps.specs.declared.words.Format.{Format}
 use Rattle.rtr_vrps.specs.declared.words.Format.TheVariants.{Csv, Json}
@@ -55,6 +59,7 @@ nothing_said = record {
   expire = None;
   leaves_out = None;
   takes_empty = None;
+  takes_unended = None;
   at = None;
   ignores = false;
 }
@@ -79,7 +84,10 @@ said_alone word s =
     if bytes_eq word (codes "--drop")
     then option_map (λ x. record s { leaves_out = Some x }) (once s.leaves_out true) else
     if bytes_eq word (codes "--empty")
-    then option_map (λ x. record s { takes_empty = Some x }) (once s.takes_empty true) else None
+    then option_map (λ x. record s { takes_empty = Some x }) (once s.takes_empty true) else
+    if bytes_eq word (codes "--unended")
+    then option_map (λ x. record s { takes_unended = Some x }) (once s.takes_unended true) else
+    None
 
 -- the option of this name, which a text has to follow
 abbrev pub setting_named : List ℕ → Option Setting
@@ -135,42 +143,57 @@ has_timing s = is_some s.refresh || (is_some s.retry || is_some s.expire)
 abbrev pub version_said : Said → Version
 version_said s = unwrap_or s.version V2
 
--- a request in this format, with what was said and, for the rest, session 0, serial number 0 and
--- the timings that RFC 8210 section 6 recommends
+-- the timings that were said, and for the others those that RFC 8210 section 6 recommends
+abbrev pub timing_asked : Said → Timing
+timing_asked s = record {
+  refresh = unwrap_or s.refresh default_timing.refresh;
+  retry = unwrap_or s.retry default_timing.retry;
+  expire = unwrap_or s.expire default_timing.expire;
+}
+
+-- a request in this format, with what was said and, for the rest, session 0, serial number 1, since
+-- routers ask for what follows serial number 0 where they have nothing, and those timings
 abbrev pub request_in : Said → Format → Request
 request_in s format = record {
   format = format;
   version = version_said s;
-  state = record { session = unwrap_or s.session 0; serial = unwrap_or s.serial 0 };
-  timing = record {
-    refresh = unwrap_or s.refresh default_timing.refresh;
-    retry = unwrap_or s.retry default_timing.retry;
-    expire = unwrap_or s.expire default_timing.expire;
-  };
+  state = record { session = unwrap_or s.session 0; serial = unwrap_or s.serial 1 };
+  timing = timing_asked s;
   leaves_out = unwrap_or s.leaves_out false;
   takes_empty = unwrap_or s.takes_empty false;
+  takes_unended = unwrap_or s.takes_unended false;
   at = s.at;
 }
 
-abbrev pub is_csv : Format → Bool
-is_csv Csv = true
-is_csv Json = false
+-- names to ignore go with JSON alone, and a last line without an end with comma-separated values
+abbrev pub is_misplaced : Said → Format → Bool
+is_misplaced s Csv = s.ignores
+is_misplaced s Json = is_some s.takes_unended
 
--- names to ignore go with JSON alone: comma-separated values have none
 abbrev pub allowed_in : Said → Format → Option Request
-allowed_in s format = if s.ignores && is_csv format then None else Some (request_in s format)
+allowed_in s format = if is_misplaced s format then None else Some (request_in s format)
 
--- a format has to be said, and version 0 has no timings (RFC 6810 section 5.8)
+-- a format has to be said, version 0 has no timings (RFC 6810 section 5.8), and in others they
+-- break no rule of RFC 8210 section 6
 abbrev pub request_of : Said → Option Request
 request_of s =
     if (version_number (version_said s) == 0) && has_timing s then None else
+    if is_some (broken_time_rule (timing_asked s)) then None else
     option_and_then (allowed_in s) s.format
 
 -- the request, by the texts of the words; all other words ask for nothing
 abbrev pub request_by_texts : List (List ℕ) → Option Request
 request_by_texts words = option_and_then request_of (said_by words nothing_said)
 
+-- the first rule that the timings break that the texts say
+abbrev pub broken_by_texts : List (List ℕ) → Option TimeRule
+broken_by_texts words =
+    option_and_then (λ s. broken_time_rule (timing_asked s)) (said_by words nothing_said)
+
 -- the same by the words
+abbrev pub broken_by_words : {Z : Type 0} → List (String Z) → Option TimeRule
+broken_by_words words = broken_by_texts (map string_bytes words)
+
 abbrev pub request_by_words : {Z : Type 0} → List (String Z) → Option Request
 request_by_words words = request_by_texts (map string_bytes words)
 

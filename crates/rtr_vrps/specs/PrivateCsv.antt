@@ -1,16 +1,18 @@
 -- What one row leaves of items. Only contracts of private functions cite these.
 use Rattle.std.specs.Prelude.{◌≡◌, ⊤, ℕ, Bool, true, false, ◌&&◌, nat_le, length}
-use Rattle.std.specs.Prelude.{get_or, ◌++◌, List, [], ◌∷◌, Result, Ok, Err, if◌then◌else◌}
+use Rattle.std.specs.Prelude.{get_or, is_some, ◌++◌, List, [], ◌∷◌, Result, Ok, Err, if◌then◌else◌}
 use Rattle.csv.specs.Reading.{is_bom}
 use Rattle.csv.specs.declared.error.ErrorKind.{ErrorKind}
 use Rattle.csv.specs.declared.error.ErrorKind.TheVariants.{Utf8}
 use Rattle.rtr_vrps.specs.CsvItems.{IsItemOf}
-use Rattle.rtr_vrps.specs.CsvRows.{RefusesRow, is_header, names_expiry}
+use Rattle.rtr_vrps.specs.CsvColumns.{columns_after, columns_named}
+use Rattle.rtr_vrps.specs.CsvRows.{RefusesRow}
 use Rattle.rtr_vrps.specs.Taking.{TakesSome}
+use Rattle.rtr_vrps.specs.declared.csv_columns.Columns.{Columns}
 use Rattle.rtr_vrps.specs.declared.gathering.Gathering.{Gathering}
 use Rattle.rtr_vrps.specs.declared.item.Item.{Item}
 use Rattle.rtr_vrps.specs.declared.item.Reason.{Reason}
-use Rattle.rtr_vrps.specs.declared.item.Reason.TheVariants.{NotText, Memory}
+use Rattle.rtr_vrps.specs.declared.item.Reason.TheVariants.{NotText, Header, Memory}
 use Rattle.rtr_vrps.specs.declared.item.Refusal.{Refusal}
 
 -- the text begins with U+FEFF
@@ -23,21 +25,24 @@ abbrev pub reason_of : ErrorKind → Reason
 reason_of (Utf8 position error) = NotText
 reason_of other = Memory
 
--- a row that is passed over adds no item, and any other adds its own
-abbrev pub AddsItem : (passed timed : Bool) → List (List ℕ) → List Item → List Item → Type 0
-AddsItem true timed row old new = new ≡ old
-AddsItem false timed row old new = (i : Item) × (new ≡ old ++ i ∷ []) × IsItemOf timed row i
+-- a header adds no item, and any other row adds its own
+abbrev pub AddsItem : Bool → Columns → List (List ℕ) → List Item → List Item → Type 0
+AddsItem true columns row old new = (new ≡ old) × (is_some (columns_named row) ≡ true)
+AddsItem false columns row old new =
+    (i : Item) × (new ≡ old ++ i ∷ []) × IsItemOf columns row i
 
--- a row that isn't passed over is no origin, or memory ran out
-abbrev pub RefusesItem : Bool → List (List ℕ) → Reason → Type 0
-RefusesItem passed row Memory = ⊤
-RefusesItem passed row why = (passed ≡ false) × RefusesRow row why
+-- a header doesn't name its columns, another row is no origin, or memory ran out
+abbrev pub RefusesItem : Bool → Columns → List (List ℕ) → Reason → Type 0
+RefusesItem heads columns row Memory = ⊤
+RefusesItem heads columns row Header =
+    (heads ≡ true) × (is_some (columns_named row) ≡ false)
+RefusesItem heads columns row why = (heads ≡ false) × RefusesRow columns row why
 
-abbrev pub TakesRow : {T : Type 0} → (passed timed : Bool) → List (List ℕ) → Result T Refusal →
+abbrev pub TakesRow : {T : Type 0} → Bool → Columns → List (List ℕ) → Result T Refusal →
     Gathering → Gathering → Type 0
-TakesRow passed timed row (Ok t) old new = TakesSome (AddsItem passed timed row []) old new
-TakesRow passed timed row (Err r) old new = RefusesItem passed row r.reason
+TakesRow heads columns row (Ok t) old new = TakesSome (AddsItem heads columns row []) old new
+TakesRow heads columns row (Err r) old new = RefusesItem heads columns row r.reason
 
--- whether there is a column of times, after one row more: the first says it
-abbrev pub timed_after : (first timed : Bool) → List (List ℕ) → Bool
-timed_after first timed row = if first then is_header row && names_expiry row else timed
+-- the columns of the rows that follow, after one row more: the first may name them
+abbrev pub columns_from : Bool → Columns → List (List ℕ) → Columns
+columns_from first columns row = if first then columns_after row else columns

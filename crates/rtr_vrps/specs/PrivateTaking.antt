@@ -1,12 +1,13 @@
 -- What gathering leaves of items, and what is made of it. Only contracts of private functions cite
 -- these.
-use Rattle.std.specs.Prelude.{◌≡◌, ℕ, Bool, List, [], ◌∷◌, ◌++◌, Option, Result}
+use Rattle.std.specs.Prelude.{◌≡◌, ℕ, Bool, List, [], ◌∷◌, ◌++◌, ◌⊎◌, Option, Result}
 use Rattle.rtr_units.specs.StopCauses.{WriterState}
 use Rattle.rtr_payload.specs.Payloads.{Payload}
+use Rattle.rtr_slurm.specs.Entries.{assertions_of}
 use Rattle.rtr_vrps.specs.Gathering.{Gathers}
-use Rattle.rtr_vrps.specs.MakeStatus.{MakesItems, MakesOf}
+use Rattle.rtr_vrps.specs.MakeStatus.{MakesItems, MakesOf, time_asked}
 use Rattle.rtr_vrps.specs.Making.{version_number}
-use Rattle.rtr_vrps.specs.Taking.{HasTaken, HoldsLeft, IsFor}
+use Rattle.rtr_vrps.specs.Taking.{AreAsserted, HasTaken, HoldsLeft, IsFor, entries_asked}
 use Rattle.rtr_vrps.specs.declared.gathering.Gathered.{Gathered}
 use Rattle.rtr_vrps.specs.declared.gathering.Gathering.{Gathering}
 use Rattle.rtr_vrps.specs.declared.gathering.Left.{Left}
@@ -19,6 +20,7 @@ pub record GathersOne (x : Item) (old new : Gathering) : Type 0 where
   pub version : new.version ≡ old.version
   pub leaves : new.leaves_out ≡ old.leaves_out
   pub times : new.times ≡ old.times
+  pub slurm : new.slurm ≡ old.slurm
   pub held : (left : List Item) →
       HoldsLeft old.version old.leaves_out left old.payloads old.refused →
       HoldsLeft old.version old.leaves_out (left ++ x ∷ []) new.payloads new.refused
@@ -36,11 +38,20 @@ MakesOfLeft a l status before after old new = (items : List Item) →
     MakesOf a l.expired items status before after old new
 
 -- the gathering is for a request
-abbrev pub IsAskedFor : Request → Gathering → Type 0
-IsAskedFor a g = IsFor (version_number a.version) a.leaves_out a.at g
+abbrev pub IsAskedFor : (now : ℕ) → Request → Gathering → Type 0
+IsAskedFor now a g = IsFor (version_number a.version) a.leaves_out (time_asked now a) g
 
 -- whatever items were taken for a request, their sequence is made
 abbrev pub MakesTaken : Request → Gathering → ℕ → WriterState → WriterState →
     (old new : Option (List ℕ)) → Type 0
-MakesTaken a g status before after old new = (items : List Item) → HasTaken items g →
-    IsAskedFor a g → MakesItems a items status before after old new
+MakesTaken a g status before after old new = (now : ℕ) (items : List Item) → HasTaken items g →
+    IsAskedFor now a g → MakesItems now a items status before after old new
+
+-- whatever items were taken for a request, and the assertions after them, their sequence is made
+abbrev pub MakesAsserted : Request → Gathering → ℕ → WriterState → WriterState →
+    (old new : Option (List ℕ)) → Type 0
+MakesAsserted a g status before after old new = (now : ℕ) (items : List Item) →
+    HasTaken items g → IsAskedFor now a g → ((more : List Item)
+    × AreAsserted (assertions_of (entries_asked g.slurm)) more
+    × MakesItems now a (items ++ more) status before after old new)
+    ⊎ ((after ≡ before) × (status ≡ 3))

@@ -1,11 +1,17 @@
 -- What is known of items that are taken one after the other, of which the payloads are kept.
-use Rattle.std.specs.Prelude.{◌≡◌, ℕ, Bool, List, [], ◌++◌, map, Option, Some, None}
+use Rattle.std.specs.Prelude.{◌≡◌, ⊤, ℕ, Bool, not, List, [], ◌∷◌, ◌++◌, map, filter}
+use Rattle.std.specs.Prelude.{Option, Some, None}
+use Rattle.std.specs.Borrow.{Bor}
 use Rattle.std.specs.Prelude.{Result, Ok, Err}
 use Rattle.std.specs.List.{AllByRecursion}
 use Rattle.rtr_units.specs.StopCauses.{WriterState}
 use Rattle.rtr_payload.specs.Payloads.{Payload}
+use Rattle.rtr_payload.specs.declared.payload.Payload.{Payload as Added}
 use Rattle.rtr_data.specs.Data.{IsData, has, has_name}
 use Rattle.rtr_data.specs.Sequences.{IsInRange}
+use Rattle.rtr_slurm.specs.Filters.{removes}
+use Rattle.rtr_slurm.specs.declared.entry.Entry.{Entry}
+use Rattle.rtr_slurm.specs.declared.slurm.Slurm.{Slurm}
 use Rattle.rtr_vrps.specs.Expiries.{LeavesAsked}
 use Rattle.rtr_vrps.specs.Gathering.{Gathers, first_refused, item_payload}
 use Rattle.rtr_vrps.specs.Making.{MakesSequence, version_number}
@@ -14,6 +20,7 @@ use Rattle.rtr_vrps.specs.declared.expiring.Times.{Times}
 use Rattle.rtr_vrps.specs.declared.gathering.Gathered.{Gathered}
 use Rattle.rtr_vrps.specs.declared.gathering.Gathering.{Gathering}
 use Rattle.rtr_vrps.specs.declared.gathering.Left.{Left}
+use Rattle.rtr_vrps.specs.declared.item.Expiry.TheVariants.{Never}
 use Rattle.rtr_vrps.specs.declared.item.Item.{Item}
 use Rattle.rtr_vrps.specs.declared.item.Refusal.{Refusal}
 use Rattle.rtr_vrps.specs.declared.sequence.Trouble.{Trouble}
@@ -62,10 +69,43 @@ pub record HasTaken (items : List Item) (g : Gathering) : Type 0 where
 
 -- ---- items that are taken
 
--- these were taken after those before
-pub record TakesItems (more : List Item) (old new : Gathering) : Type 0 where
+-- the entries of SLURM files by which items are filtered, and payloads are added
+abbrev pub entries_asked : Option (Bor Slurm) → List Entry
+entries_asked None = []
+entries_asked (Some s) = s.now.entries.items
+
+-- the items that the filters leave (RFC 8416 section 3.3)
+abbrev pub is_unfiltered : List Entry → Item → Bool
+is_unfiltered es i = not (removes es (item_payload i))
+
+abbrev pub kept_items : List Entry → List Item → List Item
+kept_items es items = filter (is_unfiltered es) items
+
+-- these were taken after those before, whatever the filters say
+pub record KeepsItems (more : List Item) (old new : Gathering) : Type 0 where
   pub settings : IsFor old.version old.leaves_out old.times.asked new
+  pub slurm : new.slurm ≡ old.slurm
   pub taken : (before : List Item) → HasTaken before old → HasTaken (before ++ more) new
+
+-- those of these that the filters leave
+pub record TakesItems (more : List Item) (old new : Gathering) : Type 0 where
+  pub kept : KeepsItems (kept_items (entries_asked old.slurm) more) old new
+
+-- the payload is one that SLURM files add (RFC 8416 section 3.4), which never expires
+pub record IsAsserted (p : Added) (i : Item) : Type 0 where
+  pub payload : i.payload ≡ p
+  pub lasting : i.expiry ≡ Never
+
+abbrev pub AreAsserted : List Added → List Item → Type 0
+AreAsserted [] [] = ⊤
+AreAsserted (p ∷ ps) (i ∷ items) = IsAsserted p i × AreAsserted ps items
+AreAsserted ps items = ⊥
+
+-- these are added, whatever the filters say
+pub record AddsAsserted (ps : List Added) (old new : Gathering) : Type 0 where
+  pub items : List Item
+  pub are : AreAsserted ps items
+  pub kept : KeepsItems items old new
 
 -- some were taken of which this holds
 pub record TakesSome (Are : List Item → Type 0) (old new : Gathering) : Type 0 where

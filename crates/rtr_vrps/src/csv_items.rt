@@ -3,15 +3,19 @@
 ghost use Rattle.std.specs.Prelude.{◌≡◌, ◌&&◌, IfErr, IfOk, if◌then◌else◌};
 ghost use Rattle.csv.specs.Reading.{error_kind};
 ghost use Rattle.csv.specs.Records.{fields_of};
-ghost use Rattle.rtr_vrps.specs.CsvItems.{HasItems, IsCsvOf, RefusesCsv, RefusesRows};
-ghost use Rattle.rtr_vrps.specs.CsvRows.{ReadsMaxLength, ReadsRow, field, is_header, is_uri};
-ghost use Rattle.rtr_vrps.specs.CsvRows.{names_expiry, row_expiry};
-ghost use Rattle.rtr_vrps.specs.PrivateCsv.{TakesRow, reason_of, timed_after};
+ghost use Rattle.rtr_vrps.specs.CsvItems.{HasItems, HasWholeItems, IsCsvOf, RefusesCsv};
+ghost use Rattle.rtr_vrps.specs.CsvItems.{RefusesRows, RefusesWhole};
+ghost use Rattle.rtr_vrps.specs.CsvColumns.{is_header, plain_columns};
+ghost use Rattle.rtr_vrps.specs.CsvRows.{ReadsMaxLength, ReadsRow, is_ended, is_uri};
+ghost use Rattle.rtr_vrps.specs.CsvRows.{row_expiry, some_plus};
+ghost use Rattle.rtr_vrps.specs.PrivateCsv.{TakesRow, columns_from, reason_of};
 ghost use Rattle.rtr_vrps.specs.Taking.{TakesSome};
 
+use crate::csv_columns::{Columns, columns_named, field, has_fields, is_header, plain_columns};
 use crate::gathering::Gathering;
 use crate::item::{Expiry, Item, Place, Reason, Refusal};
 use crate::json_values::expiry_of_number;
+use crate::plus::has_plus;
 use crate::quotes::{check_quotes, without_mark};
 use csv::{Error, ErrorKind, Position, ReaderBuilder, StringRecord};
 use rtr_base::addr::{MaxLenPrefix, Prefix};
@@ -20,24 +24,78 @@ use rtr_payload::payload::Payload;
 use std::alloc::Global;
 
 /// Reads a line for each origin: its ASN, with or without `AS` before the number, its prefix, and
-/// its max length, if it has one. A first line whose first field is `ASN` or `asn` names the
-/// columns: if it calls the fifth `Expires`, as rpki-client does, that is when each origin expires,
-/// in seconds since 1970. Further columns and empty lines are passed over.
+/// its max length, if it has one. Further fields and empty lines are ignored.
+///
+/// A first line whose first field is `ASN` is a header: it names the columns of the prefix and the
+/// max length, each once, and may name one `Expires`, as rpki-client does, which is when each
+/// origin expires, in seconds since 1970. Names are those of `Part::is_named`. No line has fewer
+/// fields than the header.
+///
+/// The last line has to have its line end, so that a text that was cut off isn't read, unless
+/// `takes_unended`.
 ///
 /// The first quote at fault decides, as `check_quotes` has it; else the first line that is
-/// something else, with the reasons `NotText`, `UriColumn`, `Asn`, `Prefix`, `MaxLength` and
-/// `MaxLengthRule`, in this order; `Memory` ends reading, too.
+/// something else, with the reasons `NotText`, `Header`, `FewFields`, `Plus`, `UriColumn`, `Asn`,
+/// `Prefix`, `MaxLength` and `MaxLengthRule`, in this order; else `Unended`; `Memory` ends reading,
+/// too.
 pub fn read_csv<'a>(
     alloc: Global,
     text: &'a [u8],
+    takes_unended: bool,
     gathering: &mut Gathering<'a>,
 ) -> Result<(), Refusal<'a>>
-    ensures items { IfOk result (λ _. TakesSome (IsCsvOf text.now) gathering.old gathering.new) }
-    ensures refused { IfErr result (λ r. RefusesCsv text.now r.reason) }
+    ensures items { IfOk result (λ _. TakesSome (IsCsvOf takes_unended text.now) gathering.old
+        gathering.new) }
+    ensures refused { IfErr result (λ r. RefusesCsv takes_unended text.now r.reason) }
 {
     match check_quotes(text) {
-        Ok(()) => read_rows(alloc, text, gathering),
+        Ok(()) => read_whole(alloc, text, takes_unended, gathering),
         Err(refusal) => Err(refusal),
+    }
+}
+
+/// Reads the rows of a text whose quotes stand where they may, and checks that the last one ends.
+fn read_whole<'a>(
+    alloc: Global,
+    text: &'a [u8],
+    takes_unended: bool,
+    gathering: &mut Gathering<'a>,
+) -> Result<(), Refusal<'a>>
+    ensures items { IfOk result (λ _.
+        TakesSome (HasWholeItems takes_unended text.now) gathering.old gathering.new) }
+    ensures refused { IfErr result (λ r. RefusesWhole takes_unended text.now r.reason) }
+{
+    match read_rows(alloc, text, gathering) {
+        Ok(()) if takes_unended || is_ended(without_mark(text)) => Ok(()),
+        Ok(()) => Err(unended(text)),
+        Err(refusal) => Err(refusal),
+    }
+}
+
+/// Whether the text has nothing after its last line end.
+fn is_ended(text: &[u8]) -> bool
+    ensures { result ≡ is_ended text.now }
+{
+    if text.is_empty() {
+        return true;
+    }
+    let last = text[text.len() - 1];
+    last == b'\n' || last == b'\r'
+}
+
+/// The refusal of a last line without a line end.
+fn unended<'a>(text: &[u8]) -> Refusal<'a>
+    ensures { result.reason ≡ Reason.Unended }
+{
+    let mut line: u64 = 1;
+    for byte in text {
+        if *byte == b'\n' {
+            line = line.saturating_add(1);
+        }
+    }
+    Refusal {
+        place: Place::Line(line),
+        reason: Reason::Unended,
     }
 }
 
@@ -55,12 +113,12 @@ fn read_rows<'a>(
         .flexible(true)
         .from_reader(alloc, text);
     let mut row = StringRecord::new(alloc);
-    let mut timed = false;
+    let mut columns = plain_columns();
     for count in 0..u64::MAX {
         match reader.read_record(&mut row) {
             Ok(true) => {
-                timed = timed_after(count == 0, timed, &row);
-                match take_row(count == 0, timed, text, &row, gathering) {
+                columns = columns_from(count == 0, columns, &row);
+                match take_row(count == 0, columns, text, &row, gathering) {
                     Ok(()) => {}
                     Err(refusal) => return Err(refusal),
                 }
@@ -72,39 +130,55 @@ fn read_rows<'a>(
     Err(out_of_memory())
 }
 
-/// Whether there is a column of times, after one row more: the first says it.
-fn timed_after(first: bool, timed: bool, row: &StringRecord) -> bool
-    ensures { result ≡ timed_after first timed (fields_of row.now) }
+/// The columns of the rows that follow, after one row more: the first may name them.
+fn columns_from(first: bool, columns: Columns, row: &StringRecord) -> Columns
+    ensures { result ≡ columns_from first columns (fields_of row.now) }
 {
-    if first {
-        is_header(row) && names_expiry(row)
+    if !first {
+        return columns;
+    }
+    if is_header(row) {
+        columns_named(row).unwrap_or(plain_columns())
     } else {
-        timed
+        plain_columns()
     }
 }
 
 /// Takes the origin that a row is, with its time where there is a column of times. The first row
-/// may name the columns, and is then passed over.
+/// may be a header, which is no origin.
 fn take_row<'a>(
     first: bool,
-    timed: bool,
+    columns: Columns,
     text: &[u8],
     row: &StringRecord,
     gathering: &mut Gathering<'a>,
 ) -> Result<(), Refusal<'a>>
-    ensures { TakesRow (first && is_header (fields_of row.now)) timed (fields_of row.now) result
+    ensures { TakesRow (first && is_header (fields_of row.now)) columns (fields_of row.now) result
         gathering.old gathering.new }
 {
-    if first && is_header(row) {
-        return Ok(());
-    }
     let place = Place::Line(line_of(text, row));
-    match origin(row) {
-        Ok(payload) => match gathering.take(item(place, payload, expiry(timed, row))) {
+    if first && is_header(row) {
+        return match columns_named(row) {
+            Some(_) => Ok(()),
+            None => Err(header_refusal(place)),
+        };
+    }
+    match origin(columns, row) {
+        Ok(payload) => match gathering.take(item(place, payload, expiry(columns, row))) {
             Ok(()) => Ok(()),
             Err(_) => Err(out_of_memory()),
         },
         Err(reason) => Err(Refusal { place, reason }),
+    }
+}
+
+/// The refusal of a header that doesn't name its columns.
+fn header_refusal<'a>(place: Place<'a>) -> Refusal<'a>
+    ensures { result.reason ≡ Reason.Header }
+{
+    Refusal {
+        place,
+        reason: Reason::Header,
     }
 }
 
@@ -119,13 +193,12 @@ fn item<'a>(place: Place<'a>, payload: Payload, expiry: Expiry) -> Item<'a>
 }
 
 /// When the row expires.
-fn expiry(timed: bool, row: &StringRecord) -> Expiry
-    ensures { result ≡ row_expiry timed (fields_of row.now) }
+fn expiry(columns: Columns, row: &StringRecord) -> Expiry
+    ensures { result ≡ row_expiry columns (fields_of row.now) }
 {
-    if timed {
-        expiry_of_number(field(row, 4))
-    } else {
-        Expiry::Never
+    match columns.expires {
+        Some(index) => expiry_of_number(field(row, index)),
+        None => Expiry::Never,
     }
 }
 
@@ -184,41 +257,25 @@ fn read_from(text: &[u8], start: u64) -> &[u8] {
     text.get(start as usize..).unwrap_or(&[])
 }
 
-/// The field at a place, of which the first is 0. One that isn't there is empty.
-fn field(row: &StringRecord, index: usize) -> &str
-    ensures { result.now ≡ field (fields_of row.now) index }
-{
-    row.get(index).unwrap_or("")
-}
-
-/// Whether the row names its columns.
-fn is_header(row: &StringRecord) -> bool
-    ensures { result ≡ is_header (fields_of row.now) }
-{
-    let name = field(row, 0);
-    name == "ASN" || name == "asn"
-}
-
-/// Whether the row calls the fifth column that of times.
-fn names_expiry(row: &StringRecord) -> bool
-    ensures { result ≡ names_expiry (fields_of row.now) }
-{
-    field(row, 4) == "Expires"
-}
-
 /// The origin that the row is.
-fn origin(row: &StringRecord) -> Result<Payload, Reason>
-    ensures { ReadsRow (fields_of row.now) result }
+fn origin(columns: Columns, row: &StringRecord) -> Result<Payload, Reason>
+    ensures { ReadsRow columns (fields_of row.now) result }
 {
+    if !has_fields(columns, row) {
+        return Err(Reason::FewFields);
+    }
+    if some_plus(columns, row) {
+        return Err(Reason::Plus);
+    }
     let asn = match field(row, 0).parse::<Asn>() {
         Ok(asn) => asn,
         Err(_) => return Err(no_asn(field(row, 0))),
     };
-    let prefix = match field(row, 1).parse::<Prefix>() {
+    let prefix = match field(row, columns.prefix).parse::<Prefix>() {
         Ok(prefix) => prefix,
         Err(error) => return Err(Reason::Prefix(error)),
     };
-    let max_length = match max_length(field(row, 2)) {
+    let max_length = match max_length(field(row, columns.max_length)) {
         Ok(max_length) => max_length,
         Err(reason) => return Err(reason),
     };
@@ -226,6 +283,15 @@ fn origin(row: &StringRecord) -> Result<Payload, Reason>
         Ok(prefix) => Ok(Payload::origin(prefix, asn)),
         Err(error) => Err(Reason::MaxLengthRule(error)),
     }
+}
+
+/// Whether a plus stands in a field that is a part of an origin, as no validator prints it.
+fn some_plus(columns: Columns, row: &StringRecord) -> bool
+    ensures { result ≡ some_plus columns (fields_of row.now) }
+{
+    has_plus(field(row, 0))
+        || has_plus(field(row, columns.prefix))
+        || has_plus(field(row, columns.max_length))
 }
 
 /// Why the field is no ASN.

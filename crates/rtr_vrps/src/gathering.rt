@@ -1,7 +1,7 @@
 //! The payloads of items that come one after the other as data: each once, in their order.
 
 ghost use Rattle.std.specs.Prelude.{◌≡◌, ◌∷◌, [], ◌^◌, ◌+◌, ◌-◌, MatchResult, length, min, nat_eq};
-ghost use Rattle.std.specs.Prelude.{if◌then◌else◌};
+ghost use Rattle.std.specs.Prelude.{None, if◌then◌else◌};
 ghost use Rattle.rtr_base.specs.Bytes.{IsBytes};
 ghost use Rattle.rtr_payload.specs.Meanings.{origin_of, payload_of};
 ghost use Rattle.rtr_data.specs.Contents.{AreFit};
@@ -10,13 +10,17 @@ ghost use Rattle.rtr_data.specs.Sequences.{HasBytes, IsInRange};
 ghost use Rattle.rtr_vrps.specs.Gathering.{is_lacking, lacked};
 ghost use Rattle.rtr_vrps.specs.PrivateAdding.{AddsPayload, is_memory};
 ghost use Rattle.rtr_vrps.specs.PrivateTaking.{EndsGathering, GathersOne};
-ghost use Rattle.rtr_vrps.specs.Taking.{EndsTaking, HasTaken, IsFor, TakesItems};
+ghost use Rattle.rtr_slurm.specs.Entries.{assertions_of};
+ghost use Rattle.rtr_slurm.specs.Filters.{removes};
+ghost use Rattle.rtr_vrps.specs.Taking.{AddsAsserted, EndsTaking, HasTaken, IsFor, KeepsItems};
+ghost use Rattle.rtr_vrps.specs.Taking.{TakesItems, entries_asked};
 
 use crate::expiring::{Expired, Times};
-use crate::item::{Item, Reason, Refusal};
+use crate::item::{Expiry, Item, Place, Reason, Refusal};
 use rtr_data::{ChangeError, Data};
 use rtr_payload::payload::laws::in_range;
 use rtr_payload::payload::{Payload, RouteOrigin};
+use rtr_slurm::{Entry, Slurm};
 use std::alloc::Global;
 
 /// The payloads of items.
@@ -50,6 +54,8 @@ pub struct Gathering<'a> {
     payloads: Data,
     /// The first of the others that is refused.
     refused: Option<Refusal<'a>>,
+    /// The filters and assertions of SLURM files.
+    slurm: Option<&'a Slurm>,
 }
 
 impl<'a> Gathering<'a> {
@@ -58,6 +64,7 @@ impl<'a> Gathering<'a> {
     pub fn new(alloc: Global, version: u8, leaves_out: bool, asked: Option<u64>) -> Gathering<'a>
         ensures settings { IsFor version leaves_out asked result }
         ensures none { HasTaken [] result }
+        ensures unfiltered { result.slurm ≡ None }
     {
         Gathering {
             version,
@@ -65,12 +72,89 @@ impl<'a> Gathering<'a> {
             times: Times::new(asked),
             payloads: Data::new(alloc),
             refused: None,
+            slurm: None,
         }
     }
 
-    /// Takes one item more. `finish` says whether one was refused. Fails only with `Memory`.
+    /// Gathers items as `new`, but for those whose payloads the filters of these SLURM files
+    /// remove. `take_assertions` adds the payloads that the files assert.
+    pub fn with_slurm(
+        alloc: Global,
+        version: u8,
+        leaves_out: bool,
+        asked: Option<u64>,
+        slurm: &'a Slurm,
+    ) -> Gathering<'a>
+        ensures settings { IsFor version leaves_out asked result }
+        ensures none { HasTaken [] result }
+        ensures filtered { entries_asked result.slurm ≡ slurm.now.entries.items }
+    {
+        Gathering {
+            version,
+            leaves_out,
+            times: Times::new(asked),
+            payloads: Data::new(alloc),
+            refused: None,
+            slurm: if_any(slurm),
+        }
+    }
+
+    /// Takes one item more, unless a filter removes it. `finish` says whether one was refused.
+    /// Fails only with `Memory`.
+    #[inline(always)]
     pub fn take(&mut self, item: Item<'a>) -> Result<(), Reason>
         ensures { MatchResult result (λ _. TakesItems (item.entry ∷ []) self.old self.new)
+            (λ r. r ≡ Reason.Memory) }
+    {
+        if removes(self.slurm, &item.payload) {
+            return Ok(());
+        }
+        self.keep(item)
+    }
+
+    /// Takes the payloads that the SLURM files assert, which no filter removes and which never
+    /// expire. Fails only with `Memory`.
+    pub fn take_assertions(&mut self) -> Result<(), Reason>
+        ensures { MatchResult result
+            (λ _. AddsAsserted (assertions_of (entries_asked self.old.slurm)) self.old self.new)
+            (λ r. r ≡ Reason.Memory) }
+    {
+        match self.slurm {
+            Some(slurm) => take_entries(self, slurm.entries.as_slice()),
+            None => Ok(()),
+        }
+    }
+
+    /// Takes the payload that an entry asserts, if it is an assertion.
+    fn take_entry(&mut self, entry: &Entry) -> Result<(), Reason>
+        ensures { MatchResult result
+            (λ _. AddsAsserted (assertions_of (entry.now ∷ [])) self.old self.new)
+            (λ r. r ≡ Reason.Memory) }
+    {
+        match entry {
+            Entry::Assertion(payload) => self.take_asserted(payload),
+            _ => Ok(()),
+        }
+    }
+
+    fn take_asserted(&mut self, payload: &Payload) -> Result<(), Reason>
+        ensures { MatchResult result (λ _. AddsAsserted (payload.now ∷ []) self.old self.new)
+            (λ r. r ≡ Reason.Memory) }
+    {
+        match payload.clone() {
+            Ok(payload) => self.keep(Item {
+                place: Place::Array("SLURM assertions"),
+                payload,
+                expiry: Expiry::Never,
+            }),
+            Err(_) => Err(Reason::Memory),
+        }
+    }
+
+    /// Takes one item more, whatever the filters say.
+    #[inline(always)]
+    fn keep(&mut self, item: Item<'a>) -> Result<(), Reason>
+        ensures { MatchResult result (λ _. KeepsItems (item.entry ∷ []) self.old self.new)
             (λ r. r ≡ Reason.Memory) }
     {
         match self.times.look(&item) {
@@ -121,6 +205,41 @@ impl<'a> Gathering<'a> {
             Err(refusal) => Err(refusal),
         }
     }
+}
+
+/// The SLURM files, unless they have no entries: then no item is compared with them.
+fn if_any(slurm: &Slurm) -> Option<&Slurm>
+    ensures { entries_asked result ≡ slurm.now.entries.items }
+{
+    if slurm.entries.is_empty() {
+        return None;
+    }
+    Some(slurm)
+}
+
+/// Reports whether a filter of the SLURM files removes the payload.
+fn removes(slurm: Option<&Slurm>, payload: &Payload) -> bool
+    ensures { result ≡ removes (entries_asked slurm.entry) (payload_of payload.now) }
+{
+    match slurm {
+        Some(slurm) => slurm.removes(payload),
+        None => false,
+    }
+}
+
+/// Takes the payloads that the entries assert.
+fn take_entries(gathering: &mut Gathering<'_>, entries: &[Entry]) -> Result<(), Reason>
+    ensures { MatchResult result
+        (λ _. AddsAsserted (assertions_of entries.now) gathering.old gathering.new)
+        (λ r. r ≡ Reason.Memory) }
+{
+    for entry in entries {
+        match gathering.take_entry(entry) {
+            Ok(()) => {}
+            Err(reason) => return Err(reason),
+        }
+    }
+    Ok(())
 }
 
 /// The payloads that were gathered for this version, unless an item was refused.

@@ -3,6 +3,7 @@
 ghost use Rattle.std.specs.Prelude.{◌≡◌};
 ghost use Rattle.rtr_vrps.specs.MakeInfo.{PutsSomeText, TellsText, info_by_words, info_named};
 
+use rtr_program::report;
 use rtr_units::fault::Fault;
 use rtr_units::piece::put;
 use rtr_units::source::Sink;
@@ -20,13 +21,17 @@ pub enum Info {
 /// The status if writing or flushing failed.
 const FAILED: u8 = 3;
 
+/// Its name.
+pub const NAME: &str = "rtr_make";
+
 /// Its name and version, in a line.
-const VERSION: &str = "rtr_make 0.2.0\n";
+const VERSION: &str = "rtr_make 0.3.0\n";
 
 /// How it is called, in a line.
 pub const USAGE: &str =
     "usage: rtr_make --csv | --json [--version 0|1|2] [--session N] [--serial N] \
-[--refresh N] [--retry N] [--expire N] [--drop] [--empty] [--ignore NAME] [--at N] [FILE]";
+[--refresh N] [--retry N] [--expire N] [--drop] [--empty] [--unended] [--ignore NAME] [--at N] \
+[--slurm FILE] [FILE]";
 
 /// What the program does, and what each word means.
 const HELP: &str = "rtr_make - write the RTR sequence of validated payloads
@@ -39,16 +44,20 @@ data, to standard output.
   --json           a JSON object is read, as validators print it
   --version 0|1|2  the version of the units, 2 if none is named
   --session N      the session of the end of data, 0 if none is named
-  --serial N       its serial number, 0 if none is named
+  --serial N       its serial number, 1 if none is named
   --refresh N      its timings in seconds: 3600, 600 and 7200 if none are
   --retry N        named; version 0 has none
   --expire N
   --drop           payloads that the version lacks are left out, and counted
   --empty          a sequence without payloads is written, too
+  --unended        CSV is read whose last line has no line end, too
   --ignore NAME    what the JSON has under this name is passed over
   --at N           items that have expired at this time, in seconds since
                    1970, are left out, and counted: by their expires in
-                   JSON, by a fifth column of the name Expires in CSV
+                   JSON, by a column of the name Expires in CSV; the time is
+                   now if none is named
+  --slurm FILE     payloads are filtered, and others added, by this SLURM
+                   file (RFC 8416); several must not overlap
 
 Alone: --help prints this, and --version the program's version.
 ";
@@ -80,18 +89,22 @@ pub fn tell_info<W: Sink, F: Write>(info: Info, output: &mut W, faults: &mut F) 
     ensures { TellsText result (W.state output.old) (W.state output.new) }
 {
     let written = put_text(info, output);
-    let flushed = output.flush().is_ok();
+    let flushed = output.flush();
     match written {
-        Ok(()) if flushed => 0,
-        Ok(()) => {
-            let _ = writeln!(faults, "write failed");
-            FAILED
-        }
-        Err(fault) => {
-            let _ = writeln!(faults, "{fault}");
-            FAILED
-        }
+        Ok(()) => match flushed {
+            Ok(()) => 0,
+            Err(error) => tell_unwritten(&Fault::Writer(error), faults),
+        },
+        Err(fault) => tell_unwritten(&fault, faults),
     }
+}
+
+/// Prints why the output can't be written, and answers the status.
+pub(crate) fn tell_unwritten<F: Write>(fault: &Fault, faults: &mut F) -> u8
+    ensures { result ≡ 3 }
+{
+    report(NAME, fault, faults);
+    FAILED
 }
 
 /// Writes the text that is asked for.

@@ -81,6 +81,9 @@ pub enum Reason {
     /// The text is no JSON.
     #[error("no JSON")]
     NotJson,
+    /// The text ends in the middle of JSON.
+    #[error("ends in the middle of a value")]
+    EndsEarly,
     /// Arrays and objects nest too deep.
     #[error("nested deeper than 128")]
     TooDeep,
@@ -117,6 +120,18 @@ pub enum Reason {
     /// The same name, or another that means the same, comes twice.
     #[error("given twice")]
     Twice,
+    /// The first line names the columns, but not the prefix and the max length once each.
+    #[error("the header has to name a prefix and a max length once each")]
+    Header,
+    /// A line has fewer fields than the header.
+    #[error("fewer fields than the header")]
+    FewFields,
+    /// The last line has no line end.
+    #[error("no line end: the list may be cut off (`rtr_make --unended` reads it)")]
+    Unended,
+    /// A plus stands before a number.
+    #[error("a plus before a number")]
+    Plus,
     /// It isn't the number of an autonomous system.
     #[error("invalid AS number")]
     Asn,

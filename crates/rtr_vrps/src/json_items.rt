@@ -114,11 +114,40 @@ fn not_json<'a>(alloc: Global, length: usize, text: &str) -> Refusal<'a>
     }
     let reason = match is_too_deep(alloc, text) {
         Some(true) => Reason::TooDeep,
+        Some(false) if ends_early(text.as_bytes(), reader.offset()) => Reason::EndsEarly,
         Some(false) => Reason::NotJson,
         None => Reason::Memory,
     };
     let offset = before.saturating_add(reader.offset());
     refusal(Place::Offset(offset as u64), reason)
+}
+
+/// Whether a text that is no JSON from this offset on may be the beginning of one: nothing is left
+/// there, or a text or a word that doesn't end.
+fn ends_early(text: &[u8], offset: usize) -> bool {
+    match text.get(offset..) {
+        Some([]) => offset > 0,
+        Some([b'"', rest @ ..]) => !has_quote(rest),
+        Some(rest) => {
+            is_start(rest, b"true") || is_start(rest, b"false") || is_start(rest, b"null")
+        }
+        None => false,
+    }
+}
+
+/// Whether a quote stands in the text.
+fn has_quote(text: &[u8]) -> bool {
+    for byte in text {
+        if *byte == b'"' {
+            return true;
+        }
+    }
+    false
+}
+
+/// Whether the word begins with this text.
+fn is_start(text: &[u8], word: &[u8]) -> bool {
+    word.starts_with(text)
 }
 
 /// Whether more arrays and objects stand open at some place than may nest, if there is memory to

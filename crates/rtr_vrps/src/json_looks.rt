@@ -1,18 +1,21 @@
 //! Whether what stands under a name that isn't known looks like payloads.
 
-ghost use Rattle.std.specs.Prelude.{◌≡◌, ◌&&◌, ◌||◌, ◌⊎◌, true, Decides};
+ghost use Rattle.std.specs.Prelude.{◌≡◌, ◌&&◌, ◌||◌, ◌⊎◌, ℕ, true, Decides};
 ghost use Rattle.std.specs.List.{AllByRecursion};
 ghost use Rattle.json.specs.Value.{items_view, members_view, value_view};
+ghost use Rattle.rtr_base.specs.Numerals.{IsSerialText};
 ghost use Rattle.rtr_vrps.specs.JsonPayloads.{HasPayloads, IsLikeCustomer, IsLikeCustomers};
 ghost use Rattle.rtr_vrps.specs.JsonPayloads.{IsLikeTuple, SomeItemHas, SomeMemberHas};
 ghost use Rattle.rtr_vrps.specs.JsonPayloads.{holds_part, is_like_payload};
-ghost use Rattle.rtr_vrps.specs.JsonValues.{IsAsnArray, IsSomeAsn, IsSomeAsnText, IsSomePrefix};
-ghost use Rattle.rtr_vrps.specs.JsonValues.{SomeIs};
+ghost use Rattle.rtr_vrps.specs.JsonValues.{IsAsnArray, IsLikeAsn, IsLikeAsnText, IsLikePrefix};
+ghost use Rattle.rtr_vrps.specs.JsonValues.{IsLikePrefixText, SomeIs};
 ghost use Rattle.rtr_vrps.specs.JsonValues.{items_list, members_list};
 
 use crate::json_names::Part;
-use crate::json_values::{asn_of, asn_of_text, prefix_of};
+use crate::json_values::asn_of_number;
 use json::Value;
+use rtr_base::addr::Prefix;
+use rtr_base::asn::Asn;
 
 /// Whether a value is, or has in it at any depth, what looks like payloads that would be lost:
 /// - an object with an ASN and a prefix, with an ASN and a key or its identifier, or with a
@@ -83,7 +86,7 @@ fn is_like_tuple(list: &[Value<'_>]) -> bool
 
 /// Whether an item is the text of a prefix.
 fn has_prefix(list: &[Value<'_>]) -> bool
-    ensures { Decides result (SomeIs IsSomePrefix (items_list (items_view list.now))) }
+    ensures { Decides result (SomeIs IsLikePrefix (items_list (items_view list.now))) }
 {
     for item in list {
         if is_prefix(item) {
@@ -94,14 +97,23 @@ fn has_prefix(list: &[Value<'_>]) -> bool
 }
 
 fn is_prefix(item: &Value<'_>) -> bool
-    ensures { Decides result (IsSomePrefix (value_view item.now)) }
+    ensures { Decides result (IsLikePrefix (value_view item.now)) }
 {
-    prefix_of(item).is_ok()
+    match item {
+        Value::String(text) => is_prefix_text(*text),
+        _ => false,
+    }
+}
+
+fn is_prefix_text(text: &str) -> bool
+    ensures { Decides result (IsLikePrefixText text.now) }
+{
+    text.parse::<Prefix>().is_ok()
 }
 
 /// Whether an item is an ASN.
 fn has_asn(list: &[Value<'_>]) -> bool
-    ensures { Decides result (SomeIs IsSomeAsn (items_list (items_view list.now))) }
+    ensures { Decides result (SomeIs IsLikeAsn (items_list (items_view list.now))) }
 {
     for item in list {
         if is_asn(item) {
@@ -112,9 +124,19 @@ fn has_asn(list: &[Value<'_>]) -> bool
 }
 
 fn is_asn(item: &Value<'_>) -> bool
-    ensures { Decides result (IsSomeAsn (value_view item.now)) }
+    ensures { Decides result (IsLikeAsn (value_view item.now)) }
 {
-    asn_of(item).is_ok()
+    match item {
+        Value::Number(text) => is_asn_number(*text),
+        Value::String(text) => is_asn_text(*text),
+        _ => false,
+    }
+}
+
+fn is_asn_number(text: &str) -> bool
+    ensures { Decides result ((n : ℕ) × IsSerialText text.now n) }
+{
+    asn_of_number(text).is_ok()
 }
 
 /// Whether an object lists ASPAs by their customers, and not none.
@@ -144,9 +166,9 @@ fn is_like_customer(name: &str, value: &Value<'_>) -> bool
 }
 
 fn is_asn_text(text: &str) -> bool
-    ensures { Decides result (IsSomeAsnText text.now) }
+    ensures { Decides result (IsLikeAsnText text.now) }
 {
-    asn_of_text(text).is_ok()
+    text.parse::<Asn>().is_ok()
 }
 
 fn is_asn_array(value: &Value<'_>) -> bool
@@ -159,7 +181,7 @@ fn is_asn_array(value: &Value<'_>) -> bool
 }
 
 fn are_asns(list: &[Value<'_>]) -> bool
-    ensures { Decides result (AllByRecursion IsSomeAsn (items_list (items_view list.now))) }
+    ensures { Decides result (AllByRecursion IsLikeAsn (items_list (items_view list.now))) }
 {
     for item in list {
         if !is_asn(item) {

@@ -55,8 +55,8 @@ impl Part {
     {
         match self {
             Part::Asn => is_plainly(name, "asn"),
-            Part::Prefix => is_plainly(name, "prefix"),
-            Part::MaxLength => is_plainly(name, "maxlength"),
+            Part::Prefix => is_prefix(name),
+            Part::MaxLength => is_max_length(name),
             Part::KeyIdentifier => is_plainly(name, "ski"),
             Part::KeyInfo => is_key_info(name),
             Part::Customer => is_plainly(name, "customer") || is_plainly(name, "customerasid"),
@@ -80,6 +80,21 @@ impl Part {
             Part::Expires => "expires",
         }
     }
+}
+
+fn is_prefix(name: &str) -> bool
+    ensures { result ≡ is_part Part.Prefix name.now }
+{
+    is_plainly(name, "prefix") || is_plainly(name, "ipprefix")
+}
+
+fn is_max_length(name: &str) -> bool
+    ensures { result ≡ is_part Part.MaxLength name.now }
+{
+    is_plainly(name, "maxlength")
+        || is_plainly(name, "maxlen")
+        || is_plainly(name, "maxprefixlength")
+        || is_plainly(name, "maxprefixlen")
 }
 
 fn is_key_info(name: &str) -> bool
@@ -126,7 +141,7 @@ pub fn family_named(name: &str) -> Option<&'static str>
     }
 }
 
-/// Whether a name is this one, without regard to case, `_` and `-`.
+/// Whether a name is this one, without regard to case, spaces, `_` and `-`.
 fn is_plainly(name: &str, known: &str) -> bool
     ensures { result ≡ bytes_eq known.now (plain name.now) }
 {
@@ -157,5 +172,5 @@ fn after_first(bytes: &[u8], byte: u8) -> Option<&[u8]>
 fn is_joiner(byte: u8) -> bool
     ensures { result ≡ is_joiner byte }
 {
-    byte == b'_' || byte == b'-'
+    byte == b'_' || byte == b'-' || byte == b' '
 }

@@ -6,11 +6,12 @@ ghost use Rattle.base64.specs.GeneralPurpose.{decode_of};
 ghost use Rattle.json.specs.Json.{string};
 ghost use Rattle.json.specs.Value.{items_view, value_view};
 ghost use Rattle.rtr_base.specs.Numerals.{IsSerialText};
-ghost use Rattle.rtr_base.specs.ReadTexts.{IsAsnText, IsLenText};
+ghost use Rattle.rtr_base.specs.ReadTexts.{IsLenText};
 ghost use Rattle.rtr_vrps.specs.JsonRefusals.{IsNoBase64, OrMemory, RefusesAsn};
 ghost use Rattle.rtr_vrps.specs.JsonRefusals.{RefusesFirst, RefusesKeyIdentifier};
 ghost use Rattle.rtr_vrps.specs.JsonRefusals.{RefusesKeyInfo, RefusesMaxLength};
-ghost use Rattle.rtr_vrps.specs.JsonRefusals.{RefusesPrefixValue, RefusesProviders};
+ghost use Rattle.rtr_vrps.specs.JsonRefusals.{RefusesPrefixString, RefusesPrefixValue};
+ghost use Rattle.rtr_vrps.specs.JsonRefusals.{RefusesProviders};
 ghost use Rattle.rtr_vrps.specs.JsonRefusals.{has_base64_length};
 ghost use Rattle.rtr_vrps.specs.JsonValues.{expiry_by_number, expiry_of_value};
 ghost use Rattle.rtr_vrps.specs.MakeWords.{number_of};
@@ -18,8 +19,10 @@ ghost use Rattle.rtr_vrps.specs.PrivateJson.{IsNoIdentifier, IsNoText, IsUndecod
 ghost use Rattle.rtr_vrps.specs.JsonValues.{AreAsnValues, AreProviderValues, IsAsnValue};
 ghost use Rattle.rtr_vrps.specs.JsonValues.{IsBase64, IsKeyIdentifierValue, IsKeyInfoValue};
 ghost use Rattle.rtr_vrps.specs.JsonValues.{IsMaxLengthValue, IsPrefixValue, IsSomeAsn, items_list};
+ghost use Rattle.rtr_vrps.specs.JsonValues.{IsAsnString, IsPrefixString};
 
 use crate::item::{Expiry, Reason};
+use crate::plus::has_plus;
 use crate::words::long_number;
 use base64::DecodeAllocError;
 use base64::engine::general_purpose::{STANDARD_PAD_INDIFFERENT, URL_SAFE_PAD_INDIFFERENT};
@@ -44,7 +47,7 @@ pub fn asn_of(value: &Value<'_>) -> Result<Asn, Reason>
 }
 
 /// The ASN that a number is.
-fn asn_of_number(text: &str) -> Result<Asn, Reason>
+pub fn asn_of_number(text: &str) -> Result<Asn, Reason>
     ensures { MatchResult result (λ n. IsSerialText text.now n)
         (λ why. (why ≡ Reason.Asn) × ((n : ℕ) → ¬ IsSerialText text.now n)) }
 {
@@ -56,9 +59,12 @@ fn asn_of_number(text: &str) -> Result<Asn, Reason>
 
 /// The ASN that a text is.
 pub fn asn_of_text(text: &str) -> Result<Asn, Reason>
-    ensures { MatchResult result (λ n. IsAsnText text.now n)
-        (λ why. (why ≡ Reason.Asn) × ((n : ℕ) → ¬ IsAsnText text.now n)) }
+    ensures { MatchResult result (λ n. IsAsnString text.now n)
+        (λ why. (why ≡ Reason.Asn) × ((n : ℕ) → ¬ IsAsnString text.now n)) }
 {
+    if has_plus(text) {
+        return Err(Reason::Asn);
+    }
     match text.parse::<Asn>() {
         Ok(asn) => Ok(asn),
         Err(_) => Err(Reason::Asn),
@@ -70,7 +76,18 @@ pub fn prefix_of(value: &Value<'_>) -> Result<Prefix, Reason>
     ensures { MatchResult result (λ p. IsPrefixValue (value_view value.now) p)
         (RefusesPrefixValue (value_view value.now)) }
 {
-    match text_of(value)?.parse::<Prefix>() {
+    prefix_of_text(text_of(value)?)
+}
+
+/// The prefix that a text is.
+fn prefix_of_text(text: &str) -> Result<Prefix, Reason>
+    ensures { MatchResult result (λ p. IsPrefixString text.now p)
+        (RefusesPrefixString text.now) }
+{
+    if has_plus(text) {
+        return Err(Reason::Plus);
+    }
+    match text.parse::<Prefix>() {
         Ok(prefix) => Ok(prefix),
         Err(error) => Err(Reason::Prefix(error)),
     }

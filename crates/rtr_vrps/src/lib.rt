@@ -2,6 +2,7 @@
 //! print them, and writes the sequence of units that announces them.
 #![tactic(auto)]
 
+mod csv_columns;
 mod csv_items;
 mod expiring;
 mod gathering;
@@ -12,14 +13,16 @@ mod json_looks;
 mod json_names;
 mod json_objects;
 mod json_values;
+pub mod laws;
 mod make;
+mod plus;
 mod quotes;
 mod sequence;
 mod words;
 
 pub use csv_items::read_csv;
 pub use expiring::Expired;
-pub use gathering::{Gathered, Gathering, Left};
+pub use gathering::{Gathered, Gathering, Left, has_none};
 pub use info::{Info, info_asked};
 pub use item::{Expiry, Item, Place, Reason, Refusal};
 pub use json_items::read_json;
@@ -27,4 +30,4 @@ pub use json_names::{Holding, Kind, Part};
 pub use make::{program, run};
 pub use quotes::check_quotes;
 pub use sequence::{Trouble, write_sequence};
-pub use words::{Format, Request, Version, asked, is_ignored};
+pub use words::{Format, Request, Version, asked, is_ignored, long_number};

@@ -1,16 +1,19 @@
 //! What the program is asked for.
 
-ghost use Rattle.std.specs.Prelude.{◌≡◌, ◌&&◌};
-ghost use Rattle.rtr_vrps.specs.MakeWords.{has_timing, ignored_by_words, is_csv};
+ghost use Rattle.std.specs.Prelude.{◌≡◌, ◌&&◌, map, string_bytes};
+ghost use Rattle.rtr_vrps.specs.MakeWords.{broken_by_words, has_timing, ignored_by_words};
+ghost use Rattle.rtr_vrps.specs.MakeWords.{is_misplaced, timing_asked};
 ghost use Rattle.rtr_vrps.specs.MakeWords.{is_one_of, nothing_said};
 ghost use Rattle.rtr_vrps.specs.MakeWords.{number_of, once};
-ghost use Rattle.rtr_vrps.specs.MakeWords.{request_by_words, request_of, said_alone, said_with};
+ghost use Rattle.rtr_vrps.specs.MakeWords.{request_by_words, request_of, said_alone};
+ghost use Rattle.rtr_vrps.specs.MakeWords.{said_by, said_with};
 ghost use Rattle.rtr_vrps.specs.MakeWords.{setting_named, version_of};
 ghost use Rattle.rtr_vrps.specs.Making.{version_number};
 ghost use Rattle.rtr_vrps.specs.PrivateWords.{word_taken};
 
 use rtr_base::state::{Serial, State};
 use rtr_base::timing::Timing;
+use rtr_times::{TimeRule, broken_time_rule};
 
 /// In which format the payloads are given.
 #[derive(Clone, Copy, Debug, PartialEq, Eq)]
@@ -19,17 +22,6 @@ pub enum Format {
     Csv,
     /// JSON.
     Json,
-}
-
-impl Format {
-    fn is_csv(self) -> bool
-        ensures { result ≡ is_csv self }
-    {
-        match self {
-            Format::Csv => true,
-            Format::Json => false,
-        }
-    }
 }
 
 /// A version of the protocol.
@@ -71,7 +63,9 @@ pub struct Request {
     pub leaves_out: bool,
     /// Whether a sequence without payloads is written. Otherwise it is refused.
     pub takes_empty: bool,
-    /// The time at which items have to be good, if expired ones are left out: seconds after the
+    /// Whether CSV is read whose last line has no line end. Otherwise it is refused.
+    pub takes_unended: bool,
+    /// The time at which items have to be good, in the place of the present one: seconds after the
     /// epoch, the first second of 1970.
     pub at: Option<u64>,
 }
@@ -101,17 +95,39 @@ struct Said {
     expire: Option<u32>,
     leaves_out: Option<bool>,
     takes_empty: Option<bool>,
+    takes_unended: Option<bool>,
     at: Option<u64>,
     ignores: bool,
 }
 
 /// What the words after the program's name ask for, if they ask for something: `--csv` or `--json`,
 /// and each of the options at most once, in any order, but for `--ignore`, which goes with `--json`
-/// alone and may come again. Without `--version` it is 2. The session and the serial number are 0
-/// and the timings those of RFC 8210 section 6, if they aren't given. Version 0 has no timings:
-/// none may be given with it.
+/// alone and may come again; `--unended` goes with `--csv` alone. Without `--version` it is 2. The
+/// session is 0, the serial number 1, and the timings are those of RFC 8210 section 6, if they
+/// aren't given. Version 0 has no timings: none may be given with it. Timings have to be in the
+/// ranges of that section, and expire above the others.
 pub fn asked(words: &[String]) -> Option<Request>
     ensures { result ≡ request_by_words words.now }
+{
+    match said_by(words) {
+        Some(said) => said.request(),
+        None => None,
+    }
+}
+
+/// The first rule that the timings break that the words say, if they break one.
+pub fn broken_timing(words: &[String]) -> Option<TimeRule>
+    ensures { result ≡ broken_by_words words.now }
+{
+    match said_by(words) {
+        Some(said) => broken_time_rule(said.timing()),
+        None => None,
+    }
+}
+
+/// What the words say, in any order, if they say something.
+fn said_by(words: &[String]) -> Option<Said>
+    ensures { result ≡ said_by (map string_bytes words.now) nothing_said }
 {
     let mut said = Said::nothing();
     let mut open: Option<Setting> = None;
@@ -120,7 +136,7 @@ pub fn asked(words: &[String]) -> Option<Request>
     }
     match open {
         Some(_) => None,
-        None => said.request(),
+        None => Some(said),
     }
 }
 
@@ -229,6 +245,7 @@ impl Said {
             expire: None,
             leaves_out: None,
             takes_empty: None,
+            takes_unended: None,
             at: None,
             ignores: false,
         }
@@ -258,6 +275,7 @@ impl Said {
             "--json" => said.format = Some(once(self.format, Format::Json)?),
             "--drop" => said.leaves_out = Some(once(self.leaves_out, true)?),
             "--empty" => said.takes_empty = Some(once(self.takes_empty, true)?),
+            "--unended" => said.takes_unended = Some(once(self.takes_unended, true)?),
             _ => return None,
         }
         Some(said)
@@ -288,6 +306,29 @@ impl Said {
         self.refresh.is_some() || self.retry.is_some() || self.expire.is_some()
     }
 
+    /// Whether a word was said that doesn't go with this format: names to ignore stand in JSON, and
+    /// lines in CSV.
+    fn is_misplaced(&self, format: Format) -> bool
+        ensures { result ≡ is_misplaced self.now format }
+    {
+        match format {
+            Format::Csv => self.ignores,
+            Format::Json => self.takes_unended.is_some(),
+        }
+    }
+
+    /// The timings that were said, and for the others the recommended ones.
+    fn timing(&self) -> Timing
+        ensures { result ≡ timing_asked self.now }
+    {
+        let timing = Timing::default();
+        Timing {
+            refresh: self.refresh.unwrap_or(timing.refresh),
+            retry: self.retry.unwrap_or(timing.retry),
+            expire: self.expire.unwrap_or(timing.expire),
+        }
+    }
+
     /// What all words ask for.
     fn request(self) -> Option<Request>
         ensures { result ≡ request_of self }
@@ -296,22 +337,22 @@ impl Said {
         if version.number() == 0 && self.has_timing() {
             return None;
         }
-        let format = self.format?;
-        if self.ignores && format.is_csv() {
+        let timing = self.timing();
+        if broken_time_rule(timing).is_some() {
             return None;
         }
-        let timing = Timing::default();
+        let format = self.format?;
+        if self.is_misplaced(format) {
+            return None;
+        }
         Some(Request {
             format,
             version,
-            state: State::from_parts(self.session.unwrap_or(0), Serial(self.serial.unwrap_or(0))),
-            timing: Timing {
-                refresh: self.refresh.unwrap_or(timing.refresh),
-                retry: self.retry.unwrap_or(timing.retry),
-                expire: self.expire.unwrap_or(timing.expire),
-            },
+            state: State::from_parts(self.session.unwrap_or(0), Serial(self.serial.unwrap_or(1))),
+            timing,
             leaves_out: self.leaves_out.unwrap_or(false),
             takes_empty: self.takes_empty.unwrap_or(false),
+            takes_unended: self.takes_unended.unwrap_or(false),
             at: self.at,
         })
     }

@@ -7,7 +7,9 @@ use Rattle.rtr_base.specs.ReadTexts.{IsAsnText, IsLenText, IsPrefixText}
 use Rattle.rtr_base.specs.declared.addr.MaxLenError.{MaxLenError}
 use Rattle.rtr_base.specs.declared.addr.MaxLenError.TheVariants.{Overflow, Underflow}
 use Rattle.csv.specs.Records.{fields_of}
-use Rattle.rtr_vrps.specs.CsvRows.{IsMaxLengthField, RefusesRow, field, is_uri}
+use Rattle.rtr_vrps.specs.CsvColumns.{field}
+use Rattle.rtr_vrps.specs.CsvRows.{IsMaxLengthField, IsPlain, RefusesRow, is_uri}
+use Rattle.rtr_vrps.specs.declared.csv_columns.Columns.{Columns}
 use Rattle.rtr_vrps.specs.declared.item.Reason.TheVariants.{Asn, UriColumn}
 use Rattle.rtr_vrps.proofs.csv_items.origin.Goals as goal
 
@@ -23,10 +25,11 @@ rule_broken (Some x) p Overflow text is over under = (x, is, over.0 refl)
 rule_broken (Some x) p Underflow text is over under = (x, is, under.0 refl)
 
 -- a text that is no ASN is refused as such, or as the name of a column of URIs
-no_asn : (row : List (List ℕ)) (b : Bool) → ((n : ℕ) → ¬ IsAsnText (field row 0) n) →
-    is_uri (field row 0) ≡ b → RefusesRow row (cond b UriColumn Asn)
-no_asn row true h e = (h, e)
-no_asn row false h e = (h, e)
+no_asn : (columns : Columns) (row : List (List ℕ)) (b : Bool) → IsPlain columns row →
+    ((n : ℕ) → ¬ IsAsnText (field row 0) n) →
+    is_uri (field row 0) ≡ b → RefusesRow columns row (cond b UriColumn Asn)
+no_asn columns row true plain h e = (plain, h, e)
+no_asn columns row false plain h e = (plain, h, e)
 
 pub returns-in-Err : goal.returns-in-Err
 returns-in-Err c =
@@ -35,7 +38,11 @@ returns-in-Err c =
     ∙ ap (λ text. cond (is_uri text) UriColumn Asn) c.field-in-Err.ensures in
     let refused =
     subst (λ text. (n : ℕ) → ¬ IsAsnText text n) c.field.ensures c.in-Err.ensures.value in
-    subst (RefusesRow row) (sym why) (no_asn row _ refused refl)
+    subst (RefusesRow c.args.columns row) (sym why)
+    (no_asn c.args.columns row _ (
+      sym c.has_fields.ensures ∙ c.if-not-has_fields.false,
+      sym c.some_plus.ensures ∙ c.if-some_plus.false,
+    ) refused refl)
 
 pub returns-in-Err-new : goal.returns-in-Err-new
 returns-in-Err-new c =
@@ -45,6 +52,10 @@ returns-in-Err-new c =
     (subst (λ text. IsMaxLengthField text m) c.field-3.ensures c.in-Ok-max_length.ensures)
     c.in-Err-new.ensures.overflow c.in-Err-new.ensures.underflow in (
       (
+        (
+          sym c.has_fields.ensures ∙ c.if-not-has_fields.false,
+          sym c.some_plus.ensures ∙ c.if-some_plus.false,
+        ),
         c.in-Ok.asn,
         subst (λ text. IsAsnText text c.in-Ok.asn) c.field.ensures c.in-Ok.ensures.value,
       ),

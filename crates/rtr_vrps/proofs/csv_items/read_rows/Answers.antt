@@ -20,7 +20,7 @@ loop-count-init c =
       fr.source,
       [],
       takes_none c.args.gathering.now,
-      rw fr.state (no_rows c.args.text.now),
+      rw (fr.state, c.plain_columns-columns.ensures) (no_rows c.args.text.now),
     )
 
 pub returns-in-Err-take_row-clause-refused : goal.returns-in-Err-take_row-clause-refused
@@ -31,16 +31,16 @@ returns-in-Err-take_row-clause-refused c =
     let more = rows-more (λ (s : Bor (List ℕ)). Some s.now) c.loop-count.reader
     c.read_record.new.self row default_config StartRecord (strip_bom c.args.text.now) inv.3
     inv.7.rows inv.2 inv.4 inv.7.reached read in
-    refuses c.args.text.now c.loop-count.count c.loop-count.timed inv.5
+    refuses c.args.text.now c.loop-count.count c.loop-count.columns inv.5
     c.loop-count.reader.state inv.3 inv.7 row c.in-Err-take_row.refusal.reason
-    c.read_record.new.self.state more.0 more.2
-    (c.in-Ok-true.ensures.text inv.0) c.in-Err-take_row.ensures
+    c.columns_from-columns.result c.read_record.new.self.state more.0 more.2
+    (c.in-Ok-true.ensures.text inv.0) c.columns_from-columns.ensures c.in-Err-take_row.ensures
 
 pub returns-in-Ok-false-clause-items : goal.returns-in-Ok-false-clause-items
 returns-in-Ok-false-clause-items c =
     let inv = c.loop-count.invariant in
     let read = rw c.in-Ok-false.field-0-test at (c.in-Ok-false.ensures.reads inv.0 inv.1) in
-    let are = all c.args.text.now c.loop-count.count c.loop-count.timed inv.5
+    let are = all c.args.text.now c.loop-count.count c.loop-count.columns inv.5
     c.loop-count.reader.state inv.3 inv.7 (rows-end (λ (s : Bor (List ℕ)). Some s.now)
     c.loop-count.reader
     c.read_record.new.self (fields_of c.read_record.new.row) default_config inv.3 inv.2 inv.4
@@ -52,7 +52,7 @@ returns-in-Err-clause-refused c =
     let inv = c.loop-count.invariant in
     subst (RefusesRows c.args.text.now) (sym c.refusal.ensures)
     (explained (λ (s : Bor (List ℕ)). Some s.now) c.loop-count.reader c.read_record.new.self
-    c.in-Err.error.kind c.args.text.now c.loop-count.count c.loop-count.timed
+    c.in-Err.error.kind c.args.text.now c.loop-count.count c.loop-count.columns
     inv.5 inv.3 inv.2
     inv.4 inv.7 (c.in-Err.ensures.why inv.0 inv.1))
 
@@ -71,11 +71,11 @@ loop-count-preserved c =
       more.1,
       inv.5 ++ c.in-Ok.ensures.items,
       takes_both inv.5 c.in-Ok.ensures.items _ _ _ inv.6 c.in-Ok.ensures.taken,
-      adds c.args.text.now c.loop-count.count c.loop-count.timed inv.5
+      adds c.args.text.now c.loop-count.count c.loop-count.columns inv.5
           c.loop-count.reader.state inv.3 inv.7 row (inv.5 ++ c.in-Ok.ensures.items)
-          c.timed_after-timed.result
+          c.columns_from-columns.result
           c.read_record.new.self.state more.0 more.2 (c.in-Ok-true.ensures.text inv.0)
-          c.timed_after-timed.ensures
-          (adds_after _ c.timed_after-timed.result row inv.5 c.in-Ok.ensures.items
+          c.columns_from-columns.ensures
+          (adds_after _ c.columns_from-columns.result row inv.5 c.in-Ok.ensures.items
           c.in-Ok.ensures.are),
     )

@@ -11,4 +11,4 @@ invariant-loop-count l =
     (l.reader.trim ≡ trim.None) × Ready l.reader × (l.reader.config ≡ default_config)
     × (y : List ℕ) × (source_of (λ (s : Bor (List ℕ)). Some s.now) l.reader ≡ Some y)
     × (items : List Item) × TakesItems items l.initial.gathering l.gathering
-    × RowsSoFar l.fn.text l.count l.timed items l.reader.state y
+    × RowsSoFar l.fn.text l.count l.columns items l.reader.state y

@@ -9,7 +9,8 @@ pub returns-in-Ok-read_document : goal.returns-in-Ok-read_document
 returns-in-Ok-read_document c =
     let rest = c.in-Ok.rest.now in
     let is : rest ≡ strip_bom c.args.text.now = grind arith in
-    json_read (ignored_by_words c.args.words.now) c.args.text.now rest _ _ _ is
+    let utf8 : IsUtf8 rest = grind arith in
+    json_read (ignored_by_words c.args.words.now) c.args.text.now rest _ _ _ is utf8
     c.in-Ok-new.ensures.ok c.in-Ok-read_document.ensures
 
 pub returns-in-Err : goal.returns-in-Err

@@ -1,5 +1,6 @@
 use Rattle.std.proofs.Common.{[], Err, Ok, refl}
 use Rattle.rtr_vrps.proofs.Takings.{for_after}
+use Rattle.rtr_vrps.proofs.BySlurm.{by_slurm}
 use Rattle.rtr_vrps.proofs.make.make_of_csv.Goals as goal
 
 pub returns-in-Ok : goal.returns-in-Ok
@@ -8,8 +9,10 @@ returns-in-Ok g c =
     let start = c.gathering_for-gathering.ensures in (
       Ok some.items,
       some.are,
-      c.make_of_taken.ensures some.items (some.taken.taken [] start.none)
-          (for_after _ _ _ _ _ start.settings some.taken.settings),
+      by_slurm _ _ _ c.args.asked.now c.args.now some.items
+          _ _ _ _ _ start.filtered some.taken.kept.slurm
+          (c.make_of_asserted.ensures c.args.now _ (some.taken.kept.taken [] start.none)
+          (for_after _ _ _ _ _ start.settings some.taken.kept.settings)),
     )
 
 pub returns-in-Err : goal.returns-in-Err

@@ -1,11 +1,12 @@
-use Rattle.std.proofs.Common.{subst}
-use Rattle.rtr_vrps.specs.PrivateExpiring.{LooksAtTime}
-use Rattle.rtr_vrps.proofs.Takings.{took}
+use Rattle.std.proofs.Common.{sym, ◌∙◌}
+use Rattle.rtr_vrps.proofs.Takings.{takes_removed, took_kept}
 use Rattle.rtr_vrps.proofs.gathering.Gathering.take.Goals as goal
 
-pub returns-in-Ok-true : goal.returns-in-Ok-true
-returns-in-Ok-true c =
-    let old = c.args.self.now in
-    took c.gather.result c.args.item old c.gather.new.self c.look.new.self
-    (subst (λ b. LooksAtTime c.args.item b old.times c.look.new.self) c.in-Ok-true.field-0-test
-    c.in-Ok-true.ensures) c.gather.ensures
+pub returns-then-removes : goal.returns-then-removes
+returns-then-removes c =
+    takes_removed c.args.item c.args.self.now (sym c.removes.ensures ∙ c.if-removes.true)
+
+pub returns : goal.returns
+returns c =
+    took_kept c.keep.result c.args.item c.args.self.now _
+    (sym c.removes.ensures ∙ c.if-removes.false) c.keep.ensures

@@ -1,9 +1,7 @@
 use Rattle.std.proofs.Common.{sym, ap, ◌∙◌}
-use Rattle.std.specs.Option.{option_and_then}
-use Rattle.rtr_vrps.specs.MakeWords.{request_of}
 use Rattle.rtr_vrps.specs.PrivateWords.{word_taken}
 use Rattle.rtr_vrps.proofs.WordsSoFar.{steps, stops}
-use Rattle.rtr_vrps.proofs.words.asked.Goals as goal
+use Rattle.rtr_vrps.proofs.words.said_by.Goals as goal
 
 pub loop-word-preserved : goal.loop-word-preserved
 loop-word-preserved c =
@@ -15,7 +13,7 @@ loop-word-preserved c =
 pub returns-in_err-said : goal.returns-in_err-said
 returns-in_err-said c =
     c.from_residual.ensures
-    ∙ ap (option_and_then request_of) (sym (stops c.args.words.now c.loop-word.word-index
+    ∙ sym (stops c.args.words.now c.loop-word.word-index
     c.word-item.result c.loop-word.open c.loop-word.said _ c.loop-word-test.true c.word-item.is
     (ap (λ text. word_taken c.loop-word.open text c.loop-word.said) (sym c.as_str.ensures.value)
-    ∙ sym c.after.ensures ∙ c.in_err-said.was) c.loop-word.invariant))
+    ∙ sym c.after.ensures ∙ c.in_err-said.was) c.loop-word.invariant)

@@ -1,7 +1,7 @@
 use Rattle.std.proofs.Common.{◌≡◌, drop, map, string_bytes}
 use Rattle.rtr_vrps.specs.MakeWords.{nothing_said, said_by}
 use Rattle.rtr_vrps.proofs.WordsSoFar.{said_from}
-use Rattle.rtr_vrps.proofs.words.asked.Given as goal
+use Rattle.rtr_vrps.proofs.words.said_by.Given as goal
 
 abbrev pub invariant-loop-word : goal.invariant-loop-word
 invariant-loop-word l =

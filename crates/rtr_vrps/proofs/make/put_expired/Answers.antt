@@ -1,4 +1,4 @@
-use Rattle.rtr_vrps.proofs.make.tell_expired.Goals as goal
+use Rattle.rtr_vrps.proofs.make.put_expired.Goals as goal
 
 pub returns-in-Some : goal.returns-in-Some
 returns-in-Some g c = rw c.in-Some.is c.writeln.ensures.bytes
