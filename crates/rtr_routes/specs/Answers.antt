@@ -13,6 +13,7 @@ use Rattle.rtr_validation.specs.declared.mismatch.Mismatch.{Mismatch}
 use Rattle.rtr_validation.specs.declared.mismatch.Mismatch.TheVariants.{AsZero, OtherAs, TooLong}
 use Rattle.rtr_validation.specs.declared.validity.Validity.{Validity}
 use Rattle.rtr_validation.specs.declared.validity.Validity.TheVariants.{NotFound, Valid, Invalid}
+use Rattle.rtr_routes.specs.RouteTexts.{origin_asn}
 use Rattle.rtr_routes.specs.declared.form.Form.{Form}
 use Rattle.rtr_routes.specs.declared.form.Form.TheVariants.{Text, Json}
 
@@ -99,30 +100,44 @@ HasReasons Valid d p asn text = text ≡ []
 HasReasons Invalid d p asn text =
     (cs : List Cover) × AreCovers d p asn cs × (text ≡ listed Text cs)
 
+-- AS65551, or AS_SET where there is no origin AS
+abbrev pub route_origin_words : Option ℕ → List ℕ
+route_origin_words (Some asn) = codes "AS" ++ decimal asn
+route_origin_words None = codes "AS_SET"
+
+-- the same as a value of JSON
+abbrev pub route_origin_value : Option ℕ → List ℕ
+route_origin_value (Some asn) = decimal asn
+route_origin_value None = codes "null"
+
+abbrev pub route_origin_text : Form → Option ℕ → List ℕ
+route_origin_text Text o = route_origin_words o
+route_origin_text Json o = route_origin_value o
+
 -- 192.0.2.0/24 AS65551 valid
-abbrev pub answer_line : PrefixParts → (asn : ℕ) → Validity → (reasons : List ℕ) → List ℕ
-answer_line p asn state reasons =
-    prefix_text p ++ codes " AS" ++ decimal asn ++ codes " " ++ state_words state ++ reasons
+abbrev pub answer_line : PrefixParts → (origin : Option ℕ) → Validity → (reasons : List ℕ) → List ℕ
+answer_line p o state reasons =
+    prefix_text p ++ codes " " ++ route_origin_words o ++ codes " " ++ state_words state ++ reasons
     ++ codes "\n"
 
 -- {"prefix":"192.0.2.0/24","asn":65551,"state":"valid","vrps":[..]}
-abbrev pub answer_object : PrefixParts → (asn : ℕ) → Validity → List Cover → List ℕ
-answer_object p asn state cs =
-    codes "{\"prefix\":\"" ++ prefix_text p ++ codes "\",\"asn\":" ++ decimal asn
+abbrev pub answer_object : PrefixParts → (origin : Option ℕ) → Validity → List Cover → List ℕ
+answer_object p o state cs =
+    codes "{\"prefix\":\"" ++ prefix_text p ++ codes "\",\"asn\":" ++ route_origin_value o
     ++ codes ",\"state\":\"" ++ state_words state ++ codes "\",\"vrps\":[" ++ listed Json cs
     ++ codes "]}\n"
 
 -- the text says of a route that it has this validity, with the VRPs that cover it
-abbrev pub SaysState : Form → List Payload → PrefixParts → (asn : ℕ) → Validity →
+abbrev pub SaysState : Form → List Payload → PrefixParts → (origin : Option ℕ) → Validity →
     (text : List ℕ) → Type 0
-SaysState Text d p asn state text = (reasons : List ℕ) × HasReasons state d p asn reasons
-    × (text ≡ answer_line p asn state reasons)
-SaysState Json d p asn state text = (cs : List Cover) × AreCovers d p asn cs
-    × (text ≡ answer_object p asn state cs)
+SaysState Text d p o state text = (reasons : List ℕ) × HasReasons state d p (origin_asn o) reasons
+    × (text ≡ answer_line p o state reasons)
+SaysState Json d p o state text = (cs : List Cover) × AreCovers d p (origin_asn o) cs
+    × (text ≡ answer_object p o state cs)
 
 -- the text is the answer on a route of this prefix and this AS, by the origins among the payloads
-pub record IsRouteAnswer (form : Form) (d : List Payload) (p : PrefixParts) (asn : ℕ)
+pub record IsRouteAnswer (form : Form) (d : List Payload) (p : PrefixParts) (origin : Option ℕ)
     (text : List ℕ) : Type 0 where
   pub state : Validity
-  pub valid : IsValidity d p asn state
-  pub words : SaysState form d p asn state text
+  pub valid : IsValidity d p (origin_asn origin) state
+  pub words : SaysState form d p origin state text

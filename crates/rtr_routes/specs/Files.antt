@@ -1,12 +1,19 @@
 -- Which VRPs are read of a file: this program's own.
-use Rattle.std.specs.Prelude.{◌≡◌, ⊤, ℕ, List, [], ◌∷◌, false, Some, Result, Ok, Err, nat_lt}
+use Rattle.std.specs.Prelude.{◌≡◌, ⊤, ℕ, List, [], ◌∷◌, false, Some, None, Result, Ok, Err, nat_lt}
+use Rattle.std.specs.Prelude.{Bool, MatchResult, Option, length, get_or, map, ◌++◌, ◌⊎◌}
 use Rattle.std.specs.Prelude.{◌==◌, ◌||◌, if◌then◌else◌}
 use Rattle.csv.specs.Reading.{strip_bom}
 use Rattle.rtr_units.specs.StopCauses.{ReaderState}
 use Rattle.rtr_recordings.specs.RecordingRead.{ReadsRecording}
 use Rattle.rtr_recordings.specs.declared.recording.Recording.{Recording}
-use Rattle.rtr_vrps.specs.Gathering.{GathersAll, NamesFirst}
+use Rattle.rtr_recordings.specs.declared.stop.Stop.{Stop}
+use Rattle.rtr_slurm.specs.Entries.{assertions_of}
+use Rattle.rtr_slurm.specs.declared.entry.Entry.{Entry}
+use Rattle.rtr_vrps.specs.Expiries.{LeavesAsked}
+use Rattle.rtr_vrps.specs.Gathering.{GathersAll, NamesFirst, item_payload}
 use Rattle.rtr_vrps.specs.MakeStatus.{ReadsItems}
+use Rattle.rtr_vrps.specs.Taking.{AreAsserted, kept_items}
+use Rattle.rtr_vrps.specs.declared.expiring.Expired.{Expired}
 use Rattle.rtr_vrps.specs.declared.item.Item.{Item}
 use Rattle.rtr_vrps.specs.declared.item.Refusal.{Refusal}
 use Rattle.rtr_vrps.specs.declared.words.Format.{Format}
@@ -19,18 +26,71 @@ use Rattle.rtr_routes.specs.declared.file.Loaded.{Loaded}
 
 -- ---- what a file is
 
--- `{` or `[` begins JSON, and what is below 9 units
-abbrev pub kind_by_first : ℕ → Kind
-kind_by_first byte =
-    if nat_lt byte 9 then Units else if (byte == 123) || (byte == 91) then Json else Csv
+-- a byte below 9, which begins a unit, or nothing
+abbrev pub is_unit : List ℕ → Bool
+is_unit text = (length text == 0) || nat_lt (get_or text 0 0) 9
+
+-- a space, a tab, LF or CR (RFC 8259 section 2)
+abbrev pub is_white : ℕ → Bool
+is_white byte = (byte == 32) || ((byte == 9) || ((byte == 10) || (byte == 13)))
+
+-- after white space `{` or `[` begins JSON
+unfoldable pub opens_json : List ℕ → Bool
+opens_json [] = false
+opens_json (byte ∷ rest) =
+    if is_white byte then opens_json rest else (byte == 123) || (byte == 91)
 
 abbrev pub kind_without_mark : List ℕ → Kind
-kind_without_mark [] = Units
-kind_without_mark (byte ∷ rest) = kind_by_first byte
+kind_without_mark text =
+    if is_unit text then Units else if opens_json text then Json else Csv
 
 -- a mark of the byte order doesn't count
 abbrev pub file_kind : List ℕ → Kind
 file_kind text = kind_without_mark (strip_bom text)
+
+-- ---- what validators print
+
+-- the payloads of the items, each once, or why they were refused; what had expired is said, and
+-- whether an answer of a recording was left out
+abbrev pub GathersRead : (has_cut : Bool) → Option Expired → Result (List Item) Refusal →
+    Result Loaded LoadError → Type 0
+GathersRead cut e (Ok items) (Ok l) = (n : ℕ) × GathersAll 2 false items l.vrps n
+    × (l.has_cut ≡ cut) × (l.expired ≡ e)
+GathersRead cut e (Ok items) (Err (errors.Items r)) = NamesFirst 2 false items r r.reason
+GathersRead cut e (Ok items) (Err errors.Memory) = ⊤
+GathersRead cut e (Ok items) (Err (errors.Units stop)) = ⊥
+GathersRead cut e (Err why) (Ok l) = ⊥
+GathersRead cut e (Err why) (Err (errors.Items r)) = r ≡ why
+GathersRead cut e (Err why) (Err errors.Memory) = ⊥
+GathersRead cut e (Err why) (Err (errors.Units stop)) = ⊥
+
+-- those of the items that are left are loaded, unless the expiry of one is refused
+abbrev pub LoadsLeft : (has_cut : Bool) → List Item → Result (Option Expired) Refusal →
+    Result Loaded LoadError → Type 0
+LoadsLeft cut left (Ok e) r = GathersRead cut e (Ok left) r
+LoadsLeft cut left (Err why) r = GathersRead cut None (Err why) r
+
+-- of the items those are left that have not expired, where a time is asked for
+abbrev pub LoadsAt : (has_cut : Bool) → Option ℕ → List Item → Result Loaded LoadError → Type 0
+LoadsAt cut at items r = (left : List Item) × (e : Result (Option Expired) Refusal)
+    × LeavesAsked at items left e × LoadsLeft cut left e r
+
+-- of the items those that the filters of SLURM files leave, and then the payloads that the files
+-- assert (RFC 8416 section 4.1); or memory ran out
+abbrev pub LoadsSlurm : (has_cut : Bool) → Option ℕ → List Entry → List Item →
+    Result Loaded LoadError → Type 0
+LoadsSlurm cut at es items r = ((more : List Item) × AreAsserted (assertions_of es) more
+    × LoadsAt cut at (kept_items es items ++ more) r) ⊎ (r ≡ Err errors.Memory)
+
+abbrev pub LoadsRead : Option ℕ → List Entry → Result (List Item) Refusal →
+    Result Loaded LoadError → Type 0
+LoadsRead at es (Ok items) r = LoadsSlurm false at es items r
+LoadsRead at es (Err why) r = GathersRead false None (Err why) r
+
+-- the items that `rtr_make` reads of a text in this format, at a time, if one is asked for
+abbrev pub LoadsItems : Format → Option ℕ → List Entry → List ℕ → Result Loaded LoadError → Type 0
+LoadsItems format at es text r = (read : Result (List Item) Refusal)
+    × ReadsItems format false [] text read × LoadsRead at es read r
 
 -- ---- units
 
@@ -38,45 +98,42 @@ file_kind text = kind_without_mark (strip_bom text)
 abbrev pub whole_text : List ℕ → ReaderState
 whole_text text = record { left = Some text; failed = 0 }
 
--- the payloads that the recording leaves
-pub record LoadsRecording (text : List ℕ) (l : Loaded) : Type 0 where
-  pub left : ReaderState
-  pub recording : Recording
-  pub reads : ReadsRecording (Ok recording) (whole_text text) left
+-- the payloads that a recording leaves
+pub record LoadsRecording (recording : Recording) (l : Loaded) : Type 0 where
   pub payloads : l.vrps ≡ recording.payloads
   pub has_cut : l.has_cut ≡ recording.has_cut
+  pub lasting : l.expired ≡ None
 
-abbrev pub LoadsUnits : List ℕ → Result Loaded LoadError → Type 0
-LoadsUnits text (Ok l) = LoadsRecording text l
-LoadsUnits text (Err (errors.Units stop)) =
-    (left : ReaderState) × ReadsRecording (Err stop) (whole_text text) left
-LoadsUnits text (Err errors.Memory) = ⊤
-LoadsUnits text (Err (errors.Items r)) = ⊥
+abbrev pub LoadsWhole : Recording → Result Loaded LoadError → Type 0
+LoadsWhole recording (Ok l) = LoadsRecording recording l
+LoadsWhole recording (Err errors.Memory) = ⊤
+LoadsWhole recording (Err (errors.Units stop)) = ⊥
+LoadsWhole recording (Err (errors.Items r)) = ⊥
 
--- ---- what validators print
+-- of these payloads, as items that don't expire, those that the entries of SLURM files leave, and
+-- then what these assert
+abbrev pub LoadsKept : List Entry → Recording → Result Loaded LoadError → Type 0
+LoadsKept es recording r = (items : List Item) × (map item_payload items ≡ recording.payloads)
+    × LoadsSlurm recording.has_cut None es items r
 
--- the payloads of the items, each once, or why they were refused
-abbrev pub GathersRead : Result (List Item) Refusal → Result Loaded LoadError → Type 0
-GathersRead (Ok items) (Ok l) = (n : ℕ) × GathersAll 2 false items l.vrps n × (l.has_cut ≡ false)
-GathersRead (Ok items) (Err (errors.Items r)) = NamesFirst 2 false items r r.reason
-GathersRead (Ok items) (Err errors.Memory) = ⊤
-GathersRead (Ok items) (Err (errors.Units stop)) = ⊥
-GathersRead (Err why) (Ok l) = ⊥
-GathersRead (Err why) (Err (errors.Items r)) = r ≡ why
-GathersRead (Err why) (Err errors.Memory) = ⊥
-GathersRead (Err why) (Err (errors.Units stop)) = ⊥
+abbrev pub LoadsOf : List Entry → Recording → Result Loaded LoadError → Type 0
+LoadsOf [] recording r = LoadsWhole recording r
+LoadsOf (e ∷ es) recording r = LoadsKept (e ∷ es) recording r ⊎ (r ≡ Err errors.Memory)
 
--- the items that `rtr_make` reads of a text in this format are gathered
-abbrev pub LoadsItems : Format → List ℕ → Result Loaded LoadError → Type 0
-LoadsItems format text r = (read : Result (List Item) Refusal)
-    × ReadsItems format [] text read × GathersRead read r
+-- those of the recording that the bytes are, or why they are none
+abbrev pub LoadsUnits : List Entry → List ℕ → Result Loaded LoadError → Type 0
+LoadsUnits es text r = (left : ReaderState) × (read : Result Recording Stop)
+    × ReadsRecording read (whole_text text) left
+    × MatchResult read (λ recording. LoadsOf es recording r)
+    (λ stop. r ≡ Err (errors.Units stop))
 
 -- ---- a file
 
-abbrev pub LoadsKind : Kind → List ℕ → Result Loaded LoadError → Type 0
-LoadsKind Units text r = LoadsUnits text r
-LoadsKind Csv text r = LoadsItems formats.Csv text r
-LoadsKind Json text r = LoadsItems formats.Json text r
+abbrev pub LoadsKind : Kind → Option ℕ → List Entry → List ℕ → Result Loaded LoadError → Type 0
+LoadsKind Units at es text r = LoadsUnits es text r
+LoadsKind Csv at es text r = LoadsItems formats.Csv at es text r
+LoadsKind Json at es text r = LoadsItems formats.Json at es text r
 
-abbrev pub LoadsText : List ℕ → Result Loaded LoadError → Type 0
-LoadsText text r = LoadsKind (file_kind text) text r
+-- at a time, with the entries of SLURM files
+abbrev pub LoadsText : Option ℕ → List Entry → List ℕ → Result Loaded LoadError → Type 0
+LoadsText at es text r = LoadsKind (file_kind text) at es text r

@@ -1,18 +1,19 @@
 -- What the calls for one line leave. Only contracts of private functions cite these.
-use Rattle.std.specs.Prelude.{◌≡◌, ℕ, List, [], ◌∷◌, ◌++◌}
+use Rattle.std.specs.Prelude.{◌≡◌, ℕ, Bool, true, List, [], ◌∷◌, ◌++◌, length}
 use Rattle.std.specs.Prelude.{Option, Some, None, Result, Ok, Err}
-use Rattle.std.specs.Io.KnownBytes.{Consumes, IsAtEnd}
+use Rattle.std.specs.Io.KnownBytes.{Appends, Consumes, IsAtEnd}
 use Rattle.rtr_units.specs.StopCauses.{ReaderState, WriterState, Cause, by_reader}
 use Rattle.rtr_units.specs.StopCauses.{no_memory, by_cause, cause_of, reader_count, writer_count}
 use Rattle.rtr_units.specs.declared.fault.Fault.{Fault}
-use Rattle.rtr_payload.specs.Payloads.{Payload}
-use Rattle.rtr_routes.specs.LinesAnswered.{IsLine, IsLineAnswer, WritesAnswerText}
-use Rattle.rtr_routes.specs.RouteTexts.{RefusesLine}
-use Rattle.rtr_routes.specs.declared.form.Form.{Form}
+use Rattle.rtr_routes.specs.LinesAnswered.{IsLine, IsLineAnswer, IsLineDone, WritesAnswerText}
+use Rattle.rtr_routes.specs.RefusedLines.{AreTold, RefusedLine}
+use Rattle.rtr_routes.specs.TableTexts.{RefusesTable}
+use Rattle.rtr_routes.specs.declared.form.Formats.{Formats}
 use Rattle.rtr_routes.specs.declared.lines.Ending.{Ending}
 use Rattle.rtr_routes.specs.declared.lines.Ending.TheVariants.{Feed, Input}
 use Rattle.rtr_routes.specs.declared.lines.Stop.{Stop}
 use Rattle.rtr_routes.specs.declared.lines.Stop.TheVariants as stops
+use Rattle.rtr_routes.specs.declared.lists.Lists.{Lists}
 
 -- ---- reading
 
@@ -44,13 +45,28 @@ TakesLine r line old new = TakesLineBytes (by_cause r) line old.left new.left
 -- ---- answering
 
 -- the answer on the line of this number, or why it has none
-abbrev pub AnswersLine : Form → List Payload → (number : ℕ) → (line : List ℕ) →
+abbrev pub AnswersLine : Formats → Lists → (number : ℕ) → (line : List ℕ) →
     Result (Unit {0}) Stop → WriterState → WriterState → Type 0
-AnswersLine form d number line (Ok x) before after =
-    WritesAnswerText (IsLineAnswer form d line) (Ok x) before.held after.held
+AnswersLine f d number line (Ok x) before after =
+    WritesAnswerText (IsLineAnswer f d line) (Ok x) before.held after.held
     × (after.failed ≡ before.failed)
-AnswersLine form d number line (Err (stops.Line told error)) before after =
-    (told ≡ number) × RefusesLine line error × (after ≡ before)
-AnswersLine form d number line (Err (stops.Fault f)) before after =
-    WritesAnswerText (IsLineAnswer form d line) (Err (cause_of f)) before.held after.held
-    × (after.failed ≡ writer_count {T = ℕ} (Err (cause_of f)) before.failed)
+AnswersLine f d number line (Err (stops.Line told error)) before after =
+    (told ≡ number) × RefusesTable f.table line error × (after ≡ before)
+AnswersLine f d number line (Err (stops.Fault e)) before after =
+    WritesAnswerText (IsLineAnswer f d line) (Err (cause_of e)) before.held after.held
+    × (after.failed ≡ writer_count {T = ℕ} (Err (cause_of e)) before.failed)
+
+-- the same of a line that is passed over if it isn't a route, unless the run is strict; so many
+-- lines were told, none or one
+abbrev pub PassesLine : {T : Type 0} → (Hears : T → RefusedLine → T → Type 0) → (strict : Bool) →
+    Formats → Lists → (number : ℕ) → (line : List ℕ) → Result ℕ Stop →
+    WriterState → WriterState → (old new : T) → Type 0
+PassesLine Hears strict f d number line (Ok n) before after old new =
+    (text : List ℕ) × (told : List RefusedLine) × IsLineDone strict f d number line text told
+    × Appends before.held after.held text × (after.failed ≡ before.failed)
+    × AreTold Hears told old new × (n ≡ length told)
+PassesLine Hears strict f d number line (Err (stops.Line told error)) before after old new =
+    (strict ≡ true) × AnswersLine f d number line (Err (stops.Line told error)) before after
+    × (new ≡ old)
+PassesLine Hears strict f d number line (Err (stops.Fault e)) before after old new =
+    AnswersLine f d number line (Err (stops.Fault e)) before after × (new ≡ old)

@@ -5,13 +5,16 @@ ghost use Rattle.rtr_base.specs.Addresses.{resolved_len};
 ghost use Rattle.rtr_base.specs.PlainTexts.{prefix_text};
 ghost use Rattle.rtr_validation.specs.Covering.{vrp};
 ghost use Rattle.rtr_routes.specs.Answers.{cover_text, mismatch_value, mismatch_words};
-ghost use Rattle.rtr_routes.specs.Answers.{opening, separator, state_words, vrp_prefix};
+ghost use Rattle.rtr_routes.specs.Answers.{opening, route_origin_text, separator, state_words};
+ghost use Rattle.rtr_routes.specs.Answers.{vrp_prefix};
 ghost use Rattle.rtr_routes.specs.PrivateAnswers.{AddsAnswer, AddsCovers, AddsReasons};
 ghost use Rattle.rtr_routes.specs.declared.form.Form.TheVariants.{Text, Json};
 
 use crate::form::Form;
+use crate::route_text::TableRoute;
 use crate::vrps::Vrps;
 use rtr_base::addr::Prefix;
+use rtr_base::asn::Asn;
 use rtr_listing::Line;
 use rtr_payload::payload::RouteOrigin;
 use rtr_validation::{Mismatch, Route, Validity};
@@ -20,8 +23,13 @@ use std::alloc::AllocError;
 /// Adds the answer on a route, with a line feed: the route, its validity (RFC 6811 section 2), and
 /// the VRPs that cover it, in the order of payloads, each with why it doesn't match the route. A
 /// line for people has these of an invalid route alone.
-pub fn add_answer(line: &mut Line, form: Form, vrps: &Vrps, route: &Route) -> Result<(), AllocError>
-    ensures { OnOk result (AddsAnswer form vrps.now route.now.prefix route.now.asn
+pub fn add_answer(
+    line: &mut Line,
+    form: Form,
+    vrps: &Vrps,
+    route: &TableRoute,
+) -> Result<(), AllocError>
+    ensures { OnOk result (AddsAnswer form vrps.now route.now.prefix route.now.origin
         line.old line.new) }
 {
     match form {
@@ -31,26 +39,23 @@ pub fn add_answer(line: &mut Line, form: Form, vrps: &Vrps, route: &Route) -> Re
 }
 
 /// Adds the line for people.
-fn add_line(line: &mut Line, vrps: &Vrps, route: &Route) -> Result<(), AllocError>
-    ensures { OnOk result (AddsAnswer Text vrps.now route.now.prefix route.now.asn
+fn add_line(line: &mut Line, vrps: &Vrps, route: &TableRoute) -> Result<(), AllocError>
+    ensures { OnOk result (AddsAnswer Text vrps.now route.now.prefix route.now.origin
         line.old line.new) }
 {
-    let state = vrps.validity(route);
-    add_prefix(
-        line,
-        "",
-        route.prefix,
-        " AS",
-        u64::from(route.asn.into_u32()),
-    )?;
+    let asked = route.to_route();
+    let state = vrps.validity(&asked);
+    add_after(line, "", route.prefix)?;
+    line.text(" ")?;
+    add_origin(line, Form::Text, route.origin)?;
     line.text(" ")?;
     line.text(state_words(state))?;
-    add_reasons(line, vrps, route, state)?;
+    add_reasons(line, vrps, &asked, state)?;
     line.text("\n")
 }
 
 /// Adds the VRPs that cover an invalid route.
-fn add_reasons(
+pub(crate) fn add_reasons(
     line: &mut Line,
     vrps: &Vrps,
     route: &Route,
@@ -66,22 +71,36 @@ fn add_reasons(
 }
 
 /// Adds the JSON object.
-fn add_object(line: &mut Line, vrps: &Vrps, route: &Route) -> Result<(), AllocError>
-    ensures { OnOk result (AddsAnswer Json vrps.now route.now.prefix route.now.asn
+fn add_object(line: &mut Line, vrps: &Vrps, route: &TableRoute) -> Result<(), AllocError>
+    ensures { OnOk result (AddsAnswer Json vrps.now route.now.prefix route.now.origin
         line.old line.new) }
 {
-    let state = vrps.validity(route);
-    let asn = u64::from(route.asn.into_u32());
-    add_prefix(line, "{\"prefix\":\"", route.prefix, "\",\"asn\":", asn)?;
+    let asked = route.to_route();
+    let state = vrps.validity(&asked);
+    add_after(line, "{\"prefix\":\"", route.prefix)?;
+    line.text("\",\"asn\":")?;
+    add_origin(line, Form::Json, route.origin)?;
     line.text(",\"state\":\"")?;
     line.text(state_words(state))?;
     line.text("\",\"vrps\":[")?;
-    add_covers(line, Form::Json, vrps, route)?;
+    add_covers(line, Form::Json, vrps, &asked)?;
     line.text("]}\n")
 }
 
+/// Adds the origin AS of a route, or that it has none.
+pub(crate) fn add_origin(line: &mut Line, form: Form, origin: Option<Asn>) -> Result<(), AllocError>
+    ensures { OnOk result (line.new ≡ line.old ++ route_origin_text form origin) }
+{
+    match (form, origin) {
+        (Form::Text, Some(asn)) => line.labelled("AS", u64::from(asn.into_u32())),
+        (Form::Text, None) => line.text("AS_SET"),
+        (Form::Json, Some(asn)) => line.labelled("", u64::from(asn.into_u32())),
+        (Form::Json, None) => line.text("null"),
+    }
+}
+
 /// The word for a validity.
-fn state_words(state: Validity) -> &'static str
+pub(crate) fn state_words(state: Validity) -> &'static str
     ensures { result.now ≡ state_words state }
 {
     match state {
@@ -89,6 +108,14 @@ fn state_words(state: Validity) -> &'static str
         Validity::Valid => "valid",
         Validity::Invalid => "invalid",
     }
+}
+
+/// Adds a text, and a prefix after it.
+fn add_after(line: &mut Line, before: &str, prefix: Prefix) -> Result<(), AllocError>
+    ensures { OnOk result (line.new ≡ line.old ++ (before.now ++ prefix_text prefix)) }
+{
+    line.text(before)?;
+    line.show(prefix)
 }
 
 /// Adds a text, a prefix after it, another text, and a number after that.
@@ -108,7 +135,12 @@ fn add_prefix(
 }
 
 /// Adds the VRPs that cover the route, each with why it doesn't match.
-fn add_covers(line: &mut Line, form: Form, vrps: &Vrps, route: &Route) -> Result<(), AllocError>
+pub(crate) fn add_covers(
+    line: &mut Line,
+    form: Form,
+    vrps: &Vrps,
+    route: &Route,
+) -> Result<(), AllocError>
     ensures { OnOk result (AddsCovers form vrps.now route.now.prefix route.now.asn
         line.old line.new) }
 {

@@ -1,19 +1,22 @@
 //! The VRPs of a file.
 
-ghost use Rattle.std.specs.Prelude.{◌≡◌, None, [], false};
+ghost use Rattle.std.specs.Prelude.{◌≡◌, ◌==◌, ◌||◌, [], false};
 ghost use Rattle.csv.specs.Reading.{strip_bom};
 ghost use Rattle.rtr_vrps.specs.PrivateCsv.{has_mark};
-ghost use Rattle.rtr_vrps.specs.Taking.{HasTaken, IsFor};
+ghost use Rattle.rtr_vrps.specs.Taking.{HasTaken, IsFor, entries_asked};
 ghost use Rattle.rtr_vrps.specs.declared.words.Format.TheVariants as formats;
-ghost use Rattle.rtr_routes.specs.Files.{LoadsItems, LoadsText, LoadsUnits, file_kind};
-ghost use Rattle.rtr_routes.specs.Files.{kind_by_first};
-ghost use Rattle.rtr_routes.specs.PrivateFiles.{LoadsGathered, LoadsTaken};
+ghost use Rattle.rtr_routes.specs.Files.{LoadsItems, LoadsText, LoadsUnits, LoadsWhole};
+ghost use Rattle.rtr_routes.specs.Files.{file_kind, is_unit, is_white, opens_json};
+ghost use Rattle.rtr_routes.specs.PrivateFiles.{LoadsAsserted, LoadsGathered, LoadsKeptOf};
+ghost use Rattle.rtr_routes.specs.PrivateFiles.{LoadsTaken};
 
+use crate::recorded::take_payloads;
 use crate::vrps::Vrps;
 use json::Scratch;
-use rtr_recordings::{Stop, read_recording};
+use rtr_recordings::{Recording, Stop, read_recording};
+use rtr_slurm::Slurm;
 use rtr_units::source::SliceSource;
-use rtr_vrps::{Gathered, Gathering, Refusal, read_csv, read_json};
+use rtr_vrps::{Expired, Gathered, Gathering, Refusal, read_csv, read_json};
 use std::alloc::Global;
 
 /// The version of the protocol that has all payloads.
@@ -49,74 +52,136 @@ pub struct Loaded {
     /// Whether an answer of a recording was left out, since the next one began before its end of
     /// data.
     pub has_cut: bool,
+    /// What had expired of the items of a list, if a time is asked for.
+    pub expired: Option<Expired>,
 }
 
 /// What a file of these bytes is. A mark of the byte order at its front doesn't count. JSON begins
-/// with `{` or `[`, and no text with a byte below 9, as the version of a unit is.
+/// with `{` or `[`, which white space may come before (RFC 8259 section 2), and no text with a byte
+/// below 9, as the version of a unit is.
 pub fn file_kind(text: &[u8]) -> Kind
     ensures { result ≡ file_kind text.now }
 {
-    match without_mark(text) {
-        [] => Kind::Units,
-        [byte, ..] => kind_by_first(*byte),
-    }
-}
-
-/// What a file is by its first byte.
-fn kind_by_first(byte: u8) -> Kind
-    ensures { result ≡ kind_by_first byte }
-{
-    if byte < b'\t' {
+    let text = without_mark(text);
+    if is_unit(text) {
         Kind::Units
-    } else if byte == b'{' || byte == b'[' {
+    } else if opens_json(text) {
         Kind::Json
     } else {
         Kind::Csv
     }
 }
 
+/// Whether no text begins so.
+fn is_unit(text: &[u8]) -> bool
+    ensures { result ≡ is_unit text.now }
+{
+    text.is_empty() || text[0] < b'\t'
+}
+
+/// Whether the first byte that is no white space begins an object or an array of JSON.
+fn opens_json(text: &[u8]) -> bool
+    ensures { result ≡ opens_json text.now }
+{
+    for byte in text {
+        if !is_white(*byte) {
+            return opens(*byte);
+        }
+    }
+    false
+}
+
+/// Whether the byte begins an object or an array of JSON.
+fn opens(byte: u8) -> bool
+    ensures { result ≡ ((byte == 123) || (byte == 91)) }
+{
+    byte == b'{' || byte == b'['
+}
+
+/// Whether the byte is white space in JSON.
+fn is_white(byte: u8) -> bool
+    ensures { result ≡ is_white byte }
+{
+    byte == b' ' || byte == b'\t' || byte == b'\n' || byte == b'\r'
+}
+
 /// Reads the VRPs of a file of these bytes: of units by `read_recording`, of CSV and JSON by
-/// `read_csv`, `read_json` and `Gathering` of `rtr_vrps`, as `rtr_make` reads them. `scratch` is
-/// memory for JSON.
+/// `read_csv`, `read_json` and `Gathering` of `rtr_vrps`, as `rtr_make` reads them at a time, if
+/// one is asked for: without what has expired by then. Of both, the filters of SLURM files remove
+/// payloads, and then their assertions are added (RFC 8416 section 4.1). `scratch` is memory for
+/// JSON.
 pub fn load<'a>(
     alloc: Global,
+    at: Option<u64>,
+    slurm: &'a Slurm,
     text: &'a [u8],
     scratch: &'a mut Scratch,
 ) -> Result<Loaded, LoadError<'a>>
-    ensures { LoadsText text.now result }
+    ensures { LoadsText at slurm.now.entries.items text.now result }
 {
     match file_kind(text) {
-        Kind::Units => load_units(alloc, text),
-        Kind::Csv => load_csv(alloc, text),
-        Kind::Json => load_json(alloc, text, scratch),
+        Kind::Units => load_units(alloc, slurm, text),
+        Kind::Csv => load_csv(alloc, at, slurm, text),
+        Kind::Json => load_json(alloc, at, slurm, text, scratch),
     }
 }
 
 /// Reads those of a recording.
-fn load_units<'a>(alloc: Global, text: &'a [u8]) -> Result<Loaded, LoadError<'a>>
-    ensures { LoadsUnits text.now result }
+fn load_units<'a>(alloc: Global, slurm: &'a Slurm, text: &'a [u8]) -> Result<Loaded, LoadError<'a>>
+    ensures { LoadsUnits slurm.now.entries.items text.now result }
 {
     let mut source = SliceSource::new(text);
     let recording = match read_recording(alloc, &mut source) {
         Ok(recording) => recording,
         Err(stop) => return Err(LoadError::Units(stop)),
     };
+    if slurm.entries.is_empty() {
+        return load_whole(alloc, recording);
+    }
+    load_kept(alloc, slurm, recording)
+}
+
+/// Loads the payloads of a recording.
+fn load_whole<'a>(alloc: Global, recording: Recording) -> Result<Loaded, LoadError<'a>>
+    ensures { LoadsWhole recording result }
+{
     match Vrps::new(alloc, recording.payloads) {
         Ok(vrps) => Ok(Loaded {
             vrps,
             has_cut: recording.has_cut,
+            expired: None,
         }),
         Err(_) => Err(LoadError::Memory),
     }
 }
 
-/// Reads those of comma-separated values.
-fn load_csv<'a>(alloc: Global, text: &'a [u8]) -> Result<Loaded, LoadError<'a>>
-    ensures { LoadsItems formats.Csv text.now result }
+/// Loads those that SLURM files leave, and those that they assert.
+fn load_kept<'a>(
+    alloc: Global,
+    slurm: &'a Slurm,
+    recording: Recording,
+) -> Result<Loaded, LoadError<'a>>
+    ensures { LoadsKeptOf slurm.now.entries.items recording result }
 {
-    let mut gathering = gathering_of_all(alloc);
-    match read_csv(alloc, text, &mut gathering) {
-        Ok(()) => load_taken(alloc, gathering),
+    let mut gathering = gathering_at(alloc, None, slurm);
+    match take_payloads(&recording.payloads, &mut gathering) {
+        Ok(()) => load_asserted(alloc, recording.has_cut, gathering),
+        Err(_) => Err(LoadError::Memory),
+    }
+}
+
+/// Reads those of comma-separated values.
+fn load_csv<'a>(
+    alloc: Global,
+    at: Option<u64>,
+    slurm: &'a Slurm,
+    text: &'a [u8],
+) -> Result<Loaded, LoadError<'a>>
+    ensures { LoadsItems formats.Csv at slurm.now.entries.items text.now result }
+{
+    let mut gathering = gathering_at(alloc, at, slurm);
+    match read_csv(alloc, text, false, &mut gathering) {
+        Ok(()) => load_asserted(alloc, false, gathering),
         Err(refusal) => Err(LoadError::Items(refusal)),
     }
 }
@@ -124,42 +189,68 @@ fn load_csv<'a>(alloc: Global, text: &'a [u8]) -> Result<Loaded, LoadError<'a>>
 /// Reads those of JSON.
 fn load_json<'a>(
     alloc: Global,
+    at: Option<u64>,
+    slurm: &'a Slurm,
     text: &'a [u8],
     scratch: &'a mut Scratch,
 ) -> Result<Loaded, LoadError<'a>>
-    ensures { LoadsItems formats.Json text.now result }
+    ensures { LoadsItems formats.Json at slurm.now.entries.items text.now result }
 {
-    let mut gathering = gathering_of_all(alloc);
+    let mut gathering = gathering_at(alloc, at, slurm);
     match read_json(alloc, text, &[], scratch, &mut gathering) {
-        Ok(()) => load_taken(alloc, gathering),
+        Ok(()) => load_asserted(alloc, false, gathering),
         Err(refusal) => Err(LoadError::Items(refusal)),
     }
 }
 
-/// Gathers all payloads of items, whenever they expire.
-fn gathering_of_all<'a>(alloc: Global) -> Gathering<'a>
-    ensures settings { IsFor 2 false None result }
+/// Gathers all payloads of items that SLURM files leave, or of them those that haven't expired at a
+/// time.
+fn gathering_at<'a>(alloc: Global, at: Option<u64>, slurm: &'a Slurm) -> Gathering<'a>
+    ensures settings { IsFor 2 false at result }
     ensures none { HasTaken [] result }
+    ensures filtered { entries_asked result.slurm ≡ slurm.now.entries.items }
 {
-    Gathering::new(alloc, LAST_VERSION, false, None)
+    Gathering::with_slurm(alloc, LAST_VERSION, false, at, slurm)
+}
+
+/// Takes what SLURM files assert, and loads the payloads of the items that were taken. `has_cut` is
+/// whether an answer of a recording was left out.
+fn load_asserted<'a>(
+    alloc: Global,
+    has_cut: bool,
+    gathering: Gathering<'a>,
+) -> Result<Loaded, LoadError<'a>>
+    ensures { LoadsAsserted has_cut gathering.entry result }
+{
+    let mut gathering = gathering;
+    match gathering.take_assertions() {
+        Ok(()) => load_taken(alloc, has_cut, gathering),
+        Err(_) => Err(LoadError::Memory),
+    }
 }
 
 /// Loads the payloads of the items that were taken.
-fn load_taken<'a>(alloc: Global, gathering: Gathering<'a>) -> Result<Loaded, LoadError<'a>>
-    ensures { LoadsTaken gathering.entry result }
+fn load_taken<'a>(
+    alloc: Global,
+    has_cut: bool,
+    gathering: Gathering<'a>,
+) -> Result<Loaded, LoadError<'a>>
+    ensures { LoadsTaken has_cut gathering.entry result }
 {
     match gathering.finish() {
-        Ok(left) => load_gathered(alloc, left.gathered),
+        Ok(left) => load_gathered(alloc, has_cut, left.expired, left.gathered),
         Err(refusal) => Err(LoadError::Items(refusal)),
     }
 }
 
-/// Loads the payloads that were gathered.
+/// Loads the payloads that were gathered of the items that haven't expired.
 fn load_gathered<'a>(
     alloc: Global,
+    has_cut: bool,
+    expired: Option<Expired>,
     gathered: Result<Gathered, Refusal<'a>>,
 ) -> Result<Loaded, LoadError<'a>>
-    ensures { LoadsGathered gathered.entry result }
+    ensures { LoadsGathered has_cut expired gathered.entry result }
 {
     let gathered = match gathered {
         Ok(gathered) => gathered,
@@ -168,7 +259,8 @@ fn load_gathered<'a>(
     match Vrps::new(alloc, gathered.payloads) {
         Ok(vrps) => Ok(Loaded {
             vrps,
-            has_cut: false,
+            has_cut,
+            expired,
         }),
         Err(_) => Err(LoadError::Memory),
     }

@@ -1,4 +1,6 @@
-//! In which form answers are printed.
+//! In which formats routes are read, and answers printed.
+
+use crate::table::Table;
 
 /// In which form the answer on a route is printed.
 #[derive(Clone, Copy)]
@@ -7,4 +9,13 @@ pub enum Form {
     Text,
     /// A JSON object on a line.
     Json,
+}
+
+/// In which format routes are read, and in which form the answers are printed.
+#[derive(Clone, Copy)]
+pub struct Formats {
+    /// That of the lines that are read.
+    pub table: Table,
+    /// That of the answers.
+    pub form: Form,
 }

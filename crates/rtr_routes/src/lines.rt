@@ -1,18 +1,19 @@
 //! Routes that are read line by line, and the answers on them.
 
-ghost use Rattle.std.specs.Prelude.{◌≡◌};
+ghost use Rattle.std.specs.Prelude.{◌≡◌, ◌≤◌, IfOk};
 ghost use Rattle.rtr_routes.specs.LinesAnswered.{AnswersLines, AnswersRoute};
-ghost use Rattle.rtr_routes.specs.PrivateLines.{AnswersLine, TakesByte, TakesLine};
+ghost use Rattle.rtr_routes.specs.PrivateLines.{AnswersLine, PassesLine, TakesByte, TakesLine};
 
-use crate::answer::add_answer;
-use crate::form::Form;
-use crate::route_text::{RouteError, read_route};
-use crate::vrps::Vrps;
+use crate::form::{Form, Formats};
+use crate::lists::Lists;
+use crate::refusals::Refusals;
+use crate::route_text::{RouteError, TableRoute};
+use crate::table::read_table;
+use crate::turn::add_list_answer;
 use rtr_listing::Line;
 use rtr_units::fault::Fault;
 use rtr_units::piece::put;
 use rtr_units::source::{Sink, Source};
-use rtr_validation::Route;
 use std::alloc::Global;
 
 /// The byte that ends a line.
@@ -21,7 +22,7 @@ const LINE_FEED: u8 = b'\n';
 /// Why not all routes were answered.
 #[derive(Debug, Drop)]
 pub enum Stop {
-    /// The line of this number, of which the first is 1, isn't a route.
+    /// In a strict run: the line of this number, of which the first is 1, isn't a route.
     Line(u64, RouteError),
     /// Reading, writing or memory failed.
     Fault(Fault),
@@ -36,43 +37,89 @@ pub(crate) enum Ending {
     Input,
 }
 
-/// Reads routes, one on a line, up to the end of the input, and writes the answer on each before
-/// the next line is read. A blank line has no answer. The first line that isn't a route ends it,
-/// with its number, after the answers on those before it. The faults are `Reader`, `Writer` and
-/// `Memory`, and `TooMany` after 2^64 - 1 lines. It takes memory for the longest line, and for the
-/// longest answer.
-pub fn answer_lines<R: Source, W: Sink>(
+/// Reads routes, one on a line, up to the end of the input, and writes the answer on each, by
+/// `add_list_answer`, before the next line is read. A line without a route, as a blank one, has no
+/// answer. A line that is refused is told to `refusals`, with its number, and skipped; returns how
+/// many were. A strict run stops at the first such line instead, with its number, after the answers
+/// on those before it. The faults are `Reader`, `Writer` and `Memory`, and `TooMany` after 2^64 - 1
+/// lines. It takes memory for the longest line, and for the longest answer.
+pub fn answer_lines<R: Source, W: Sink, T: Refusals>(
     alloc: Global,
-    form: Form,
-    vrps: &Vrps,
+    program: &str,
+    strict: bool,
+    formats: Formats,
+    lists: Lists<'_>,
     input: &mut R,
     output: &mut W,
-) -> Result<(), Stop>
-    ensures { AnswersLines form vrps.now result (R.state input.old) (R.state input.new)
-        (W.state output.old) (W.state output.new) }
+    refusals: &mut T,
+) -> Result<u64, Stop>
+    ensures { AnswersLines T.hears strict formats lists.entry result
+        (R.state input.old) (R.state input.new) (W.state output.old) (W.state output.new)
+        refusals.old refusals.new }
 {
     let mut text = Line::new(alloc);
     let mut answer = Line::new(alloc);
+    let mut refused = 0;
     'lines: for count in 0..u64::MAX {
         let ending = match read_line(input, &mut text) {
             Ok(ending) => ending,
             Err(fault) => return Err(Stop::Fault(fault)),
         };
-        match answer_line(form, vrps, count + 1, text.as_bytes(), &mut answer, output) {
-            Ok(()) => {}
+        let line = text.as_bytes();
+        let number = count + 1;
+        match pass_line(
+            program,
+            strict,
+            formats,
+            lists,
+            number,
+            line,
+            &mut answer,
+            output,
+            refusals,
+        ) {
+            Ok(more) => refused += more,
             Err(stop) => return Err(stop),
         }
         match ending {
             Ending::Feed => {}
-            Ending::Input => return Ok(()),
+            Ending::Input => return Ok(refused),
         }
     }
     Err(Stop::Fault(Fault::TooMany))
 }
 
+/// Writes the answer on the route of the line of this number, unless it is blank. A line that isn't
+/// a route is told, unless the run is strict. Answers how many were told. The faults are `Writer`
+/// and `Memory`.
+fn pass_line<W: Sink, T: Refusals>(
+    program: &str,
+    strict: bool,
+    formats: Formats,
+    lists: Lists<'_>,
+    number: u64,
+    text: &[u8],
+    answer: &mut Line,
+    output: &mut W,
+    refusals: &mut T,
+) -> Result<u64, Stop>
+    ensures passes { PassesLine T.hears strict formats lists.entry number text.now result
+        (W.state output.old) (W.state output.new) refusals.old refusals.new }
+    ensures most { IfOk result (λ n. n ≤ 1) }
+{
+    match answer_line(formats, lists, number, text, answer, output) {
+        Ok(()) => Ok(0),
+        Err(Stop::Line(number, error)) if !strict => {
+            refusals.tell(program, number, &error);
+            Ok(1)
+        }
+        Err(stop) => Err(stop),
+    }
+}
+
 /// Reads a line, without its line feed, and answers how it ended. The faults are `Reader` and
 /// `Memory`.
-fn read_line<R: Source>(input: &mut R, line: &mut Line) -> Result<Ending, Fault>
+pub(crate) fn read_line<R: Source>(input: &mut R, line: &mut Line) -> Result<Ending, Fault>
     ensures { TakesLine result line.new (R.state input.old) (R.state input.new) }
 {
     line.clear();
@@ -106,22 +153,22 @@ fn next_byte<R: Source>(input: &mut R) -> Result<Option<u8>, Fault>
 /// Writes the answer on the route of the line of this number, unless it is blank. The faults are
 /// `Writer` and `Memory`.
 fn answer_line<W: Sink>(
-    form: Form,
-    vrps: &Vrps,
+    formats: Formats,
+    lists: Lists<'_>,
     number: u64,
     text: &[u8],
     answer: &mut Line,
     output: &mut W,
 ) -> Result<(), Stop>
-    ensures { AnswersLine form vrps.now number text.now result
+    ensures { AnswersLine formats lists.entry number text.now result
         (W.state output.old) (W.state output.new) }
 {
-    let route = match read_route(text) {
+    let route = match read_table(formats.table, text) {
         Ok(Some(route)) => route,
         Ok(None) => return Ok(()),
         Err(error) => return Err(Stop::Line(number, error)),
     };
-    match answer_route(form, vrps, &route, answer, output) {
+    match answer_route(formats.form, lists, &route, answer, output) {
         Ok(()) => Ok(()),
         Err(fault) => Err(Stop::Fault(fault)),
     }
@@ -131,16 +178,16 @@ fn answer_line<W: Sink>(
 /// `Memory`.
 pub(crate) fn answer_route<W: Sink>(
     form: Form,
-    vrps: &Vrps,
-    route: &Route,
+    lists: Lists<'_>,
+    route: &TableRoute,
     answer: &mut Line,
     output: &mut W,
 ) -> Result<(), Fault>
-    ensures { AnswersRoute form vrps.now route.now.prefix route.now.asn result
+    ensures { AnswersRoute form lists.entry route.now.prefix route.now.origin result
         (W.state output.old) (W.state output.new) }
 {
     answer.clear();
-    match add_answer(answer, form, vrps, route) {
+    match add_list_answer(answer, form, lists, route) {
         Ok(()) => put(output, answer.as_bytes()),
         Err(_) => Err(Fault::Memory),
     }

@@ -1,10 +1,10 @@
 //! The VRPs that routes are asked of.
 
-ghost use Rattle.std.specs.Prelude.{◌≡◌, ◌≤◌, ◌<◌, ◌+◌, ◌^◌, ◌++◌, IfOk, IfSome};
+ghost use Rattle.std.specs.Prelude.{◌≡◌, ◌≤◌, ◌<◌, ◌+◌, ◌^◌, ◌++◌, IfOk, IfSome, length, nat_eq};
 ghost use Rattle.rtr_units.specs.AnyEnd.{end_bytes};
 ghost use Rattle.rtr_units.specs.End.{IsEndMeaning, end_list};
 ghost use Rattle.rtr_units.specs.Stream.{PutsForm};
-ghost use Rattle.rtr_data.specs.Deltas.{all_for, change_forms};
+ghost use Rattle.rtr_data.specs.Deltas.{all_for, change_forms, data_for};
 ghost use Rattle.rtr_slices.specs.Canonical.{HoldsData};
 ghost use Rattle.rtr_validation.specs.Covering.{IsFirstCovering};
 ghost use Rattle.rtr_validation.specs.Validity.{IsValidity};
@@ -19,11 +19,15 @@ use rtr_units::end::EndOfData;
 use rtr_units::fault::Fault;
 use rtr_units::source::{Counted, Sink};
 use rtr_validation::{CoveringVrp, Route, Tables, Validity, first_covering, validate};
+use rtr_vrps::has_none;
 use std::alloc::{AllocError, Global};
 use std::marker::Model;
 
 /// The version of the units in which the payloads are kept, which has all kinds.
 const KEPT_VERSION: u8 = 2;
+
+/// The version of the units that has origins alone.
+const VRPS_ALONE: u8 = 0;
 
 /// Payloads, whose origins are the VRPs that routes are asked of. They are kept in canonical form
 /// beside, so that an answer takes a few halvings.
@@ -65,6 +69,13 @@ impl Vrps {
             bytes,
             tables,
         })
+    }
+
+    /// Whether there are none: then no route is covered.
+    pub fn has_none(&self) -> bool
+        ensures { result ≡ nat_eq (length (data_for 0 self.now)) 0 }
+    {
+        has_none(VRPS_ALONE, &self.payloads)
     }
 
     /// The validity of a route (RFC 6811 section 2).

@@ -1,15 +1,17 @@
 use Rattle.std.proofs.Common.{[], Err, Ok, refl}
 use Rattle.rtr_vrps.proofs.Takings.{for_after}
+use Rattle.rtr_routes.proofs.Exceptions.{by_slurm}
 use Rattle.rtr_routes.proofs.file.load_csv.Goals as goal
 
 pub returns-in-Ok : goal.returns-in-Ok
 returns-in-Ok c =
     let some = c.in-Ok.ensures.items in
-    let start = c.gathering_of_all-gathering.ensures in (
+    let start = c.gathering_at-gathering.ensures in (
       Ok some.items,
       some.are,
-      c.load_taken.ensures some.items (some.taken.taken [] start.none)
-          (for_after _ _ _ _ _ start.settings some.taken.settings),
+      by_slurm _ _ _ _ c.args.at some.items _ start.filtered some.taken.kept.slurm
+          (c.load_asserted.ensures c.args.at _ (some.taken.kept.taken [] start.none)
+          (for_after _ _ _ _ _ start.settings some.taken.kept.settings)),
     )
 
 pub returns : goal.returns

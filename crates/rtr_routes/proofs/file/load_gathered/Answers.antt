@@ -13,4 +13,5 @@ returns-in-Ok-new c items h =
       subst (λ d. GathersAll 2 false items d all.left_out) (sym c.in-Ok-new.ensures)
           (gathers_all items _ all c.in-Ok.is h),
       refl,
+      refl,
     )

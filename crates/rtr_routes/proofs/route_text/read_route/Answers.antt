@@ -3,8 +3,8 @@ use Rattle.std.specs.Str.Iter.{split_ascii_whitespace_text}
 use Rattle.rtr_routes.proofs.NextWords.{cuts}
 use Rattle.rtr_routes.proofs.route_text.read_route.Goals as goal
 
-pub returns-in-Err-parse : goal.returns-in-Err-parse
-returns-in-Err-parse c =
+pub returns-in_default-origin_of : goal.returns-in_default-origin_of
+returns-in_default-origin_of c =
     let first = cuts c.args.line.now _ _ _
     (c.split_ascii_whitespace-words.ensures.text ∙ c.in-Ok.ensures.cases.0)
     c.in-Some.ensures.steps in (
@@ -14,7 +14,7 @@ returns-in-Err-parse c =
       split_ascii_whitespace_text c.next-2.new.self,
       record { word = c.in-Some.prefix.now; first = first; prefix = c.in-Ok-parse.ensures.value },
       cuts _ _ _ _ refl c.in-Some-next.ensures.steps,
-      c.in-Err-parse.ensures.value,
+      c.in_default-origin_of.ensures,
     )
 
 pub returns-in-Some-next-2 : goal.returns-in-Some-next-2
@@ -23,7 +23,7 @@ returns-in-Some-next-2 c =
     (c.split_ascii_whitespace-words.ensures.text ∙ c.in-Ok.ensures.cases.0)
     c.in-Some.ensures.steps in (
       c.in-Ok-parse.prefix,
-      c.in-Ok-parse-2.asn,
+      c.in-Some-origin_of.origin,
       split_ascii_whitespace_text c.next-2.new.self,
       c.in-Some-next-2.field-0.now,
       split_ascii_whitespace_text c.next-3.new.self,
@@ -36,7 +36,7 @@ returns-in-Some-next-2 c =
         };
         word = c.in-Some-next.asn.now;
         second = cuts _ _ _ _ refl c.in-Some-next.ensures.steps;
-        number = c.in-Ok-parse-2.ensures.value;
+        number = c.in-Some-origin_of.ensures;
       },
       cuts _ _ _ _ refl c.in-Some-next-2.ensures.steps,
     )
@@ -56,7 +56,7 @@ returns-in-None c =
         };
         word = c.in-Some-next.asn.now;
         second = cuts _ _ _ _ refl c.in-Some-next.ensures.steps;
-        number = c.in-Ok-parse-2.ensures.value;
+        number = c.in-Some-origin_of.ensures;
       },
       c.in-None.ensures.steps.0,
     )
