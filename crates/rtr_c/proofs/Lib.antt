@@ -20,4 +20,8 @@ mod Sides
 mod OrderRoom
 mod RoomInOrder
 mod Routes
+mod Looked
 mod Rooms
+mod LoadRoom
+mod Links
+mod LinksTold

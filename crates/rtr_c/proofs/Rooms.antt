@@ -25,7 +25,10 @@ use Rattle.rtr_findings.specs.declared.finding.Finding.{Finding}
 use Rattle.rtr_findings.specs.declared.finding.Finding.TheVariants as rules
 use Rattle.rtr_findings.specs.declared.finding.Layout.{Layout}
 use Rattle.rtr_findings.specs.declared.finding.Layout.TheVariants.{AsRead, LikeOlderDraft}
+use Rattle.rtr_times.specs.declared.times.TimeRule.{TimeRule}
+use Rattle.rtr_times.specs.declared.times.TimeRule.TheVariants as times
 use Rattle.rtr_c.specs.Checks.{numbered_finding, numbered_layout, numbered_rule, told_line}
+use Rattle.rtr_c.specs.Checks.{numbered_time_rule}
 use Rattle.rtr_c.specs.declared.check.RtrFinding.{RtrFinding}
 
 -- a text in two parts
@@ -117,6 +120,13 @@ layout_room layout =
       shown AsRead = omega arith
       shown LikeOlderDraft = omega arith
 
+times_room : (rule : TimeRule) → length (finding_text (rules.Times rule)) ≤ 90
+times_room times.Refresh = omega arith
+times_room times.Retry = omega arith
+times_room times.Expire = omega arith
+times_room times.AboveRefresh = omega arith
+times_room times.AboveRetry = omega arith
+
 -- one of two
 either : {A : Type 0} (P : A → Type 0) (b : Bool) (x y : A) → P x → P y → P (cond b x y)
 either P true x y h k = h
@@ -164,7 +174,9 @@ module _ (offset : ℕ) (fits : offset < 2 ^ 64) where
       (either Fits (n == 15) _ _ (plain rules.ReportParts (omega arith))
       (either Fits (n == 16) _ _ (plain rules.ReportText (omega arith))
       (either Fits (n == 17) _ _ (plain rules.ReportOfReport (omega arith))
-      (omega arith)))))))))))))))))
+      (either Fits (n == 18) _ _
+      (plain (rules.Times (numbered_time_rule value)) (times_room (numbered_time_rule value)))
+      (omega arith))))))))))))))))))
 
 pub finding_room : (offset : ℕ) (finding : RtrFinding) → offset < 2 ^ 64 →
     finding.value < 2 ^ 16 → finding.begun < 2 ^ 16 →

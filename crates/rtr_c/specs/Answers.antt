@@ -74,6 +74,21 @@ rtr_undecided = 16
 abbrev pub rtr_no_index : ℕ
 rtr_no_index = 17
 
+abbrev pub rtr_too_many_members : ℕ
+rtr_too_many_members = 18
+
+abbrev pub rtr_other_version : ℕ
+rtr_other_version = 19
+
+abbrev pub rtr_old_serial : ℕ
+rtr_old_serial = 20
+
+abbrev pub rtr_reset_inside : ℕ
+rtr_reset_inside = 21
+
+abbrev pub rtr_report_inside : ℕ
+rtr_report_inside = 22
+
 -- a reader or a writer failed, as none does here
 abbrev pub rtr_failed : ℕ
 rtr_failed = 255

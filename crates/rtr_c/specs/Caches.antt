@@ -24,6 +24,7 @@ cache_of c = record {
   asked = c.asked;
   version = c.version;
   told = c.told;
+  reset = c.reset;
   session = c.session;
   serial = c.serial;
   notify_from = c.notify_from;

@@ -7,6 +7,8 @@ use Rattle.rtr_views.specs.declared.fault.ViewFault.{ViewFault}
 use Rattle.rtr_session.specs.AnyFields.{AnyFields, HasAnyFields}
 use Rattle.rtr_session.specs.Lengths.{SaysLength}
 use Rattle.rtr_texts.specs.Laying.{Lays}
+use Rattle.rtr_times.specs.declared.times.TimeRule.{TimeRule}
+use Rattle.rtr_times.specs.declared.times.TimeRule.TheVariants as times
 use Rattle.rtr_findings.specs.CheckedUnits.{found_list, known_after}
 use Rattle.rtr_findings.specs.FindingTexts.{finding_of as finding_line}
 use Rattle.rtr_findings.specs.KeptNames.{IsAnnouncedAs, begins_sequence}
@@ -48,6 +50,15 @@ check_state c = record {
 abbrev pub numbered_layout : ℕ → Layout
 numbered_layout n = if n == 1 then LikeOlderDraft else AsRead
 
+-- the rule on times of this number, as rtr_time_rule has it; the last one of any other number
+abbrev pub numbered_time_rule : ℕ → TimeRule
+numbered_time_rule n =
+    if n == 1 then times.Refresh
+    else if n == 2 then times.Retry
+    else if n == 3 then times.Expire
+    else if n == 4 then times.AboveRefresh
+    else times.AboveRetry
+
 -- the rule of this number, with its values; none of a number that is none
 abbrev pub numbered_rule : (rule value begun : ℕ) → Option Finding
 numbered_rule n value begun =
@@ -68,6 +79,7 @@ numbered_rule n value begun =
     else if n == 15 then Some rules.ReportParts
     else if n == 16 then Some rules.ReportText
     else if n == 17 then Some rules.ReportOfReport
+    else if n == 18 then Some (rules.Times (numbered_time_rule value))
     else None
 
 abbrev pub numbered_finding : RtrFinding → Option Finding

@@ -1,17 +1,31 @@
 -- The structs of C as a group of caches by preference (this library's own).
-use Rattle.std.specs.Prelude.{◌≡◌, ℕ, is_some}
+use Rattle.std.specs.Prelude.{◌≡◌, ℕ, is_some, nat_lt, if◌then◌else◌}
 use Rattle.std.specs.Option.{unwrap_or}
 use Rattle.rtr_group.specs.declared.event.Answer.{Answer}
 use Rattle.rtr_group.specs.declared.event.Event.{Event}
 use Rattle.rtr_group.specs.declared.event.Shown.{Shown}
 use Rattle.rtr_group.specs.declared.event.Shown.TheVariants as shows
 use Rattle.rtr_group.specs.declared.group.Group.{Group}
-use Rattle.rtr_group.specs.Groups.{answer, group_after}
+use Rattle.rtr_group.specs.declared.settings.Settings.{Settings}
+use Rattle.rtr_group.specs.Groups.{answer, group_after, group_ticked, tick_answer}
+use Rattle.rtr_group.specs.Runs.{IsNewGroup}
+use Rattle.rtr_c.specs.Answers.{rtr_ok, rtr_too_many_members}
 use Rattle.rtr_c.specs.declared.group.RtrGroup.{RtrGroup}
 use Rattle.rtr_c.specs.declared.group.RtrGroupAnswer.{RtrGroupAnswer}
+use Rattle.rtr_c.specs.declared.group.RtrGroupSettings.{RtrGroupSettings}
+
+abbrev pub group_settings_of : RtrGroupSettings → Settings
+group_settings_of s = record { patience = s.patience; empty_is_data = s.empty_is_data }
 
 abbrev pub group_of : RtrGroup → Group
-group_of g = record { count = g.count; runs = g.runs; has = g.has }
+group_of g = record {
+  settings = group_settings_of g.settings;
+  count = g.count;
+  runs = g.runs;
+  has = g.has;
+  current = g.current;
+  due = g.due;
+}
 
 abbrev pub shown_number : Shown → ℕ
 shown_number shows.Same = 0
@@ -32,8 +46,21 @@ answer_shown a = record {
   starts = is_some a.starts;
 }
 
--- an event of a member leads from g to g' with this answer
-pub record IsGroupStep (g : RtrGroup) (m : ℕ) (e : Event) (a : RtrGroupAnswer) (g' : RtrGroup) :
+-- A group of this number of members that begins now, or one without members if there are more than
+-- 16; and the status.
+pub record IsInitialGroup (s : RtrGroupSettings) (count now status : ℕ) (g : RtrGroup) :
     Type 0 where
-  pub group : group_of g' ≡ group_after (group_of g) m e
-  pub answers : a ≡ answer_shown (answer (group_of g) m e)
+  pub group :
+      IsNewGroup (if nat_lt 16 count then 0 else count) (group_settings_of s) now (group_of g)
+  pub answers : status ≡ (if nat_lt 16 count then rtr_too_many_members else rtr_ok)
+
+-- an event of a member leads from g to g' with this answer
+pub record IsGroupStep (g : RtrGroup) (now m : ℕ) (e : Event) (a : RtrGroupAnswer) (g' : RtrGroup) :
+    Type 0 where
+  pub group : group_of g' ≡ group_after (group_of g) now m e
+  pub answers : a ≡ answer_shown (answer (group_of g) now m e)
+
+-- and so does time
+pub record IsGroupTick (g : RtrGroup) (now : ℕ) (a : RtrGroupAnswer) (g' : RtrGroup) : Type 0 where
+  pub group : group_of g' ≡ group_ticked (group_of g) now
+  pub answers : a ≡ answer_shown (tick_answer (group_of g) now)

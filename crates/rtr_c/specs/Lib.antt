@@ -11,6 +11,8 @@ pub mod Numbers
 pub mod DataAnswers
 pub mod Kept
 pub mod PrivateRanges
+pub mod LoadAnswers
+pub mod Lookups
 pub mod Routes
 pub mod Routers
 pub mod RouterActions
@@ -18,4 +20,8 @@ pub mod GroupsShown
 pub mod Caches
 pub mod Checks
 pub mod Servings
+pub mod TimeRules
 pub mod Texts
+pub mod Links
+pub mod LinkTodos
+pub mod LinkStates

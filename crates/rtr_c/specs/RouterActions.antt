@@ -58,6 +58,7 @@ cause_number causes.TooLong = 11
 cause_number causes.NotApplied = 12
 cause_number causes.Expired = 13
 cause_number causes.Lower = 14
+cause_number causes.Higher = 15
 
 -- of a number that is none, that the connection is gone
 abbrev pub numbered_cause : ℕ → Cause
@@ -76,6 +77,7 @@ numbered_cause n =
     else if n == 12 then causes.NotApplied
     else if n == 13 then causes.Expired
     else if n == 14 then causes.Lower
+    else if n == 15 then causes.Higher
     else causes.Lost
 
 abbrev pub ending_told : Ending → (version : ℕ) → RtrAction

@@ -46,10 +46,20 @@ mismatch_number (Some AsZero) = 1
 mismatch_number (Some OtherAs) = 2
 mismatch_number (Some TooLong) = 3
 
--- the number of the validity of a route over data, or 3 where it is none
-abbrev pub TellsValidity : Option PrefixParts → List ℕ → Tables → (asn code : ℕ) → Type 0
-TellsValidity None input t asn code = code ≡ 3
-TellsValidity (Some p) input t asn code =
+-- the family or the prefix length of a route is none
+abbrev pub validity_no_route : ℕ
+validity_no_route = 3
+
+-- the data weren't checked
+abbrev pub validity_unchecked : ℕ
+validity_unchecked = 4
+
+-- The number of the validity of a route over data, where the lookup is sealed for these bytes. The
+-- tables are those of the data where the check filled the lookup.
+abbrev pub TellsValidity : Bool → Option PrefixParts → List ℕ → Tables → (asn code : ℕ) → Type 0
+TellsValidity false p input t asn code = code ≡ validity_unchecked
+TellsValidity true None input t asn code = code ≡ validity_no_route
+TellsValidity true (Some p) input t asn code =
     (answer : Validity) × (code ≡ validity_number answer)
     × (AreTables input t → (d : List Payload) → (e : EndMeaning) → HoldsData input d e →
     IsValidity d p asn answer)
@@ -79,22 +89,42 @@ nothing_covers = record {
   mismatch = 0;
 }
 
--- what is shown, and that it is; or nothing
-abbrev pub ShowsOne : Option RtrCovering → RtrCovering → Bool → Type 0
-ShowsOne None shown said = (said ≡ false) × (shown ≡ nothing_covers)
-ShowsOne (Some one) shown said = (said ≡ true) × (shown ≡ one)
+-- no VRP covers the route
+abbrev pub covers_none : ℕ
+covers_none = 0
 
-abbrev pub ShowsFound : Option CoveringVrp → PrefixParts → ℕ → RtrCovering → Bool → Type 0
-ShowsFound None p asn shown said = (said ≡ false) × (shown ≡ nothing_covers)
-ShowsFound (Some c) p asn shown said = (said ≡ true) × ShowsCovering c p asn shown
+-- one covers it
+abbrev pub covers_one : ℕ
+covers_one = 1
 
--- The first VRP from a place of data on that covers a route. Whatever the bytes are, it isn't
--- before that place.
-abbrev pub TellsCovering : Option PrefixParts → List ℕ → Tables → (asn from : ℕ) → RtrCovering →
-    Bool → Type 0
-TellsCovering None input t asn from shown said = (said ≡ false) × (shown ≡ nothing_covers)
-TellsCovering (Some p) input t asn from shown said =
-    (found : Option CoveringVrp) × ShowsFound found p asn shown said
+-- the family or the prefix length of the route is none
+abbrev pub covers_no_route : ℕ
+covers_no_route = 2
+
+-- the data weren't checked
+abbrev pub covers_unchecked : ℕ
+covers_unchecked = 3
+
+-- what is shown, and that it is
+abbrev pub ShowsOne : (one shown : RtrCovering) → (code : ℕ) → Type 0
+ShowsOne one shown code = (code ≡ covers_one) × (shown ≡ one)
+
+-- nothing is shown, for this reason
+abbrev pub ShowsNone : (why : ℕ) → RtrCovering → (code : ℕ) → Type 0
+ShowsNone why shown code = (code ≡ why) × (shown ≡ nothing_covers)
+
+abbrev pub ShowsFound : Option CoveringVrp → PrefixParts → ℕ → RtrCovering → (code : ℕ) → Type 0
+ShowsFound None p asn shown code = ShowsNone covers_none shown code
+ShowsFound (Some c) p asn shown code = (code ≡ covers_one) × ShowsCovering c p asn shown
+
+-- The first VRP from a place of data on that covers a route, where the lookup is sealed for these
+-- bytes. Whatever the bytes are, it isn't before that place.
+abbrev pub TellsCovering : Bool → Option PrefixParts → List ℕ → Tables → (asn from : ℕ) →
+    RtrCovering → (code : ℕ) → Type 0
+TellsCovering false p input t asn from shown code = ShowsNone covers_unchecked shown code
+TellsCovering true None input t asn from shown code = ShowsNone covers_no_route shown code
+TellsCovering true (Some p) input t asn from shown code =
+    (found : Option CoveringVrp) × ShowsFound found p asn shown code
     × IfSome found (λ c. from ≤ c.place)
     × (AreTables input t → (d : List Payload) → (e : EndMeaning) → HoldsData input d e →
     IsFirstCovering d p from found)

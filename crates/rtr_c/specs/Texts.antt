@@ -14,9 +14,12 @@ use Rattle.rtr_c.specs.Answers.{rtr_ok, rtr_short, rtr_unit_type, rtr_unit_versi
 use Rattle.rtr_c.specs.Answers.{rtr_unit_length, rtr_empty_providers, rtr_prefix, rtr_too_many}
 use Rattle.rtr_c.specs.Answers.{rtr_no_room, rtr_no_form, rtr_not_canonical, rtr_other_session}
 use Rattle.rtr_c.specs.Answers.{rtr_duplicate, rtr_unknown, rtr_undecided, rtr_no_index}
+use Rattle.rtr_c.specs.Answers.{rtr_too_many_members, rtr_other_version, rtr_old_serial}
+use Rattle.rtr_c.specs.Answers.{rtr_reset_inside, rtr_report_inside}
 use Rattle.rtr_c.specs.LineAnswers.{line_status}
 use Rattle.rtr_c.specs.RouterActions.{numbered_cause, refusal_at}
 use Rattle.rtr_c.specs.Servings.{numbered_reason}
+use Rattle.rtr_c.specs.TimeRules.{time_rule_name}
 
 -- a name where there is one, and else a label and the number
 abbrev pub name_or : Option (List ℕ) → List ℕ → ℕ → List ℕ
@@ -45,6 +48,11 @@ status_name s =
     else if s == rtr_unknown then Some (refusal_name refusals.Unknown)
     else if s == rtr_undecided then Some (codes "an ASPA is announced and then withdrawn")
     else if s == rtr_no_index then Some (codes "no room in the index")
+    else if s == rtr_too_many_members then Some (codes "too many members")
+    else if s == rtr_other_version then Some (codes "of another version than the units before")
+    else if s == rtr_old_serial then Some (codes "serial number before that of the data")
+    else if s == rtr_reset_inside then Some (codes "cache reset inside an answer")
+    else if s == rtr_report_inside then Some (codes "error report inside an answer")
     else None
 
 -- of a status that is a refusal the same as in a report
@@ -74,12 +82,13 @@ type_name n =
     else None
 
 abbrev pub cause_name : ℕ → Option (List ℕ)
-cause_name n = if nat_lt n 15 then Some (cause_text (numbered_cause n)) else None
+cause_name n = if nat_lt n 16 then Some (cause_text (numbered_cause n)) else None
 
 abbrev pub reason_name : ℕ → Option (List ℕ)
 reason_name n = if nat_lt n 10 then Some (reason_text (numbered_reason n)) else None
 
--- the name of this number: of a status, a kind, a cause, a reason or an error code
+-- the name of this number: of a status, a kind, a cause, a reason or an error code, or the text of a
+-- rule on times
 abbrev pub name_said : (named number : ℕ) → List ℕ
 name_said named n =
     if named == 0 then name_or (status_name n) (codes "unknown status ") n
@@ -87,6 +96,7 @@ name_said named n =
     else if named == 2 then name_or (cause_name n) (codes "unknown cause ") n
     else if named == 3 then name_or (reason_name n) (codes "unknown reason ") n
     else if named == 4 then name_or (code_name n) (codes "error code ") n
+    else if named == 5 then name_or (time_rule_name n) (codes "unknown time rule ") n
     else []
 
 -- ---- what is answered

@@ -41,6 +41,16 @@ pub(crate) const UNKNOWN: u8 = 15;
 pub(crate) const UNDECIDED: u8 = 16;
 /// The index has fewer places than there are payload units.
 pub(crate) const NO_INDEX: u8 = 17;
+/// A group would have more than 16 members.
+pub(crate) const TOO_MANY_MEMBERS: u8 = 18;
+/// A unit of a recording is of another version than those before it.
+pub(crate) const OTHER_VERSION: u8 = 19;
+/// The serial number of an answer comes before that of the data that it changes.
+pub(crate) const OLD_SERIAL: u8 = 20;
+/// A cache reset stands inside an answer.
+pub(crate) const RESET_INSIDE: u8 = 21;
+/// An error report stands inside an answer.
+pub(crate) const REPORT_INSIDE: u8 = 22;
 /// A reader or a writer failed; none here does.
 pub(crate) const WRITER: u8 = 255;
 

@@ -45,9 +45,10 @@ pub struct RtrCache {
     pub live: bool,
     pub asked: bool,
     pub told: bool,
+    pub reset: bool,
 }
 
-// The fields stand one after the other, and six bytes are left at the end.
+// The fields stand one after the other, and five bytes are left at the end.
 const _: () = prove!(size_of::<RtrCache>() == 48);
 
 /// The data that the struct names.
@@ -95,6 +96,7 @@ pub(crate) fn cache_from(cache: &RtrCache) -> Cache
         asked: cache.asked,
         version: cache.version,
         told: cache.told,
+        reset: cache.reset,
         session: cache.session,
         serial: cache.serial,
         notify_from: cache.notify_from,
@@ -116,5 +118,6 @@ pub(crate) fn cache_to(cache: &Cache) -> RtrCache
         live: cache.live,
         asked: cache.asked,
         told: cache.told,
+        reset: cache.reset,
     }
 }

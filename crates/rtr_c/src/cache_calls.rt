@@ -45,6 +45,7 @@ pub extern "C" fn rtr_cache_init(cache: &mut RtrCache, now: u64, settings: &RtrC
     ensures asked { cache.new.asked ≡ false }
     ensures version { cache.new.version ≡ 0 }
     ensures told { cache.new.told ≡ false }
+    ensures reset { cache.new.reset ≡ false }
     ensures session { cache.new.session ≡ 0 }
     ensures serial { cache.new.serial ≡ 0 }
     ensures notify_from { cache.new.notify_from ≡ 0 }

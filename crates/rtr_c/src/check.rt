@@ -2,9 +2,10 @@
 
 ghost use Rattle.std.specs.Prelude.{◌≡◌, map};
 ghost use Rattle.rtr_c.specs.Checks.{no_checked, no_named, numbered_finding, numbered_stage};
-ghost use Rattle.rtr_c.specs.Checks.{numbered_layout, check_state};
+ghost use Rattle.rtr_c.specs.Checks.{numbered_layout, numbered_time_rule, check_state};
 
 use rtr_findings::{Finding, Layout, SequenceState, Stage};
+use rtr_times::TimeRule;
 
 /// What is known of the sequence that is read: as `rtr_findings::SequenceState`. All zero before
 /// the first unit.
@@ -202,6 +203,11 @@ pub(crate) fn finding_to(finding: Option<Finding>) -> RtrFinding
         Some(Finding::ReportParts) => numbers(15, 0, 0),
         Some(Finding::ReportText) => numbers(16, 0, 0),
         Some(Finding::ReportOfReport) => numbers(17, 0, 0),
+        Some(Finding::Times(TimeRule::Refresh)) => numbers(18, 1, 0),
+        Some(Finding::Times(TimeRule::Retry)) => numbers(18, 2, 0),
+        Some(Finding::Times(TimeRule::Expire)) => numbers(18, 3, 0),
+        Some(Finding::Times(TimeRule::AboveRefresh)) => numbers(18, 4, 0),
+        Some(Finding::Times(TimeRule::AboveRetry)) => numbers(18, 5, 0),
     }
 }
 
@@ -234,8 +240,21 @@ pub(crate) fn finding_from(finding: &RtrFinding) -> Option<Finding>
         15 => Finding::ReportParts,
         16 => Finding::ReportText,
         17 => Finding::ReportOfReport,
+        18 => Finding::Times(time_rule_from(value)),
         _ => return None,
     })
+}
+
+fn time_rule_from(value: u16) -> TimeRule
+    ensures { result ≡ numbered_time_rule value }
+{
+    match value {
+        1 => TimeRule::Refresh,
+        2 => TimeRule::Retry,
+        3 => TimeRule::Expire,
+        4 => TimeRule::AboveRefresh,
+        _ => TimeRule::AboveRetry,
+    }
 }
 
 fn layout_from(value: u16) -> Layout

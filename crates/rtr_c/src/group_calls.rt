@@ -1,27 +1,66 @@
-//! A group of caches by preference: one call for each thing that happens to a member.
+//! A group of caches by preference: one call for each thing that happens to a member, and one for
+//! time.
 
-ghost use Rattle.std.specs.Prelude.{◌≡◌, is_some};
+ghost use Rattle.std.specs.Prelude.{◌≡◌, false, is_some};
 ghost use Rattle.std.specs.Option.{unwrap_or};
-ghost use Rattle.rtr_group.specs.Groups.{best_of};
-ghost use Rattle.rtr_group.specs.Runs.{IsNewGroup};
+ghost use Rattle.rtr_group.specs.Groups.{best_of, group_wakes};
 ghost use Rattle.rtr_group.specs.declared.event.Event.TheVariants as events;
-ghost use Rattle.rtr_c.specs.GroupsShown.{IsGroupStep, group_of};
+ghost use Rattle.rtr_c.specs.GroupsShown.{IsGroupStep, IsGroupTick, IsInitialGroup, group_of};
+ghost use Rattle.rtr_c.specs.Routers.{clock};
 
-use crate::group::{RtrGroup, RtrGroupAnswer, group_answer_to, group_from, group_to};
+use crate::answer::{ACCEPTED, TOO_MANY_MEMBERS};
+use crate::group::{
+    RtrGroup, RtrGroupAnswer, RtrGroupSettings, group_answer_to, group_from, group_settings_from,
+    group_settings_to, group_to,
+};
+use crate::numbers::clock;
 use rtr_group::event::Event;
-use rtr_group::group::Group;
+use rtr_group::group::{Group, GroupError};
+use rtr_group::settings::Settings;
 
-/// Begins a group of so many members, at most 16, whatever the struct holds, as
-/// `rtr_group::group::Group::new`.
+/// The usual settings, as `rtr_group::settings::Settings::usual`.
 #[unsafe(no_mangle)]
-pub extern "C" fn rtr_group_init(group: &mut RtrGroup, count: usize)
-    ensures { IsNewGroup count (group_of group.new) }
+pub extern "C" fn rtr_group_usual(settings: &mut RtrGroupSettings)
+    ensures patience { settings.new.patience ≡ 5000 }
+    ensures empty_is_data { settings.new.empty_is_data ≡ false }
 {
-    *group = group_to(&Group::new(count));
+    *settings = group_settings_to(&Settings::usual());
 }
 
-/// The member whose data are shown, as `rtr_group::group::Group::best`: answers whether there is
-/// one, and 0 where there is none.
+/// Begins a group of this number of members, whatever the struct holds, as
+/// `rtr_group::group::Group::new`. If there are more than 16, it returns a status that says so, and
+/// the group has no members.
+#[unsafe(no_mangle)]
+pub extern "C" fn rtr_group_init(
+    group: &mut RtrGroup,
+    settings: &RtrGroupSettings,
+    count: usize,
+    now: u64,
+) -> u8
+    ensures { IsInitialGroup settings.now count (clock now) result group.new }
+{
+    let settings = group_settings_from(settings);
+    match Group::new(count, settings, clock(now)) {
+        Ok(machine) => {
+            *group = group_to(&machine);
+            ACCEPTED
+        }
+        Err(GroupError::TooManyMembers) => {
+            *group = RtrGroup {
+                settings: group_settings_to(&settings),
+                count: 0,
+                runs: 0,
+                due: clock(now) + settings.patience as u64,
+                has: [false; 16],
+                current: false,
+            };
+            TOO_MANY_MEMBERS
+        }
+    }
+}
+
+/// The member whose data are shown, as `rtr_group::group::Group::best`: returns whether there is
+/// one, and 0 if there is none.
 #[unsafe(no_mangle)]
 pub extern "C" fn rtr_group_best(group: &RtrGroup, member: &mut usize) -> bool
     ensures some { result ≡ is_some (best_of (group_of group.now)) }
@@ -32,44 +71,71 @@ pub extern "C" fn rtr_group_best(group: &RtrGroup, member: &mut usize) -> bool
     best.is_some()
 }
 
-/// A step of the machine.
-fn step(group: &mut RtrGroup, member: usize, event: Event) -> RtrGroupAnswer
-    ensures { IsGroupStep group.old member event result group.new }
+/// When the group is to be told that time passed, if nothing happens before.
+#[unsafe(no_mangle)]
+pub extern "C" fn rtr_group_wakes(group: &RtrGroup) -> u64
+    ensures { result ≡ group_wakes (group_of group.now) }
+{
+    group_from(group).wakes()
+}
+
+/// Time passed.
+#[unsafe(no_mangle)]
+pub extern "C" fn rtr_group_tick(group: &mut RtrGroup, now: u64, answer: &mut RtrGroupAnswer)
+    ensures { IsGroupTick group.old (clock now) answer.new group.new }
 {
     let mut machine = group_from(group);
-    let answer = machine.step(member, event);
+    let told = machine.tick(clock(now));
+    *group = group_to(&machine);
+    *answer = group_answer_to(&told);
+}
+
+/// A step of the machine.
+fn step(group: &mut RtrGroup, now: u64, member: usize, event: Event) -> RtrGroupAnswer
+    ensures { IsGroupStep group.old (clock now) member event result group.new }
+{
+    let mut machine = group_from(group);
+    let answer = machine.step(clock(now), member, event);
     *group = group_to(&machine);
     group_answer_to(&answer)
 }
 
-/// It shows data, of a whole answer: its first ones, or others than before.
+/// It shows data of a whole answer, with this number of payloads.
 #[unsafe(no_mangle)]
-pub extern "C" fn rtr_group_shows(group: &mut RtrGroup, member: usize, answer: &mut RtrGroupAnswer)
-    ensures { IsGroupStep group.old member events.Shows answer.new group.new }
+pub extern "C" fn rtr_group_shows(
+    group: &mut RtrGroup,
+    now: u64,
+    member: usize,
+    payloads: usize,
+    answer: &mut RtrGroupAnswer,
+)
+    ensures { IsGroupStep group.old (clock now) member (events.Shows payloads) answer.new group.new }
 {
-    *answer = step(group, member, Event::Shows);
+    *answer = step(group, now, member, Event::Shows(payloads));
 }
 
 /// It has no data any more.
 #[unsafe(no_mangle)]
-pub extern "C" fn rtr_group_drops(group: &mut RtrGroup, member: usize, answer: &mut RtrGroupAnswer)
-    ensures { IsGroupStep group.old member events.Drops answer.new group.new }
+pub extern "C" fn rtr_group_drops(
+    group: &mut RtrGroup,
+    now: u64,
+    member: usize,
+    answer: &mut RtrGroupAnswer,
+)
+    ensures { IsGroupStep group.old (clock now) member events.Drops answer.new group.new }
 {
-    *answer = step(group, member, Event::Drops);
+    *answer = step(group, now, member, Event::Drops);
 }
 
 /// It failed, and its data stay.
 #[unsafe(no_mangle)]
-pub extern "C" fn rtr_group_fails(group: &mut RtrGroup, member: usize, answer: &mut RtrGroupAnswer)
-    ensures { IsGroupStep group.old member events.Fails answer.new group.new }
+pub extern "C" fn rtr_group_fails(
+    group: &mut RtrGroup,
+    now: u64,
+    member: usize,
+    answer: &mut RtrGroupAnswer,
+)
+    ensures { IsGroupStep group.old (clock now) member events.Fails answer.new group.new }
 {
-    *answer = step(group, member, Event::Fails);
-}
-
-/// It has a whole answer again, and its data are what they were.
-#[unsafe(no_mangle)]
-pub extern "C" fn rtr_group_well(group: &mut RtrGroup, member: usize, answer: &mut RtrGroupAnswer)
-    ensures { IsGroupStep group.old member events.Well answer.new group.new }
-{
-    *answer = step(group, member, Event::Well);
+    *answer = step(group, now, member, Event::Fails);
 }

@@ -1,14 +1,22 @@
 //! Laws of the calls: what follows from their contracts.
 
 ghost use Rattle.std.specs.Prelude.{◌≡◌, ◌≢◌, ◌<◌, ◌≤◌, ◌^◌, ◌+◌, ◌++◌, ℕ, Bool, List, take};
-ghost use Rattle.std.specs.Prelude.{drop, length, Result, Ok, false};
+ghost use Rattle.std.specs.Prelude.{drop, length, Option, Some, Result, Ok, false};
+ghost use Rattle.rtr_base.specs.Addresses.{PrefixParts};
 ghost use Rattle.rtr_base.specs.Bytes.{IsBytes};
 ghost use Rattle.rtr_units.specs.Codes.{code_of};
+ghost use Rattle.rtr_units.specs.End.{EndMeaning};
 ghost use Rattle.rtr_units.specs.Header.{type_field};
+ghost use Rattle.rtr_payload.specs.Payloads.{Payload};
 ghost use Rattle.rtr_views.specs.OwedCodes.{owed, read_fault};
 ghost use Rattle.rtr_views.specs.declared.fault.ViewFault.{ViewFault};
 ghost use Rattle.rtr_data.specs.ChangeCodes.{change_code};
 ghost use Rattle.rtr_data.specs.declared.change_error.ChangeError.TheVariants as refusals;
+ghost use Rattle.rtr_slices.specs.Canonical.{HoldsData};
+ghost use Rattle.rtr_validation.specs.Covering.{IsFirstCovering};
+ghost use Rattle.rtr_validation.specs.Validity.{IsValidity};
+ghost use Rattle.rtr_validation.specs.declared.finding.CoveringVrp.{CoveringVrp};
+ghost use Rattle.rtr_validation.specs.declared.validity.Validity.{Validity};
 ghost use Rattle.rtr_session.specs.AnyFields.{AnyFields, HasAnyFields};
 ghost use Rattle.rtr_session.specs.SessionForms.{session_form};
 ghost use Rattle.rtr_findings.specs.PayloadNames.{unit_name};
@@ -21,14 +29,18 @@ ghost use Rattle.rtr_c.specs.Checks.{LooksAt, is_bare_aspa, numbered_finding, to
 ghost use Rattle.rtr_c.specs.Compared.{TellsComparison, comparison_told, rtr_left, rtr_right};
 ghost use Rattle.rtr_c.specs.Compared.{WantsMore, stop_compared};
 ghost use Rattle.rtr_c.specs.Kept.{IsShownAgain};
+ghost use Rattle.rtr_c.specs.Lookups.{IsLookup, is_sealed, unsealed};
 ghost use Rattle.rtr_c.specs.Numbers.{code_owed, status_code};
 ghost use Rattle.rtr_c.specs.PrivateRanges.{IsRanged};
+ghost use Rattle.rtr_c.specs.Routes.{ShowsFound, TellsCovering, TellsValidity, validity_number};
 ghost use Rattle.rtr_c.specs.WrittenUnits.{said};
 ghost use Rattle.rtr_c.specs.ShownUnits.{CallShows, IsWrittenAgain, ShowsFirst};
 ghost use Rattle.rtr_c.specs.declared.answer.RtrAnswer.{RtrAnswer};
 ghost use Rattle.rtr_c.specs.declared.check.RtrFinding.{RtrFinding};
 ghost use Rattle.rtr_c.specs.declared.compare.RtrComparison.{RtrComparison};
+ghost use Rattle.rtr_c.specs.declared.lookup.RtrLookup.{RtrLookup};
 ghost use Rattle.rtr_c.specs.declared.unit.RtrUnit.{RtrUnit};
+ghost use Rattle.rtr_c.specs.declared.validation.RtrCovering.{RtrCovering};
 
 use crate::unit::RtrUnit;
 
@@ -158,4 +170,21 @@ pub fn bounded_texts()
         length (unit_name f) ≤ 65528 }
     ensures finding { (offset : ℕ) (f : RtrFinding) → offset < 2 ^ 64 → f.value < 2 ^ 16 →
         f.begun < 2 ^ 16 → length (told_line offset (numbered_finding f)) ≤ 128 }
+{}
+
+/// What `rtr_validate_nonnull` and `rtr_covering_nonnull` return by data that
+/// `rtr_check_data_nonnull` accepted, with the lookup that it made, is what origin validation by
+/// these data says. A lookup that it refused is of no bytes.
+pub fn checked_data()
+    ensures validity { (input : List ℕ) (l : RtrLookup) (d : List Payload) (e : EndMeaning)
+        (p : PrefixParts) (asn code : ℕ) → IsLookup input l → HoldsData input d e →
+        TellsValidity (is_sealed input l) (Some p) input l.tables asn code →
+        (v : Validity) × (code ≡ validity_number v) × IsValidity d p asn v }
+    ensures covering { (input : List ℕ) (l : RtrLookup) (d : List Payload) (e : EndMeaning)
+        (p : PrefixParts) (asn from : ℕ) (shown : RtrCovering) (code : ℕ) →
+        IsLookup input l → HoldsData input d e →
+        TellsCovering (is_sealed input l) (Some p) input l.tables asn from shown code →
+        (found : Option CoveringVrp) × ShowsFound found p asn shown code
+        × IsFirstCovering d p from found }
+    ensures refused { (input : List ℕ) (l : RtrLookup) → is_sealed input (unsealed l) ≡ false }
 {}

@@ -17,7 +17,7 @@ use std::cmp::Ordering;
 
 /// The version of this library, 100 times 100 times the first number of it, 100 times the second,
 /// and the third.
-const WIRE_VERSION: u32 = 200;
+const WIRE_VERSION: u32 = 300;
 
 /// The last time that a machine is told.
 const LAST: u64 = u64::MAX / 2;
@@ -32,7 +32,7 @@ pub(crate) fn clock(now: u64) -> u64
 /// The version of this library as one number.
 #[unsafe(no_mangle)]
 pub extern "C" fn rtr_wire_version() -> u32
-    ensures { result ≡ 200 }
+    ensures { result ≡ 300 }
 {
     WIRE_VERSION
 }

@@ -47,12 +47,16 @@ const _: () = prove!(size_of::<RtrKnown>() == 20);
 pub struct RtrRouter {
     pub settings: RtrSettings,
     pub expires: u64,
+    pub came: u64,
     pub asked: u64,
+    pub tried: u64,
     pub due: u64,
+    pub rises: u64,
     pub bytes: u64,
     pub known: RtrKnown,
     pub answer: RtrKnown,
     pub wait: u32,
+    pub rise_wait: u32,
     pub units: u32,
     pub note: u32,
     pub session: u16,
@@ -64,6 +68,7 @@ pub struct RtrRouter {
     pub floor: u8,
     pub agreed: bool,
     pub fell: bool,
+    pub silent: bool,
     pub changes: bool,
     pub resync: bool,
     pub answered: bool,
@@ -71,8 +76,8 @@ pub struct RtrRouter {
     pub has_data: bool,
 }
 
-// The fields stand one after the other.
-const _: () = prove!(size_of::<RtrRouter>() == 136);
+// The fields stand one after the other, and three bytes are left at the end.
+const _: () = prove!(size_of::<RtrRouter>() == 168);
 
 /// The settings that the struct stands for.
 pub(crate) fn settings_from(settings: &RtrSettings) -> Settings
@@ -173,6 +178,9 @@ pub(crate) fn router_from(router: &RtrRouter) -> Router
         version: router.version,
         agreed: router.agreed,
         fell: router.fell,
+        silent: router.silent,
+        rise_wait: router.rise_wait,
+        rises: router.rises,
         floor: router.floor,
         changes: router.changes,
         resync: router.resync,
@@ -186,25 +194,32 @@ pub(crate) fn router_from(router: &RtrRouter) -> Router
         answer: known_from(&router.answer),
         has_data: router.has_data,
         known: known_from(&router.known),
+        came: router.came,
         expires: router.expires,
         asked: router.asked,
+        tried: router.tried,
         due: router.due,
     }
 }
 
 /// The struct that stands for a machine.
 pub(crate) fn router_to(router: &Router) -> RtrRouter
-    ensures { router_of result ≡ router.now }
+    ensures router { router_of result ≡ router.now }
+    ensures phase { result.phase ≡ phase_number router.now.phase }
 {
     RtrRouter {
         settings: settings_to(&router.settings),
         expires: router.expires,
+        came: router.came,
         asked: router.asked,
+        tried: router.tried,
         due: router.due,
+        rises: router.rises,
         bytes: router.bytes,
         known: known_to(&router.known),
         answer: known_to(&router.answer),
         wait: router.wait,
+        rise_wait: router.rise_wait,
         units: router.units,
         note: router.note,
         session: router.session,
@@ -213,6 +228,7 @@ pub(crate) fn router_to(router: &Router) -> RtrRouter
         floor: router.floor,
         agreed: router.agreed,
         fell: router.fell,
+        silent: router.silent,
         changes: router.changes,
         resync: router.resync,
         answered: router.answered,

@@ -135,7 +135,7 @@ pub(crate) fn action_to(action: Action, version: u8) -> RtrAction
 }
 
 /// The number of a cause.
-fn cause_to(cause: Cause) -> u8
+pub(crate) fn cause_to(cause: Cause) -> u8
     ensures { result ≡ cause_number cause }
 {
     match cause {
@@ -154,6 +154,7 @@ fn cause_to(cause: Cause) -> u8
         Cause::NotApplied => 12,
         Cause::Expired => EXPIRED,
         Cause::Lower => 14,
+        Cause::Higher => 15,
     }
 }
 
@@ -176,6 +177,7 @@ pub(crate) fn cause_from(cause: u8) -> Cause
         12 => Cause::NotApplied,
         EXPIRED => Cause::Expired,
         14 => Cause::Lower,
+        15 => Cause::Higher,
         _ => Cause::Lost,
     }
 }

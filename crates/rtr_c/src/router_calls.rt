@@ -1,9 +1,9 @@
 //! A router's machine: one call for each thing that happens, and what it wants sent.
 
-ghost use Rattle.std.specs.Prelude.{◌≡◌, ℕ, Option, false, min};
+ghost use Rattle.std.specs.Prelude.{◌≡◌, ℕ, Option, min};
 ghost use Rattle.std.specs.Option.{unwrap_or};
 ghost use Rattle.rtr_views.specs.Placing.{Places};
-ghost use Rattle.rtr_router.specs.declared.router.Phase.TheVariants as phases;
+ghost use Rattle.rtr_router.specs.After.{has_data_at, new_router};
 ghost use Rattle.rtr_router.specs.Pace.{wakes_at};
 ghost use Rattle.rtr_router.specs.declared.event.Event.TheVariants as events;
 ghost use Rattle.rtr_conversation.specs.Reading.{Hears};
@@ -46,20 +46,27 @@ pub extern "C" fn rtr_settings_usual(settings: &mut RtrSettings, highest: u8)
 /// Begins a router without data, whatever the struct holds, as `rtr_router::router::Router::new`.
 #[unsafe(no_mangle)]
 pub extern "C" fn rtr_router_init(router: &mut RtrRouter, settings: &RtrSettings)
-    ensures settings { settings_of router.new.settings ≡
-        record (settings_of settings.now) { highest = min settings.now.highest 2 } }
-    ensures phase { (router_of router.new).phase ≡ phases.Offline }
-    ensures has_data { router.new.has_data ≡ false }
-    ensures fell { router.new.fell ≡ false }
-    ensures floor { router.new.floor ≡ 0 }
-    ensures resync { router.new.resync ≡ false }
-    ensures answered { router.new.answered ≡ false }
-    ensures wait { router.new.wait ≡ 1000 }
-    ensures version { router.new.known.version ≡ 0 }
-    ensures asked { router.new.asked ≡ 0 }
-    ensures due { router.new.due ≡ 0 }
+    ensures { router_of router.new ≡ new_router (settings_of settings.now) }
 {
     *router = router_to(&Router::new(settings_from(settings)));
+}
+
+/// Begins a router without data again, which goes on with its cache, as
+/// `rtr_router::router::Router::again`.
+#[unsafe(no_mangle)]
+pub extern "C" fn rtr_router_again(router: &mut RtrRouter)
+    ensures { router_of router.new ≡
+        record (new_router (settings_of router.old.settings)) { wait = router.old.wait } }
+{
+    *router = router_to(&router_from(router).again());
+}
+
+/// Whether the router has data at this time.
+#[unsafe(no_mangle)]
+pub extern "C" fn rtr_router_has_data(router: &RtrRouter, now: u64) -> bool
+    ensures { result ≡ has_data_at (router_of router.now) now }
+{
+    router_from(router).has_data_at(now)
 }
 
 /// When the router is to be told that time passed, if nothing comes before.
@@ -86,6 +93,14 @@ pub extern "C" fn rtr_router_tick(router: &mut RtrRouter, now: u64, action: &mut
     ensures { IsRouterStep router.old (clock now) events.Tick action.new router.new }
 {
     *action = step(router, now, Event::Tick);
+}
+
+/// The caller wants the present data.
+#[unsafe(no_mangle)]
+pub extern "C" fn rtr_router_asked(router: &mut RtrRouter, now: u64, action: &mut RtrAction)
+    ensures { IsRouterStep router.old (clock now) events.Asked action.new router.new }
+{
+    *action = step(router, now, Event::Asked);
 }
 
 /// The connection is there.

@@ -1,4 +1,5 @@
-//! The texts of statuses, and the names of kinds, causes, reasons and error codes.
+//! The texts of statuses and of rules on times, and the names of kinds, causes, reasons and error
+//! codes.
 
 ghost use Rattle.std.specs.Prelude.{◌≡◌, codes};
 ghost use Rattle.std.specs.Option.{option_copied};
@@ -8,12 +9,14 @@ ghost use Rattle.rtr_c.specs.Texts.{AnswersText, cause_name, name_or, name_said,
 ghost use Rattle.rtr_c.specs.Texts.{reason_name, status_name, status_said};
 
 use crate::answer::{
-    ACCEPTED, DUPLICATE, EMPTY_PROVIDERS, NO_FORM, NO_INDEX, NO_ROOM, NOT_CANONICAL, OTHER_SESSION,
-    PREFIX, SHORT, TOO_LONG, TOO_MANY, UNDECIDED, UNIT_LENGTH, UNIT_TYPE, UNIT_VERSION, UNKNOWN,
+    ACCEPTED, DUPLICATE, EMPTY_PROVIDERS, NO_FORM, NO_INDEX, NO_ROOM, NOT_CANONICAL, OLD_SERIAL,
+    OTHER_SESSION, OTHER_VERSION, PREFIX, REPORT_INSIDE, RESET_INSIDE, SHORT, TOO_LONG, TOO_MANY,
+    TOO_MANY_MEMBERS, UNDECIDED, UNIT_LENGTH, UNIT_TYPE, UNIT_VERSION, UNKNOWN,
 };
 use crate::lines::room_status;
 use crate::router_action::{cause_from, refusal_from};
 use crate::serving::reason_from;
+use crate::times::time_rule;
 use rtr_base::error_code::ErrorCode;
 use rtr_conversation::Refusal;
 use rtr_texts::laying;
@@ -28,9 +31,11 @@ const CAUSE: u8 = 2;
 const REASON: u8 = 3;
 /// The code of an error report.
 const CODE: u8 = 4;
+/// A rule on the times that a cache names.
+const TIME_RULE: u8 = 5;
 
 /// How many causes there are.
-const CAUSES: u16 = 15;
+const CAUSES: u16 = 16;
 
 /// How many reasons there are.
 const REASONS: u16 = 10;
@@ -52,8 +57,9 @@ pub extern "C" fn rtr_text_nonnull(
     room_status(end, room)
 }
 
-/// The name of a status (`named` is 0), a kind (1), a cause (2), a reason (3) or an error code (4);
-/// of another `named` nothing. It is laid as by `rtr_text_nonnull`.
+/// The name of a status (`named` is 0), a kind (1), a cause (2), a reason (3) or an error code (4),
+/// or the text of a rule on times (5); of another `named` nothing. It is laid as by
+/// `rtr_text_nonnull`.
 #[unsafe(no_mangle)]
 pub extern "C" fn rtr_name_nonnull(
     named: u8,
@@ -128,6 +134,11 @@ fn text_of_status(status: u8) -> Option<&'static str>
         UNKNOWN => Some(Refusal::Unknown.name()),
         UNDECIDED => Some("an ASPA is announced and then withdrawn"),
         NO_INDEX => Some("no room in the index"),
+        TOO_MANY_MEMBERS => Some("too many members"),
+        OTHER_VERSION => Some("of another version than the units before"),
+        OLD_SERIAL => Some("serial number before that of the data"),
+        RESET_INSIDE => Some("cache reset inside an answer"),
+        REPORT_INSIDE => Some("error report inside an answer"),
         _ => None,
     }
 }
@@ -142,6 +153,7 @@ fn lay_name(output: &mut [u8], named: u8, number: u16) -> usize
         CAUSE => lay_or(output, cause(number), "unknown cause ", number),
         REASON => lay_or(output, reason(number), "unknown reason ", number),
         CODE => lay_or(output, ErrorCode(number).name(), "error code ", number),
+        TIME_RULE => lay_or(output, time_rule(number), "unknown time rule ", number),
         _ => laying::text(output, 0, ""),
     }
 }

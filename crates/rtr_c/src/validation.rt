@@ -1,17 +1,29 @@
-//! Whether a route is valid, by the origins of data.
+//! Whether a route is valid, by the origins of data that were checked.
 
-ghost use Rattle.std.specs.Prelude.{◌≡◌};
+ghost use Rattle.std.specs.Prelude.{◌≡◌, true};
 ghost use Rattle.std.specs.Option.{option_map};
-ghost use Rattle.rtr_validation.specs.Tables.{AreTables};
-ghost use Rattle.rtr_c.specs.Routes.{ShowsOne, ShowsCovering, TellsCovering, TellsValidity};
-ghost use Rattle.rtr_c.specs.Routes.{mismatch_number, route_prefix, validity_number};
+ghost use Rattle.rtr_c.specs.Lookups.{is_sealed};
+ghost use Rattle.rtr_c.specs.Routes.{ShowsCovering, ShowsNone, ShowsOne, TellsCovering};
+ghost use Rattle.rtr_c.specs.Routes.{TellsValidity, mismatch_number, route_prefix, validity_number};
 
+use crate::lookup::RtrLookup;
 use rtr_units::numbers::{u32_at, u128_at};
 use rtr_validation::{CoveringVrp, Mismatch, Route, Tables, Validity, first_covering, validate};
 use rtr_wire::base::{Asn, Prefix};
 
 /// The family or the prefix length of a route is none.
 const NO_ROUTE: u8 = 3;
+/// The data weren't checked.
+const UNCHECKED: u8 = 4;
+
+/// No VRP covers the route.
+const COVERS_NONE: u8 = 0;
+/// One covers it.
+const COVERS_ONE: u8 = 1;
+/// The family or the prefix length of a route is none.
+const COVERS_NO_ROUTE: u8 = 2;
+/// The data weren't checked.
+const COVERS_UNCHECKED: u8 = 3;
 
 /// A route.
 #[repr(C)]
@@ -49,19 +61,24 @@ pub struct RtrCovering {
 // The fields stand one after the other, and a byte is left at the end.
 const _: () = prove!(size_of::<RtrCovering>() == 16);
 
-/// As `Tables::of`.
+/// As `rtr_validation::validate`: 0 not found, 1 valid, 2 invalid; 3 where the family or the prefix
+/// length is none; 4 where these aren't the data that the lookup was made of.
 #[unsafe(no_mangle)]
-pub extern "C" fn rtr_tables_nonnull(data: &[u8], tables: &mut Tables)
-    ensures { AreTables «data».now tables.new }
+pub extern "C" fn rtr_validate_nonnull(data: &[u8], lookup: &RtrLookup, route: &RtrRoute) -> u8
+    ensures { TellsValidity (is_sealed «data».now lookup.now) (route_prefix route.now) «data».now
+        lookup.now.tables route.now.asn result }
 {
-    *tables = Tables::of(data);
+    if !lookup.is_of(data) {
+        return UNCHECKED;
+    }
+    checked_validity(data, &lookup.tables, route)
 }
 
-/// As `rtr_validation::validate`: 0 not found, 1 valid, 2 invalid; 3 where the family or the prefix
-/// length is none.
-#[unsafe(no_mangle)]
-pub extern "C" fn rtr_validate_nonnull(data: &[u8], tables: &Tables, route: &RtrRoute) -> u8
-    ensures { TellsValidity (route_prefix route.now) «data».now tables.now route.now.asn result }
+/// The same of data that were checked.
+#[inline(always)]
+fn checked_validity(data: &[u8], tables: &Tables, route: &RtrRoute) -> u8
+    ensures { TellsValidity true (route_prefix route.now) «data».now tables.now route.now.asn
+        result }
 {
     match route_of(route) {
         Some(route) => validity_number(validate(data, tables, &route)),
@@ -69,49 +86,69 @@ pub extern "C" fn rtr_validate_nonnull(data: &[u8], tables: &Tables, route: &Rtr
     }
 }
 
-/// As `rtr_validation::first_covering`, and whether there is one. Without one all of `covering` is
-/// 0.
+/// As `rtr_validation::first_covering`: 0 none, 1 one; 2 where the family or the prefix length is
+/// none; 3 where these aren't the data that the lookup was made of. Without one all of `covering`
+/// is 0.
 #[unsafe(no_mangle)]
 pub extern "C" fn rtr_covering_nonnull(
+    data: &[u8],
+    lookup: &RtrLookup,
+    route: &RtrRoute,
+    from: usize,
+    covering: &mut RtrCovering,
+) -> u8
+    ensures { TellsCovering (is_sealed «data».now lookup.now) (route_prefix route.now) «data».now
+        lookup.now.tables route.now.asn from covering.new result }
+{
+    if !lookup.is_of(data) {
+        return show_none(COVERS_UNCHECKED, covering);
+    }
+    checked_covering(data, &lookup.tables, route, from, covering)
+}
+
+/// The same of data that were checked.
+#[inline(always)]
+fn checked_covering(
     data: &[u8],
     tables: &Tables,
     route: &RtrRoute,
     from: usize,
     covering: &mut RtrCovering,
-) -> bool
-    ensures { TellsCovering (route_prefix route.now) «data».now tables.now route.now.asn from
+) -> u8
+    ensures { TellsCovering true (route_prefix route.now) «data».now tables.now route.now.asn from
         covering.new result }
 {
     let Some(route) = route_of(route) else {
-        return show(None, covering);
+        return show_none(COVERS_NO_ROUTE, covering);
     };
     match first_covering(data, tables, route.prefix, from) {
-        Some(found) => show(Some(shown(&found, &route)), covering),
-        None => show(None, covering),
+        Some(found) => show_one(shown(&found, &route), covering),
+        None => show_none(COVERS_NONE, covering),
     }
 }
 
-/// Puts what is shown, or 0 in all of it, and answers whether something is.
+/// Puts the VRP that is shown.
 #[inline(always)]
-fn show(shown: Option<RtrCovering>, covering: &mut RtrCovering) -> bool
+fn show_one(shown: RtrCovering, covering: &mut RtrCovering) -> u8
     ensures { ShowsOne shown covering.new result }
 {
-    match shown {
-        Some(shown) => {
-            *covering = shown;
-            true
-        }
-        None => {
-            *covering = RtrCovering {
-                place: 0,
-                asn: 0,
-                prefix_length: 0,
-                max_length: 0,
-                mismatch: 0,
-            };
-            false
-        }
-    }
+    *covering = shown;
+    COVERS_ONE
+}
+
+/// Puts 0 in all of it, and returns this code.
+#[inline(always)]
+fn show_none(code: u8, covering: &mut RtrCovering) -> u8
+    ensures { ShowsNone code covering.new result }
+{
+    *covering = RtrCovering {
+        place: 0,
+        asn: 0,
+        prefix_length: 0,
+        max_length: 0,
+        mismatch: 0,
+    };
+    code
 }
 
 /// The route, unless its family or its prefix length is none.

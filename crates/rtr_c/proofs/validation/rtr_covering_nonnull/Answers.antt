@@ -1,28 +1,19 @@
-use Rattle.std.proofs.Common.{Some, None}
+use Rattle.std.proofs.Common.{sym, ◌∙◌}
+use Rattle.rtr_c.specs.Lookups.{is_sealed}
 use Rattle.rtr_c.specs.Routes.{route_prefix}
-use Rattle.rtr_c.proofs.Routes.{is_said, shows_one, tells_covering}
+use Rattle.rtr_c.proofs.Routes.{sealed_covering, unsealed_covering}
 use Rattle.rtr_c.proofs.validation.rtr_covering_nonnull.Goals as goal
 
-pub returns-in-Some-first_covering : goal.returns-in-Some-first_covering
-returns-in-Some-first_covering c =
-    let r = c.in-Some.route in
-    let prefix = route_prefix c.args.route.now in
-    let asn = c.args.route.now.asn in
-    let s = c.show-in-Some-first_covering in
-    let out = s.new.covering in
-    let found = c.in-Some-first_covering.found in
-    tells_covering prefix c.args.«data».now c.args.tables.now asn c.args.from out s.result
-    r (Some found) (is_said prefix asn r c.route_of.result c.route_of.ensures c.in-Some.is)
-    (shows_one found r.prefix r.asn c.shown.result out s.result c.shown.ensures s.ensures)
-    c.in-Some-first_covering.ensures.least c.in-Some-first_covering.ensures.first
+pub returns-then-not-is_of : goal.returns-then-not-is_of
+returns-then-not-is_of c =
+    unsealed_covering (is_sealed c.args.«data».now c.args.lookup.now)
+    (route_prefix c.args.route.now) c.args.«data».now c.args.lookup.now.tables
+    c.args.route.now.asn c.args.from c.show_none.new.covering c.show_none.result
+    (sym c.is_of.ensures ∙ c.if-not-is_of.true) c.show_none.ensures
 
-pub returns-in-None : goal.returns-in-None
-returns-in-None c =
-    let r = c.in-Some.route in
-    let prefix = route_prefix c.args.route.now in
-    let asn = c.args.route.now.asn in
-    let s = c.show-in-None in
-    let out = s.new.covering in
-    tells_covering prefix c.args.«data».now c.args.tables.now asn c.args.from out s.result
-    r None (is_said prefix asn r c.route_of.result c.route_of.ensures c.in-Some.is) s.ensures
-    c.in-None.ensures.least c.in-None.ensures.first
+pub returns : goal.returns
+returns c =
+    sealed_covering (is_sealed c.args.«data».now c.args.lookup.now)
+    (route_prefix c.args.route.now) c.args.«data».now c.args.lookup.now.tables
+    c.args.route.now.asn c.args.from c.checked_covering.new.covering c.checked_covering.result
+    (sym c.is_of.ensures ∙ c.if-not-is_of.false) c.checked_covering.ensures

@@ -1,0 +1,28 @@
+-- What calls for a router's end promise, of the structs that stand for clients.
+use Rattle.std.proofs.Common.{◌≡◌, ◌≤◌, ℕ, List, length, true, sym, subst}
+use Rattle.rtr_router.specs.Pace.{wakes_at}
+use Rattle.rtr_client.specs.Holding.{Fits}
+use Rattle.rtr_client.specs.declared.client.Client.{Client}
+use Rattle.rtr_client.specs.declared.next.Todo.{Todo}
+use Rattle.rtr_c.specs.LinkTodos.{TellsTodo, todo_told}
+use Rattle.rtr_c.specs.Links.{client_of, is_begun}
+use Rattle.rtr_c.specs.declared.link.RtrLink.{RtrLink}
+use Rattle.rtr_c.specs.declared.link_todo.RtrTodo.{RtrTodo}
+
+pub tells : (now : ℕ) (l : RtrLink) (k : Client) (input output : List ℕ) (a : RtrTodo) (t : Todo) →
+    client_of l ≡ k → a ≡ todo_told t k.second (wakes_at k.router) → l.latest ≡ now →
+    is_begun l ≡ true → Fits k input → k.unsent ≤ length output → TellsTodo now l input output a t
+tells now l k input output a t e told latest begun fits room = record {
+  told =
+      subst (λ (k : Client). a ≡ todo_told t k.second (wakes_at k.router)) (sym e) told;
+  latest = latest;
+  begun = begun;
+  fits = subst (λ (k : Client). Fits k input) (sym e) fits;
+  room = subst (λ (k : Client). k.unsent ≤ length output) (sym e) room;
+}
+
+-- what holds of two clients holds of the structs that stand for them
+pub both_of : (P : Client → Client → Type 0) (k k' l l' : Client) → k ≡ l → l' ≡ k' → P k k' →
+    P l l'
+both_of P k k' l l' e f p =
+    subst (λ (x : Client). P l x) (sym f) (subst (λ (x : Client). P x k') e p)

@@ -1,0 +1,36 @@
+use Rattle.std.proofs.Common.{◌∙◌, ap}
+use Rattle.rtr_client.specs.declared.client.Client.{Client}
+use Rattle.rtr_c.specs.LinkTodos.{GivesUpRoom, todo_told}
+use Rattle.rtr_c.specs.Links.{client_of}
+use Rattle.rtr_c.proofs.LinksTold.{both_of, tells}
+use Rattle.rtr_c.proofs.link_calls.give_up.Goals as goal
+
+pub returns : goal.returns
+returns c =
+    let t = c.give_up-todo.result in
+    let k = c.client_from-client.result in
+    let k' = c.give_up-todo.new.self in
+    let l = c.args.link.now in
+    let l' = c.link_to.result in
+    let told = c.todo_to.ensures ∙ ap (todo_told t k'.second) c.wakes.ensures in
+    let begun =
+    c.link_to.ensures.begun c.give_up-todo.ensures.step c.give_up-todo.ensures.fits.due in (
+      t,
+      tells c.args.now l' k' c.give_up-todo.new.input c.give_up-todo.new.output c.todo_to.result t
+          c.link_to.ensures.client told c.link_to.ensures.latest begun c.give_up-todo.ensures.fits
+          c.give_up-todo.ensures.room,
+      both_of
+          (λ (k k' : Client). GivesUpRoom c.args.now k c.args.input.now c.args.output.now k'
+          c.give_up-todo.new.input c.give_up-todo.new.output t)
+          k k' (client_of l) (client_of l') c.client_from-client.ensures.client
+          c.link_to.ensures.client
+          (record {
+            takes = record {
+              serves = c.give_up-todo.ensures.serves;
+              second = c.give_up-todo.ensures.second;
+              turns = c.give_up-todo.ensures.turns;
+              names = c.give_up-todo.ensures.names;
+            };
+            gives = c.give_up-todo.ensures.gives;
+          }),
+    )

@@ -1,0 +1,39 @@
+use Rattle.std.proofs.Common.{◌∙◌, ap, length}
+use Rattle.rtr_client.specs.declared.client.Client.{Client}
+use Rattle.rtr_c.specs.LinkTodos.{TakesTurn, todo_told}
+use Rattle.rtr_c.specs.Links.{client_of}
+use Rattle.rtr_c.proofs.LinksTold.{both_of, tells}
+use Rattle.rtr_c.proofs.link_calls.take_turn.Goals as goal
+
+pub returns : goal.returns
+returns c =
+    let t = c.next-todo.result in
+    let k = c.client_from-client.result in
+    let k' = c.next-todo.new.self in
+    let l = c.args.link.now in
+    let l' = c.link_to.result in
+    let told = c.todo_to.ensures ∙ ap (todo_told t k'.second) c.wakes.ensures in
+    let begun =
+    c.link_to.ensures.begun c.next-todo.ensures.step c.next-todo.ensures.fits.due in (
+      t,
+      tells c.args.now l' k' c.next-todo.new.input c.next-todo.new.output c.todo_to.result t
+          c.link_to.ensures.client told c.link_to.ensures.latest begun c.next-todo.ensures.fits
+          c.next-todo.ensures.room,
+      both_of
+          (λ (k k' : Client). TakesTurn c.args.now k c.args.input.now c.args.first.now
+          c.args.second.now (length c.args.index.now) c.args.output.now k' c.next-todo.new.input
+          c.next-todo.new.first c.next-todo.new.second c.next-todo.new.output t)
+          k k' (client_of l) (client_of l') c.client_from-client.ensures.client
+          c.link_to.ensures.client
+          (record {
+            serves = c.next-todo.ensures.serves;
+            turns = c.next-todo.ensures.turns;
+            full = c.next-todo.ensures.full;
+            names = c.next-todo.ensures.names;
+            ends = c.next-todo.ensures.ends;
+            still = c.next-todo.ensures.still;
+            index = c.next-todo.ensures.index;
+            enough = c.next-todo.ensures.enough;
+            rests = c.next-todo.ensures.rests;
+          }),
+    )

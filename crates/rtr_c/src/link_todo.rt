@@ -1,0 +1,182 @@
+//! What a caller of the calls for a router's end has to do next, in numbers.
+
+ghost use Rattle.std.specs.Prelude.{◌≡◌};
+ghost use Rattle.rtr_c.specs.LinkTodos.{close_todo, detail_of_refusal, plain_todo, refused_todo};
+ghost use Rattle.rtr_c.specs.LinkTodos.{room_todo, status_of_refusal, todo_told};
+
+use crate::answer::{
+    ACCEPTED, DUPLICATE, EMPTY_PROVIDERS, PREFIX, SHORT, TOO_LONG, UNIT_LENGTH, UNIT_TYPE,
+    UNIT_VERSION, UNKNOWN, rule_number,
+};
+use crate::router_action::cause_to;
+use rtr_client::next::Todo;
+use rtr_conversation::Refusal;
+use rtr_router::event::Ending;
+
+const NOTHING: u8 = 0;
+
+const GO: u8 = 1;
+
+const WAIT: u8 = 2;
+
+const CONNECT: u8 = 3;
+
+const CLOSE: u8 = 4;
+
+const DATA: u8 = 5;
+
+const DROPPED: u8 = 6;
+
+const NO_DATA: u8 = 7;
+
+const INPUT_ROOM: u8 = 8;
+
+const FIRST_ROOM: u8 = 9;
+
+const SECOND_ROOM: u8 = 10;
+
+const INDEX_ROOM: u8 = 11;
+
+const OUTPUT_ROOM: u8 = 12;
+
+/// What a caller has to do next: as `rtr_client::Todo`. Fields that it doesn't have are zero.
+#[repr(C)]
+#[derive(Clone, Copy)]
+pub struct RtrTodo {
+    /// When to call again, if nothing comes before; 0 where the call was refused.
+    pub wakes: u64,
+    /// The length that a buffer needs.
+    pub room: usize,
+    /// The offset in the input of the unit that ends the connection, or of the report that says
+    /// that there are no data.
+    pub offset: usize,
+    /// The code of the report that is owed.
+    pub code: u16,
+    /// What is to be done.
+    pub kind: u8,
+    /// Why the connection ends.
+    pub cause: u8,
+    /// The status of a unit or a change that is refused, and its detail.
+    pub status: u8,
+    pub detail: u8,
+    /// Whether there are no data any more.
+    pub drops: bool,
+    /// Whether a report is owed.
+    pub reports: bool,
+}
+
+// The fields stand one after the other.
+const _: () = prove!(size_of::<RtrTodo>() == 32);
+
+/// Something that has no fields.
+fn plain(kind: u8, wakes: u64) -> RtrTodo
+    ensures { result ≡ plain_todo kind wakes }
+{
+    RtrTodo {
+        wakes,
+        room: 0,
+        offset: 0,
+        code: 0,
+        kind,
+        cause: 0,
+        status: 0,
+        detail: 0,
+        drops: false,
+        reports: false,
+    }
+}
+
+/// Nothing is to be done: the call was refused.
+pub(crate) fn refused() -> RtrTodo
+    ensures { result ≡ refused_todo }
+{
+    plain(NOTHING, 0)
+}
+
+/// A buffer needs this length.
+fn room(kind: u8, room: usize, wakes: u64) -> RtrTodo
+    ensures { result ≡ room_todo kind room wakes }
+{
+    RtrTodo {
+        room,
+        ..plain(kind, wakes)
+    }
+}
+
+/// What a caller has to do next, in numbers, where the data are in the second buffer or not, and
+/// the machine is to be called again at this time.
+pub(crate) fn todo_to(todo: &Todo, second: bool, wakes: u64) -> RtrTodo
+    ensures { result ≡ todo_told todo.now second wakes }
+{
+    match todo {
+        Todo::Go => plain(GO, wakes),
+        Todo::Wait => plain(WAIT, wakes),
+        Todo::Connect => plain(CONNECT, wakes),
+        Todo::Close {
+            ending,
+            refusal,
+            offset,
+        } => RtrTodo {
+            offset: *offset,
+            wakes,
+            ..close_to(ending, *refusal)
+        },
+        Todo::Data => plain(DATA, wakes),
+        Todo::Dropped => plain(DROPPED, wakes),
+        Todo::NoData { offset } => RtrTodo {
+            offset: *offset,
+            ..plain(NO_DATA, wakes)
+        },
+        Todo::InputRoom(size) => room(INPUT_ROOM, *size, wakes),
+        Todo::DataRoom(size) => {
+            let kind = if second { FIRST_ROOM } else { SECOND_ROOM };
+            room(kind, *size, wakes)
+        }
+        Todo::IndexRoom(size) => room(INDEX_ROOM, *size, wakes),
+        Todo::OutputRoom(size) => room(OUTPUT_ROOM, *size, wakes),
+    }
+}
+
+/// The end of a connection in numbers.
+fn close_to(ending: &Ending, refusal: Option<Refusal>) -> RtrTodo
+    ensures { result ≡ close_todo ending.now refusal 0 0 }
+{
+    RtrTodo {
+        code: ending.report.unwrap_or(0),
+        cause: cause_to(ending.cause),
+        status: status_of_refusal(refusal),
+        detail: detail_of_refusal(refusal),
+        drops: ending.drop,
+        reports: ending.report.is_some(),
+        ..plain(CLOSE, 0)
+    }
+}
+
+/// The status of a unit or a change that is refused.
+fn status_of_refusal(refusal: Option<Refusal>) -> u8
+    ensures { result ≡ status_of_refusal refusal }
+{
+    match refusal {
+        None => ACCEPTED,
+        Some(Refusal::Short) => SHORT,
+        Some(Refusal::UnitType(_)) => UNIT_TYPE,
+        Some(Refusal::UnitVersion(_)) => UNIT_VERSION,
+        Some(Refusal::TooLong) => TOO_LONG,
+        Some(Refusal::UnitLength) => UNIT_LENGTH,
+        Some(Refusal::EmptyProviders) => EMPTY_PROVIDERS,
+        Some(Refusal::Prefix(_)) => PREFIX,
+        Some(Refusal::Duplicate) => DUPLICATE,
+        Some(Refusal::Unknown) => UNKNOWN,
+    }
+}
+
+/// The type, the version or the broken rule of a refusal, or 0.
+fn detail_of_refusal(refusal: Option<Refusal>) -> u8
+    ensures { result ≡ detail_of_refusal refusal }
+{
+    match refusal {
+        Some(Refusal::UnitType(number)) | Some(Refusal::UnitVersion(number)) => number,
+        Some(Refusal::Prefix(Some(rule))) => rule_number(rule),
+        _ => 0,
+    }
+}

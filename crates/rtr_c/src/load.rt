@@ -1,0 +1,198 @@
+//! A recording or a list, loaded as data.
+
+ghost use Rattle.std.specs.Prelude.{◌≡◌, ◌≢◌, ◌≤◌, ◌/◌, ℕ, Result, length, min};
+ghost use Rattle.rtr_load.specs.Loading.{LoadsFrom, RefusesLoad};
+ghost use Rattle.rtr_load.specs.declared.fault.LoadFault.{LoadFault};
+ghost use Rattle.rtr_load.specs.declared.recording.Loaded.{Loaded};
+ghost use Rattle.rtr_c.specs.Answers.{rtr_no_index, rtr_no_room};
+ghost use Rattle.rtr_c.specs.LoadAnswers.{AnswersLoad, change_status, data_loaded, load_answer};
+ghost use Rattle.rtr_c.specs.LoadAnswers.{load_fault_detail, load_refused, load_fault_status, load_fault_wanted};
+ghost use Rattle.rtr_c.specs.LoadAnswers.{nothing_loaded, recorded_status};
+
+use crate::answer::{
+    ACCEPTED, DUPLICATE, EMPTY_PROVIDERS, NO_INDEX, NO_ROOM, OLD_SERIAL, OTHER_SESSION,
+    OTHER_VERSION, REPORT_INSIDE, RESET_INSIDE, TOO_LONG, UNKNOWN, WRITER, fault_detail,
+    fault_status,
+};
+use crate::next::wanted;
+use rtr_data::ChangeError;
+use rtr_load::{LoadFault, LoadReason, Loaded};
+use rtr_recordings::Refusal;
+use rtr_wire::pdu::ViewFault;
+
+/// What was loaded, or why nothing was.
+#[repr(C)]
+#[derive(Drop)]
+pub struct RtrLoaded {
+    /// The length of the data in bytes. Unless the call succeeded it is 0.
+    pub length: usize,
+    /// Where the unit at fault begins in the input, or 0 if none is at fault.
+    pub offset: usize,
+    /// With `SHORT`, how many bytes from there on are needed at least, as in an `RtrAnswer`. With
+    /// `NO_INDEX`, how many places the index needs at least. Otherwise 0.
+    pub wanted: usize,
+    /// The serial number of the data.
+    pub serial: u32,
+    /// The refresh interval of the data, in seconds; 0 in version 0.
+    pub refresh: u32,
+    /// The retry interval, as the refresh interval.
+    pub retry: u32,
+    /// The expire interval, as the refresh interval.
+    pub expire: u32,
+    /// The session of the data.
+    pub session: u16,
+    /// The protocol version of the data.
+    pub version: u8,
+    /// Whether an answer was left out, since the next one began before its end of data.
+    pub has_cut: bool,
+    /// How the call ended.
+    pub status: u8,
+    /// With `OTHER_VERSION` the version of the unit at fault, else as in an `RtrAnswer`.
+    pub detail: u8,
+}
+
+// The fields stand one after the other, and two bytes are left at the end.
+const _: () = prove!(size_of::<RtrLoaded>() == 48);
+
+/// As `rtr_load::load`.
+#[unsafe(no_mangle)]
+pub extern "C" fn rtr_load_nonnull(
+    input: &[u8],
+    index: &mut [usize],
+    work: &mut [u8],
+    output: &mut [u8],
+    loaded: &mut RtrLoaded,
+) -> u8
+    ensures loads { (r : Result Loaded LoadFault)
+        × LoadsFrom r input.now (length index.old) (min (length work.old) (length output.old))
+        output.new
+        × AnswersLoad (load_answer r input.now) loaded.new result }
+    ensures index { length input.now / 12 ≤ length index.old → result ≢ rtr_no_index }
+    ensures room { length input.now ≤ min (length work.old) (length output.old) →
+        result ≢ rtr_no_room }
+{
+    *loaded = match rtr_load::load(input, index, work, output) {
+        Ok(whole) => RtrLoaded::of(&whole),
+        Err(fault) => RtrLoaded::refused(&fault, input),
+    };
+    loaded.status
+}
+
+impl RtrLoaded {
+    /// No data, for this reason.
+    fn nothing(status: u8) -> Self
+        ensures { result ≡ nothing_loaded status }
+    {
+        RtrLoaded {
+            length: 0,
+            offset: 0,
+            wanted: 0,
+            serial: 0,
+            refresh: 0,
+            retry: 0,
+            expire: 0,
+            session: 0,
+            version: 0,
+            has_cut: false,
+            status,
+            detail: 0,
+        }
+    }
+
+    /// The data that were loaded.
+    fn of(whole: &Loaded) -> Self
+        ensures { result ≡ data_loaded whole.now }
+    {
+        let end = &whole.end;
+        let mut loaded = RtrLoaded::nothing(ACCEPTED);
+        loaded.length = whole.length;
+        loaded.has_cut = whole.has_cut;
+        loaded.serial = end.serial().0;
+        loaded.session = end.session();
+        loaded.version = end.version();
+        if let Some(timing) = end.timing() {
+            loaded.refresh = timing.refresh;
+            loaded.retry = timing.retry;
+            loaded.expire = timing.expire;
+        }
+        loaded
+    }
+
+    /// No data, for this fault of the input or of a buffer.
+    fn refused(fault: &LoadFault, input: &[u8]) -> Self
+        requires { (places : ℕ) × (room : ℕ) × RefusesLoad fault.now input.now places room }
+        ensures { result ≡ load_refused fault.now input.now }
+    {
+        match fault {
+            LoadFault::Refused { offset, reason } => RtrLoaded {
+                offset: *offset,
+                wanted: reason_wanted(reason, &input[*offset..]),
+                detail: reason_detail(reason),
+                ..RtrLoaded::nothing(reason_status(reason))
+            },
+            LoadFault::NoIndex { wanted } => RtrLoaded {
+                wanted: *wanted,
+                ..RtrLoaded::nothing(NO_INDEX)
+            },
+            LoadFault::NoRoom => RtrLoaded::nothing(NO_ROOM),
+        }
+    }
+}
+
+/// The status of what is wrong with a unit.
+fn reason_status(reason: &LoadReason) -> u8
+    ensures { result ≡ load_fault_status reason.now }
+{
+    match reason {
+        LoadReason::Read(fault) => fault_status(fault),
+        LoadReason::Refused(refusal) => refusal_status(*refusal),
+        LoadReason::UnitVersion(_) => OTHER_VERSION,
+    }
+}
+
+/// The status of a unit that a recording can't have there.
+fn refusal_status(refusal: Refusal) -> u8
+    ensures { result ≡ recorded_status refusal }
+{
+    match refusal {
+        Refusal::Change(error) => change_status(error),
+        Refusal::Session(_, _) => OTHER_SESSION,
+        Refusal::Serial(_, _) => OLD_SERIAL,
+        Refusal::CacheReset => RESET_INSIDE,
+        Refusal::ErrorReport => REPORT_INSIDE,
+    }
+}
+
+/// The status of a change that isn't made.
+fn change_status(error: ChangeError) -> u8
+    ensures { result ≡ change_status error }
+{
+    match error {
+        ChangeError::Duplicate => DUPLICATE,
+        ChangeError::Unknown => UNKNOWN,
+        ChangeError::KeyTooLong => TOO_LONG,
+        ChangeError::NoProviders => EMPTY_PROVIDERS,
+        ChangeError::Memory => WRITER,
+    }
+}
+
+/// The type, the version or the broken rule that is refused, or 0.
+fn reason_detail(reason: &LoadReason) -> u8
+    ensures { result ≡ load_fault_detail reason.now }
+{
+    match reason {
+        LoadReason::Read(fault) => fault_detail(fault),
+        LoadReason::Refused(_) => 0,
+        LoadReason::UnitVersion(version) => *version,
+    }
+}
+
+/// How many bytes are needed at least of a unit that is cut off, where the input has these, or 0.
+fn reason_wanted(reason: &LoadReason, left: &[u8]) -> usize
+    ensures { result ≡ load_fault_wanted reason.now left.now }
+{
+    match reason {
+        LoadReason::Read(ViewFault::Short) => wanted(left),
+        _ => 0,
+    }
+}

@@ -1,0 +1,70 @@
+//! What lookups of routes need of data: made of data that are checked.
+
+ghost use Rattle.std.specs.Prelude.{◌≡◌, Option};
+ghost use Rattle.rtr_slices.specs.declared.fault.Flaw.{Flaw};
+ghost use Rattle.rtr_c.specs.Lookups.{ChecksData, IsLookup, is_sealed};
+
+use crate::data_answer::{FIRST, RtrDataAnswer};
+use rtr_slices::check_data;
+use rtr_validation::Tables;
+
+/// Where the prefixes of data lie that were checked. One that no check filled isn't sealed.
+#[repr(C)]
+#[derive(Clone, Copy)]
+pub struct RtrLookup {
+    /// How many bytes the data are of, or 0.
+    pub length: usize,
+    /// What this length is below the greatest number.
+    pub seal: usize,
+    /// The tables of the data.
+    pub tables: Tables,
+}
+
+// The fields stand one after the other.
+const _: () = prove!(size_of::<RtrLookup>() == 2344);
+
+impl RtrLookup {
+    /// The lookup of data.
+    fn of(data: &[u8]) -> Self
+        ensures { IsLookup «data».now result }
+    {
+        RtrLookup {
+            length: data.len(),
+            seal: usize::MAX - data.len(),
+            tables: Tables::of(data),
+        }
+    }
+
+    /// Whether it was made of data of this length.
+    #[inline(always)]
+    pub(crate) fn is_of(&self, data: &[u8]) -> bool
+        ensures { result ≡ is_sealed «data».now self.now }
+    {
+        self.length == data.len() && self.seal == usize::MAX - data.len()
+    }
+}
+
+/// As `rtr_slices::check_data`: where the input begins with data, the lookup is theirs, and else it
+/// is of none.
+#[unsafe(no_mangle)]
+pub extern "C" fn rtr_check_data_nonnull(
+    data: &[u8],
+    lookup: &mut RtrLookup,
+    answer: &mut RtrDataAnswer,
+) -> u8
+    ensures { (r : Option Flaw) × ChecksData r «data».now lookup.old lookup.new answer.new result }
+{
+    match check_data(data) {
+        Ok(_end) => {
+            *lookup = RtrLookup::of(data);
+            *answer = RtrDataAnswer::wrote(0);
+            answer.status
+        }
+        Err(flaw) => {
+            lookup.length = 0;
+            lookup.seal = 0;
+            *answer = RtrDataAnswer::of_flaw(FIRST, &flaw);
+            answer.status
+        }
+    }
+}
